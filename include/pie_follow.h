@@ -103,12 +103,12 @@ static inline void pie_flight_follow_begin(struct pie_flight_follower *follower,
     follower->is_begun = 1;
 }
 
-/* Writes the history as it is kept, of a recorder of pie_flight_keep that was opened right after pie_open: at each call the text of the events since
- * the one before, from the opening on. Where it came too late, a line `lost,<count>` tells how many events are missing, where an audit ends; and
- * behind it a text begins anew, which resumes and stands alone (`sed 1,/^lost,/d`). `scratch` is memory for a copy, as of pie_flight_dump.
+/* Writes the history as it is kept, of a recorder of pie_flight_keep that was opened right after pie_open: at each call the text of the events
+ * since the one before, from the opening on. Where it came too late, a line `lost,<count>` tells how many events are missing, where an audit ends;
+ * and behind it a text begins anew, which resumes and stands alone (`sed 1,/^lost,/d`). `scratch` is memory for a copy, as of pie_flight_dump.
  *
- * Answers PIE_FLIGHT_DONE or PIE_FLIGHT_STOPPED; PIE_FLIGHT_BROKEN as pie_flight_dump; PIE_FLIGHT_GONE where the new text cannot begin yet: at the next
- * call. */
+ * Answers PIE_FLIGHT_DONE or PIE_FLIGHT_STOPPED; PIE_FLIGHT_BROKEN as pie_flight_dump; PIE_FLIGHT_GONE where the new text cannot begin yet: at the
+ * next call. */
 static inline int pie_flight_follow_text(struct pie_flight_follower *follower, void *scratch, pie_flight_write write, void *user) {
     struct pie_flight_text text;
     struct pie_event event;

@@ -8,8 +8,8 @@
  *     verdict = pie_arrive_event(&pie, .., &event);
  *     count = pie_text_event(&history, &event, NULL, bytes, sizeof bytes);
  *
- * A thread that must not touch a file keeps its events in a flight recorder (pie_flight.h), and another follows that, or it calls a link (pie_link.h),
- * of which another folds. */
+ * A thread that must not touch a file keeps its events in a flight recorder (pie_flight.h), and another follows that; or it calls a link
+ * (pie_link.h), of which another folds. */
 #ifndef PIE_TEXT_H
 #define PIE_TEXT_H
 
@@ -69,8 +69,8 @@ static inline size_t pie_text_event(struct pie_history *text, const struct pie_e
     return count;
 }
 
-/* Counts an event in the statistics, which begin with {0}: none that was refused. `bytes` are those that wait after it, and `waited` is what the packet
- * of a departure had waited, in ns. */
+/* Counts an event in the statistics, which begin with {0}: none that was refused. `bytes` are those that wait after it, and `waited` is what the
+ * packet of a departure had waited, in ns. */
 static inline void pie_count_event(struct pie_stats *stats, const struct pie_event *event, uint64_t bytes, uint64_t waited) {
     uint64_t is_empty = event->answer == PIE_NONE;
     switch (event->kind) {

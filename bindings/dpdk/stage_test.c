@@ -260,8 +260,8 @@ static void test_first_marks(void) {
     printf("stage_test: the first marks\n");
 }
 
-/* What is odd, recorded: packets of no IP, oversized ones, a full queue, a clock that jumps back; then a history that nobody writes, so that events are
- * written over: the gap is told, and one at its end. */
+/* What is odd, recorded: packets of no IP, oversized ones, a full queue, a clock that jumps back; then a history that nobody writes, so that events
+ * are written over: the gap is told, and one at its end. */
 static void test_record(void) {
     struct pie_stage_params params;
     struct pie_stage_stats stats;

@@ -1,4 +1,4 @@
-/* A flight recorder (include/pie_flight.h) in a file under mmap, so that what it holds outlives the process, or in memory of its own; and its text. */
+/* A flight recorder (include/pie_flight.h) in a file under mmap, so that what it holds outlives the process, or in memory of its own; its text. */
 #ifndef SHARED_FLIGHT_FILE_H
 #define SHARED_FLIGHT_FILE_H
 
@@ -17,8 +17,8 @@ struct flight_file {
     size_t bytes;
 };
 
-/* Opens a recorder in a file of this name (NULL: in memory of its own), right after the state was opened by this. A file that is there already is what
- * an earlier run left: it goes to NAME.before. False where that cannot be done. */
+/* Opens a recorder in a file of this name (NULL: in memory of its own), right after the state was opened by this. A file that is there already is
+ * what an earlier run left: it goes to NAME.before. False where that cannot be done. */
 bool open_flight(struct flight_file *file, const char *name, const struct pie_opening *opening, const struct pie_state *state);
 
 /* Keeps an event, after its call. */

@@ -295,7 +295,7 @@ def compare_link(root):
     waits = set(re.findall(r"static inline uint32_t pie_link_(\w+)\(struct pie_port", header.text))
     yield from same("include/pie_link.h: the calls that wait", sorted(waits), sorted(tries), "of those that don't")
     members = re.search(r"class pie_link_port \{(.*?)\n\};", header.text, re.S)
-    handed = re.findall(r"uint32_t (\w+)\([^)]*\) noexcept \{ return (?:this [^?]*\? )?pie_link_(\w+)\(", members[1] if members else "")
+    handed = re.findall(r"uint32_t (\w+)\([^)]*\) noexcept \{\s*return (?:this [^?]*\? )?pie_link_(\w+)\(", members[1] if members else "")
     yield from same("include/pie_link.h: what a member of pie_link_port calls", [it for it in handed if it[0] != it[1]], [], "here")
     yield from same("include/pie_link.h: the members of pie_link_port", sorted(it[0] for it in handed),
                     sorted([name[9:] for name in calls] + [*waits]), "of the calls")

@@ -1,0 +1,54 @@
+#!/usr/bin/env bash
+# Events a second of one to four threads at one controller in C, in bursts of 1, 8 and 32 (bench/pie_link_c.c): at a link, beside a spin lock around
+# the recorded calls with the flight recorder, and beside the same lock around calls whose events are put in bulk; so many runs (9) of all in turn,
+# each of so many milliseconds (100). The first table has the medians and their ratios, the second how often a turn follows on another thread's: a
+# run of several threads in which fewer than one turn in four does is not counted.
+# usage: bench/pie_link_c.sh [RUNS [MILLISECONDS]]    after bindings/c/library.py
+set -eu
+. "$(dirname "$0")/shared.sh"
+cd "$here/.."
+before=$(cut -d' ' -f1 /proc/loadavg)
+libs="crates/pie_link_c/out/libpie_link_c.a crates/pie_c/out/libpie_c.a"
+# shellcheck disable=SC2086
+"${CC:-cc}" -O2 -std=gnu11 -Wall -Wextra -Iinclude -o "$work/link" bench/pie_link_c.c $libs -pthread
+"$work/link" "${1:-9}" "${2:-100}" > "$work/lines"
+echo "load $before before and $(cut -d' ' -f1 /proc/loadavg) after, on $(nproc) processors, ${1:-9} runs of ${2:-100} ms"
+python3 - "$work/lines" <<'PYTHON'
+import statistics
+import sys
+
+KINDS = ("link", "recorded", "bulk")
+LEAST = 0.25  # of the turns of several threads, that follow on another's
+runs = {}
+for line in open(sys.argv[1]):
+    kind, threads, burst, rate, changes = line.split()
+    runs.setdefault((int(burst), int(threads)), {}).setdefault(kind, []).append((float(rate), float(changes)))
+
+
+def counted(key, kind):
+    return [rate for rate, changes in runs[key][kind] if key[1] == 1 or changes >= LEAST]
+
+
+def median(key, kind):
+    rates = counted(key, kind)
+    return statistics.median(rates) if rates else None
+
+
+def ratio(key, other):
+    ours, theirs = median(key, "link"), median(key, other)
+    return f"{ours / theirs:.2f}" if ours and theirs else "-"
+
+
+print("| burst | threads | link, million events/s | lock, recorded | lock, in bulk | link / recorded | link / bulk |")
+print("|---|---|---|---|---|---|---|")
+for key in sorted(runs):
+    cells = [f"{median(key, kind) / 1e6:.2f}" if median(key, kind) else "-" for kind in KINDS]
+    print(f"| {key[0]} | {key[1]} | {' | '.join(cells)} | {ratio(key, 'recorded')} | {ratio(key, 'bulk')} |")
+print()
+print("| burst | threads | " + " | ".join(f"changes, {kind}; runs counted" for kind in KINDS) + " |")
+print("|---|---|---|---|---|")
+for key in sorted(runs):
+    if key[1] > 1:
+        cells = [f"{statistics.median(it for _, it in runs[key][kind]):.2f}; {len(counted(key, kind))} of {len(runs[key][kind])}" for kind in KINDS]
+        print(f"| {key[0]} | {key[1]} | {' | '.join(cells)} |")
+PYTHON

@@ -5,3 +5,5 @@ pub mod SeriesFacts
 pub mod SumsFacts
 pub mod PeriodFacts
 pub mod SummaryFacts
+pub mod LiveFacts
+pub mod NotedFacts

@@ -30,7 +30,7 @@ last-held number (first ∷ numbers) = later (length numbers)
     later n = grind arith
 
 -- the parts of a series
-abbrev the_series : ℕ → ℕ → ℕ → ℕ → ℕ → Series
+abbrev pub the_series : ℕ → ℕ → ℕ → ℕ → ℕ → Series
 the_series count first last greatest total = record { count = count; first = first; last = last; greatest = greatest; total = total }
 
 pub series-push : (numbers : List ℕ) (number : ℕ) (old : Series) (count first greatest_then total : ℕ) → old ≡ series_of numbers

@@ -5,4 +5,5 @@ pub mod Sums
 pub mod Period
 pub mod Words
 pub mod Record
+pub mod Live
 pub mod Summary

@@ -6,16 +6,27 @@
 //! the numbers. With `packets` each packet that was lost or marked is explained between the summaries, so that a history is read once for both.
 #![tactic(auto)]
 
+mod line;
+pub mod live;
+mod live_record;
+pub mod meter;
+pub mod noted;
 pub mod period;
 pub mod ranges;
 mod record;
 pub mod series;
+pub mod spans;
 pub mod summary;
 pub mod sums;
 mod words;
 
+pub use line::Line;
+pub use live::LivePeriod;
+pub use meter::Meter;
+pub use noted::{Met, Noted};
 pub use period::Period;
-pub use ranges::Ranges;
+pub use ranges::{RANGES, Ranges};
 pub use series::Series;
+pub use spans::{Bounds, Peak, Total};
 pub use summary::Summary;
 pub use sums::Sums;

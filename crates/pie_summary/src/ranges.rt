@@ -1,5 +1,5 @@
 //! How many numbers lie in each of some ranges, for percentiles.
-ghost use Rattle.std.specs.Prelude.{◌≡◌, ◌+◌, ◌*◌, ◌^◌, ◌<◌, ◌≤◌, ◌++◌, ◌∷◌, [], ℕ, List, Option, IfOk, IfSome, Some, length, min};
+ghost use Rattle.std.specs.Prelude.{◌≡◌, ◌+◌, ◌-◌, ◌/◌, ◌*◌, ◌^◌, ◌<◌, ◌≤◌, ◌++◌, ◌∷◌, [], ℕ, List, Option, IfOk, IfSome, Some, length, min};
 ghost use Rattle.std.specs.List.{cons_option};
 ghost use Rattle.pie_summary.specs.Ranges.{end_within, first_up_to, range_end, range_of, range_within, ranges_of};
 
@@ -7,7 +7,7 @@ use std::alloc::{AllocError, Global};
 use std::marker::Model;
 
 /// How many ranges there are: one of each number below 100, and 90 of each further digit of a number of 64 bits.
-const RANGES: usize = 1720;
+pub const RANGES: usize = 1720;
 
 /// How many numbers lie in each range of numbers with the same two first decimal digits: `ranges_of` them.
 #[derive(Drop)]
@@ -65,6 +65,42 @@ fn end_within(range: usize, greatest: u64) -> u64
     let power = 10u128.saturating_pow(digits as u32);
     let end = first.saturating_mul(power).saturating_sub(1);
     end.min(u128::from(greatest)) as u64
+}
+
+/// Forgets all numbers.
+pub(crate) fn clear_counts(counts: &mut [u64; RANGES])
+    ensures { counts.new ≡ ranges_of [] }
+{
+    *counts = [0; RANGES];
+}
+
+/// Takes one more number.
+#[inline(always)]
+pub(crate) fn count_number(counts: &mut [u64; RANGES], number: u64)
+    ensures { (numbers : List ℕ) → counts.old ≡ ranges_of numbers → counts.new ≡ ranges_of (numbers ++ number ∷ []) }
+{
+    let place = range_within(18, number) as usize;
+    counts[place] = counts[place].saturating_add(1);
+}
+
+/// Takes one more number, or none.
+#[inline(always)]
+pub(crate) fn count_some(counts: &mut [u64; RANGES], number: Option<u64>)
+    ensures { (numbers : List ℕ) → counts.old ≡ ranges_of numbers → counts.new ≡ ranges_of (numbers ++ cons_option number []) }
+{
+    if let Some(number) = number {
+        count_number(counts, number);
+    }
+}
+
+/// The wait that at most a hundredth of so many exceeded, or up to a tenth more; no more than the greatest.
+pub(crate) fn most_of(counts: &[u64; RANGES], count: u64, greatest: u64) -> u64
+    ensures { result ≡ end_within (first_up_to counts.now (count - count / 100)) greatest }
+{
+    match first_up_to(counts, count - count / 100) {
+        Some(range) => end_within(range, greatest),
+        None => greatest,
+    }
 }
 
 impl Ranges {

@@ -124,7 +124,7 @@ fn excess_by(answer: Answer, waited: u64, target: u64) -> Option<u64>
 }
 
 /// As much of an excess as lies within so long.
-fn excess_within(excess: Option<u64>, since: u64) -> u64
+pub(crate) fn excess_within(excess: Option<u64>, since: u64) -> u64
     ensures { result ≡ excess_within excess since }
 {
     match excess {
@@ -181,7 +181,7 @@ fn delay_by(active: bool, answer: Answer) -> Option<u64>
 }
 
 /// The moment of an event that turned the controller on, or off: before it the controller was active or not, and after it is.
-fn turned_at(on: bool, was: bool, is: bool, moment: u64) -> Option<u64>
+pub(crate) fn turned_at(on: bool, was: bool, is: bool, moment: u64) -> Option<u64>
     ensures { result ≡ turned_at on was is moment }
 {
     match (on, was, is) {

@@ -12,6 +12,7 @@ mod utc;
 mod when;
 mod written;
 
+pub use date::{Date, date_of};
 pub use moment::{Moment, MomentFault};
 pub use unit::Kind;
 pub use utc::{Utc, UtcFault};

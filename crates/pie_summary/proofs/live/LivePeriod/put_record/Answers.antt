@@ -1,0 +1,12 @@
+use Rattle.std.proofs.Common.{◌∙◌}
+use Rattle.std.specs.Prelude.{◌==◌}
+use Rattle.pie_summary.specs.Live.{length_of}
+use Rattle.pie_summary.specs.Period.{last_events}
+use Rattle.pie_summary.proofs.LiveFacts.{said-live}
+use Rattle.pie_summary.proofs.live.LivePeriod.put_record.Goals as goal
+
+pub returns : goal.returns
+returns c = λ shown holds.
+    let period = c.args.self.now in
+    c.push_record.ensures ∙ said-live (period.wall == 1) (last_events (length_of period) shown) period.meter period.waits c.most_of-most.result
+    holds.meter holds.waits c.most_of-most.ensures

@@ -1,0 +1,149 @@
+//! A period that is summed up as it goes, in memory that its owner has.
+ghost use Rattle.std.specs.Prelude.{◌≡◌, ◌<◌, ◌++◌, ◌∷◌, [], List, not, if◌then◌else◌};
+ghost use Rattle.pie_explanation.specs.declared.explanation.Explained.{Explained};
+ghost use Rattle.pie_summary.specs.Live.{Awaits, Holds, IsSet, form_in, is_within, length_of, noted_of, number_in, starts};
+ghost use Rattle.pie_summary.specs.Period.{last_events};
+ghost use Rattle.pie_summary.specs.Summary.{header, said_of};
+
+use crate::line::Line;
+use crate::live_record::push_record;
+use crate::meter::Meter;
+use crate::noted::Noted;
+use crate::ranges::{RANGES, clear_counts, count_some, most_of};
+use crate::record::NAMES;
+
+/// The numbers of the last events, as far back as they are in the same period, as `pie explain --every` sums them up.
+#[repr(C)]
+#[derive(Drop)]
+pub struct LivePeriod {
+    /// How many nanoseconds a period lasts, 1 at least, the first from moment 0 on.
+    pub every: u64,
+    /// 1 where a record ends with the time of day of the first event that has one, and else 0.
+    pub wall: u64,
+    /// How many periods have begun, those without events left out: 0 before the first event.
+    pub begun: u64,
+    /// The number of the period under way, counted from 0 for the one that begins at moment 0.
+    pub number: u64,
+    /// The moment at which it began.
+    pub start: u64,
+    /// The moment at which it ends: an event from then on is in another.
+    pub end: u64,
+    /// 1 where a time of day is told, and else 0.
+    pub told: u64,
+    /// The moment at which it was that time of day.
+    pub clock_moment: u64,
+    /// That time of day, in nanoseconds after 1970-01-01T00:00:00Z.
+    pub clock_unix: u64,
+    /// The numbers of the events in it.
+    pub meter: Meter,
+    /// How many of the waits of packets that left lie in each range.
+    pub waits: [u64; RANGES],
+}
+
+impl LivePeriod {
+    /// No event yet.
+    pub fn open(every: u64, by_wall: bool) -> LivePeriod
+        ensures every { result.every ≡ every }
+        ensures wall { result.wall ≡ (if by_wall then 1 else 0) }
+        ensures untold { result.told ≡ 0 }
+        ensures holds { Holds result [] }
+    {
+        LivePeriod {
+            every,
+            wall: u64::from(by_wall),
+            begun: 0,
+            number: 0,
+            start: 0,
+            end: 0,
+            told: 0,
+            clock_moment: 0,
+            clock_unix: 0,
+            meter: Meter::empty(),
+            waits: [0; RANGES],
+        }
+    }
+
+    /// Whether a moment is in the period under way.
+    #[inline(always)]
+    fn is_within(&self, moment: u64) -> bool
+        ensures { result ≡ is_within self.now moment }
+    {
+        self.start <= moment && moment < self.end
+    }
+
+    /// Whether the period with this number is under way.
+    fn is_under_way(&self, number: u64) -> bool
+        ensures { result ≡ not (starts (number_in self.now) number) }
+    {
+        self.begun != 0 && self.number == number
+    }
+
+    /// Begins the period in which a moment lies, where another is under way.
+    #[inline(never)]
+    fn turn(&mut self, moment: u64)
+        ensures settings { IsSet self.old self.new }
+        ensures awaits { (shown : List Explained) (one : Explained) → one.told.moment ≡ moment → Holds self.old shown → Awaits self.new shown one }
+    {
+        let every = self.every.max(1);
+        let number = moment / every;
+        if self.is_under_way(number) {
+            return;
+        }
+        self.number = number;
+        self.start = number * every;
+        self.end = self.start.saturating_add(every);
+        self.begun = self.begun.saturating_add(1);
+        self.meter = Meter::empty();
+        clear_counts(&mut self.waits);
+    }
+
+    /// Has the period in which a moment lies under way. By its ends, since a division costs more.
+    #[inline(always)]
+    fn reach(&mut self, moment: u64)
+        ensures settings { IsSet self.old self.new }
+        ensures awaits { (shown : List Explained) (one : Explained) → one.told.moment ≡ moment → Holds self.old shown → Awaits self.new shown one }
+    {
+        if self.is_within(moment) {
+            return;
+        }
+        self.turn(moment);
+    }
+
+    /// Takes one more event.
+    #[inline(always)]
+    pub fn take(&mut self, noted: &Noted)
+        requires answer { noted.now.answer < 9 }
+        requires cause { noted.now.cause < 16 }
+        ensures settings { IsSet self.old self.new }
+        ensures holds { (shown : List Explained) (one : Explained) → noted.now ≡ noted_of one → Holds self.old shown
+            → Holds self.new (shown ++ one ∷ []) }
+    {
+        self.reach(noted.moment);
+        self.meter.take(noted);
+        count_some(&mut self.waits, noted.wait);
+    }
+
+    /// Adds the header row of the records to an empty line.
+    #[tactic(auto, unfolding(crate::specs::Summary::header, pie_event::specs::CauseName::word_of_cause))]
+    pub fn put_header(&self, line: &mut Line)
+        requires { line.old ≡ [] }
+        ensures { line.new ≡ header (form_in self.now) }
+    {
+        line.push(NAMES.as_bytes());
+        if self.wall == 1 {
+            line.push(b",wall\n");
+        } else {
+            line.push(b"\n");
+        }
+    }
+
+    /// Adds the record of the period under way to an empty line.
+    pub fn put_record(&self, line: &mut Line)
+        requires { line.old ≡ [] }
+        ensures { (shown : List Explained) → Holds self.now shown → line.new ≡ said_of (form_in self.now) (last_events (length_of self.now) shown) }
+    {
+        let waits = &self.meter.waits;
+        let most = most_of(&self.waits, waits.count, waits.greatest);
+        push_record(line, self.wall == 1, &self.meter, most);
+    }
+}

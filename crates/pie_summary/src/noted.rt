@@ -1,0 +1,198 @@
+//! What a meter takes of an event.
+ghost use Rattle.std.specs.Prelude.{◌≡◌, ℕ, Some, None};
+ghost use Rattle.pie_explanation.specs.declared.explanation.Explained.{Explained};
+ghost use Rattle.pie_queue.specs.declared.packet.Packet.{Packet};
+ghost use Rattle.pie_event.specs.declared.command.Answer.TheVariants.{Done, Empty, Left, Updated};
+ghost use Rattle.pie_event.specs.declared.verdict.Verdict.{Verdict};
+ghost use Rattle.pie_event.specs.Verdict.{answer_of};
+ghost use Rattle.pie_summary.specs.Live.{Meets, bare_noted, noted_of};
+ghost use Rattle.pie_summary.specs.Sums.{above_by, answer_place, cause_of, delay_by, excess_by, size_in};
+
+use crate::sums::turned_at;
+use pie_explanation::time_of;
+use pie_record::Clock;
+
+/// What a meter takes of an event; what its kind has none of is none or 0.
+#[derive(Clone, Copy, Debug)]
+pub struct Noted {
+    /// The place of its answer's count, 0 to 8: queued, marked, dropped early, in bytes, in packets, a packet that left, none that did, an
+    /// update, and a reset or new parameters.
+    pub answer: usize,
+    /// The place of the count of what decided it, 0 to 14 of an arrival, in the order of the decision, and 15 of any other event.
+    pub cause: usize,
+    /// Its effective moment, in nanoseconds.
+    pub moment: u64,
+    /// Of a packet that arrived its size, in bytes.
+    pub arrived: Option<u64>,
+    /// Of a packet that left how long it had waited, in nanoseconds.
+    pub wait: Option<u64>,
+    /// Of a packet that left the effective moment.
+    pub left: Option<u64>,
+    /// Of one that had waited longer than the target how much longer, in nanoseconds.
+    pub excess: Option<u64>,
+    /// Of an update, while the controller was active, the delay that it took, in nanoseconds.
+    pub delay: Option<u64>,
+    /// The probability after it, in units of 10^-12.
+    pub prob: u64,
+    /// Its effective moment, where it turned the controller on.
+    pub turned_on: Option<u64>,
+    /// Its effective moment, where it turned the controller off.
+    pub turned_off: Option<u64>,
+    /// The time of day, where one is told, in nanoseconds after 1970-01-01T00:00:00Z.
+    pub time: Option<u64>,
+    /// Of a packet that left its size, in bytes.
+    pub carried: u64,
+    /// Of an update that took a delay above the target, while the controller was active, how long it was since the update before.
+    pub above: u64,
+    /// The target after it, in nanoseconds.
+    pub target: u64,
+    /// What was left of the burst allowance after it, in nanoseconds.
+    pub burst: u64,
+}
+
+/// What an event met and what it left, whatever it is. Times are in nanoseconds, probabilities in units of 10^-12.
+#[derive(Clone, Copy, Debug)]
+pub struct Met {
+    /// Its effective moment.
+    pub moment: u64,
+    /// Whether the controller was active before it.
+    pub was: bool,
+    /// Whether it is after it.
+    pub is: bool,
+    /// The target before it.
+    pub held: u64,
+    /// The moment of the last update before it.
+    pub last: u64,
+    /// The probability after it.
+    pub prob: u64,
+    /// What was left of the burst allowance after it.
+    pub burst: u64,
+    /// The target after it.
+    pub target: u64,
+    /// The last time of day that was told before it.
+    pub clock: Option<Clock>,
+}
+
+/// How much longer than the target a packet had waited, where it had waited longer.
+#[inline(always)]
+fn excess_over(waited: u64, target: u64) -> Option<u64>
+    ensures { (packet : Packet) → result ≡ excess_by (Left packet) waited target }
+{
+    if target < waited {
+        Some(waited - target)
+    } else {
+        None
+    }
+}
+
+/// The delay of an update, where the controller was active.
+#[inline(always)]
+fn delay_of(active: bool, delay: u64) -> Option<u64>
+    ensures { (prob burst : ℕ) → result ≡ delay_by active (Updated delay prob burst) }
+{
+    if active { Some(delay) } else { None }
+}
+
+/// How long it was since the update before, where this one took a delay above the target, while the controller was active.
+#[inline(always)]
+fn above_of(active: bool, delay: u64, target: u64, since: u64) -> u64
+    ensures { (prob burst : ℕ) → result ≡ above_by active (Updated delay prob burst) target since }
+{
+    if active && target < delay { since } else { 0 }
+}
+
+impl Met {
+    /// What there is of any event.
+    #[inline(always)]
+    fn bare(&self, answer: usize) -> Noted
+        ensures { result ≡ bare_noted self.now answer }
+    {
+        Noted {
+            answer,
+            cause: 15,
+            moment: self.moment,
+            arrived: None,
+            wait: None,
+            left: None,
+            excess: None,
+            delay: None,
+            prob: self.prob,
+            turned_on: turned_at(true, self.was, self.is, self.moment),
+            turned_off: turned_at(false, self.was, self.is, self.moment),
+            time: time_of(self.clock, self.moment),
+            carried: 0,
+            above: 0,
+            target: self.target,
+            burst: self.burst,
+        }
+    }
+
+    /// An arrival with this answer's place, this cause's place and this size.
+    #[inline(always)]
+    pub fn arrived(&self, answer: usize, cause: usize, size: u32) -> Noted
+        ensures places { (result.answer ≡ answer) × (result.cause ≡ cause) }
+        ensures noted { (one : Explained) (verdict : Verdict) → Meets self.now one → one.told.event.answer ≡ answer_of verdict
+            → answer ≡ answer_place (answer_of verdict) → cause ≡ cause_of one → size_in one ≡ Some size → result ≡ noted_of one }
+    {
+        Noted {
+            cause,
+            arrived: Some(u64::from(size)),
+            ..self.bare(answer)
+        }
+    }
+
+    /// A packet of this size that left and had waited so long.
+    #[inline(always)]
+    pub fn left(&self, size: u32, waited: u64) -> Noted
+        ensures places { (result.answer ≡ 5) × (result.cause ≡ 15) }
+        ensures noted { (one : Explained) (packet : Packet) → Meets self.now one → one.told.event.answer ≡ Left packet → packet.size ≡ size
+            → one.told.waited ≡ waited → one.told.cause ≡ None → size_in one ≡ None → result ≡ noted_of one }
+    {
+        Noted {
+            wait: Some(waited),
+            left: Some(self.moment),
+            excess: excess_over(waited, self.held),
+            carried: u64::from(size),
+            ..self.bare(5)
+        }
+    }
+
+    /// A departure that found no packet.
+    #[inline(always)]
+    pub fn empty(&self) -> Noted
+        ensures places { (result.answer ≡ 6) × (result.cause ≡ 15) }
+        ensures noted { (one : Explained) → Meets self.now one → one.told.event.answer ≡ Empty → one.told.cause ≡ None → size_in one ≡ None
+            → result ≡ noted_of one }
+    {
+        self.bare(6)
+    }
+
+    /// An update that took this delay.
+    #[inline(always)]
+    pub fn updated(&self, delay: u64) -> Noted
+        ensures places { (result.answer ≡ 7) × (result.cause ≡ 15) }
+        ensures noted { (one : Explained) (prob burst : ℕ) → Meets self.now one → one.told.event.answer ≡ Updated delay prob burst
+            → one.told.cause ≡ None → size_in one ≡ None → result ≡ noted_of one }
+    {
+        Noted {
+            delay: delay_of(self.was, delay),
+            above: above_of(
+                self.was,
+                delay,
+                self.held,
+                self.moment.saturating_sub(self.last),
+            ),
+            ..self.bare(7)
+        }
+    }
+
+    /// A reset, or new parameters.
+    #[inline(always)]
+    pub fn done(&self) -> Noted
+        ensures places { (result.answer ≡ 8) × (result.cause ≡ 15) }
+        ensures noted { (one : Explained) → Meets self.now one → one.told.event.answer ≡ Done → one.told.cause ≡ None → size_in one ≡ None
+            → result ≡ noted_of one }
+    {
+        self.bare(8)
+    }
+}

@@ -123,13 +123,15 @@ static void *take_bursts(void *argument) {
 static void *update_and_read(void *argument) {
     struct pie_stage_stats stats;
     struct pie_params params;
-    while (!__atomic_load_n(&are_done, __ATOMIC_SEQ_CST)) {
+    for (uint32_t round = 0; !__atomic_load_n(&are_done, __ATOMIC_SEQ_CST); round++) {
         pie_stage_update(argument, rte_rdtsc());
         pie_stage_read(argument, &stats);
         EXPECT(stats.queued == stats.departed + stats.waiting);
+        if (round % 64 != 0)
+            continue;
         pie_stage_read_params(argument, &params);
-        params.target = 2000 + stats.updates % 100;
-        EXPECT(stats.updates % 16 != 0 || pie_stage_set_params(argument, &params, rte_rdtsc()) == PIE_DONE);
+        params.target = 2000 + round % 100;
+        EXPECT(pie_stage_set_params(argument, &params, rte_rdtsc()) == PIE_DONE);
     }
     return NULL;
 }

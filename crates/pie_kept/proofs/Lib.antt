@@ -4,5 +4,8 @@ pub mod Outcomes
 pub mod Folding
 pub mod Excerpting
 pub mod Bursting
+pub mod Places
+pub mod Unlimited
+pub mod Budgets
 pub mod Examples
 pub mod ExamplesBursts

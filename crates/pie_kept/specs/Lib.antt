@@ -4,6 +4,7 @@ pub mod EntryLaws
 pub mod Kept
 pub mod Commands
 pub mod Bursts
+pub mod BudgetLaws
 pub mod Folds
 pub mod Readings
 pub mod Excerpts

@@ -1,5 +1,5 @@
 //! Several commands of one caller, which are answered one after another.
-ghost use Rattle.std.specs.Prelude.{◌≡◌, ℕ, ◌+◌, ◌<◌, Bool, List, [], ◌∷◌, ◌++◌, drop, length};
+ghost use Rattle.std.specs.Prelude.{◌≡◌, ℕ, ◌+◌, ◌<◌, Bool, List, [], ◌∷◌, ◌++◌, length};
 ghost use Rattle.pie_event.specs.declared.command.Command.{Command};
 ghost use Rattle.pie_kept.specs.Bursts.{Reply};
 
@@ -15,14 +15,15 @@ pub type Replies = Vec<Reply>;
 /// What a burst asks, and what takes its replies (this project's own): commands of one caller, one after another, until a reply is one after which
 /// the burst doesn't go on.
 ///
-/// `commands` are all of its commands, and `goes_on` says after which replies it goes on. `shows burst replies` says that it was given these
-/// replies, in their order, and `has_room burst place` that the replies from this place on fit; `room` is how many fit in all.
+/// `commands` are its commands from a place on, and `goes_on` says after which replies it goes on. `shows first burst replies` says that what
+/// `first` was has been given these replies, in their order, and is `burst` now; and `has_room burst place` that the replies from this place on
+/// fit; `room` is how many fit in all.
 pub trait Burst {
-    ghost commands: { Self → List Command };
+    ghost commands: { Self → ℕ → List Command };
 
     ghost goes_on: { Self → Reply → Bool };
 
-    ghost shows: { Self → List Reply → Type 0 };
+    ghost shows: { Self → Self → List Reply → Type 0 };
 
     ghost room: { Self → ℕ };
 
@@ -30,21 +31,21 @@ pub trait Burst {
 
     /// How many commands it has.
     fn count(&self) -> usize
-        ensures { result ≡ length (commands self.now) };
+        ensures { result ≡ length (commands self.now 0) };
 
     /// The command at this place, counted from 0.
     fn command(&self, place: usize) -> Command
-        requires { place < length (commands self.now) }
-        ensures { drop place (commands self.now) ≡ result ∷ drop (place + 1) (commands self.now) };
+        requires { 0 < length (commands self.now place) }
+        ensures { commands self.now place ≡ result ∷ commands self.now (place + 1) };
 
     /// Takes the reply to the command at this place, and says whether the burst goes on.
     fn take(&mut self, place: usize, reply: Reply) -> bool
-        requires place { place < length (commands self.old) }
+        requires place { 0 < length (commands self.old place) }
         requires room { has_room self.old place }
-        ensures commands { commands self.new ≡ commands self.old }
+        ensures commands { commands self.new (place + 1) ≡ commands self.old (place + 1) }
         ensures ends { goes_on self.new ≡ goes_on self.old }
         ensures goes_on { result ≡ goes_on self.old reply }
-        ensures shown { (replies : List Reply) → shows self.old replies → shows self.new (replies ++ reply ∷ []) }
+        ensures shown { (first : Self) (replies : List Reply) → shows first self.old replies → shows first self.new (replies ++ reply ∷ []) }
         ensures has_room { has_room self.new (place + 1) }
         ensures room { room self.new ≡ room self.old };
 }

@@ -1,4 +1,5 @@
-//! The law of a link's entries.
+//! The laws of a link's entries, and of a burst's budget.
+ghost use Rattle.pie_kept.specs.BudgetLaws.{BurstsStayWithin};
 ghost use Rattle.pie_kept.specs.EntryLaws.{EntriesLookBack};
 
 /// Looking back over a history that went on: its events, and what its folds handed out, are those of its beginning, and then those of the
@@ -8,4 +9,12 @@ ghost use Rattle.pie_kept.specs.EntryLaws.{EntriesLookBack};
 #[tactic(auto, using(crate::proofs::EntryLists::look_back))]
 pub fn entries_look_back()
     ensures { EntriesLookBack }
+{}
+
+/// The packets that depart in a burst with a budget come to no more bytes than that.
+///
+/// It does nothing: its contract is the law.
+#[tactic(auto, using(crate::proofs::Budgets::bursts_stay_within))]
+pub fn bursts_stay_within_their_bytes()
+    ensures { BurstsStayWithin }
 {}

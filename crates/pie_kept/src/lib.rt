@@ -8,7 +8,8 @@
 //! - `apply` has the decision there (`decided`), or the refusal there (`because`), and at Ok tells the history with the event (`recorded`).
 //! - `fold` hands out the oldest events of the tail (`folded`), or says why not (`because`), and at Ok tells the history with the fold.
 //! - `answer_all` makes a burst of such commands, one after another (`replies`, `made`, `kept`), for whatever is a `Burst`: `Arrivals` and
-//!   `Departures` push their replies to a vector.
+//!   `Departures` push their replies to a vector. With a budget the packets that depart in it come to no more bytes than that
+//!   (`bursts_stay_within_their_bytes`).
 //! - `registers` and `stats` are the look-back over its events, and an `excerpt` is its end, with what that stands on.
 //!
 //! A refusal changes nothing. There is no thread here and no lock: pie_link puts these turns under the ruled lock of pie_lock.
@@ -28,6 +29,6 @@ pub use arrival::Arrival;
 pub use burst::{Burst, Replies, Reply};
 pub use entry::Entry;
 pub use kept_book::KeptBook;
-pub use law::entries_look_back;
+pub use law::{bursts_stay_within_their_bytes, entries_look_back};
 pub use told::Told;
 pub use vectors::{Arrivals, Departures};

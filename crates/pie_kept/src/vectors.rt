@@ -1,5 +1,5 @@
 //! Bursts whose replies are pushed to a vector that has room for them.
-ghost use Rattle.std.specs.Prelude.{◌≡◌, ◌+◌, ◌≤◌, length, map, vec_capacity, vec_len};
+ghost use Rattle.std.specs.Prelude.{◌≡◌, ◌+◌, ◌-◌, ◌≤◌, drop, length, map, vec_capacity, vec_len};
 ghost use Rattle.pie_event.specs.declared.command.Command.TheVariants.{Depart};
 ghost use Rattle.pie_kept.specs.Bursts.{always, arrive, departures, has_left};
 
@@ -28,11 +28,11 @@ pub struct Departures {
 }
 
 impl Burst for Arrivals<'_> {
-    ghost commands = { λ b. map arrive b.arrivals.now };
+    ghost commands = { λ b place. map arrive (drop place b.arrivals.now) };
 
     ghost goes_on = { λ b. always };
 
-    ghost shows = { λ b replies. b.replies.items ≡ replies };
+    ghost shows = { λ first b replies. b.replies.items ≡ replies };
 
     ghost room = { λ b. vec_capacity b.replies };
 
@@ -57,11 +57,11 @@ impl Burst for Arrivals<'_> {
 }
 
 impl Burst for Departures {
-    ghost commands = { λ b. departures b.most b.moment };
+    ghost commands = { λ b place. departures (b.most - place) b.moment };
 
     ghost goes_on = { λ b. has_left };
 
-    ghost shows = { λ b replies. b.replies.items ≡ replies };
+    ghost shows = { λ first b replies. b.replies.items ≡ replies };
 
     ghost room = { λ b. vec_capacity b.replies };
 

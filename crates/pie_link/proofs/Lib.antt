@@ -1,2 +1,3 @@
+pub mod Unlimited
 pub mod Headline
 pub mod Examples

@@ -1,9 +1,10 @@
 //! Bursts: several commands of one caller in one turn at the lock, with nothing of another caller between.
 //!
 //! No burst takes memory: what takes its replies is the caller's, such as a vector that has room for them.
-ghost use Rattle.std.specs.Prelude.{◌≡◌, ◌≢◌, ◌+◌, ◌≤◌, ◌<◌, ◌↔◌, IsTrue, Err, IfErr, IfOk, IsOk, List, OnOk, OnErr, length, map, vec_len, vec_capacity};
+ghost use Rattle.std.specs.Prelude.{◌≡◌, ◌≢◌, ◌+◌, ◌≤◌, ◌<◌, ◌↔◌, IsTrue, Err, IfErr, IfOk, IsOk, List, None, OnOk, OnErr, length, map, vec_len};
+ghost use Rattle.std.specs.Prelude.{vec_capacity};
 ghost use Rattle.pie_kept.specs.Bursts.{Reply, always, arrive, departures, has_left};
-ghost use Rattle.pie_link.specs.Bursts.{AnswersAll, TriesToAnswerAll, WasNotDone, WasRefused};
+ghost use Rattle.pie_link.specs.Bursts.{AnswersAll, AnswersWithin, TriesToAnswerAll, WasNotDone, WasRefused};
 ghost use Rattle.pie_link.specs.Views.{StaysOne, WasBusy};
 ghost use Rattle.pie_link.specs.declared.told.Tried.TheVariants.{Busy};
 
@@ -29,8 +30,8 @@ impl Link {
     fn answer_all<R: Wait, B: Burst>(&self, rt: &R, caller: &mut Caller, burst: B) -> B
         requires own { caller.old.lock ≡ self.now }
         requires room { B.has_room burst 0 }
-        ensures answered { (earlier : List Reply) → B.shows burst earlier → (replies : List Reply) × B.shows result replies
-            × AnswersAll (B.goes_on burst) self.now caller.old (B.commands burst) earlier replies caller.new }
+        ensures answered { (first : B) (earlier : List Reply) → B.shows first burst earlier → (replies : List Reply) × B.shows first result replies
+            × AnswersWithin None (B.goes_on burst) self.now caller.old (B.commands burst 0) earlier replies caller.new }
         ensures room { B.room result ≡ B.room burst }
         ensures stays { StaysOne caller.old caller.new }
     {
@@ -41,19 +42,35 @@ impl Link {
         )
     }
 
-    // The same as `answer_all`, where no other caller has the book. It never blocks. It answers the burst as it was where another caller has
-    // the book, which doesn't come for a burst of no commands.
-    fn try_answer_all<B: Burst>(&self, caller: &mut Caller, burst: B) -> Result<B, B>
+    /// The commands of any burst, one after another, as so many calls of their own with nothing of another caller between: until a reply after
+    /// which the burst doesn't go on, or, where there is a budget, in bytes, before a departure whose packet has more bytes than remain of it.
+    /// A refused command changes nothing. A burst of no commands takes no lock. It never blocks, and takes no memory.
+    ///
+    /// # Errors
+    ///
+    /// The burst as it was, where another caller has the book, which doesn't come for a burst of no commands.
+    #[inline(always)]
+    pub fn try_answer_all<B: Burst>(
+        &self,
+        caller: &mut Caller,
+        budget: Option<u64>,
+        burst: B,
+    ) -> Result<B, B>
         requires own { caller.old.lock ≡ self.now }
         requires room { B.has_room burst 0 }
-        ensures answered { IfOk result (λ after. (earlier : List Reply) → B.shows burst earlier → (replies : List Reply) × B.shows after replies
-            × AnswersAll (B.goes_on burst) self.now caller.old (B.commands burst) earlier replies caller.new) }
+        ensures answered { IfOk result (λ after. (first : B) (earlier : List Reply) → B.shows first burst earlier
+            → (replies : List Reply) × B.shows first after replies
+            × AnswersWithin budget (B.goes_on burst) self.now caller.old (B.commands burst 0) earlier replies caller.new) }
         ensures busy { IfErr result (λ back. (back ≡ burst) × WasBusy caller.old caller.new) }
-        ensures none { length (B.commands burst) ≡ 0 → IsOk result }
+        ensures none { length (B.commands burst 0) ≡ 0 → IsOk result }
         ensures room { IfOk result (λ after. B.room after ≡ B.room burst) }
         ensures stays { StaysOne caller.old caller.new }
     {
-        replace_with(&mut caller.pass, (self, burst), burst_turn::try_answer_all)
+        replace_with(
+            &mut caller.pass,
+            (self, budget, burst),
+            burst_turn::try_answer_all,
+        )
     }
 
     /// The packets arrive one after another, in the order of the slice, as so many calls of `arrive` with nothing of another caller
@@ -113,7 +130,7 @@ impl Link {
         }
         let replies = replace(answers, Vec::new(self.alloc));
         let burst = Arrivals { arrivals, replies };
-        match self.try_answer_all(caller, burst) {
+        match self.try_answer_all(caller, None, burst) {
             Ok(after) => {
                 *answers = after.replies;
                 Ok(())

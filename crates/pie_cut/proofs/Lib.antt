@@ -1,3 +1,4 @@
+mod Names
 mod PlaceFacts
 mod MeetFacts
 mod PartFacts

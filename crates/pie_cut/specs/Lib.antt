@@ -1,3 +1,4 @@
+pub mod Names
 pub mod Span
 pub mod Excerpt
 pub mod Told
@@ -5,3 +6,11 @@ pub mod Answer
 pub mod Segment
 pub mod Last
 pub mod Joined
+unfoldable pub use Names.*
+unfoldable pub use Span.*
+unfoldable pub use Excerpt.*
+unfoldable pub use Told.*
+unfoldable pub use Answer.*
+unfoldable pub use Segment.*
+unfoldable pub use Last.*
+unfoldable pub use Joined.*

@@ -1,0 +1,45 @@
+-- What definitions, code and proofs of this crate take from below, in one place.
+pub use Rattle.std.specs.Io.KnownBytes.{Appends, append_known}
+pub use Rattle.std.specs.List.{cons_option, flat_map}
+pub use Rattle.std.specs.Option.{is_some}
+pub use Rattle.std.specs.Prelude.{All, Bool, Err, IfErr, IfSome, List, None, Ok, OnOk, Option, Result, Some, [], false, length, map, min, true, ℕ}
+pub use Rattle.pie_audit.specs.Auditor.{AuditorView, Audits}
+pub use Rattle.pie_audit.specs.Begun.{BegunBy}
+pub use Rattle.pie_audit.specs.Finding.{LinePlace, number_of}
+unfoldable pub use Rattle.pie_audit.specs.Finding.{events_of, finding, first_difference, line_places}
+pub use Rattle.pie_audit.specs.Following.{Follows}
+pub use Rattle.pie_audit.specs.Setters.{setter_after, setter_by}
+pub use Rattle.pie_audit.specs.Start.{Start, from_opening, setter_told, start_after}
+pub use Rattle.pie_audit.specs.Text.{FindsEither, IsFound, whole_finding}
+unfoldable pub use Rattle.pie_audit.specs.Text.{excerpt_lines}
+pub use Rattle.pie_audit.specs.Told.{BeginningsTell, BeginsAt, TextToldBy, coming_by, fault_by, whole_lines}
+pub use Rattle.pie_audit.specs.declared.auditor.Finding.{Finding}
+pub use Rattle.pie_audit.specs.declared.auditor.Finding.TheVariants.{Clean, Differs}
+pub use Rattle.pie_book.specs.Core.{CoreView, Shows}
+pub use Rattle.pie_book.specs.Decision.{IsLegal}
+pub use Rattle.pie_book.specs.History.{waiting_after}
+pub use Rattle.pie_book.specs.declared.standing.Standing.{Standing}
+pub use Rattle.pie_event.specs.Opening.{are_in_range, opening_refusal}
+pub use Rattle.pie_event.specs.declared.command.Event.{Event}
+pub use Rattle.pie_event.specs.declared.opening.Limits.{Limits}
+pub use Rattle.pie_event.specs.declared.opening.Opening.{Opening}
+pub use Rattle.pie_event.specs.declared.setter.Setter.{Setter}
+pub use Rattle.pie_excerpt.specs.Beginning.{GoesOn, is_resumed}
+pub use Rattle.pie_excerpt.specs.Fits.{WaitingFits}
+pub use Rattle.pie_excerpt.specs.Rows.{queued_row}
+unfoldable pub use Rattle.pie_excerpt.specs.Rows.{resume_row}
+pub use Rattle.pie_excerpt.specs.Written.{IsWritten, part_rows, resume_with}
+pub use Rattle.pie_queue.specs.declared.packet.Waiting.{Waiting}
+pub use Rattle.pie_record.specs.Clock.{clock_row}
+pub use Rattle.pie_record.specs.Fault.{is_device}
+pub use Rattle.pie_record.specs.HistoryLines.{Coming, events_in, history_lines, latest_clock}
+unfoldable pub use Rattle.pie_record.specs.HistoryLines.{event_count}
+pub use Rattle.pie_record.specs.ReadBack.{EventFits}
+pub use Rattle.pie_record.specs.Text.{Row, records_of, text_of}
+unfoldable pub use Rattle.pie_record.specs.Text.{rows_text}
+pub use Rattle.pie_record.specs.Write.{change_event, event_row}
+pub use Rattle.pie_record.specs.declared.clock.Clock.{Clock}
+pub use Rattle.pie_record.specs.declared.fault.TraceFault.{TraceFault}
+pub use Rattle.pie_record.specs.declared.history_reader.Course.TheVariants.{Going}
+pub use Rattle.pie_record.specs.declared.history_record.Line.{Line}
+pub use Rattle.pie_record.specs.declared.history_record.Line.TheVariants.{Made, Note, Unmakeable}

@@ -9,6 +9,7 @@
 #include "options.h"
 #include "packet.h"
 #include "pie.h"
+#include "records.h"
 
 #include <errno.h>
 #include <fcntl.h>
@@ -51,6 +52,7 @@ struct bottleneck {
     uint64_t next_update;  /* the moment from which an update is not too soon */
     struct history history;
     struct flight_file flight;
+    struct records records;
     pthread_t writer;      /* of the history, and of the flight recorder's text */
     atomic_bool is_closed; /* whether the writer has to end */
     struct counts counts;
@@ -140,9 +142,9 @@ static void arrive(struct bottleneck *link, struct packet *packet, uint64_t now)
     event->size = packet->size;
     event->ecn = (uint8_t)packet->ecn;
     event->word = random_word();
-    uint32_t verdict = pie_arrive_event(&link->pie, link->queue.bytes, room, event);
+    uint32_t verdict = decide_arrival(&link->records, &link->pie, link->queue.bytes, room, event);
     if (verdict > PIE_PACKETS)
-        die_refused("pie_arrive_event", verdict);
+        die_refused("an arrival", verdict);
     keep_event(&link->flight, &link->pie, event);
     packet->arrived = link->pie.moment;
     link->counts.verdicts[verdict]++;
@@ -199,9 +201,9 @@ static void depart(struct bottleneck *link, uint64_t now, uint64_t until) {
     event->tag = packet->tag;
     event->size = packet->size;
     event->ecn = (uint8_t)packet->ecn;
-    uint32_t code = pie_depart_event(&link->pie, link->queue.bytes, packet->arrived, event);
+    uint32_t code = take_departure(&link->records, &link->pie, link->queue.bytes, packet->arrived, event);
     if (code != PIE_DONE)
-        die_refused("pie_depart_event", code);
+        die_refused("a departure", code);
     keep_event(&link->flight, &link->pie, event);
     link->counts.departures++;
     packet->moment = until;
@@ -241,13 +243,13 @@ static void update(struct bottleneck *link, uint64_t now) {
     if (now < link->next_update)
         return;
     struct pie_event *event = next_event(&link->history, TIMER, now);
-    uint32_t code = pie_update_event(&link->pie, link->queue.bytes, event);
+    uint32_t code = make_update(&link->records, &link->pie, link->queue.bytes, event);
     keep_event(&link->flight, &link->pie, event);
     if (code == PIE_DONE) {
         link->counts.updates++;
         link->counts.late += now - link->next_update > link->pie.params.t_update;
     } else if (code != PIE_TOO_SOON) {
-        die_refused("pie_update_event", code);
+        die_refused("an update", code);
     }
     link->next_update = pie_due(&link->pie);
 }
@@ -336,6 +338,8 @@ static void open_link(struct bottleneck *link, const struct options *options) {
     if (!open_flight(&link->flight, options->flight, opening, &link->pie))
         die(options->flight);
     tell_flight(&link->flight, moment, unix_time);
+    if (!open_records(&link->records, options->records, options->every, moment, unix_time))
+        die(options->records);
     if (pthread_create(&link->writer, NULL, write_history, link) != 0)
         die("a thread for the history");
 }
@@ -349,6 +353,8 @@ static void close_link(struct bottleneck *link) {
     pthread_join(link->writer, NULL);
     if (!close_history(&link->history))
         die("history");
+    if (!close_records(&link->records))
+        die("records");
     if (link->history.text.lost != 0)
         fprintf(stderr, "link: %" PRIu64 " events are missing in the history\n", link->history.text.lost);
     printf("link: %" PRIu64 " packets arrived: %" PRIu64 " waited, %" PRIu64 " marked, %" PRIu64 " dropped early, %" PRIu64

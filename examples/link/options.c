@@ -21,6 +21,8 @@ static const char help_of_link[] =
     "  --history FILE       write every decision, for pie audit and pie explain\n"
     "  --flight FILE        keep the last 100000 events at the least in this file, also if the program is killed: flight_text FILE\n"
     "                       writes them as such a text, and SIGUSR1 has the link write them to FILE.history while it runs\n"
+    "  --records FILE       write sums of each period as it ends, as pie explain --every --csv --wall writes them of the history\n"
+    "  --every 1s           how long such a period lasts\n"
     "  --for 60s            end after this time\n"
     "\n"
     "The other options are those of pie params. Times, rates and sizes are read as tc reads them, but never rounded. It has to be root, or\n"
@@ -72,9 +74,10 @@ int read_options(int count, char **words, struct options *options) {
         {"--history", option_text, &options->history}, {"--flight", option_text, &options->flight},
         {"--rate", read_rates, options},               {"--rtt", option_time, &options->rtt},
         {"--grant", option_time, &options->grant},     {"--for", option_time, &options->lasts},
+        {"--records", option_text, &options->records}, {"--every", option_time, &options->every},
     };
     const struct command command = {"link", {help_of_use, help_of_link}, own, sizeof own / sizeof own[0], MOST_PACKETS};
-    *options = (struct options){.rtt = 20000000, .lasts = 60000000000};
+    *options = (struct options){.rtt = 20000000, .lasts = 60000000000, .every = 1000000000};
     int place = read_words(&command, count, words, &options->control);
     if (place == WORDS_HELP)
         return OPTIONS_HELP;
@@ -84,6 +87,8 @@ int read_options(int count, char **words, struct options *options) {
         place = refuse_word(&command, words[place], "", "unknown");
     else if (place >= 0 && options->grant != 0 && options->grant < LEAST_GRANT)
         place = refuse_word(&command, "--grant", "", "out of its range");
+    else if (place >= 0 && options->every == 0)
+        place = refuse_word(&command, "--every", "", "out of its range");
     else if (place >= 0 && (options->from == NULL || options->to == NULL))
         place = refuse_word(&command, "--from and --to", "", "missing");
     return place == WORDS_WRONG ? OPTIONS_WRONG : OPTIONS_READ;

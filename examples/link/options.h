@@ -17,6 +17,8 @@ struct options {
     const char *from, *to;  /* the names of the two devices */
     const char *history;    /* the file for the history; NULL with none */
     const char *flight;     /* the file of the flight recorder; NULL with none */
+    const char *records;    /* the file for the records of periods; NULL with none */
+    uint64_t every;         /* ns that a period lasts */
     uint64_t rtt;           /* ns on the way back */
     uint64_t grant;         /* ns from one grant to the next; 0: the link sends whenever it is free */
     struct rate_step rates[MOST_STEPS]; /* by their moments; the first is 0 */

@@ -107,7 +107,8 @@ enum {
     PIE_BAD_CHOICES = 117, /* a choice that is none of the flags */
     PIE_BAD_ARRIVED = 118, /* a packet that arrived later than the state's moment */
     PIE_NOT_WAITED = 119,  /* pie_depart where delays come from time stamps: pie_depart_waited says when the packet arrived */
-    PIE_BAD_LIMITS = 120   /* the mode, or the packets, tail or events of an opening out of their ranges */
+    PIE_BAD_LIMITS = 120,  /* the mode, or the packets, tail or events of an opening out of their ranges */
+    PIE_BAD_EVERY = 121    /* a length of periods outside 1 to 2^60 - 1 ns */
 };
 
 /* The ECN field of an IP header (RFC 3168, section 5). */
@@ -219,8 +220,66 @@ struct pie_event {
     uint32_t reserved; /* 0 */
 };
 
+/* Numbers of a period (below), each 0 where there was none. A count stays at 2^64 - 1, and so does a sum of 64 bits. */
+struct pie_bounds {
+    uint64_t count; /* how many numbers there were */
+    uint64_t first; /* the first */
+    uint64_t last;  /* the last */
+};
+
+struct pie_peak {
+    uint64_t greatest; /* the greatest of some numbers */
+    uint64_t last;     /* the last */
+};
+
+struct pie_total {
+    uint64_t count;    /* how many numbers there were */
+    uint64_t greatest; /* the greatest */
+    uint64_t high;     /* their sum, which stays at 2^128 - 1: the high 64 bits */
+    uint64_t low;      /* the low 64 bits */
+};
+
+/* The numbers of a period's record, of all events in it. Times are in ns. */
+struct pie_meter {
+    uint64_t answers[9];         /* events by their answers: PIE_ENQUEUE, PIE_MARK, PIE_EARLY, PIE_BYTES, PIE_PACKETS, a packet that left, none
+                                    that did, an update, a reset or new parameters */
+    uint64_t causes[16];         /* arrivals by what decided them, in the order of the record's fields; and all other events */
+    struct pie_bounds moments;     /* the effective moments of the events */
+    struct pie_total arrived;    /* the sizes of the packets that arrived, in bytes */
+    struct pie_total waits;      /* how long the packets that left had waited */
+    struct pie_bounds departures;  /* the moments at which they left */
+    struct pie_peak delays;      /* the delays of the updates, while the controller was active */
+    struct pie_peak probs;       /* the probabilities after the events */
+    struct pie_bounds turned_on;   /* the moments of events that turned the controller on */
+    struct pie_bounds turned_off;  /* .. that turned it off */
+    struct pie_bounds times;       /* the times of day of the events, in ns since 1970, where they are told */
+    uint64_t carried;            /* the bytes of the packets that left */
+    uint64_t above;              /* for how long updates took a delay above the target */
+    uint64_t longer;             /* packets that had waited longer than the target */
+    uint64_t late;               /* for how long they had, at the head of the queue */
+    uint64_t target;             /* the target after the last event */
+    uint64_t burst;              /* the burst allowance after the last event */
+};
+
+#define PIE_RANGES 1720 /* ranges of waits: each is told by its first two decimal digits */
+
+/* A period that is summed up while the controller decides, in the caller's memory: some 14 KB. It is there to be read: write to no field of it. */
+struct pie_period {
+    uint64_t every;             /* how long a period lasts */
+    uint64_t wall;              /* 1 where records end with a time of day, and else 0 */
+    uint64_t begun;             /* periods that have begun, those without events left out: the number of the record, counted from 1 */
+    uint64_t number;            /* the number of the period under way: that which begins at moment 0 is 0 */
+    uint64_t start;             /* the moment at which it began */
+    uint64_t end;               /* the moment at which it ends; 0 before the first event */
+    uint64_t told;              /* 1 where a time of day was told, and else 0 */
+    uint64_t clock_moment;      /* the moment at which it was */
+    uint64_t clock_unix;        /* this time of day, in ns since 1970 */
+    struct pie_meter meter;     /* the numbers of its events */
+    uint64_t waits[PIE_RANGES]; /* how many of the waits lie in each range */
+};
+
 #define PIE_RECORD_ROOM 256  /* bytes: more than the longest record of a history has, but that which resumes */
-#define PIE_RESUME_ROOM 1280 /* bytes: more than that one has */
+#define PIE_RESUME_ROOM 1280 /* bytes: more than that one has, or a period's record or header */
 
 /* The statistics of a history, in the order of its record `tallied`. */
 struct pie_stats {
@@ -328,6 +387,40 @@ uint32_t pie_update_event(struct pie_state *state, uint64_t queued, struct pie_e
 uint32_t pie_reset_event(struct pie_state *state, struct pie_event *event);
 uint32_t pie_set_params_event(struct pie_state *state, const struct pie_params *params, struct pie_event *event);
 
+/* Opens periods that are summed up while the controller decides, each `every` ns long, 1 to 2^60 - 1, the first from moment 0 on. With `wall` other
+ * than 0 their records are those of `--wall`: each ends with the time of day of the first event that has one.
+ * Refused: PIE_BAD_EVERY. */
+uint32_t pie_open_period(struct pie_period *period, uint64_t every, uint32_t wall);
+
+/* Tells the time of day, as pie_write_clock does: it holds for the calls that come next.
+ * Refused: PIE_BAD_MOMENT. */
+uint32_t pie_period_clock(struct pie_period *period, uint64_t moment, uint64_t unix_time);
+
+/* The calls for periods: each does what the call that ends in _event does, and adds its event to the period; a refused one adds none. `arrived` of
+ * pie_depart_summed is when the packet arrived, as for pie_depart_waited, also without PIE_DELAY_STAMP: it tells how long the packet had waited.
+ *
+ * A period ends when an event's moment reaches period.end: the call then begins another, and forgets the numbers of the last one. So before each call
+ *
+ *     if (moment >= period.end && period.begun != written) {
+ *         fwrite(out, 1, pie_write_period(&period, out, sizeof out), file);
+ *         written = period.begun;
+ *     }
+ *
+ * and at the end the last one too. The records are those of `pie explain --every 1s --csv` of the history of these calls, to the byte, without that
+ * history. A period without events has none. period.begun is the number of the record, from 1 on: it grows by one from record to record, or one
+ * was lost. */
+uint32_t pie_arrive_summed(struct pie_state *state, uint64_t queued, uint32_t room, struct pie_event *event, struct pie_period *period);
+uint32_t pie_depart_summed(struct pie_state *state, uint64_t left, uint64_t arrived, struct pie_event *event, struct pie_period *period);
+uint32_t pie_empty_summed(struct pie_state *state, struct pie_event *event, struct pie_period *period);
+uint32_t pie_update_summed(struct pie_state *state, uint64_t queued, struct pie_event *event, struct pie_period *period);
+uint32_t pie_reset_summed(struct pie_state *state, struct pie_event *event, struct pie_period *period);
+uint32_t pie_set_params_summed(struct pie_state *state, const struct pie_params *params, struct pie_event *event, struct pie_period *period);
+
+/* Write the record of the period under way, or the header row, with its line feed, as the calls below write theirs. PIE_RESUME_ROOM bytes are
+ * enough. */
+size_t pie_write_period(const struct pie_period *period, unsigned char *out, size_t room);
+size_t pie_write_period_header(const struct pie_period *period, unsigned char *out, size_t room);
+
 /* Write a record of a history (docs/FORMATS.md) with its line feed into the first `room` bytes of `out`, and answer how many bytes it
  * has. Where it has more than `room`, or cannot be, they answer 0 and leave `out` as it was: a kind, an answer or a number out of its
  * range, a number that plays no part and is not 0, a refusal. PIE_RECORD_ROOM bytes are enough for each record. `out` is never NULL, and no
@@ -431,6 +524,8 @@ static inline const char *pie_text(uint64_t code) {
         return "refused: a departure by pie_depart where delays come from time stamps";
     case PIE_BAD_LIMITS:
         return "refused: a mode or a limit of an opening out of its range";
+    case PIE_BAD_EVERY:
+        return "refused: a length of periods outside 1 to 2^60 - 1 ns";
     default:
         return "a code that pie.h does not have";
     }

@@ -11,6 +11,7 @@
 #include "packet.h"
 #include "pie.h"
 #include "pie_follow.h"
+#include "records.h"
 
 #include <errno.h>
 #include <fcntl.h>
@@ -50,6 +51,7 @@ struct bottleneck {
     struct pie_flight_follower follower;
     FILE *history;         /* NULL where none is written */
     _Atomic uint64_t missed; /* events that are missing in it so far */
+    struct records records;
     struct flows flows;
     struct flow_top top;   /* the last period that ended with packets, until it is told; by `telling` */
     pthread_mutex_t telling;
@@ -155,9 +157,9 @@ static void arrive(struct bottleneck *link, struct packet *packet, uint64_t now)
     event.tag = packet->tag;
     event.size = packet->size;
     event.ecn = (uint8_t)packet->ecn;
-    uint32_t verdict = pie_arrive_event(&link->pie, link->queue.bytes, room, &event);
+    uint32_t verdict = decide_arrival(&link->records, &link->pie, link->queue.bytes, room, &event);
     if (verdict > PIE_PACKETS)
-        die_refused("pie_arrive_event", verdict);
+        die_refused("an arrival", verdict);
     keep_event(&link->flight, &link->pie, &event);
     count_event(&link->counted, &event, 0);
     packet->arrived = link->pie.moment;
@@ -211,9 +213,9 @@ static uint64_t rate_at(struct bottleneck *link, uint64_t moment) {
 static void depart(struct bottleneck *link, uint64_t now, uint64_t until) {
     struct packet *packet = pop(&link->queue);
     struct pie_event event = {.moment = now, .tag = packet->tag, .size = packet->size, .caller = LINK, .ecn = (uint8_t)packet->ecn};
-    uint32_t code = pie_depart_event(&link->pie, link->queue.bytes, packet->arrived, &event);
+    uint32_t code = take_departure(&link->records, &link->pie, link->queue.bytes, packet->arrived, &event);
     if (code != PIE_DONE)
-        die_refused("pie_depart_event", code);
+        die_refused("a departure", code);
     keep_event(&link->flight, &link->pie, &event);
     count_event(&link->counted, &event, link->pie.moment - packet->arrived);
     packet->moment = until;
@@ -253,13 +255,13 @@ static void update(struct bottleneck *link, uint64_t now) {
     if (now < link->next_update)
         return;
     struct pie_event event = {.moment = now, .caller = TIMER};
-    uint32_t code = pie_update_event(&link->pie, link->queue.bytes, &event);
+    uint32_t code = make_update(&link->records, &link->pie, link->queue.bytes, &event);
     keep_event(&link->flight, &link->pie, &event);
     count_event(&link->counted, &event, 0);
     if (code == PIE_DONE)
         link->counted.late += now - link->next_update > link->pie.params.t_update;
     else if (code != PIE_TOO_SOON)
-        die_refused("pie_update_event", code);
+        die_refused("an update", code);
     link->next_update = pie_due(&link->pie);
 }
 
@@ -402,6 +404,8 @@ static void open_link(struct bottleneck *link, const struct options *options) {
             die(options->history);
         pie_flight_follow_open(&link->follower, link->flight.memory, link->flight.bytes);
     }
+    if (!open_records(&link->records, options->records, options->every, moment, unix_time))
+        die(options->records);
     if (!open_flows(&link->flows, options->flows))
         die(options->flows);
     open_metrics(&link->metrics, options->metrics, options->to);
@@ -420,6 +424,8 @@ static void close_link(struct bottleneck *link) {
         die(link->options->metrics);
     if (link->history != NULL && (link->history == stdout ? fflush(stdout) : fclose(link->history)) != 0)
         die(link->options->history);
+    if (!close_records(&link->records))
+        die("records");
     if (!close_flows(&link->flows))
         die("flows");
     if (link->flows.missing != 0)

@@ -24,6 +24,8 @@ static const char help_of_link[] =
     "  --metrics FILE       the numbers of the queue for node_exporter (*.prom), replaced each second, gone at the end\n"
     "  --flows FILE         write whose packets come: a flow's number stands in the upper 32 bits of each tag, and FILE tells each number's\n"
     "                       addresses and ports; and print twice a second which flow most bytes came of\n"
+    "  --records FILE       write sums of each period as it ends, as pie explain --every --csv --wall writes them of the history\n"
+    "  --every 1s           how long such a period lasts\n"
     "  --for 60s            end after this time\n"
     "\n"
     "The other options are those of pie params. Times, rates and sizes are read as tc reads them, but never rounded. It has to be root, or\n"
@@ -77,9 +79,10 @@ int read_options(int count, char **words, struct options *options) {
         {"--grant", option_time, &options->grant},     {"--for", option_time, &options->lasts},
         {"--metrics", option_text, &options->metrics},
         {"--flows", option_text, &options->flows},
+        {"--records", option_text, &options->records}, {"--every", option_time, &options->every},
     };
     const struct command command = {"link", {help_of_use, help_of_link}, own, sizeof own / sizeof own[0], MOST_PACKETS};
-    *options = (struct options){.rtt = 20000000, .lasts = 60000000000};
+    *options = (struct options){.rtt = 20000000, .lasts = 60000000000, .every = 1000000000};
     int place = read_words(&command, count, words, &options->control);
     if (place == WORDS_HELP)
         return OPTIONS_HELP;
@@ -89,6 +92,8 @@ int read_options(int count, char **words, struct options *options) {
         place = refuse_word(&command, words[place], "", "unknown");
     else if (place >= 0 && options->grant != 0 && options->grant < LEAST_GRANT)
         place = refuse_word(&command, "--grant", "", "out of its range");
+    else if (place >= 0 && options->every == 0)
+        place = refuse_word(&command, "--every", "", "out of its range");
     else if (place >= 0 && (options->from == NULL || options->to == NULL))
         place = refuse_word(&command, "--from and --to", "", "missing");
     return place == WORDS_WRONG ? OPTIONS_WRONG : OPTIONS_READ;

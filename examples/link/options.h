@@ -19,6 +19,8 @@ struct options {
     const char *flight;     /* the file of the flight recorder; NULL with none */
     const char *metrics;    /* the file of the metrics; NULL with none */
     const char *flows;      /* the file that tells flows; NULL with none */
+    const char *records;    /* the file for the records of periods; NULL with none */
+    uint64_t every;         /* ns that a period lasts */
     uint64_t rtt;           /* ns on the way back */
     uint64_t grant;         /* ns from one grant to the next; 0: the link sends whenever it is free */
     struct rate_step rates[MOST_STEPS]; /* by their moments; the first is 0 */

@@ -16,11 +16,12 @@ from pathlib import Path
 
 # names in the source and what pie.h calls them
 TYPES = {"PieParams": "pie_params", "PieState": "pie_state", "PieUpdated": "pie_updated", "PieEvent": "pie_event", "PieOpening": "pie_opening",
-         "PieStats": "pie_stats", "usize": "size_t"}
+         "PieStats": "pie_stats", "LivePeriod": "pie_period", "Meter": "pie_meter", "Bounds": "pie_bounds", "Peak": "pie_peak", "Total": "pie_total",
+         "usize": "size_t"}
 RUST_TYPES = {"Params": "pie_params", "State": "pie_state", "RawUpdated": "pie_updated", "RawEvent": "pie_event", "RawOpening": "pie_opening",
               "Stats": "pie_stats", "usize": "size_t"}
 PARAMETERS = {("pie_arrive", "bits"): "ecn", ("pie_write_refused", "number"): "record", ("pie_write_queued", "bits"): "ecn",
-              ("pie_write_clock", "unix"): "unix_time"}  # (compilers of C may define `unix`)
+              ("pie_write_clock", "unix"): "unix_time", ("pie_period_clock", "unix"): "unix_time"}  # (compilers of C may define `unix`)
 # a slice is a pointer and a length
 SLICES = {"&[u8]": ("&char", "length"), "&mut [u8]": ("&mut unsigned char", "room")}
 CODES = {"DONE": ["PIE_DONE", "PIE_ENQUEUE"], "OVER_BYTES": ["PIE_BYTES"], "OVER_PACKETS": ["PIE_PACKETS"]}
@@ -128,7 +129,9 @@ class Rust:
         self.text = text
         self.structs, self.docs = {}, {}
         for name, body in re.findall(r"#\[repr\(C\)\]\s*(?:#\[[^\]]*\]\s*)*(?:pub(?:\(crate\))? )?struct (\w+) \{(.*?)\n\}", text, re.S):
-            fields = re.findall(r"((?:\s*///[^\n]*\n)*)\s*(?:pub(?:\(crate\))? )?(\w+): (\w+),", body)
+            # (an array's length stands behind its name, as in C)
+            body = re.sub(r"(\w+): \[(\w+); (\w+)\],", lambda it: f"{it[1]}[{'PIE_' * (it[3] == 'RANGES')}{it[3]}]: {it[2]},", body)
+            fields = re.findall(r"((?:\s*///[^\n]*\n)*)\s*(?:pub(?:\(crate\))? )?(\w+(?:\[\w+\])?): (\w+),", body)
             self.structs[names.get(name, name)] = [(plain_rust(kind, names), field) for _, field, kind in fields]
             self.docs[names.get(name, name)] = {field: one_line(doc.replace("///", "")) for doc, field, _ in fields}
         self.functions = {}
@@ -263,7 +266,7 @@ def compare_refusals(header, rust, source):
     for listed, name in re.findall(r"/// # Errors\s*/// (?:In this order: )?([`\w, ]+)\.\s*pub fn (\w+)", rust):
         told["pie_" + name] = [REFUSALS.get(it) for it in re.findall(r"`(\w+)`", listed)]
     # an ECN field or a profile out of its range can't be said in Rust
-    wanted = {name: [it for it in codes if it not in ("PIE_BAD_ECN", "PIE_BAD_PROFILE", "PIE_BAD_CHOICES")] for name, codes in orders.items()}
+    wanted = {name: [it for it in codes if it not in ("PIE_BAD_ECN", "PIE_BAD_PROFILE", "PIE_BAD_CHOICES")] for name, codes in orders.items() if name in rust}
     yield from same("bindings/rust: the order of refusals", told, {**wanted, "pie_check": ["PIE_BAD_STATE"]})
 
 
@@ -384,11 +387,11 @@ def read_source(folder, pattern, but="tests"):
 
 def differences(root):
     header = Header((root / "include/pie.h").read_text())
-    text = "\n".join(read_source(root / f"crates/{it}/src", "*.rt") for it in ("pie_abi", "pie_c"))
+    text = "\n".join(read_source(root / f"crates/{it}/src", "*.rt") for it in ("pie_abi", "pie_c", "pie_summary"))
     source = Rust(text, TYPES, r'pub extern "C" ')
     rust_text = read_source(root / "bindings/rust/src", "*.rs", "link")
     rust = Rust(rust_text, RUST_TYPES, r"(?<!pub )")
-    if len(source.functions) < 10 or len(source.structs) != 6:
+    if len(source.functions) < 10 or len(source.structs) != 11:
         yield "crates/pie_c/src: its functions and structs were not found"
     yield from compare_declarations("include/pie.h", header, source, True)
     yield from compare_declarations("bindings/rust", rust, source, False)

@@ -3,3 +3,4 @@ mod Sound
 mod Examples
 pub mod Packets
 pub mod WrittenFacts
+pub mod SummedFacts

@@ -5,3 +5,4 @@ pub mod Opening
 pub mod Reading
 pub mod Events
 pub mod Resuming
+pub mod Summed

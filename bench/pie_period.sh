@@ -1,0 +1,20 @@
+#!/usr/bin/env bash
+# Measures what it costs to sum up an event in a period (pie_arrive_summed and so on) beside the call that records it alone (bench/pie_period.c):
+# prints of each the least and the median, and what summing takes more; and where valgrind is there the instructions of each.
+#
+# usage: bench/pie_period.sh    after `rt lib` in crates/pie_c
+set -eu
+cd "$(dirname "$0")/.."
+work=$(mktemp -d)
+trap 'rm -rf "$work"' EXIT
+"${CC:-cc}" -O2 -std=gnu11 -Iinclude -o "$work/period" bench/pie_period.c crates/pie_c/out/libpie_c.a
+"$work/period" > "$work/lines"
+python3 bench/ratios.py "$work/lines" arrive_summed/arrive depart_summed/depart stream_summed/stream more_arrive more_depart more_stream
+if ! command -v valgrind > /dev/null; then
+    echo "NOT RUN: bench/pie_period.sh: no valgrind here, so no instructions were counted"
+    exit 0
+fi
+for kind in arrive arrive_summed depart depart_summed stream stream_summed; do
+    valgrind --tool=callgrind --callgrind-out-file=/dev/null --toggle-collect="$kind" "$work/period" count "$kind" 2> "$work/said"
+    echo "$kind: $(awk '/Collected/ {printf "%.1f", $NF / 1024}' "$work/said") instructions"
+done

@@ -1,0 +1,77 @@
+//! A period that is summed up as it goes: its opening, the time of day, and its record.
+ghost use Rattle.std.specs.Prelude.{◌≡◌, ◌==◌, [], List, if◌then◌else◌};
+ghost use Rattle.pie_c.specs.Calls.{moment_refusal};
+ghost use Rattle.pie_c.specs.Events.{after_writing, count_written};
+ghost use Rattle.pie_c.specs.Summed.{every_refusal};
+ghost use Rattle.pie_explanation.specs.declared.explanation.Explained.{Explained};
+ghost use Rattle.pie_summary.specs.declared.live.LivePeriod.{LivePeriod};
+ghost use Rattle.pie_summary.specs.Live.{Holds, form_in, length_of};
+ghost use Rattle.pie_summary.specs.Period.{last_events};
+ghost use Rattle.pie_summary.specs.Summary.{header, said_of};
+
+use crate::writing::write_text;
+use pie_abi::code::{BAD_MOMENT, DONE};
+use pie_fixed::MAX_NANOS;
+use pie_summary::{Line, LivePeriod};
+
+/// Refused: a length of periods out of its range.
+pub const BAD_EVERY: u32 = 121;
+
+/// Opens periods of so many nanoseconds, 1 to 2^60 - 1, whose records end with the time of day where `wall` isn't 0.
+#[unsafe(no_mangle)]
+pub extern "C" fn pie_open_period(period: &mut LivePeriod, every: u64, wall: u32) -> u32
+    ensures code { result ≡ every_refusal every }
+    ensures refused { (every_refusal every ≡ 0 → ⊥) → period.new ≡ period.old }
+    ensures every { every_refusal every ≡ 0 → period.new.every ≡ every }
+    ensures wall { every_refusal every ≡ 0 → period.new.wall ≡ (if wall == 0 then 0 else 1) }
+    ensures untold { every_refusal every ≡ 0 → period.new.told ≡ 0 }
+    ensures holds { every_refusal every ≡ 0 → Holds period.new [] }
+{
+    if every == 0 || every > MAX_NANOS {
+        return BAD_EVERY;
+    }
+    *period = LivePeriod::open(every, wall != 0);
+    DONE
+}
+
+/// Tells the time of day: it was `unix` nanoseconds since 1970-01-01T00:00:00Z when the caller's clock showed `moment`.
+#[unsafe(no_mangle)]
+#[tactic(auto, unfolding(crate::specs::Calls::moment_refusal))]
+pub extern "C" fn pie_period_clock(period: &mut LivePeriod, moment: u64, unix: u64) -> u32
+    ensures code { result ≡ moment_refusal moment }
+    ensures told { period.new ≡ (if moment_refusal moment == 0
+        then record period.old { told = 1; clock_moment = moment; clock_unix = unix } else period.old) }
+    ensures holds { (all : List Explained) → Holds period.old all → Holds period.new all }
+{
+    if moment > MAX_NANOS {
+        return BAD_MOMENT;
+    }
+    period.told = 1;
+    period.clock_moment = moment;
+    period.clock_unix = unix;
+    DONE
+}
+
+/// Writes the record of the period under way, as `pie explain --every --csv` writes it, with `--wall` where that was asked for.
+#[unsafe(no_mangle)]
+pub extern "C" fn pie_write_period(period: &LivePeriod, out: &mut [u8]) -> usize
+    ensures count { (all : List Explained) → Holds period.now all
+        → result ≡ count_written (said_of (form_in period.now) (last_events (length_of period.now) all)) out.old }
+    ensures bytes { (all : List Explained) → Holds period.now all
+        → out.new ≡ after_writing (said_of (form_in period.now) (last_events (length_of period.now) all)) out.old }
+{
+    let mut line = Line::new();
+    period.put_record(&mut line);
+    write_text(line.as_bytes(), out)
+}
+
+/// Writes the header row of the records.
+#[unsafe(no_mangle)]
+pub extern "C" fn pie_write_period_header(period: &LivePeriod, out: &mut [u8]) -> usize
+    ensures count { result ≡ count_written (header (form_in period.now)) out.old }
+    ensures bytes { out.new ≡ after_writing (header (form_in period.now)) out.old }
+{
+    let mut line = Line::new();
+    period.put_header(&mut line);
+    write_text(line.as_bytes(), out)
+}

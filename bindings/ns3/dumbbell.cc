@@ -35,6 +35,7 @@ struct Scenario
     double warmUp = 5; /* seconds of which steady figures take no account */
     double buffer = 0; /* send buffer of each flow, in kB; 0: as SendBufferBytes says */
     std::string history;
+    std::string flowsFile;
 };
 
 constexpr uint32_t SEGMENT = 1448;   /* with 52 bytes of headers a packet of 1500 */
@@ -174,7 +175,7 @@ QueueOf(const Scenario& scenario)
                                 "ScaleBySize", BooleanValue(isScaled),
                                 "DecayBelowHalf", BooleanValue(isHalf),
                                 "UseEcn", BooleanValue(scenario.ecn),
-                                "History", StringValue(scenario.history));
+                                "History", StringValue(scenario.history), "Flows", StringValue(scenario.flowsFile));
     }
     else if (scenario.queue.rfind("pie", 0) == 0)
     {
@@ -368,6 +369,7 @@ Read(int count, char** words)
     line.AddValue("warm-up", "seconds of which steady figures take no account", s.warmUp);
     line.AddValue("buffer", "send buffer of each flow, kB; 0: four times its share of what link and queue hold", s.buffer);
     line.AddValue("history", "file for the history (queue recorded)", s.history);
+    line.AddValue("flows-file", "file that tells its flows (queue recorded)", s.flowsFile);
     line.AddValue("header", "print the names of the fields before the record", isHeader);
     line.Parse(count, words);
     if (isHeader)

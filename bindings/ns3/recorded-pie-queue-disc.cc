@@ -4,6 +4,8 @@
 #include "ns3/boolean.h"
 #include "ns3/double.h"
 #include "ns3/drop-tail-queue.h"
+#include "ns3/ipv4-queue-disc-item.h"
+#include "ns3/ipv6-queue-disc-item.h"
 #include "ns3/log.h"
 #include "ns3/simulator.h"
 #include "ns3/string.h"
@@ -158,6 +160,11 @@ RecordedPieQueueDisc::GetTypeId()
                           StringValue(""),
                           MakeStringAccessor(&RecordedPieQueueDisc::m_historyName),
                           MakeStringChecker())
+            .AddAttribute("Flows",
+                          "The file that tells flows, whose numbers then stand in the upper 32 bits of each tag; none where empty",
+                          StringValue(""),
+                          MakeStringAccessor(&RecordedPieQueueDisc::m_flowsName),
+                          MakeStringChecker())
             .AddTraceSource("Probability",
                             "The probability after an update",
                             MakeTraceSourceAccessor(&RecordedPieQueueDisc::m_probability),
@@ -173,6 +180,7 @@ RecordedPieQueueDisc::RecordedPieQueueDisc()
     : QueueDisc(QueueDiscSizePolicy::SINGLE_INTERNAL_QUEUE, QueueSizeUnit::BYTES),
       m_pie(),
       m_words(CreateObject<UniformRandomVariable>()),
+      m_flows(),
       m_arrivals(0)
 {
 }
@@ -187,6 +195,7 @@ RecordedPieQueueDisc::DoDispose()
         m_history.close();
         NS_ABORT_MSG_IF(m_history.fail(), "the history could not be written");
     }
+    NS_ABORT_MSG_UNLESS(close_flows(&m_flows), "the flows could not be written");
     QueueDisc::DoDispose();
 }
 
@@ -255,6 +264,8 @@ RecordedPieQueueDisc::InitializeParams()
     pie_opening opening = Opening();
     Expect(pie_open(&m_pie, &opening), "pie_open");
     RecordOpening(opening);
+    const char* flowsName = m_flowsName.empty() ? nullptr : m_flowsName.c_str();
+    NS_ABORT_MSG_UNLESS(open_flows(&m_flows, flowsName), "cannot write " << m_flowsName);
     m_updateEvent = Simulator::Schedule(m_tUpdate, &RecordedPieQueueDisc::Update, this);
 }
 
@@ -295,6 +306,30 @@ RecordedPieQueueDisc::Word()
     return high << 32 | m_words->GetInteger(0, UINT32_MAX);
 }
 
+/* The tag of the packet that arrives. Its IP header is beside it until it leaves, so its bytes are put together here. */
+uint64_t
+RecordedPieQueueDisc::Tag(Ptr<const QueueDiscItem> item)
+{
+    m_arrivals++;
+    if (m_flowsName.empty())
+    {
+        return m_arrivals;
+    }
+    Ptr<Packet> packet = item->GetPacket()->Copy();
+    if (auto ipv4 = DynamicCast<const Ipv4QueueDiscItem>(item))
+    {
+        packet->AddHeader(ipv4->GetHeader());
+    }
+    else if (auto ipv6 = DynamicCast<const Ipv6QueueDiscItem>(item))
+    {
+        packet->AddHeader(ipv6->GetHeader());
+    }
+    uint8_t bytes[FLOW_BYTES];
+    uint32_t caught = packet->CopyData(bytes, sizeof bytes);
+    flow_top ended;
+    return note_flow(&m_flows, bytes, caught, item->GetSize(), Moment(), m_arrivals, &ended);
+}
+
 bool
 RecordedPieQueueDisc::Drop(Ptr<QueueDiscItem> item, const char* reason)
 {
@@ -307,7 +342,7 @@ RecordedPieQueueDisc::DoEnqueue(Ptr<QueueDiscItem> item)
 {
     Ptr<InternalQueue> queue = GetInternalQueue(0);
     pie_event event = EventBy(SENDERS);
-    event.tag = ++m_arrivals;
+    event.tag = Tag(item);
     event.size = item->GetSize();
     event.ecn = static_cast<uint8_t>(EcnField(item, m_useEcn));
     event.word = Word();
@@ -330,7 +365,7 @@ RecordedPieQueueDisc::DoEnqueue(Ptr<QueueDiscItem> item)
         break;
     }
     NS_ABORT_MSG_UNLESS(queue->Enqueue(item), "the queue refused a packet that the library let in");
-    m_tags.emplace_back(m_arrivals, m_pie.moment);
+    m_tags.emplace_back(event.tag, m_pie.moment);
     return true;
 }
 

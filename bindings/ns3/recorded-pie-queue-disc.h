@@ -3,6 +3,7 @@
 #ifndef RECORDED_PIE_QUEUE_DISC_H
 #define RECORDED_PIE_QUEUE_DISC_H
 
+#include "flow.h"
 #include "pie.h"
 
 #include "ns3/event-id.h"
@@ -52,6 +53,7 @@ class RecordedPieQueueDisc : public QueueDisc
     pie_opening Opening() const;
     void Update();
     uint64_t Word();
+    uint64_t Tag(Ptr<const QueueDiscItem> item);
     bool Drop(Ptr<QueueDiscItem> item, const char* reason);
     void RecordOpening(const pie_opening& opening);
     void Record(const pie_event& event);
@@ -76,12 +78,14 @@ class RecordedPieQueueDisc : public QueueDisc
     bool m_isScaled;
     bool m_decaysBelowHalf;
     std::string m_historyName;
+    std::string m_flowsName;
 
     pie_state m_pie;
     Ptr<UniformRandomVariable> m_words;
     EventId m_updateEvent;
     std::ofstream m_history;
-    uint64_t m_arrivals;         /* so far; a packet's tag in the history is its number among them */
+    flows m_flows;
+    uint64_t m_arrivals;         /* so far; a packet's tag in the history is its number among them, with Flows below its flow's */
     std::deque<std::pair<uint64_t, uint64_t>> m_tags; /* of the packets that wait, with the controller's moment at the arrival */
     TracedValue<double> m_probability;
     TracedValue<Time> m_delay;

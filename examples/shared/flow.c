@@ -61,28 +61,34 @@ static bool read_ipv6(const uint8_t *bytes, size_t size, struct flow *flow) {
 }
 
 bool read_flow(const uint8_t *bytes, size_t size, struct flow *flow) {
-    *flow = (struct flow){.version = size != 0 ? bytes[0] >> 4 : 0};
+    memset(flow, 0, sizeof *flow); /* its gaps too: flows are compared as bytes */
+    flow->version = size != 0 ? bytes[0] >> 4 : 0;
     if (flow->version == 4)
         return read_ipv4(bytes, size, flow);
     return flow->version == 6 && read_ipv6(bytes, size, flow);
 }
 
+static uint32_t turned(uint32_t word, int bits) {
+    return word << bits | word >> (32 - bits);
+}
+
+/* MurmurHash3 (x86, 32 bits) of a whole number of words, as far as its last step. */
 static uint32_t hashed(uint32_t hash, const uint8_t *bytes, size_t count) {
-    for (size_t i = 0; i < count; i++)
-        hash = (hash ^ bytes[i]) * UINT32_C(16777619);
+    for (size_t i = 0; i < count; i += 4) {
+        uint32_t word = (uint32_t)bytes[i] | (uint32_t)bytes[i + 1] << 8 | (uint32_t)bytes[i + 2] << 16 | (uint32_t)bytes[i + 3] << 24;
+        hash ^= turned(word * UINT32_C(0xcc9e2d51), 15) * UINT32_C(0x1b873593);
+        hash = turned(hash, 13) * 5 + UINT32_C(0xe6546b64);
+    }
     return hash;
 }
 
-/* FNV-1a over the protocol, the addresses and, where there are some, the ports, as they stand in the packet; and then mixed, so that each bit
- * depends on each. */
+/* MurmurHash3 of both addresses and, where there are some, both ports, as they stand in the packet; the protocol is its seed. */
 uint32_t flow_number(const struct flow *flow) {
-    const size_t address = flow->version == 4 ? 4 : 16;
+    const uint32_t address = flow->version == 4 ? 4 : 16, size = 2 * address + (flow->has_ports ? PORTS : 0);
     const uint8_t ports[PORTS] = {(uint8_t)(flow->source_port >> 8), (uint8_t)flow->source_port, (uint8_t)(flow->destination_port >> 8),
                                   (uint8_t)flow->destination_port};
-    uint32_t hash = hashed(UINT32_C(2166136261), &flow->protocol, 1);
-    hash = hashed(hash, flow->source, address);
-    hash = hashed(hash, flow->destination, address);
-    hash = hashed(hash, ports, flow->has_ports ? PORTS : 0);
+    uint32_t hash = hashed(hashed(flow->protocol, flow->source, address), flow->destination, address);
+    hash = hashed(hash, ports, flow->has_ports ? PORTS : 0) ^ size;
     hash = (hash ^ hash >> 16) * UINT32_C(0x85ebca6b);
     hash = (hash ^ hash >> 13) * UINT32_C(0xc2b2ae35);
     return hash ^ hash >> 16;
@@ -131,18 +137,12 @@ bool open_flows(struct flows *flows, const char *name) {
            fflush(flows->file) == 0;
 }
 
-static bool is_same(const struct flow *one, const struct flow *other) {
-    return one->version == other->version && one->protocol == other->protocol && one->has_ports == other->has_ports &&
-           one->source_port == other->source_port && one->destination_port == other->destination_port &&
-           memcmp(one->source, other->source, 16) == 0 && memcmp(one->destination, other->destination, 16) == 0;
-}
-
 /* The row of a flow, a new one where it has none; NULL where there is no room. */
 static struct flow_row *row_of(struct flows *flows, const struct flow *flow, uint32_t number) {
     uint32_t place = number % FLOW_PLACES, count = flows->count;
     for (; flows->places[place] != 0; place = (place + 1) % FLOW_PLACES) {
         struct flow_row *row = &flows->rows[flows->places[place] - 1];
-        if (row->number == number && is_same(&row->flow, flow))
+        if (row->number == number && memcmp(&row->flow, flow, sizeof *flow) == 0)
             return row;
     }
     if (count == MOST_FLOWS)

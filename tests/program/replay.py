@@ -5,6 +5,7 @@ and what was decided until then is written. Where libpcap or a C compiler isn't 
 
 usage: tests/program/replay.py [PIE]      PIE: crates/pie/out/pie where none is given
 needs: program, library"""
+import ipaddress
 import os
 import random
 import shutil
@@ -183,6 +184,64 @@ def each_kind(tool):
     return len(first)
 
 
+def flow_number(protocol, source, destination, ports=b""):
+    """What examples/README.md says of a flow's number: MurmurHash3 (x86, 32 bits)."""
+    data, value = source + destination + ports, protocol
+    for word in struct.unpack(f"<{len(data) // 4}I", data):
+        word = word * 0xCC9E2D51 % 2**32
+        value ^= (word << 15 | word >> 17) % 2**32 * 0x1B873593 % 2**32
+        value = ((value << 13 | value >> 19) % 2**32 * 5 + 0xE6546B64) % 2**32
+    value ^= len(data)
+    value = (value ^ value >> 16) * 0x85EBCA6B % 2**32
+    value = (value ^ value >> 13) * 0xC2B2AE35 % 2**32
+    return value ^ value >> 16
+
+
+def one_flow(version, protocol, hosts, ports, extensions=(), fragment=None, options=0):
+    """A packet of 200 bytes, with these extension headers or as a fragment that more follow or at this offset; and the line that tells its flow."""
+    size, head = 4 if version == 4 else 16, struct.pack(">HH", *ports)
+    source, destination = (bytes([10 if size == 4 else 0xFD]) + bytes(size - 2) + bytes([host]) for host in hosts)
+    if version == 4:
+        flags = 0 if fragment is None else 0x2000 if fragment == 0 else fragment // 8
+        packet = struct.pack(">BBHHHBBH", 0x45 + options, 0, 200, 1, flags, 64, protocol, 0) + source + destination + bytes(4 * options) + head
+    else:
+        kinds, body = [*extensions, protocol], b""
+        for kind, follows in zip(kinds, kinds[1:]):
+            body += {44: struct.pack(">BBHI", follows, 0, (fragment or 0) & ~7 | 1, 5), 51: bytes([follows, 2]) + bytes(14)}.get(
+                kind, bytes([follows, 1]) + bytes(14))
+        packet = struct.pack(">IHBB", 6 << 28, 160, kinds[0], 64) + source + destination + body + head
+    has_ports = protocol in (6, 17, 33, 132, 136) and fragment is None and 44 not in extensions
+    number = flow_number(protocol, source, destination, head if has_ports else b"")
+    texts = [str(ipaddress.ip_address(it)) for it in (source, destination)]
+    name = {1: "icmp", 6: "tcp", 17: "udp", 50: "esp", 58: "ipv6-icmp", 132: "sctp"}.get(protocol, protocol)
+    shown = ports if has_ports else ("", "")
+    return packet.ljust(200, b"x"), number, f"0x{number:08x},{name},{texts[0]},{shown[0]},{texts[1]},{shown[1]}"
+
+
+def flows(tool):
+    """With --flows a tag is the flow's number and the frame's below it, and the file has each flow once, in the order of their first packets."""
+    made = [one_flow(4, 17, (1, 2), (5000, 53)), one_flow(4, 17, (2, 1), (53, 5000)), one_flow(4, 6, (1, 2), (5000, 53)),
+            one_flow(4, 6, (1, 2), (5000, 53), options=3), one_flow(4, 17, (1, 2), (5000, 53), fragment=0),
+            one_flow(4, 17, (1, 2), (7, 9), fragment=1480), one_flow(4, 1, (1, 2), (8, 0)), one_flow(4, 47, (1, 2), (1, 2)),
+            one_flow(6, 17, (1, 2), (5000, 53)), one_flow(6, 132, (1, 2), (1, 65535)), one_flow(6, 17, (1, 2), (5000, 53), (0, 60, 43)),
+            one_flow(6, 17, (1, 2), (5000, 53), (51,)), one_flow(6, 17, (1, 2), (5000, 53), (0, 44)), one_flow(6, 17, (3, 2), (4, 5), (44,), 800),
+            one_flow(6, 58, (1, 2), (128, 0)), one_flow(6, 59, (1, 2), (0, 0))]
+    random_of = random.Random(7)
+    order = [*range(len(made)), *(random_of.randrange(len(made)) for _ in range(300))]
+    frames = [(i * 10**6, frame(ETHERNET, made[it][0], i % 2)) for i, it in enumerate(order)]
+    told = tool.work / "flows"
+    _, lines, found, _, said = tool.run(pcap(ETHERNET, frames), "--flows", told)
+    expect(is_clean(lines, found), f"flows: {found}, {said}")
+    tags = [int(it[3]) for it in arrivals(lines)]
+    expect(tags == [made[it][1] << 32 | i for i, it in enumerate(order, 1)], f"flows: other tags than {[hex(it) for it in tags[:20]]}")
+    wanted = list(dict.fromkeys(it[2] for it in made))
+    expect(len(wanted) == len(made) - 4 and told.read_text().splitlines() == ["flow,protocol,source,source_port,destination,destination_port", *wanted],
+           f"flows: the file has {told.read_text()}")
+    # cut before the ports: by addresses and protocol
+    _, lines, _, _, _ = tool.run(pcap(ETHERNET, frames[:1], snap=35), "--flows", told)
+    expect(int(arrivals(lines)[0][3]) >> 32 == flow_number(17, made[0][0][12:16], made[0][0][16:20]), "flows: of a packet that is cut before its ports")
+
+
 def choices(tool):
     data = pcap(RAW, [(m, p) for m, p, _, _ in traffic(1500)])
     words = ["--dq_rate_estimator", "--no_derandomization", "--no_cap_drop_adjustment", "--bytemode", "--decay=half"]
@@ -265,6 +324,7 @@ def main():
     with tempfile.TemporaryDirectory() as folder:
         tool = Tool(Path(folder))
         records = each_kind(tool)
+        flows(tool)
         choices(tool)
         filters(tool)
         super_packets(tool)

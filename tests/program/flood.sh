@@ -1,0 +1,91 @@
+#!/usr/bin/env bash
+# A flood of UDP beside four TCP flows through the link in user space (examples/link): within a second of its first packet the link names it by its
+# addresses and ports, while it runs; the file that tells flows has it, and each other flow of the history, which is clean. Without root or /dev/net/tun all of it runs in a Linux in a process, bench/uml. Where this machine lacks
+# something that it takes, a line that begins with NOT RUN says so.
+# usage: tests/program/flood.sh [PROGRAM]      PROGRAM: crates/pie/out/pie where none is given
+# needs: program, library, root, quiet
+. "$(dirname "$0")/../shared/script.sh"
+link=$top/examples/link
+inside=()
+if ! missing=$("$link/missing.sh"); then
+    ! "$top/bench/uml/helps.sh" "$missing" || inside=("$top/bench/uml/run.sh")
+fi
+command -v python3 > /dev/null || missing="$missing python3" inside=()
+if [ -n "$missing" ] && [ ${#inside[@]} = 0 ]; then
+    echo "NOT RUN: $script: no flood went through the link in user space, for want of $(tr '\n' ' ' <<<"$missing")"
+    exit 0
+fi
+if ! (cd "$top/crates/pie_c" && { [ -e out/libpie_c.a ] || rt lib; } && make -s -C "$link") > "$work/build.log" 2>&1; then
+    cat "$work/build.log"
+    exit 1
+fi
+if [ ${#inside[@]} != 0 ]; then
+    echo "$script: in a Linux in a process (bench/uml), for want of $(tr '\n' ' ' <<< "$missing")"
+    "${inside[@]}" "$here/flood.sh" "$program"
+    exit
+fi
+. "$link/measure.sh"
+trap 'clean_up; rm -rf "$work"' EXIT
+
+# 3000 datagrams of 1000 bytes from port 40000 to port 9: some 16 Mbit/s for a second and a half
+flood='import socket, sys, time
+end = socket.socket(socket.AF_INET, socket.SOCK_DGRAM)
+end.bind((sys.argv[1], 40000))
+for burst in range(300):
+    for packet in range(10):
+        end.sendto(bytes(1000), (sys.argv[2], 9))
+    time.sleep(0.005)'
+
+bound=40
+for name in "${names[@]}"; do
+    ip netns add "$name" || exit 1
+done
+# shellcheck disable=SC2086
+(within "${names[1]}" $before_others "$link_program" --from senders --to receivers --for "${bound}s" --rate 10mbit --rtt 20ms \
+    --history "$work/history" --flows "$work/flows") > "$work/said" 2>&1 &
+pid=$!
+started+=("$pid")
+wait_for has_device "${names[1]}" senders && wait_for has_device "${names[1]}" receivers || exit 1
+set_up_end "${names[0]}" senders "$near" "$far" && set_up_end "${names[2]}" receivers "$far" "$near" || exit 1
+(within "${names[2]}" iperf3 --server --one-off) > "$work/server" 2>&1 &
+started+=($!)
+wait_for is_listening "${names[2]}" || exit 1
+(within "${names[0]}" iperf3 --client "$far" --parallel 4 --time 8 --congestion cubic) > "$work/tcp" 2>&1 &
+started+=($!)
+sleep 3
+(within "${names[0]}" python3 -c "$flood" "$near" "$far") > "$work/flood" 2>&1 &
+started+=($!)
+flow="udp $near:40000 > $far:9"
+if ! wait_for grep -q "most came of flow 0x[0-9a-f]*, $flow:" "$work/said"; then
+    echo "$script: the flood is not named while it runs:"
+    cat "$work/said" "$work/flood"
+    exit 1
+fi
+kill -0 "$pid" || { echo "$script: the link ended"; exit 1; }
+sleep 2
+kill -TERM "$pid"
+wait "$pid"
+clean_up
+
+# within a second: by the link's clock, from the flood's first packet to the end of the period that names it
+read -r at number < <(sed -n "s/^link: at \([0-9.]*\) s most came of flow \(0x[0-9a-f]*\), $flow:.*/\1 \2/p" "$work/said" | head -n 1)
+first=$("$program" explain --all --csv "$work/history" | python3 -c 'import csv, sys
+print(next(row["moment"] for row in csv.DictReader(sys.stdin) if row["kind"] == "arrive" and int(row["tag"]) >> 32 == int(sys.argv[1], 16)))' "$number")
+if ! awk -v at="$at" -v first="$first" 'BEGIN { exit !(at - first / 1e9 <= 1 && at > first / 1e9) }'; then
+    echo "$script: the flood began at $first ns, and was named at $at s"
+    exit 1
+fi
+row=$(grep "^$number," "$work/flows")
+if [[ $row != "$number,udp,$near,40000,$far,9" ]]; then
+    echo "$script: the file tells $row"
+    exit 1
+fi
+events=$(grep -c -E '^(arrive|depart|update),' "$work/history")
+found=$("$program" audit < "$work/history")
+told=$(sed 1d "$work/flows" | cut -d , -f 1 | while read -r it; do echo $((it)); done | sort -u)
+there=$(awk -F, '$1 == "arrive" { print int($4 / 4294967296) }' "$work/history" | sort -u)
+if [ "$found" != "clean,$events" ] || [ "$told" != "$there" ] || [ "$(wc -l <<< "$there")" -lt 6 ]; then
+    echo "$script: $found of $events events; flows of the history: $there; of the file: $told"
+    exit 1
+fi
+echo "$script: named after $(awk -v at="$at" -v first="$first" 'BEGIN { printf "%.1f", at - first / 1e9 }') s: $flow"

@@ -33,7 +33,13 @@ opens -half open3,1,rate,derandomized,capped,unscaled,half,rolling
 # the history of a run is clean, and ns-3 counted the same marks and drops as it has
 runs() {
     local queue=$1 events found marks drops
-    "$here/out/dumbbell" --queue="$queue" --ecn=1 --seconds=3 --warm-up=0 --history="$work/history" > "$work/record" || exit 1
+    "$here/out/dumbbell" --queue="$queue" --ecn=1 --seconds=3 --warm-up=0 --history="$work/history" --records="$work/records" --every=0.05 \
+        > "$work/record" || exit 1
+    "$program" explain --every 50ms --csv "$work/history" > "$work/sums"
+    if ! cmp "$work/records" "$work/sums"; then
+        echo "bindings/ns3/check.sh: $queue: the records of periods are not those of pie explain"
+        exit 1
+    fi
     events=$(grep -c -E '^(arrive|depart|update),' "$work/history")
     found=$("$program" audit < "$work/history")
     marks=$(grep -c ',mark$' "$work/history")

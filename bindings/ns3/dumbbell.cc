@@ -36,6 +36,8 @@ struct Scenario
     double buffer = 0; /* send buffer of each flow, in kB; 0: as SendBufferBytes says */
     std::string history;
     std::string flowsFile;
+    std::string records;
+    double every = 1;
 };
 
 constexpr uint32_t SEGMENT = 1448;   /* with 52 bytes of headers a packet of 1500 */
@@ -175,7 +177,8 @@ QueueOf(const Scenario& scenario)
                                 "ScaleBySize", BooleanValue(isScaled),
                                 "DecayBelowHalf", BooleanValue(isHalf),
                                 "UseEcn", BooleanValue(scenario.ecn),
-                                "History", StringValue(scenario.history), "Flows", StringValue(scenario.flowsFile));
+                                "History", StringValue(scenario.history), "Flows", StringValue(scenario.flowsFile),
+                                "Records", StringValue(scenario.records), "Every", TimeValue(Seconds(scenario.every)));
     }
     else if (scenario.queue.rfind("pie", 0) == 0)
     {
@@ -370,6 +373,8 @@ Read(int count, char** words)
     line.AddValue("buffer", "send buffer of each flow, kB; 0: four times its share of what link and queue hold", s.buffer);
     line.AddValue("history", "file for the history (queue recorded)", s.history);
     line.AddValue("flows-file", "file that tells its flows (queue recorded)", s.flowsFile);
+    line.AddValue("records", "file for the sums of its periods (queue recorded)", s.records);
+    line.AddValue("every", "seconds that such a period lasts", s.every);
     line.AddValue("header", "print the names of the fields before the record", isHeader);
     line.Parse(count, words);
     if (isHeader)

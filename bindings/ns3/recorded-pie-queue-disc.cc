@@ -165,6 +165,16 @@ RecordedPieQueueDisc::GetTypeId()
                           StringValue(""),
                           MakeStringAccessor(&RecordedPieQueueDisc::m_flowsName),
                           MakeStringChecker())
+            .AddAttribute("Records",
+                          "The file for the sums of each period, as `pie explain --every --csv` writes them of the history; none where empty",
+                          StringValue(""),
+                          MakeStringAccessor(&RecordedPieQueueDisc::m_recordsName),
+                          MakeStringChecker())
+            .AddAttribute("Every",
+                          "How long such a period lasts",
+                          TimeValue(Seconds(1)),
+                          MakeTimeAccessor(&RecordedPieQueueDisc::m_every),
+                          MakeTimeChecker(NanoSeconds(1)))
             .AddTraceSource("Probability",
                             "The probability after an update",
                             MakeTraceSourceAccessor(&RecordedPieQueueDisc::m_probability),
@@ -181,6 +191,7 @@ RecordedPieQueueDisc::RecordedPieQueueDisc()
       m_pie(),
       m_words(CreateObject<UniformRandomVariable>()),
       m_flows(),
+      m_records(),
       m_arrivals(0)
 {
 }
@@ -196,6 +207,7 @@ RecordedPieQueueDisc::DoDispose()
         NS_ABORT_MSG_IF(m_history.fail(), "the history could not be written");
     }
     NS_ABORT_MSG_UNLESS(close_flows(&m_flows), "the flows could not be written");
+    NS_ABORT_MSG_UNLESS(close_records(&m_records), "the records of periods could not be written");
     QueueDisc::DoDispose();
 }
 
@@ -266,6 +278,9 @@ RecordedPieQueueDisc::InitializeParams()
     RecordOpening(opening);
     const char* flowsName = m_flowsName.empty() ? nullptr : m_flowsName.c_str();
     NS_ABORT_MSG_UNLESS(open_flows(&m_flows, flowsName), "cannot write " << m_flowsName);
+    const char* recordsName = m_recordsName.empty() ? nullptr : m_recordsName.c_str();
+    uint64_t every = static_cast<uint64_t>(m_every.GetNanoSeconds());
+    NS_ABORT_MSG_UNLESS(open_records(&m_records, recordsName, every, 0, nullptr), "cannot write " << m_recordsName);
     m_updateEvent = Simulator::Schedule(m_tUpdate, &RecordedPieQueueDisc::Update, this);
 }
 
@@ -347,8 +362,8 @@ RecordedPieQueueDisc::DoEnqueue(Ptr<QueueDiscItem> item)
     event.ecn = static_cast<uint8_t>(EcnField(item, m_useEcn));
     event.word = Word();
     uint32_t room = m_packets - queue->GetNPackets();
-    uint32_t verdict = pie_arrive_event(&m_pie, queue->GetNBytes(), room, &event);
-    NS_ABORT_MSG_IF(verdict > PIE_PACKETS, "pie_arrive_event refused by code " << verdict);
+    uint32_t verdict = decide_arrival(&m_records, &m_pie, queue->GetNBytes(), room, &event);
+    NS_ABORT_MSG_IF(verdict > PIE_PACKETS, "an arrival is refused by code " << verdict);
     Record(event);
     switch (verdict)
     {
@@ -384,7 +399,7 @@ RecordedPieQueueDisc::DoDequeue()
     event.tag = tag;
     event.size = item->GetSize();
     event.ecn = static_cast<uint8_t>(EcnField(item, m_useEcn));
-    Expect(pie_depart_event(&m_pie, queue->GetNBytes(), arrived, &event), "pie_depart_event");
+    Expect(take_departure(&m_records, &m_pie, queue->GetNBytes(), arrived, &event), "a departure");
     Record(event);
     return item;
 }
@@ -393,7 +408,7 @@ void
 RecordedPieQueueDisc::Update()
 {
     pie_event event = EventBy(TIMER);
-    Expect(pie_update_event(&m_pie, GetInternalQueue(0)->GetNBytes(), &event), "pie_update_event");
+    Expect(make_update(&m_records, &m_pie, GetInternalQueue(0)->GetNBytes(), &event), "an update");
     Record(event);
     m_probability = static_cast<double>(event.prob) / 1e12;
     m_delay = NanoSeconds(static_cast<int64_t>(event.delay));

@@ -5,6 +5,7 @@
 
 #include "flow.h"
 #include "pie.h"
+#include "records.h"
 
 #include "ns3/event-id.h"
 #include "ns3/nstime.h"
@@ -79,12 +80,15 @@ class RecordedPieQueueDisc : public QueueDisc
     bool m_decaysBelowHalf;
     std::string m_historyName;
     std::string m_flowsName;
+    std::string m_recordsName;
+    Time m_every;
 
     pie_state m_pie;
     Ptr<UniformRandomVariable> m_words;
     EventId m_updateEvent;
     std::ofstream m_history;
     flows m_flows;
+    records m_records;
     uint64_t m_arrivals;         /* so far; a packet's tag in the history is its number among them, with Flows below its flow's */
     std::deque<std::pair<uint64_t, uint64_t>> m_tags; /* of the packets that wait, with the controller's moment at the arrival */
     TracedValue<double> m_probability;

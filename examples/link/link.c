@@ -404,7 +404,7 @@ static void open_link(struct bottleneck *link, const struct options *options) {
             die(options->history);
         pie_flight_follow_open(&link->follower, link->flight.memory, link->flight.bytes);
     }
-    if (!open_records(&link->records, options->records, options->every, moment, unix_time))
+    if (!open_records(&link->records, options->records, options->every, moment, &unix_time))
         die(options->records);
     if (!open_flows(&link->flows, options->flows))
         die(options->flows);

@@ -2,13 +2,15 @@
 
 #include <string.h>
 
-bool open_records(struct records *records, const char *name, uint64_t every, uint64_t moment, uint64_t unix_time) {
+bool open_records(struct records *records, const char *name, uint64_t every, uint64_t moment, const uint64_t *unix_time) {
     unsigned char line[PIE_RESUME_ROOM];
     records->file = NULL;
     records->written = 0;
     if (name == NULL)
         return true;
-    if (pie_open_period(&records->period, every, 1) != PIE_DONE || pie_period_clock(&records->period, moment, unix_time) != PIE_DONE)
+    if (pie_open_period(&records->period, every, unix_time != NULL) != PIE_DONE)
+        return false;
+    if (unix_time != NULL && pie_period_clock(&records->period, moment, *unix_time) != PIE_DONE)
         return false;
     records->file = strcmp(name, "-") == 0 ? stdout : fopen(name, "w");
     if (records->file == NULL)

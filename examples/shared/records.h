@@ -1,4 +1,4 @@
-/* The records of periods, summed up while the program runs: what `pie explain --every TIME --csv --wall` writes of its history. */
+/* The records of periods, summed up while the program runs: what `pie explain --every TIME --csv` writes of its history, with --wall or without. */
 #ifndef SHARED_RECORDS_H
 #define SHARED_RECORDS_H
 
@@ -7,6 +7,10 @@
 #include <stdbool.h>
 #include <stdio.h>
 
+#ifdef __cplusplus
+extern "C" {
+#endif
+
 struct records {
     FILE *file; /* NULL where none are written */
     struct pie_period period;
@@ -14,8 +18,8 @@ struct records {
 };
 
 /* Opens the file (NULL: none, "-": standard output) for periods of `every` ns, and writes the header row; it was `unix_time` (nanoseconds since 1970)
- * at this moment. False where that cannot be done. */
-bool open_records(struct records *records, const char *name, uint64_t every, uint64_t moment, uint64_t unix_time);
+ * at this moment, or NULL where no times of day are told. False where that cannot be done. */
+bool open_records(struct records *records, const char *name, uint64_t every, uint64_t moment, const uint64_t *unix_time);
 
 /* Writes the record of the period under way, and lets readers see it. */
 void write_record(struct records *records);
@@ -45,5 +49,9 @@ static inline uint32_t take_departure(struct records *records, struct pie_state 
 static inline uint32_t make_update(struct records *records, struct pie_state *pie, uint64_t queued, struct pie_event *event) {
     return are_summed(records, event) ? pie_update_summed(pie, queued, event, &records->period) : pie_update_event(pie, queued, event);
 }
+
+#ifdef __cplusplus
+}
+#endif
 
 #endif

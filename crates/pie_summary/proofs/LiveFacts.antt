@@ -13,7 +13,7 @@ use Rattle.std.proofs.lemmas.List.Elements.{filter_map-append}
 use Rattle.std.proofs.lemmas.List.Sums.{sum_by_push}
 use Rattle.std.proofs.lemmas.Nat.{div-mul-add}
 use Rattle.pie_aqm.specs.Places.{Place, greatest, last_or, places}
-use Rattle.pie_aqm.proofs.Places.{place_of, places-push}
+use Rattle.pie_summary.proofs.SumsFacts.{place_of, places-push}
 use Rattle.pie_explanation.specs.declared.explanation.Explained.{Explained}
 use Rattle.pie_summary.specs.declared.live.LivePeriod.{LivePeriod}
 use Rattle.pie_summary.specs.declared.series.Series.{Series}

@@ -1,5 +1,4 @@
-use Rattle.std.proofs.Common.{◌≡◌, ◌-◌, ℕ, [], ◌∷◌, ◌++◌, ◌∙◌, ap, map, refl, sym}
-use Rattle.std.specs.Prelude.{Option}
+use Rattle.std.proofs.Common.{◌≡◌, ◌-◌, [], ◌∷◌, ◌++◌, ◌∙◌, ap, map, refl, sym}
 use Rattle.std.specs.List.{filter_map, sum}
 use Rattle.pie_aqm.specs.Places.{places}
 use Rattle.pie_summary.specs.declared.meter.Meter.{Meter}

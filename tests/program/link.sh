@@ -104,12 +104,16 @@ tells_time() {
 }
 since=$(date -u +%Y-%m-%dT%H:%M:%S.%NZ)
 for queue in tail pie; do
-    measure "$work/$queue" "$seconds" 4 --rate 10mbit --rtt 20ms --queue "$queue" || exit 1
+    measure "$work/$queue" "$seconds" 4 --rate 10mbit --rtt 20ms --queue "$queue" --records "$work/$queue.records" --every 100ms || exit 1
     events=$(grep -c -E '^(arrive|depart|update),' "$work/$queue/history")
     found=$("$program" audit < "$work/$queue/history")
     if [ "$found" != "clean,$events" ]; then
         echo "$script: the history of the run by $queue is not clean: $found of $events events"
         cat "$work/$queue/link"
+        exit 1
+    fi
+    if ! "$program" explain --every 100ms --csv --wall < "$work/$queue/history" | cmp - "$work/$queue.records"; then
+        echo "$script: the records of periods that the link wrote by $queue are not those of its history"
         exit 1
     fi
     tells_time "$work/$queue/history" "$since" || exit 1

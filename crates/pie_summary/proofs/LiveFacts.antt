@@ -1,8 +1,8 @@
 -- What is kept of a period that is summed up as it goes, with one more event.
-use Rattle.std.proofs.Common.{◌≡◌, ◌≤◌, ◌<◌, ◌+◌, ◌*◌, ◌-◌, ◌/◌, ◌%◌, ◌==◌, arith, ℕ, zero, suc, Bool, true, false, cond, not, List, [], ◌∷◌, ◌++◌}
+use Rattle.std.proofs.Common.{◌≡◌, ◌≤◌, ◌<◌, ◌+◌, ◌*◌, ◌-◌, ◌/◌, ◌%◌, ◌==◌, arith, ℕ, suc, Bool, true, false, cond, not, List, [], ◌∷◌, ◌++◌}
 use Rattle.std.proofs.Common.{append-nil, append_assoc, length, map, refl, sym, ap, ◌∙◌}
-use Rattle.std.specs.Prelude.{◌&&◌, nat_le, nat_lt, max, min, count_by, slice_index, Option, Some, None, if◌then◌else◌}
-use Rattle.std.specs.List.{cons_option, filter_map, sum}
+use Rattle.std.specs.Prelude.{◌&&◌, nat_le, nat_lt, max, min, count_by, Option, Some, None, if◌then◌else◌}
+use Rattle.std.specs.List.{cons_option, filter_map}
 use Rattle.std.proofs.lemmas.Bool.{eq-eqb, eqb-true, false≢true, ne_eqb}
 use Rattle.std.proofs.lemmas.Bool.Decides.{nat_tests}
 use Rattle.std.proofs.lemmas.List.{map_push, take-replicate}
@@ -12,8 +12,8 @@ use Rattle.pie_units.specs.Utc.{with_zeros}
 use Rattle.std.proofs.lemmas.List.Elements.{filter_map-append}
 use Rattle.std.proofs.lemmas.List.Sums.{sum_by_push}
 use Rattle.std.proofs.lemmas.Nat.{div-mul-add}
-use Rattle.pie_aqm.specs.Places.{Place, greatest, last_or, places}
-use Rattle.pie_aqm.proofs.Places.{place_of, places-push}
+use Rattle.pie_aqm.specs.Places.{Place, greatest, places}
+use Rattle.pie_summary.proofs.SumsFacts.{place_of, places-push}
 use Rattle.pie_explanation.specs.declared.explanation.Explained.{Explained}
 use Rattle.pie_summary.specs.declared.live.LivePeriod.{LivePeriod}
 use Rattle.pie_summary.specs.declared.series.Series.{Series}
@@ -32,7 +32,7 @@ use Rattle.pie_summary.specs.Sums.{sums_of, waits_of}
 use Rattle.pie_summary.specs.Words.{wait_99}
 use Rattle.pie_explanation.specs.declared.form.Form.TheVariants.{Csv, CsvByWall}
 use Rattle.pie_summary.specs.declared.meter.Meter.{Meter}
-use Rattle.pie_summary.specs.Period.{begins, last_events, last_period, period_at, period_of, since}
+use Rattle.pie_summary.specs.Period.{last_events, last_period, period_at, since}
 use Rattle.pie_summary.specs.Series.{held_or, series_of}
 use Rattle.pie_summary.proofs.CountFacts.{kept-more}
 use Rattle.pie_summary.proofs.PeriodFacts.{last_period-push, since-begun, since-same}

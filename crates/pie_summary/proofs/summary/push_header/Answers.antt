@@ -1,5 +1,5 @@
 use Rattle.std.proofs.Common.{◌≡◌, ◌++◌, ℕ, List, ◌∙◌, ap, append_assoc, refl}
-use Rattle.std.specs.Prelude.{Result, Ok, Err, OnOk, codes, string_bytes}
+use Rattle.std.specs.Prelude.{Result, Ok, Err, OnOk, codes}
 use Rattle.pie_event.specs.CauseName.{word_of_cause}
 use Rattle.pie_summary.specs.Summary.{header}
 use Rattle.pie_summary.proofs.summary.push_header.Goals as goal

@@ -1,4 +1,4 @@
-use Rattle.std.proofs.Common.{◌∙◌, ◌/◌, ap, sym}
+use Rattle.std.proofs.Common.{◌∙◌, ap, sym}
 use Rattle.pie_summary.specs.Live.{length_of}
 use Rattle.pie_summary.specs.Period.{period_at, period_of}
 use Rattle.pie_summary.proofs.LiveFacts.{awaits-same, both-ends, not-started}

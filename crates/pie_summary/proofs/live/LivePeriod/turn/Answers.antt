@@ -1,7 +1,6 @@
-use Rattle.std.proofs.Common.{◌≡◌, ◌∙◌, ◌/◌, ◌*◌, ◌+◌, ◌≤◌, arith, ℕ, Bool, true, false, not, ap, refl, sym}
-use Rattle.std.specs.Prelude.{max, min}
-use Rattle.pie_summary.specs.Live.{length_of, number_in, starts}
-use Rattle.pie_summary.specs.Period.{period_at, period_of}
+use Rattle.std.proofs.Common.{◌≡◌, ◌∙◌, ◌/◌, ◌*◌, ◌≤◌, arith, ℕ, Bool, true, false, not, ap, refl, sym}
+use Rattle.std.specs.Prelude.{max}
+use Rattle.pie_summary.specs.Live.{number_in, starts}
 use Rattle.pie_summary.proofs.LiveFacts.{awaits-new, awaits-same, within-period}
 use Rattle.pie_summary.proofs.live.LivePeriod.turn.Goals as goal
 

@@ -1,8 +1,6 @@
-use Rattle.std.proofs.Common.{◌≡◌, ◌-◌, ℕ, [], ◌∷◌, ◌++◌, ◌∙◌, ap, map, refl, sym}
-use Rattle.std.specs.Prelude.{Option}
+use Rattle.std.proofs.Common.{◌≡◌, ◌-◌, [], ◌∷◌, ◌++◌, ◌∙◌, ap, map, refl, sym}
 use Rattle.std.specs.List.{filter_map, sum}
 use Rattle.pie_aqm.specs.Places.{places}
-use Rattle.pie_aqm.proofs.Places.{place_of, places-push}
 use Rattle.pie_summary.specs.declared.meter.Meter.{Meter}
 use Rattle.pie_summary.specs.declared.noted.Noted.{Noted}
 use Rattle.pie_summary.specs.Counts.{kept}
@@ -12,7 +10,7 @@ use Rattle.pie_summary.specs.Sums.{above_in, answer_of, burst_at, carried_in, ca
 use Rattle.pie_summary.specs.Sums.{left_at, moment_at, prob_at, size_in, sums_of, target_at, time_at, turned_off, turned_on, wait_in}
 use Rattle.pie_summary.proofs.CountFacts.{counted-push}
 use Rattle.pie_summary.proofs.LiveFacts.{count-some, count_of, each-of-push, some-of-push}
-use Rattle.pie_summary.proofs.SumsFacts.{first_since-is, last-push, sum-push}
+use Rattle.pie_summary.proofs.SumsFacts.{first_since-is, last-push, place_of, places-push, sum-push}
 use Rattle.pie_summary.proofs.meter.Meter.take.Goals as goal
 
 pub returns : goal.returns

@@ -1,4 +1,4 @@
-use Rattle.std.proofs.Common.{◌≡◌, ◌-◌, ℕ, [], ◌∷◌, ◌++◌, ◌∙◌, ap, map, refl, sym}
+use Rattle.std.proofs.Common.{◌≡◌, ◌-◌, ℕ, ◌∙◌, ap, map, refl, sym}
 use Rattle.std.specs.Prelude.{Option}
 use Rattle.std.specs.List.{sum}
 use Rattle.pie_aqm.specs.Places.{places}

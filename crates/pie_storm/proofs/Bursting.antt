@@ -1,38 +1,17 @@
 -- What a burst of arrivals carries a sender to.
-use Rattle.std.proofs.Common.{◌≡◌, ◌<◌, ◌≤◌, ◌+◌, ℕ, not, List, [], ◌∷◌, ◌++◌, Some, None, Ok, Err, Option, Result, map, take, drop, length, min, refl, ap}
-use Rattle.std.proofs.Common.{sym, ◌∙◌, ◌==◌, subst, inl, inr, ◌⊎◌, ⊎_elim, arith, append_assoc, length-append, length-drop}
-use Rattle.std.specs.List.{All, drop-map, take-map}
-use Rattle.std.specs.Prelude.{IfSome, IsOk}
-use Rattle.std.proofs.lemmas.List.{append-nil, length-map}
-use Rattle.std.proofs.lemmas.List.Elements.{All-cons, All-drop, All-head, All-nil, All-tail, All-take, filter-append}
+use Rattle.pie_storm.proofs.Names.{◌≡◌, ◌<◌, ◌≤◌, ◌+◌, ℕ, not, List, [], ◌∷◌, ◌++◌, Some, None, Ok, Err, Option, Result, map, take, drop, length, min}
+use Rattle.pie_storm.proofs.Names.{refl, ap, sym, ◌∙◌, ◌==◌, subst, inl, inr, ◌⊎◌, ⊎_elim, arith, append_assoc, length-append, length-drop, All}
+use Rattle.pie_storm.proofs.Names.{drop-map, take-map, IfSome, IsOk, append-nil, length-map, All-cons, All-head, All-nil, All-tail, nat_tests}
+use Rattle.pie_storm.proofs.Names.{IsPrefix, is_within, Command, Event, Answer, Opening, Refusal, decision, is_refused_full, refusal_by_rule}
+use Rattle.pie_storm.proofs.Names.{refusal_with, due_after, effective_moment, event_of, Arrival, Entry, Made, Told, Reply, always, arrive, entries_of}
+use Rattle.pie_storm.proofs.Names.{events_in, number_of, tail_in, CallerView, LinkView, Call, Ask, Plan, IsFair, calls_of, commands_of, folder}
+use Rattle.pie_storm.proofs.Names.{opening_of, senders, AddedByAll, AreMade, HasMade, HasNoMore, IsAt, IsCutShort, IsFor, MadeOrCut}
+use Rattle.std.proofs.lemmas.List.Elements.{All-drop, All-take, filter-append}
 use Rattle.std.proofs.lemmas.List.Filters.{length-filter_both}
-use Rattle.std.proofs.lemmas.Bool.Decides.{nat_tests}
-use mathlib.Core.List.{IsPrefix}
-use Rattle.pie_lock.specs.Own.{is_within}
-use Rattle.pie_event.specs.declared.command.Command.{Command}
-use Rattle.pie_event.specs.declared.command.Event.{Event}
-use Rattle.pie_event.specs.declared.command.Answer.{Answer}
-use Rattle.pie_event.specs.declared.opening.Opening.{Opening}
-use Rattle.pie_event.specs.declared.refusal.Refusal.{Refusal}
 use Rattle.pie_event.specs.declared.refusal.Refusal.TheVariants.{TooSoon}
-use Rattle.pie_book.specs.Decision.{decision, is_refused_full, refusal_by_rule, refusal_with}
-use Rattle.pie_book.specs.Estimates.{due_after}
-use Rattle.pie_book.specs.History.{effective_moment}
-use Rattle.pie_book.specs.Run.{event_of}
-use Rattle.pie_kept.specs.declared.arrival.Arrival.{Arrival}
-use Rattle.pie_kept.specs.declared.entry.Entry.{Entry}
-use Rattle.pie_kept.specs.declared.entry.Entry.TheVariants.{Made}
-use Rattle.pie_kept.specs.declared.told.Told.{Told}
-use Rattle.pie_kept.specs.Bursts.{Reply, always, arrive, entries_by, entries_to, refused_or_told, replies_to, reply_in}
+use Rattle.pie_kept.specs.Bursts.{entries_by, entries_to, refused_or_told, replies_to, reply_in}
 use Rattle.pie_kept.specs.Commands.{refusal_in}
-use Rattle.pie_kept.specs.Entries.{entries_of, events_in, number_of, tail_in}
 use Rattle.pie_link.specs.Bursts.{AnswersAll, IsBurst}
-use Rattle.pie_link.specs.Views.{CallerView, LinkView}
-use Rattle.pie_storm.specs.declared.plan.Call.{Call}
-use Rattle.pie_storm.specs.declared.plan.Call.TheVariants.{Ask}
-use Rattle.pie_storm.specs.declared.plan.Plan.{Plan}
-use Rattle.pie_storm.specs.Plans.{IsFair, calls_of, commands_of, folder, opening_of, senders}
-use Rattle.pie_storm.specs.Storms.{AddedByAll, AreMade, HasMade, HasNoMore, IsAt, IsCutShort, IsFor, MadeOrCut}
 use Rattle.pie_storm.proofs.Making.{few_so_far, full_after, made_from, made_more, seen, stays, which}
 use Rattle.pie_storm.proofs.PlanCommands.{all_fair, other_calls}
 

@@ -1,26 +1,15 @@
 -- How a storm ends, from the book that was closed.
-use Rattle.std.proofs.Common.{◌≡◌, ◌+◌, ◌<◌, ◌++◌, arith, ℕ, List, [], false, Some, Ok, Err, Result, ap, refl, sym, ◌∙◌, subst}
-use Rattle.std.specs.List.{All}
+use Rattle.pie_storm.proofs.Names.{◌≡◌, ◌+◌, ◌<◌, ◌++◌, arith, ℕ, List, [], false, Some, Ok, Err, Result, ap, refl, sym, ◌∙◌, subst, All, Event}
+use Rattle.pie_storm.proofs.Names.{Bounded, Opening, IsLegal, entries_of, events_in, handed_out, number_of, EntriesLookBack, Entry, LinkView, Plan}
+use Rattle.pie_storm.proofs.Names.{Work, folder, opening_of, senders, updater, CameOf, IsEndOf, IsFor, IsStorm, IsWell, IsWorkBelow, WereHanded}
 use Rattle.std.specs.Result.{IfOk}
 use Rattle.pie_lock.specs.Views.{HoldsAll}
-use Rattle.pie_event.specs.declared.command.Event.{Event}
-use Rattle.pie_event.specs.declared.opening.Mode.TheVariants.{Bounded}
-use Rattle.pie_event.specs.declared.opening.Opening.{Opening}
 use Rattle.pie_book.specs.Book.{BookView, Tells}
-use Rattle.pie_book.specs.Decision.{IsLegal}
 use Rattle.pie_book.specs.Registers.{registers_after}
 use Rattle.pie_book.specs.Statistics.{stats_after}
-use Rattle.pie_kept.specs.Entries.{entries_of, events_in, handed_out, number_of}
-use Rattle.pie_kept.specs.EntryLaws.{EntriesLookBack}
 use Rattle.pie_kept.specs.Kept.{TellsEntries}
-use Rattle.pie_kept.specs.declared.entry.Entry.{Entry}
-use Rattle.pie_link.specs.Views.{LinkView}
 use Rattle.pie_storm.specs.declared.ending.StormEnd.{StormEnd}
 use Rattle.pie_storm.specs.declared.ending.StormFault.{StormFault}
-use Rattle.pie_storm.specs.declared.plan.Plan.{Plan}
-use Rattle.pie_storm.specs.declared.worker.Work.{Work}
-use Rattle.pie_storm.specs.Plans.{folder, opening_of, senders, updater}
-use Rattle.pie_storm.specs.Storms.{CameOf, IsEndOf, IsFor, IsStorm, IsWell, IsWorkBelow, WereHanded}
 use Rattle.pie_storm.proofs.Counting.{callers_of_plan, is_storm, other_made}
 use Rattle.pie_storm.proofs.Handing.{handed_alone}
 

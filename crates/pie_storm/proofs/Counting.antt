@@ -1,38 +1,17 @@
 -- A storm's history has no more events than there are commands, and so no caller was cut short; and so it is what the plan asks for.
-use Rattle.std.proofs.Common.{◌≡◌, ℕ, zero, suc, ◌+◌, ◌-◌, ◌<◌, ◌≤◌, ◌⊎◌, ◌==◌, nat_le, nat_lt, Bool, true, false, cond, List, [], ◌∷◌, ◌++◌}
-use Rattle.std.proofs.Common.{Option, Some, None, Vec, min, map, length, length-append, append_assoc, refl, ap, sym, ◌∙◌, subst, inl, inr, ⊎_elim, arith}
-use Rattle.std.specs.Prelude.{if◌then◌else◌}
-use Rattle.std.specs.List.{All}
-use Rattle.std.specs.declared.alloc.Global.{Global}
-use Rattle.std.proofs.lemmas.List.{append-nil, length-map}
-use Rattle.std.proofs.lemmas.List.Elements.{All-nil, All-cons, All-head, All-tail}
-use Rattle.std.proofs.lemmas.Bool.Decides.{nat_tests}
-use mathlib.Core.Logic.{dite}
-use native.Mathlib.Decide.{ℕ_discrete}
-use Rattle.pie_lock.specs.Own.{own, is_within}
-use Rattle.pie_lock.proofs.Owns.{within, not_within}
+use Rattle.pie_storm.proofs.Names.{◌≡◌, ℕ, zero, suc, ◌+◌, ◌-◌, ◌<◌, ◌≤◌, ◌⊎◌, ◌==◌, nat_le, Bool, true, false, cond, List, [], ◌∷◌, ◌++◌, Option}
+use Rattle.pie_storm.proofs.Names.{Some, None, Vec, min, map, length, length-append, append_assoc, refl, ap, sym, ◌∙◌, subst, inl, inr, ⊎_elim, arith}
+use Rattle.pie_storm.proofs.Names.{if◌then◌else◌, All, Global, append-nil, length-map, All-nil, All-cons, All-head, All-tail, nat_tests, dite}
+use Rattle.pie_storm.proofs.Names.{ℕ_discrete, own, is_within, within, not_within, Command, Depart, Update, Event, Opening, Refusal, refusal_by_rule}
+use Rattle.pie_storm.proofs.Names.{due_after, effective_moment, arrive, entries_of, events_in, number_of, EntriesLookBack, Arrival, Entry, Made}
+use Rattle.pie_storm.proofs.Names.{Folded, Call, Ask, Fold, Plan, IsSound, calls_of, change, commands_after_senders, commands_of, count_of, folder}
+use Rattle.pie_storm.proofs.Names.{opening_of, planned, senders, sent, updater, AreMade, CameOf, HasNoMore, IsCutShort, IsMade, IsStorm}
+use Rattle.std.proofs.Common.{nat_lt}
 use Rattle.pie_event.specs.Opening.{last_moment}
 use Rattle.pie_event.specs.Deed.{handed_in}
-use Rattle.pie_event.specs.declared.command.Command.{Command}
-use Rattle.pie_event.specs.declared.command.Command.TheVariants.{Depart, Update}
-use Rattle.pie_event.specs.declared.command.Event.{Event}
-use Rattle.pie_event.specs.declared.opening.Opening.{Opening}
-use Rattle.pie_event.specs.declared.refusal.Refusal.{Refusal}
+use Rattle.pie_book.specs.Decision.{has_bad_size, is_too_soon}
+use Rattle.pie_storm.specs.Storms.{IsEntryOf, commands_in, events_of}
 use Rattle.pie_event.specs.declared.refusal.Refusal.TheVariants as refusal
-use Rattle.pie_book.specs.Decision.{has_bad_size, is_too_soon, refusal_by_rule}
-use Rattle.pie_book.specs.Estimates.{due_after}
-use Rattle.pie_book.specs.History.{effective_moment}
-use Rattle.pie_kept.specs.Bursts.{arrive}
-use Rattle.pie_kept.specs.Entries.{entries_of, events_in, number_of}
-use Rattle.pie_kept.specs.EntryLaws.{EntriesLookBack}
-use Rattle.pie_kept.specs.declared.arrival.Arrival.{Arrival}
-use Rattle.pie_kept.specs.declared.entry.Entry.{Entry}
-use Rattle.pie_kept.specs.declared.entry.Entry.TheVariants.{Made, Folded}
-use Rattle.pie_storm.specs.declared.plan.Call.{Call}
-use Rattle.pie_storm.specs.declared.plan.Call.TheVariants.{Ask, Fold}
-use Rattle.pie_storm.specs.declared.plan.Plan.{Plan}
-use Rattle.pie_storm.specs.Plans.{IsSound, calls_of, change, commands_after_senders, commands_of, count_of, folder, opening_of, planned, senders, sent, updater}
-use Rattle.pie_storm.specs.Storms.{AreMade, CameOf, HasNoMore, IsCutShort, IsEntryOf, IsMade, IsStorm, commands_in, events_of}
 use Rattle.pie_storm.proofs.Making.{few_made, numbered, own_entry}
 use Rattle.pie_storm.proofs.PlanCommands.{after_senders, folder_calls, of_either, of_sender, other_calls}
 

@@ -1,23 +1,12 @@
 -- What is known of all workers of a storm together.
-use Rattle.std.proofs.Common.{◌≡◌, ℕ, ◌+◌, ◌-◌, ◌<◌, ◌≤◌, List, [], length, refl, ap, sym, ◌∙◌, subst, inl, inr, ⊎_elim, arith}
-use mathlib.Core.Logic.{dite}
-use native.Mathlib.Decide.{ℕ_discrete}
-use Rattle.pie_lock.specs.Own.{own, is_within}
+use Rattle.pie_storm.proofs.Names.{◌≡◌, ℕ, ◌+◌, ◌-◌, ◌<◌, ◌≤◌, List, [], length, refl, ap, sym, ◌∙◌, subst, inl, inr, ⊎_elim, arith, dite, ℕ_discrete}
+use Rattle.pie_storm.proofs.Names.{own, is_within, GoesOn, within, prefix_trans, Event, number_of, EntriesLookBack, Entry, CallerView, LinkView, Plan}
+use Rattle.pie_storm.proofs.Names.{Work, calls_of, commands_of, folder, opening_of, updater, Call, AreMade, CameOf, HasNoMore, IsAt, IsWell}
+use Rattle.pie_storm.proofs.Names.{IsWorkBelow, WereHanded}
 use Rattle.pie_lock.specs.Promises.{IsBothOf}
-use Rattle.pie_lock.specs.Steps.{GoesOn}
-use Rattle.pie_lock.proofs.Owns.{same_either, within, within_high}
-use Rattle.pie_lock.proofs.Prefixes.{prefix_trans}
-use Rattle.pie_event.specs.declared.command.Event.{Event}
-use Rattle.pie_kept.specs.Entries.{number_of}
-use Rattle.pie_kept.specs.EntryLaws.{EntriesLookBack}
-use Rattle.pie_kept.specs.declared.entry.Entry.{Entry}
-use Rattle.pie_link.specs.Views.{CallerView, LinkView}
-use Rattle.pie_storm.specs.declared.plan.Plan.{Plan}
+use Rattle.pie_lock.proofs.Owns.{same_either, within_high}
 use Rattle.pie_storm.specs.declared.worker.Folding.{Folding}
-use Rattle.pie_storm.specs.declared.worker.Work.{Work}
-use Rattle.pie_storm.specs.Plans.{calls_of, commands_of, folder, opening_of, updater}
-use Rattle.pie_storm.specs.declared.plan.Call.{Call}
-use Rattle.pie_storm.specs.Storms.{AreMade, Begins, CameOf, HasNoMore, IsAt, IsWell, IsWorkBelow, IsWorkOf, WereHanded}
+use Rattle.pie_storm.specs.Storms.{Begins, IsWorkOf}
 use Rattle.pie_storm.proofs.Handing.{handed_same}
 use Rattle.pie_storm.proofs.Making.{made_on, stays}
 use Rattle.pie_storm.proofs.PlanCommands.{other_calls}

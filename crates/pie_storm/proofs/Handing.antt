@@ -1,22 +1,8 @@
 -- What the folds of one caller handed out.
-use Rattle.std.proofs.Common.{◌≡◌, ℕ, ◌+◌, ◌<◌, Bool, true, false, cond, List, [], ◌∷◌, ◌++◌, take, refl, ap, sym, ◌∙◌, subst, arith, eq-eqb}
-use Rattle.std.specs.Prelude.{if◌then◌else◌}
-use Rattle.std.specs.List.{All}
-use Rattle.std.proofs.lemmas.Bool.Decides.{nat_tests}
-use Rattle.std.proofs.lemmas.List.{append-nil}
-use Rattle.std.proofs.lemmas.List.Elements.{All-head, All-tail}
-use mathlib.Core.List.{IsPrefix}
-use mathlib.Core.Logic.{dite}
-use native.Mathlib.Decide.{ℕ_discrete}
-use Rattle.pie_lock.specs.Own.{is_within}
-use Rattle.pie_lock.proofs.Owns.{quiet_rest, within}
-use Rattle.pie_event.specs.declared.command.Event.{Event}
-use Rattle.pie_event.specs.declared.opening.Opening.{Opening}
-use Rattle.pie_kept.specs.Entries.{entries_of, handed_out, handed_to, number_of, tail_in}
-use Rattle.pie_kept.specs.EntryLaws.{EntriesLookBack}
-use Rattle.pie_kept.specs.declared.entry.Entry.{Entry}
-use Rattle.pie_kept.specs.declared.entry.Entry.TheVariants.{Made, Folded}
-use Rattle.pie_storm.specs.Storms.{IsMade, is_number}
+use Rattle.pie_storm.proofs.Names.{◌≡◌, ℕ, ◌+◌, ◌<◌, Bool, true, false, cond, List, [], ◌∷◌, ◌++◌, take, refl, ap, sym, ◌∙◌, subst, arith, eq-eqb}
+use Rattle.pie_storm.proofs.Names.{if◌then◌else◌, All, nat_tests, append-nil, All-head, All-tail, IsPrefix, dite, ℕ_discrete, is_within, quiet_rest}
+use Rattle.pie_storm.proofs.Names.{within, Event, Opening, entries_of, handed_out, handed_to, number_of, tail_in, EntriesLookBack, Entry, Made}
+use Rattle.pie_storm.proofs.Names.{Folded, IsMade, is_number}
 
 if_true : {A : Type 0} (b : Bool) (x y : A) → b ≡ true → (if b then x else y) ≡ x
 if_true true x y e = refl

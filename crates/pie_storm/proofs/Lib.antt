@@ -1,3 +1,4 @@
+mod Names
 mod PlanCommands
 mod Handing
 mod Making

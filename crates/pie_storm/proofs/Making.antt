@@ -1,47 +1,22 @@
 -- What a caller's calls come to, in a history that grows.
-use Rattle.std.proofs.Common.{◌≡◌, ℕ, zero, suc, ◌+◌, ◌<◌, ◌≤◌, ◌==◌, ◌⊎◌, List, [], ◌∷◌, ◌++◌, Bool, true, false, cond, Some, None, Ok, Err, Option, Result, Vec}
-use Rattle.std.proofs.Common.{take, drop, map, min, length, slice_get, refl, ap, sym, ◌∙◌, subst, inl, inr, ⊎_elim, arith, append_assoc, length-append}
-use Rattle.std.proofs.Common.{length-drop}
-use Rattle.std.specs.List.{All}
-use Rattle.std.specs.declared.alloc.Global.{Global}
-use Rattle.std.proofs.Math.Seq.{take-add, take-length}
-use Rattle.std.proofs.lemmas.List.{append-nil, length-take}
-use Rattle.std.proofs.lemmas.List.Elements.{All-head, All-tail, filter-append}
+use Rattle.pie_storm.proofs.Names.{◌≡◌, ℕ, zero, suc, ◌+◌, ◌<◌, ◌≤◌, ◌==◌, ◌⊎◌, List, [], ◌∷◌, ◌++◌, Bool, true, false, cond, Some, None, Ok, Err}
+use Rattle.pie_storm.proofs.Names.{Option, Result, Vec, take, drop, map, min, length, slice_get, refl, ap, sym, ◌∙◌, subst, inl, inr, ⊎_elim, arith}
+use Rattle.pie_storm.proofs.Names.{append_assoc, length-append, length-drop, All, Global, take-add, take-length, append-nil, length-take, All-head}
+use Rattle.pie_storm.proofs.Names.{All-tail, nat_tests, own, is_within, GoesOn, within, prefix_self, prefix_trans, Answer, Command, Event, Bounded}
+use Rattle.pie_storm.proofs.Names.{Rolling, Opening, Refusal, is_refused_full, or_full, refusal_by_rule, refusal_with, due_after, effective_moment}
+use Rattle.pie_storm.proofs.Names.{event_of, entries_of, events_in, handed_to, left_in, number_of, tail_in, EntriesLookBack, Entry, Made, Folded}
+use Rattle.pie_storm.proofs.Names.{Told, CallerView, LinkView, Call, Ask, Fold, Plan, IsFair, calls_of, commands_of, folder, opening_of, AreMade}
+use Rattle.pie_storm.proofs.Names.{CameOf, HasMade, HasNoMore, IsAt, IsCutShort, IsFor, MadeOrCut, is_number}
+use Rattle.std.proofs.lemmas.List.Elements.{filter-append}
 use Rattle.std.proofs.lemmas.Option.{slice_get_within}
-use Rattle.std.proofs.lemmas.Bool.Decides.{nat_tests}
-use Rattle.pie_lock.specs.Own.{own, is_within}
-use Rattle.pie_lock.specs.Steps.{GoesOn}
-use Rattle.pie_lock.proofs.Owns.{within}
-use Rattle.pie_lock.proofs.Prefixes.{prefix_self, prefix_trans}
-use Rattle.pie_event.specs.declared.command.Answer.{Answer}
-use Rattle.pie_event.specs.declared.command.Command.{Command}
-use Rattle.pie_event.specs.declared.command.Event.{Event}
 use Rattle.pie_event.specs.declared.opening.Mode.{Mode}
-use Rattle.pie_event.specs.declared.opening.Mode.TheVariants.{Bounded, Rolling}
-use Rattle.pie_event.specs.declared.opening.Opening.{Opening}
 use Rattle.pie_event.specs.declared.refusal.FoldRefusal.{FoldRefusal}
 use Rattle.pie_event.specs.declared.refusal.FoldRefusal.TheVariants.{TooMany, Memory}
-use Rattle.pie_event.specs.declared.refusal.Refusal.{Refusal}
 use Rattle.pie_event.specs.declared.refusal.Refusal.TheVariants.{TooSoon, Moment, Size, Exhausted, HistoryFull}
-use Rattle.pie_book.specs.Decision.{is_refused_full, or_full, refusal_by_rule, refusal_with}
-use Rattle.pie_book.specs.Estimates.{due_after}
-use Rattle.pie_book.specs.History.{effective_moment}
-use Rattle.pie_book.specs.Run.{event_of}
 use Rattle.pie_kept.specs.Commands.{IsWhy}
-use Rattle.pie_kept.specs.Entries.{entries_of, events_in, handed_to, left_in, number_of, tail_in}
-use Rattle.pie_kept.specs.EntryLaws.{EntriesLookBack}
-use Rattle.pie_kept.specs.declared.entry.Entry.{Entry}
-use Rattle.pie_kept.specs.declared.entry.Entry.TheVariants.{Made, Folded}
-use Rattle.pie_kept.specs.declared.told.Told.{Told}
 use Rattle.pie_link.specs.Commands.{Answers, IsRefused, IsTaken}
 use Rattle.pie_link.specs.Folds.{Folds, IsFoldMade, IsFoldRefused}
-use Rattle.pie_link.specs.Views.{CallerView, LinkView}
-use Rattle.pie_storm.specs.declared.plan.Call.{Call}
-use Rattle.pie_storm.specs.declared.plan.Call.TheVariants.{Ask, Fold}
-use Rattle.pie_storm.specs.declared.plan.Plan.{Plan}
-use Rattle.pie_storm.specs.Plans.{IsFair, calls_of, commands_of, folder, opening_of}
-use Rattle.pie_storm.specs.Storms.{AreMade, CameOf, HasMade, HasNoMore, IsAt, IsCutShort, IsEntryOf, IsFor, MadeOrCut, TakenIn, WasPassedOver, added_by}
-use Rattle.pie_storm.specs.Storms.{is_number}
+use Rattle.pie_storm.specs.Storms.{IsEntryOf, TakenIn, WasPassedOver, added_by}
 use Rattle.pie_storm.proofs.Handing.{handed_more, handed_same}
 use Rattle.pie_storm.proofs.PlanCommands.{after_senders, command_at, fair_at, folder_asks_nothing}
 

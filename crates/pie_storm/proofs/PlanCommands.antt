@@ -1,21 +1,11 @@
 -- What a sound plan says of the calls of its callers.
-use Rattle.std.proofs.Common.{◌≡◌, ℕ, zero, suc, ◌+◌, ◌-◌, ◌==◌, ◌<◌, ◌≤◌, nat_le, Bool, true, false, List, [], ◌∷◌, Some, Vec, map, length, slice_get}
-use Rattle.std.proofs.Common.{◌∙◌, ap, drop, refl, subst, sym, take, arith, eq-eqb}
-use Rattle.std.specs.Prelude.{if◌then◌else◌}
-use Rattle.std.specs.List.{All, drop-map, take-map}
-use Rattle.std.specs.declared.alloc.Global.{Global}
+use Rattle.pie_storm.proofs.Names.{◌≡◌, ℕ, zero, suc, ◌+◌, ◌-◌, ◌==◌, ◌<◌, ◌≤◌, nat_le, Bool, true, false, List, [], ◌∷◌, Some, Vec, map, length}
+use Rattle.pie_storm.proofs.Names.{slice_get, ◌∙◌, ap, drop, refl, subst, sym, take, arith, eq-eqb, if◌then◌else◌, All, drop-map, take-map, Global}
+use Rattle.pie_storm.proofs.Names.{nat_tests, All-nil, All-cons, All-head, All-tail, Command, Depart, Update, Arrival, arrive, Call, Ask, Fold, Plan}
+use Rattle.pie_storm.proofs.Names.{IsFair, IsSound, calls_of, change, commands_after_senders, commands_of, folder, senders, sent}
 use Rattle.std.proofs.lemmas.Bool.{false_from_ne_true}
-use Rattle.std.proofs.lemmas.Bool.Decides.{nat_tests}
-use Rattle.std.proofs.lemmas.List.Elements.{All-nil, All-cons, All-head, All-tail}
-use Rattle.pie_event.specs.declared.command.Command.{Command}
-use Rattle.pie_event.specs.declared.command.Command.TheVariants.{Depart, Update}
-use Rattle.pie_kept.specs.declared.arrival.Arrival.{Arrival}
-use Rattle.pie_kept.specs.Bursts.{arrive}
-use Rattle.pie_storm.specs.declared.plan.Call.{Call}
-use Rattle.pie_storm.specs.declared.plan.Call.TheVariants.{Ask, Fold}
 use Rattle.pie_storm.specs.declared.plan.Change.{Change}
-use Rattle.pie_storm.specs.declared.plan.Plan.{Plan}
-use Rattle.pie_storm.specs.Plans.{IsMoment, IsSoundArrival, IsFair, IsSound, calls_of, change, commands_after_senders, commands_of, folder, senders, sent}
+use Rattle.pie_storm.specs.Plans.{IsMoment, IsSoundArrival}
 
 -- what holds of both branches holds
 pub of_either : {A : Type 0} (P : A → Type 0) (b : Bool) (x y : A) → P x → P y → P (if b then x else y)

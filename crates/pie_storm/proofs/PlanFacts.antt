@@ -1,13 +1,9 @@
 -- The lists of a storm's plan grow by one entry, and the random words are taken one after another.
-use Rattle.std.proofs.Common.{◌≡◌, ◌+◌, ◌*◌, ℕ, zero, suc, List, [], ◌∷◌, ◌++◌, map, refl, sym, ap, ◌∙◌, arith}
-use Rattle.std.specs.Prelude.{Vec}
-use Rattle.std.specs.List.{range_with_len}
-use Rattle.std.specs.declared.alloc.Global.{Global}
-use Rattle.std.proofs.lemmas.List.{map-append}
+use Rattle.pie_storm.proofs.Names.{◌≡◌, ◌+◌, ◌*◌, ℕ, zero, suc, List, [], ◌∷◌, ◌++◌, map, refl, sym, ap, ◌∙◌, arith, Vec, range_with_len, Global}
+use Rattle.pie_storm.proofs.Names.{map-append, Arrival, arrivals_of, held_by, words_after}
 use Rattle.std.proofs.lemmas.List.FromFn.{map-range_with_len_more}
 use Rattle.rand_core.specs.Stream.{Stream, next_u64}
-use Rattle.pie_kept.specs.declared.arrival.Arrival.{Arrival}
-use Rattle.pie_storm.specs.StormPlan.{arrival_at, arrival_by, arrivals_of, held_by, word_at, words_after}
+use Rattle.pie_storm.specs.StormPlan.{arrival_at, arrival_by, word_at}
 
 -- ---- lists
 

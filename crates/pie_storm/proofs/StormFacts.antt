@@ -1,16 +1,12 @@
 -- The events of a legal history are of their kinds, and few; and the text that it is written as is clean.
-use Rattle.std.proofs.Common.{◌≡◌, ◌≤◌, ◌<◌, ◌^◌, ℕ, List, [], ◌∷◌, ◌++◌, map, length, true, refl, ap, sym, subst, ◌∙◌, arith}
-use Rattle.std.specs.Prelude.{All, IfSome, Option, Some, None, Result, Ok, Err, OnOk}
+use Rattle.pie_storm.proofs.Names.{◌≡◌, ◌≤◌, ◌<◌, ◌^◌, ℕ, List, [], ◌∷◌, ◌++◌, map, length, true, refl, ap, sym, subst, ◌∙◌, arith, IfSome, Option}
+use Rattle.pie_storm.proofs.Names.{Some, None, Result, Ok, Err, append-nil, Command, Event, Opening, IsLegal, IsLegalAt, decision, Plan, opening_of}
+use Rattle.std.specs.Prelude.{All, OnOk}
 use Rattle.std.specs.Io.KnownBytes.{Appends}
-use Rattle.std.proofs.lemmas.List.{append-nil}
 use Rattle.pie_aqm.specs.Places.{Place, after, places}
 use Rattle.pie_event.specs.Deed.{fits}
 use Rattle.pie_event.specs.Opening.{opening_refusal}
-use Rattle.pie_event.specs.declared.command.Command.{Command}
-use Rattle.pie_event.specs.declared.command.Event.{Event}
 use Rattle.pie_event.specs.declared.opening.Limits.{Limits}
-use Rattle.pie_event.specs.declared.opening.Opening.{Opening}
-use Rattle.pie_book.specs.Decision.{IsLegal, IsLegalAt, decision}
 use Rattle.pie_record.specs.ReadBack.{TellsHistory}
 use Rattle.pie_record.specs.HistoryLines.{event_count}
 use Rattle.pie_record.specs.Text.{Row, records_of, rows_text}
@@ -24,8 +20,6 @@ use Rattle.pie_audit.specs.Laws.{EventsAreLines}
 use Rattle.pie_audit.specs.Legal.{AreLegal}
 use Rattle.pie_audit.specs.Text.{excerpt_lines, text_finding, whole_finding}
 use Rattle.pie_audit.specs.declared.auditor.Finding.TheVariants.{Clean, Differs}
-use Rattle.pie_storm.specs.declared.plan.Plan.{Plan}
-use Rattle.pie_storm.specs.Plans.{opening_of}
 use Rattle.pie_storm.specs.StormHistory.{WritesHistory}
 use Rattle.pie_storm.proofs.PlanCommands.{all_of}
 

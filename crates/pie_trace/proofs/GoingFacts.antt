@@ -1,13 +1,6 @@
 -- A trace that goes on after a history is answered as the whole from there on.
-use Rattle.std.proofs.Common.{◌≡◌, ◌-◌, List, [], ◌∷◌, ◌++◌, false, refl, ap, ◌∙◌, arith}
-use Rattle.std.specs.Prelude.{nat_lt}
-use Rattle.std.proofs.lemmas.Bool.{le-ltb}
-use Rattle.pie_event.specs.declared.opening.Opening.{Opening}
-use Rattle.pie_book.specs.Run.{Progress, progress_after, start}
-use Rattle.pie_record.specs.declared.trace_record.Request.{Request}
-use Rattle.pie_record.specs.declared.trace_record.Request.TheVariants.{Ask, Fold}
-use Rattle.pie_trace.specs.History.{progress_at_end, replies, steps_of}
-use Rattle.pie_trace.specs.Reply.{Reply, after, let_go, reply}
+use Rattle.pie_trace.proofs.Names.{◌≡◌, ◌-◌, List, [], ◌∷◌, ◌++◌, false, refl, ap, ◌∙◌, arith, nat_lt, le-ltb, Opening, Progress, progress_after}
+use Rattle.pie_trace.proofs.Names.{start, Request, Ask, Fold, progress_at_end, replies, steps_of, Reply, after, let_go, reply}
 use Rattle.pie_trace.specs.Resumed.{going_on}
 
 replies-append : (opening : Opening) (from : Progress) (xs ys : List Request)

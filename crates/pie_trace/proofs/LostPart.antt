@@ -1,27 +1,17 @@
 -- A record of lost events is a fault of every text that goes on from the middle of a history.
-use Rattle.std.proofs.Common.{◌≡◌, ◌≢◌, ◌+◌, ◌^◌, ℕ, zero, suc, List, [], ◌∷◌, ◌++◌, refl, sym, ap, ◌∙◌}
-use Rattle.std.specs.Prelude.{Option, Some, None, Result, Ok, Err}
-use Rattle.csv.specs.Records.{field_at}
-use Rattle.pie_event.specs.declared.opening.Opening.{Opening}
+use Rattle.pie_trace.proofs.Names.{◌≡◌, ◌≢◌, ◌+◌, ◌^◌, ℕ, zero, suc, List, [], ◌∷◌, ◌++◌, refl, sym, ap, ◌∙◌, Option, Some, None, Result, Ok, Err}
+use Rattle.pie_trace.proofs.Names.{field_at, Opening, first_bad, CoreView, Flaw, TraceFault, Three, fault_from, checked_opening, Row}
 use Rattle.pie_event.specs.declared.resume_refusal.EndRefusal.{EndRefusal}
 use Rattle.pie_event.specs.declared.resume_refusal.ResumeRefusal.{ResumeRefusal}
-use Rattle.pie_params.specs.Range.{first_bad}
-use Rattle.pie_book.specs.Core.{CoreView}
 use Rattle.pie_book.specs.Standing.{ResumingView, begun_with, core_of, end_refusal, resume_refusal}
-use Rattle.pie_record.specs.declared.fault.Flaw.{Flaw}
-use Rattle.pie_record.specs.declared.fault.TraceFault.{TraceFault}
-use Rattle.pie_record.specs.declared.first_record.FirstKind.TheVariants as kinds
-use Rattle.pie_record.specs.declared.version.Version.TheVariants.{Three}
-use Rattle.pie_record.specs.HistoryLines.{fault_from}
-use Rattle.pie_record.specs.Opening.{checked_opening}
-use Rattle.pie_record.specs.Text.{Row}
 use Rattle.pie_text.specs.Lost.{lost_row}
 use Rattle.pie_text.proofs.LostFacts.{lost-later}
-use Rattle.pie_excerpt.specs.Beginning.{Beginning, begun_by, core_by, core_from, draft_of, ended_by, missing, or_fault, queued_by, resumed_by, resumed_of}
-use Rattle.pie_excerpt.specs.Beginning.{with_queue}
+use Rattle.pie_excerpt.specs.Beginning.{Beginning, begun_by, core_by, core_from, draft_of, ended_by, missing, or_fault, queued_by, resumed_by}
+use Rattle.pie_excerpt.specs.Beginning.{resumed_of, with_queue}
 use Rattle.pie_excerpt.specs.Reading.{queued_of, resume_of}
 use Rattle.pie_excerpt.specs.declared.resume.Resume.{Resume}
 use Rattle.pie_audit.specs.Text.{excerpt_fault, fault_after}
+use Rattle.pie_record.specs.declared.first_record.FirstKind.TheVariants as kinds
 
 -- these records have it among them
 record HasLost (count : ℕ) (rows : List Row) : Type 0 where

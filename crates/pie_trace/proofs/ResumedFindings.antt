@@ -1,32 +1,18 @@
 -- The audit of what a run writes of a trace that goes on finds it clean, with the events before it.
-use Rattle.std.proofs.Common.{◌≡◌, ◌≤◌, ◌+◌, ◌^◌, ℕ, List, ◌++◌, map, take, length, Bool, true, false, refl, sym, ap, subst, ◌∙◌, arith}
-use Rattle.std.specs.Prelude.{All, nat_lt, Some, None, Result, Ok, Err, if◌then◌else◌}
-use Rattle.std.proofs.lemmas.Bool.Decides.{nat_tests}
+use Rattle.pie_trace.proofs.Names.{◌≡◌, ◌≤◌, ◌+◌, ◌^◌, ℕ, List, ◌++◌, map, take, length, Bool, true, false, refl, sym, ap, subst, ◌∙◌, arith, All}
+use Rattle.pie_trace.proofs.Names.{nat_lt, Some, None, Result, Ok, Err, if◌then◌else◌, nat_tests, Event, Opening, Shows, IsLegal, progress_after}
+use Rattle.pie_trace.proofs.Names.{TraceFault, Line, Three, TellEach, Row, records_of, rows_text, text_of, Clean, AreLegal, RunEnd, before_fault}
+use Rattle.pie_trace.proofs.Names.{end_left, first_fault, history_rows, replies, requests_of, steps_of, text_left, lines_told}
 use Rattle.std.proofs.lemmas.List.Concat.{flat_map-append}
 use Rattle.pie_event.specs.Ranges.{CommandFits}
-use Rattle.pie_event.specs.declared.command.Event.{Event}
-use Rattle.pie_event.specs.declared.opening.Opening.{Opening}
-use Rattle.pie_book.specs.Core.{Shows}
-use Rattle.pie_book.specs.Decision.{IsLegal}
-use Rattle.pie_book.specs.Run.{progress_after}
-use Rattle.pie_record.specs.declared.fault.TraceFault.{TraceFault}
-use Rattle.pie_record.specs.declared.fault.TraceFault.TheVariants as fault
-use Rattle.pie_record.specs.declared.history_record.Line.{Line}
 use Rattle.pie_record.specs.declared.history_record.Line.TheVariants.{Made}
-use Rattle.pie_record.specs.declared.version.Version.TheVariants.{Three}
-use Rattle.pie_record.specs.ReadBack.{TellEach}
-use Rattle.pie_record.specs.Text.{Row, records_of, rows_text, text_of}
 use Rattle.pie_excerpt.specs.Beginning.{Beginning, BeginsWell, GoesOn, or_fault, resumed_of}
-use Rattle.pie_audit.specs.declared.auditor.Finding.TheVariants.{Clean}
 use Rattle.pie_audit.specs.Finding.{events_of}
 use Rattle.pie_audit.specs.Laws.{EventsAreLines}
-use Rattle.pie_audit.specs.Legal.{AreLegal}
 use Rattle.pie_audit.specs.Text.{IsFound, TellsPart, excerpt_lines, whole_finding}
-use Rattle.pie_trace.specs.declared.run.RunEnd.{RunEnd}
-use Rattle.pie_trace.specs.History.{before_fault, end_left, first_fault, history_rows, replies, requests_of, steps_of, text_left}
-use Rattle.pie_trace.specs.Resumed.{end_resumed, fault_resumed, going_on, progress_resumed, resumed_end, resumed_fault, resumed_text, resumed_within, text_resumed}
-use Rattle.pie_trace.specs.Resumed.{within_most}
-use Rattle.pie_trace.specs.RunLines.{lines_told}
+use Rattle.pie_trace.specs.Resumed.{end_resumed, fault_resumed, going_on, progress_resumed, resumed_end, resumed_fault, resumed_text, resumed_within}
+use Rattle.pie_trace.specs.Resumed.{text_resumed, within_most}
+use Rattle.pie_record.specs.declared.fault.TraceFault.TheVariants as fault
 use Rattle.pie_trace.proofs.RunBack.{Held, Opens, Sound, before-few, rows-few, rows-told}
 use Rattle.pie_trace.proofs.RunFindings.{AreRuns, before-all, lines-legal}
 

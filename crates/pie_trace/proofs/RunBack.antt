@@ -1,52 +1,22 @@
 -- The history text of a trace is read back: its opening, the events of its run, and notes.
-use Rattle.std.proofs.Common.{◌≡◌, ◌≤◌, ◌<◌, ◌+◌, ◌-◌, ◌^◌, ◌==◌, ℕ, List, [], ◌∷◌, ◌++◌, length, Bool, true, false, refl, sym, ap, subst, ◌∙◌, arith}
-use Rattle.std.proofs.Common.{length-append, if◌then◌else◌}
-use Rattle.std.specs.Prelude.{All, drop, nat_lt, take, Option, Some, None, Result, Ok, Err, codes}
-use Rattle.std.proofs.lemmas.Bool.{ltb-true}
-use Rattle.std.proofs.lemmas.Bool.Decides.{nat_tests}
+use Rattle.pie_trace.proofs.Names.{◌≡◌, ◌≤◌, ◌<◌, ◌+◌, ◌-◌, ◌^◌, ◌==◌, ℕ, List, [], ◌∷◌, ◌++◌, length, Bool, true, false, refl, sym, ap, subst, ◌∙◌}
+use Rattle.pie_trace.proofs.Names.{arith, length-append, if◌then◌else◌, All, drop, nat_lt, take, Option, Some, None, Result, Ok, Err, codes, ltb-true}
+use Rattle.pie_trace.proofs.Names.{nat_tests, All-append, All-cons, All-nil, first_bad, RawParams, Command, Event, Mode, Bounded, Rolling, Opening}
+use Rattle.pie_trace.proofs.Names.{FoldRefusal, TooMany, Refusal, last_events, IsLegal, decision, is_refused_full, or_full, refusal_by_rule}
+use Rattle.pie_trace.proofs.Names.{opening_refusal, registers_after, Progress, event_of, fold_outcome, held_with_one, recorded, refused_or, start}
+use Rattle.pie_trace.proofs.Names.{stats_after, Flaw, TraceFault, Request, Ask, BadParams, Clock, Fold, Show, Tally, Draft, FirstKind, Version}
+use Rattle.pie_trace.proofs.Names.{fault_at, before_fault, history_rows, history_text, record_fault, replies, requests_of, text_left, checked_opening}
+use Rattle.pie_trace.proofs.Names.{opening_of, opening_read, Row, rows_text, text_of, is_kind, request_of, line_of, Begins, TellEach, TellsHistory}
+use Rattle.pie_trace.proofs.Names.{line_told, lines_told, run_lines, first_fields, first_kind, kind_word, version_of, Reply, after, history_row}
+use Rattle.pie_trace.proofs.Names.{reply, reply_to_command, reply_to_fold, code_of}
 use Rattle.std.proofs.lemmas.List.Concat.{flat_map-cons}
-use Rattle.std.proofs.lemmas.List.Elements.{All-append, All-cons, All-nil}
-use Rattle.pie_params.specs.Range.{first_bad}
-use Rattle.pie_params.specs.declared.raw.RawParams.{RawParams}
-use Rattle.pie_event.specs.declared.command.Command.{Command}
-use Rattle.pie_event.specs.declared.command.Event.{Event}
-use Rattle.pie_event.specs.declared.opening.Mode.{Mode}
-use Rattle.pie_event.specs.declared.opening.Mode.TheVariants.{Bounded, Rolling}
-use Rattle.pie_event.specs.declared.opening.Opening.{Opening}
-use Rattle.pie_event.specs.declared.refusal.FoldRefusal.{FoldRefusal}
-use Rattle.pie_event.specs.declared.refusal.FoldRefusal.TheVariants.{TooMany}
-use Rattle.pie_event.specs.declared.refusal.Refusal.{Refusal}
-use Rattle.pie_event.specs.declared.refusal.Refusal.TheVariants as refusal
-use Rattle.pie_book.specs.Book.{last_events}
-use Rattle.pie_book.specs.Decision.{IsLegal, decision, is_refused_full, or_full, refusal_by_rule}
 use Rattle.pie_event.specs.Deed.{fits}
-use Rattle.pie_event.specs.Opening.{opening_refusal}
 use Rattle.pie_event.specs.Ranges.{AnswerFits, CommandFits, ParamsFit, RegistersFit, StatsFit}
-use Rattle.pie_book.specs.Registers.{registers_after}
-use Rattle.pie_book.specs.Run.{Progress, event_of, fold_outcome, held_with_one, recorded, refused_or, start}
-use Rattle.pie_book.specs.Statistics.{stats_after}
-use Rattle.pie_record.specs.declared.fault.Flaw.{Flaw}
-use Rattle.pie_record.specs.declared.fault.TraceFault.{TraceFault}
-use Rattle.pie_record.specs.declared.fault.TraceFault.TheVariants as fault
-use Rattle.pie_record.specs.declared.trace_record.Request.{Request}
-use Rattle.pie_record.specs.declared.trace_record.Request.TheVariants.{Ask, BadParams, Clock, Fold, Show, Tally}
-use Rattle.pie_record.specs.declared.first_record.Draft.{Draft}
-use Rattle.pie_record.specs.declared.first_record.FirstKind.{FirstKind}
-use Rattle.pie_record.specs.declared.first_record.FirstKind.TheVariants as kinds
-use Rattle.pie_record.specs.declared.version.Version.{Version}
-use Rattle.pie_record.specs.Fault.{fault_at}
-use Rattle.pie_trace.specs.History.{before_fault, history_rows, history_text, record_fault, replies, requests_of, text_left}
-use Rattle.pie_record.specs.Opening.{Checked, checked_opening, opening_by, opening_of, opening_read}
-use Rattle.pie_record.specs.Text.{Row, rows_text, text_of}
-use Rattle.pie_record.specs.Field.{is_kind}
-use Rattle.pie_record.specs.TraceRecord.{request_of}
-use Rattle.pie_record.specs.HistoryRecord.{line_of}
+use Rattle.pie_record.specs.Opening.{Checked, opening_by}
 use Rattle.pie_record.specs.Laws.{AnswersAreReadBack, RequestsAreWrittenAgain, TextsAreReadBack}
-use Rattle.pie_record.specs.ReadBack.{Begins, TellEach, TellsHistory}
-use Rattle.pie_trace.specs.RunLines.{line_told, lines_told, run_lines}
-use Rattle.pie_record.specs.FirstRecord.{first_fields, first_kind, kind_word, version_of}
-use Rattle.pie_trace.specs.Reply.{Reply, after, history_row, reply, reply_to_command, reply_to_fold}
-use Rattle.pie_record.specs.Answer.{code_of}
+use Rattle.pie_event.specs.declared.refusal.Refusal.TheVariants as refusal
+use Rattle.pie_record.specs.declared.fault.TraceFault.TheVariants as fault
+use Rattle.pie_record.specs.declared.first_record.FirstKind.TheVariants as kinds
 use Rattle.pie_trace.proofs.EndFacts.{history_text-read}
 use Rattle.pie_trace.proofs.HistoryFacts.{before_fault-later, flawed-record, long-record, requests_of-cons}
 

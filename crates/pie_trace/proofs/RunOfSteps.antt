@@ -1,11 +1,7 @@
 -- What the commands and folds of a trace are answered is what the run of a book answers its steps.
-use Rattle.std.proofs.Common.{◌≡◌, List, [], ◌∷◌, refl, ap}
-use Rattle.pie_event.specs.declared.opening.Opening.{Opening}
-use Rattle.pie_book.specs.Run.{Outcome, Progress, Step, asked, folded, outcomes, was_asked, was_folded}
-use Rattle.pie_record.specs.declared.trace_record.Request.{Request}
-use Rattle.pie_record.specs.declared.trace_record.Request.TheVariants.{Ask, BadParams, Clock, Fold, Show, Tally}
-use Rattle.pie_trace.specs.Reply.{Reply, after, refused, reply, reply_to_command, reply_to_fold}
-use Rattle.pie_trace.specs.History.{replies, steps_of}
+use Rattle.pie_trace.proofs.Names.{◌≡◌, List, [], ◌∷◌, refl, ap, Opening, Progress, Request, Ask, BadParams, Clock, Fold, Show, Tally, Reply, after}
+use Rattle.pie_trace.proofs.Names.{refused, reply, reply_to_command, reply_to_fold, replies, steps_of}
+use Rattle.pie_book.specs.Run.{Outcome, Step, asked, folded, outcomes, was_asked, was_folded}
 
 -- the reply to a step whose outcome is this; a step has no outcome of the other kind
 abbrev pub reply_by : Step → Outcome → Reply

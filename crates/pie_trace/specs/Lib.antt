@@ -1,6 +1,14 @@
+pub mod Names
 pub mod Reply
 pub mod History
 pub mod Steps
 pub mod Resumed
 pub mod RunLines
 pub mod Migrate
+unfoldable pub use Names.*
+unfoldable pub use Reply.*
+unfoldable pub use History.*
+unfoldable pub use Steps.*
+unfoldable pub use Resumed.*
+unfoldable pub use RunLines.*
+unfoldable pub use Migrate.*

@@ -1,16 +1,10 @@
 -- What is read of a history that was written.
-use Rattle.std.specs.Prelude.{ℕ, List, [], ◌∷◌}
-use Rattle.pie_book.specs.Run.{start}
-use Rattle.pie_event.specs.declared.opening.Opening.{Opening}
-use Rattle.pie_record.specs.declared.trace_record.Request.{Request}
-use Rattle.pie_record.specs.declared.trace_record.Request.TheVariants.{Ask, Clock}
-use Rattle.pie_record.specs.declared.version.Version.{Version}
-use Rattle.pie_record.specs.declared.history_record.Line.{Line}
-use Rattle.pie_record.specs.declared.history_record.Line.TheVariants as line
+use Rattle.std.specs.Prelude.{◌∷◌}
+use Rattle.pie_trace.specs.Names.{ℕ, List, [], start, Opening, Request, Ask, Clock, Version, Line, Row}
 use Rattle.pie_trace.specs.History.{before_fault, replies, requests_of}
 use Rattle.pie_record.specs.HistoryRecord.{made}
 use Rattle.pie_trace.specs.Reply.{Reply, answered, reply}
-use Rattle.pie_record.specs.Text.{Row}
+use Rattle.pie_record.specs.declared.history_record.Line.TheVariants as line
 
 -- ---- what the history text of a trace tells
 

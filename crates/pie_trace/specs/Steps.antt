@@ -1,20 +1,10 @@
 -- How far the run of a trace has come: what was done so far and what the records that are left will do make up what all
 -- of them do.
-use Rattle.std.specs.Prelude.{ℕ, ◌≡◌, ◌+◌, List, ◌++◌, length, false, Option, Some, None, Result, Ok, Err, cond}
-use Rattle.std.specs.Io.KnownBytes.{Appends}
-use Rattle.pie_event.specs.declared.opening.Opening.{Opening}
-use Rattle.pie_book.specs.Book.{BookView, Tells}
-use Rattle.pie_event.specs.Opening.{opening_refusal}
-use Rattle.pie_book.specs.Run.{Progress}
-use Rattle.pie_record.specs.declared.fault.TraceFault.{TraceFault}
-use Rattle.pie_record.specs.declared.trace_record.Request.{Request}
+use Rattle.std.specs.Prelude.{◌≡◌, ◌+◌, ◌++◌, cond}
+use Rattle.pie_trace.specs.Names.{ℕ, List, length, false, Option, Some, None, Result, Ok, Err, Appends, Opening, BookView, Tells, opening_refusal}
+use Rattle.pie_trace.specs.Names.{Progress, TraceFault, Request, Version, is_device, Row, text_of, request_of}
 use Rattle.pie_trace.specs.declared.run.RunEnd.{RunEnd}
-use Rattle.pie_record.specs.declared.version.Version.{Version}
-use Rattle.pie_record.specs.Fault.{is_device}
-use Rattle.pie_record.specs.Text.{Row, text_of}
-use Rattle.pie_record.specs.TraceRecord.{request_of}
-use Rattle.pie_trace.specs.History.{end_left, end_of, fault_of, first_fault, history_text}
-use Rattle.pie_trace.specs.History.{text_left}
+use Rattle.pie_trace.specs.History.{end_left, end_of, fault_of, first_fault, history_text, text_left}
 use Rattle.pie_trace.specs.Reply.{Reply, after, history_row, is_refused, reply}
 
 -- a book stands where a run from its opening stands

@@ -1,18 +1,12 @@
 //! What a run writes, beside the audit of it.
-ghost use Rattle.std.specs.Prelude.{◌≡◌, ◌≢◌, ◌<◌, ◌≤◌, ◌^◌, ◌∷◌, ◌++◌, ℕ, All, List, length, None, Some, Ok};
+ghost use Rattle.std.specs.Prelude.{◌≡◌, ◌≢◌, ◌<◌, ◌≤◌, ◌^◌, ◌∷◌, ◌++◌, All};
+ghost use Rattle.pie_trace.specs.{ℕ, List, length, None, Some, Ok, Event, Opening, Beginning, GoesOn, before_fault, end_of, fault_of, history_text};
+ghost use Rattle.pie_trace.specs.{progress_at_end, requests_of, progress_resumed, resumed_end, resumed_fault, resumed_text, resumed_within};
+ghost use Rattle.pie_trace.specs.{version_of, opening_of, Row, records_of, Clean, text_finding};
 ghost use Rattle.pie_event.specs.Ranges.{CommandFits};
-ghost use Rattle.pie_event.specs.declared.command.Event.{Event};
-ghost use Rattle.pie_event.specs.declared.opening.Opening.{Opening};
-ghost use Rattle.pie_excerpt.specs.Beginning.{Beginning, GoesOn};
 ghost use Rattle.pie_trace.specs.declared.run.RunEnd.{RunEnd};
-ghost use Rattle.pie_trace.specs.History.{before_fault, end_of, fault_of, history_text, progress_at_end, requests_of};
-ghost use Rattle.pie_trace.specs.Resumed.{progress_resumed, resumed_end, resumed_fault, resumed_text, resumed_within};
-ghost use Rattle.pie_record.specs.FirstRecord.{version_of};
-ghost use Rattle.pie_record.specs.Opening.{opening_of};
-ghost use Rattle.pie_record.specs.Text.{Row, records_of};
-ghost use Rattle.pie_audit.specs.declared.auditor.Finding.TheVariants.{Clean};
 ghost use Rattle.pie_text.specs.Lost.{lost_row};
-ghost use Rattle.pie_audit.specs.Text.{IsFound, excerpt_fault, text_finding};
+ghost use Rattle.pie_audit.specs.Text.{IsFound, excerpt_fault};
 
 use crate::law::history_texts_are_read_back;
 use pie_audit::{clean_is_legal, clean_parts_are_legal, events_are_lines, written_parts_are_told};

@@ -1,16 +1,7 @@
 //! The laws of history texts, that they are read back, and of traces that go on from the middle of a history.
-ghost use Rattle.std.specs.Prelude.{◌≡◌, ◌<◌, ◌≤◌, ◌^◌, ◌∷◌, ◌++◌, ℕ, List, Ok};
-ghost use Rattle.pie_event.specs.declared.opening.Opening.{Opening};
-ghost use Rattle.pie_book.specs.Run.{progress_after, start};
-ghost use Rattle.pie_record.specs.declared.trace_record.Request.{Request};
-ghost use Rattle.pie_trace.specs.History.{history_text, progress_at_end, replies, steps_of};
-ghost use Rattle.pie_trace.specs.Reply.{let_go};
-ghost use Rattle.pie_trace.specs.Resumed.{going_on};
-ghost use Rattle.pie_record.specs.FirstRecord.{version_of};
-ghost use Rattle.pie_record.specs.Opening.{opening_of};
-ghost use Rattle.pie_record.specs.ReadBack.{TellsHistory};
-ghost use Rattle.pie_trace.specs.RunLines.{run_lines};
-ghost use Rattle.pie_record.specs.Text.{Row};
+ghost use Rattle.std.specs.Prelude.{◌≡◌, ◌<◌, ◌≤◌, ◌^◌, ◌∷◌, ◌++◌};
+ghost use Rattle.pie_trace.specs.{ℕ, List, Ok, Opening, progress_after, start, Request, history_text, progress_at_end, replies, steps_of, let_go};
+ghost use Rattle.pie_trace.specs.{going_on, version_of, opening_of, TellsHistory, run_lines, Row};
 
 use pie_book::all_numbers_are_held;
 use pie_record::{

@@ -1,8 +1,6 @@
 //! The law that ties migrations and audits together.
-ghost use Rattle.std.specs.Prelude.{◌≡◌, ◌^◌, ℕ, List, None};
-ghost use Rattle.pie_trace.specs.Migrate.{history_fault, migrated_text};
-ghost use Rattle.pie_record.specs.Text.{records_of};
-ghost use Rattle.pie_audit.specs.Text.{text_finding};
+ghost use Rattle.std.specs.Prelude.{◌≡◌, ◌^◌};
+ghost use Rattle.pie_trace.specs.{ℕ, List, None, history_fault, migrated_text, records_of, text_finding};
 
 use crate::migration_law::migrated_histories_are_read_back;
 

@@ -1,11 +1,7 @@
 //! The laws of migration.
-ghost use Rattle.std.specs.Prelude.{◌≡◌, ◌≤◌, ◌^◌, ◌∷◌, ℕ, List, None, Ok};
-ghost use Rattle.pie_event.specs.declared.opening.Opening.{Opening};
-ghost use Rattle.pie_trace.specs.History.{history_text};
-ghost use Rattle.pie_record.specs.HistoryLines.{history_lines, history_opening, history_version};
-ghost use Rattle.pie_trace.specs.Migrate.{TellTheSame, first_in_two, history_fault, migrated_text, migrated_version};
-ghost use Rattle.pie_record.specs.ReadBack.{TellsHistory};
-ghost use Rattle.pie_record.specs.Text.{Row, records_of};
+ghost use Rattle.std.specs.Prelude.{◌≡◌, ◌≤◌, ◌^◌, ◌∷◌};
+ghost use Rattle.pie_trace.specs.{ℕ, List, None, Ok, Opening, history_text, history_lines, history_opening, history_version, TellTheSame};
+ghost use Rattle.pie_trace.specs.{first_in_two, history_fault, migrated_text, migrated_version, TellsHistory, Row, records_of};
 
 use pie_book::{all_numbers_are_held, profile_one_is_always_active};
 use pie_record::{

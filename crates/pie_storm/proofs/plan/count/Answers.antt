@@ -1,8 +1,4 @@
-use Rattle.std.proofs.Common.{◌≡◌, ◌+◌, ◌-◌, ◌^◌, List, [], Vec, min, drop, length, ap, ◌∙◌, arith}
-use Rattle.std.specs.declared.alloc.Global.{Global}
-use Rattle.std.proofs.Math.Seq.{drop-length}
-use Rattle.pie_kept.specs.declared.arrival.Arrival.{Arrival}
-use Rattle.pie_storm.specs.Plans.{count_of}
+use Rattle.pie_storm.proofs.Names.{◌≡◌, ◌+◌, ◌-◌, ◌^◌, List, [], Vec, min, drop, length, ap, ◌∙◌, arith, Global, drop-length, Arrival, count_of}
 use Rattle.pie_storm.proofs.plan.count.Goals as goal
 
 pub returns : goal.returns

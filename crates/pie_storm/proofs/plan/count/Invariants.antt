@@ -1,5 +1,4 @@
-use Rattle.std.proofs.Common.{◌≡◌, ◌+◌, ◌-◌, ◌^◌, ◌≤◌, min, drop}
-use Rattle.pie_storm.specs.Plans.{count_of}
+use Rattle.pie_storm.proofs.Names.{◌≡◌, ◌+◌, ◌-◌, ◌^◌, ◌≤◌, min, drop, count_of}
 use Rattle.pie_storm.proofs.plan.count.Given as goal
 
 abbrev pub invariant-loop-list : goal.invariant-loop-list

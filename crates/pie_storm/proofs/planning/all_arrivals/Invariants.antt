@@ -1,6 +1,4 @@
-use Rattle.std.proofs.Common.{◌≡◌, map}
-use Rattle.std.specs.List.{range_with_len}
-use Rattle.pie_storm.specs.StormPlan.{arrivals_of, held_by}
+use Rattle.pie_storm.proofs.Names.{◌≡◌, map, range_with_len, arrivals_of, held_by}
 use Rattle.pie_storm.proofs.planning.all_arrivals.Given as goal
 
 abbrev pub invariant-loop-before : goal.invariant-loop-before

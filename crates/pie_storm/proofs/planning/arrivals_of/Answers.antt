@@ -1,5 +1,4 @@
-use Rattle.std.proofs.Common.{◌≡◌, refl, sym, rules}
-use Rattle.pie_storm.specs.StormPlan.{planned_arrival, sender_words, words_after}
+use Rattle.pie_storm.proofs.Names.{◌≡◌, refl, sym, rules, planned_arrival, sender_words, words_after}
 use Rattle.pie_storm.proofs.PlanFacts.{item-push}
 use Rattle.pie_storm.proofs.planning.arrivals_of.Goals as goal
 

@@ -1,6 +1,4 @@
-use Rattle.std.proofs.Common.{◌≡◌, ◌*◌, map}
-use Rattle.std.specs.List.{range_with_len}
-use Rattle.pie_storm.specs.StormPlan.{planned_arrival, sender_words, words_after, words_of}
+use Rattle.pie_storm.proofs.Names.{◌≡◌, ◌*◌, map, range_with_len, planned_arrival, sender_words, words_after, words_of}
 use Rattle.pie_storm.proofs.planning.arrivals_of.Given as goal
 
 abbrev pub invariant-loop-i : goal.invariant-loop-i

@@ -1,5 +1,4 @@
-use Rattle.std.proofs.Common.{refl}
-use Rattle.pie_storm.specs.StormPlan.{change_at}
+use Rattle.pie_storm.proofs.Names.{refl, change_at}
 use Rattle.pie_storm.proofs.PlanFacts.{item-push}
 use Rattle.pie_storm.proofs.planning.changes_of.Goals as goal
 

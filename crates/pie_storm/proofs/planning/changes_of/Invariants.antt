@@ -1,6 +1,4 @@
-use Rattle.std.proofs.Common.{◌≡◌, map}
-use Rattle.std.specs.List.{range_with_len}
-use Rattle.pie_storm.specs.StormPlan.{change_at}
+use Rattle.pie_storm.proofs.Names.{◌≡◌, map, range_with_len, change_at}
 use Rattle.pie_storm.proofs.planning.changes_of.Given as goal
 
 abbrev pub invariant-loop-k : goal.invariant-loop-k

@@ -1,5 +1,4 @@
-use Rattle.std.proofs.Common.{◌≡◌, ◌+◌, ◌*◌, ◌/◌, map}
-use Rattle.std.specs.List.{range_with_len}
+use Rattle.pie_storm.proofs.Names.{◌≡◌, ◌+◌, ◌*◌, ◌/◌, map, range_with_len}
 use Rattle.pie_storm.proofs.planning.departs_of.Given as goal
 
 abbrev pub invariant-loop-j : goal.invariant-loop-j

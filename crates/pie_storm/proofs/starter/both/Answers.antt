@@ -1,6 +1,4 @@
-use Rattle.std.proofs.Common.{◌∙◌, Vec, ap, refl, sym}
-use Rattle.std.specs.declared.alloc.Global.{Global}
-use Rattle.pie_event.specs.declared.command.Event.{Event}
+use Rattle.pie_storm.proofs.Names.{◌∙◌, Vec, ap, refl, sym, Global, Event}
 use Rattle.pie_storm.proofs.Gathering.{together}
 use Rattle.pie_storm.proofs.starter.both.Goals as goal
 

@@ -1,5 +1,4 @@
-use Rattle.std.proofs.Common.{take, ap, ◌∙◌}
-use Rattle.std.proofs.Math.Seq.{take-length}
+use Rattle.pie_storm.proofs.Names.{take, ap, ◌∙◌, take-length}
 use Rattle.pie_storm.proofs.starter.folded_tail.Goals as goal
 
 pub returns-in-Ok : goal.returns-in-Ok

@@ -1,6 +1,4 @@
-use Rattle.std.proofs.Common.{◌≡◌, ℕ, ap, subst}
-use Rattle.pie_link.specs.Views.{CallerView}
-use Rattle.pie_storm.specs.Storms.{IsWorkBelow}
+use Rattle.pie_storm.proofs.Names.{◌≡◌, ℕ, ap, subst, CallerView, IsWorkBelow}
 use Rattle.pie_storm.proofs.Closing.{ended}
 use Rattle.pie_storm.proofs.starter.run.Goals as goal
 

@@ -1,7 +1,5 @@
-use Rattle.std.proofs.Common.{◌≡◌, ◌<◌, ◌+◌, ℕ, List, [], ◌∷◌, ◌++◌, length, get_or, take, map, ap, sym, ◌∙◌, add-one}
-use Rattle.std.proofs.Math.Seq.{take-suc}
-use Rattle.std.proofs.lemmas.List.{map-append}
-use Rattle.pie_event.specs.declared.command.Event.{Event}
+use Rattle.pie_storm.proofs.Names.{◌≡◌, ◌<◌, ◌+◌, ℕ, List, [], ◌∷◌, ◌++◌, length, take, map, ap, sym, ◌∙◌, take-suc, map-append, Event}
+use Rattle.std.proofs.Common.{get_or, add-one}
 use Rattle.pie_record.specs.declared.history_record.Line.TheVariants.{Made}
 use Rattle.pie_storm.proofs.storming.auditor_of.Goals as goal
 

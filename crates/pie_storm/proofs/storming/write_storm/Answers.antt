@@ -1,6 +1,5 @@
-use Rattle.std.proofs.Common.{map}
+use Rattle.pie_storm.proofs.Names.{map, opening_of}
 use Rattle.pie_record.specs.declared.history_record.Line.TheVariants.{Made}
-use Rattle.pie_storm.specs.Plans.{opening_of}
 use Rattle.pie_storm.proofs.StormFacts.{differs-never, fit-legal, writes-told}
 use Rattle.pie_storm.proofs.storming.write_storm.Goals as goal
 

@@ -1,6 +1,4 @@
-use Rattle.std.proofs.Common.{◌≡◌, ◌≤◌, ◌∙◌, ◌+◌, ℕ, length, refl, sym, subst, arith}
-use Rattle.pie_storm.specs.Plans.{calls_of}
-use Rattle.pie_storm.specs.Storms.{IsWell, MadeOrCut}
+use Rattle.pie_storm.proofs.Names.{◌≡◌, ◌≤◌, ◌∙◌, ◌+◌, ℕ, length, refl, sym, subst, arith, calls_of, IsWell, MadeOrCut}
 use Rattle.pie_storm.proofs.Making.{came_cut, came_of_all, folder_not_cut, made_none}
 use Rattle.pie_storm.proofs.worker.make_all.Goals as goal
 

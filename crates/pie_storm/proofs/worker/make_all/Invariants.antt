@@ -1,6 +1,4 @@
-use Rattle.std.proofs.Common.{◌≡◌, ◌≤◌, ◌-◌}
-use Rattle.std.specs.Prelude.{vec_capacity}
-use Rattle.pie_storm.specs.Storms.{HasMade, IsAt, IsWell}
+use Rattle.pie_storm.proofs.Names.{◌≡◌, ◌≤◌, ◌-◌, vec_capacity, HasMade, IsAt, IsWell}
 use Rattle.pie_storm.proofs.worker.make_all.Given as goal
 
 abbrev pub invariant-loop-k : goal.invariant-loop-k

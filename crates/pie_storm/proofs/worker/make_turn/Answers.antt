@@ -1,8 +1,4 @@
-use Rattle.std.proofs.Common.{◌≤◌, List, length, ap, arith, rules}
-use Rattle.std.proofs.lemmas.List.{length-map}
-use Rattle.pie_storm.specs.declared.plan.Call.{Call}
-use Rattle.pie_storm.specs.declared.plan.Call.TheVariants.{Ask}
-use Rattle.pie_storm.specs.Plans.{commands_of, senders}
+use Rattle.pie_storm.proofs.Names.{◌≤◌, List, length, ap, arith, rules, length-map, Call, Ask, commands_of, senders}
 use Rattle.pie_storm.proofs.PlanCommands.{other_calls}
 use Rattle.pie_storm.proofs.worker.make_turn.Goals as goal
 

@@ -1,7 +1,5 @@
-use Rattle.std.proofs.Common.{◌≡◌, ◌∙◌, List, map, subst}
-use Rattle.pie_kept.specs.Bursts.{Reply, always, arrive}
+use Rattle.pie_storm.proofs.Names.{◌≡◌, ◌∙◌, List, map, subst, Reply, always, arrive, AddedByAll}
 use Rattle.pie_link.specs.Bursts.{AnswersAll}
-use Rattle.pie_storm.specs.Storms.{AddedByAll}
 use Rattle.pie_storm.proofs.Bursting.{burst_next, few_by_all}
 use Rattle.pie_storm.proofs.worker.send_next.Goals as goal
 

@@ -1,6 +1,4 @@
-use Rattle.std.proofs.Common.{◌^◌}
-use Rattle.pie_trace.specs.Migrate.{migrated_text}
-use Rattle.pie_record.specs.Text.{records_of}
+use Rattle.pie_trace.proofs.Names.{◌^◌, migrated_text, records_of}
 use Rattle.pie_trace.proofs.MigrationFinding.{same-finding}
 use Rattle.pie_trace.proofs.migration_finding.migration_keeps_the_finding.Goals as goal
 

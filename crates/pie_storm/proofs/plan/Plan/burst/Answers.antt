@@ -1,7 +1,5 @@
-use Rattle.std.proofs.Common.{◌≡◌, ◌∙◌, ◌-◌, ℕ, List, Some, drop, length, slice_get, take, ap, refl, subst, arith, rules}
+use Rattle.pie_storm.proofs.Names.{◌≡◌, ◌∙◌, ◌-◌, ℕ, List, Some, drop, length, slice_get, take, ap, refl, subst, arith, rules, Arrival, commands_of}
 use Rattle.std.proofs.lemmas.Option.{slice_get_read}
-use Rattle.pie_kept.specs.declared.arrival.Arrival.{Arrival}
-use Rattle.pie_storm.specs.Plans.{commands_of}
 use Rattle.pie_storm.proofs.PlanCommands.{part_of, sender_has}
 use Rattle.pie_storm.proofs.plan.Plan.burst.Goals as goal
 

@@ -1,0 +1,48 @@
+-- What the files of this folder take from below, in one place.
+pub use Rattle.std.proofs.Common.{Bool, Err, List, None, Ok, Option, Result, Some, Vec, [], ap, append_assoc, arith, cond, drop, eq-eqb, false, inl}
+pub use Rattle.std.proofs.Common.{inr, length, length-append, length-drop, map, min, nat_le, not, refl, rules, slice_get, subst, suc, sym, take, true}
+pub use Rattle.std.proofs.Common.{zero, ℕ, ⊎_elim, ◌*◌, ◌++◌, ◌+◌, ◌-◌, ◌/◌, ◌<◌, ◌==◌, ◌^◌, ◌∙◌, ◌∷◌, ◌≡◌, ◌≤◌, ◌⊎◌}
+pub use Rattle.std.proofs.Math.Seq.{drop-length, take-add, take-length, take-suc}
+pub use Rattle.std.proofs.lemmas.Bool.Decides.{nat_tests}
+pub use Rattle.std.proofs.lemmas.List.{append-nil, length-map, length-take, map-append}
+pub use Rattle.std.proofs.lemmas.List.Elements.{All-cons, All-head, All-nil, All-tail}
+pub use Rattle.std.specs.List.{All, drop-map, range_with_len, take-map}
+pub use Rattle.std.specs.Prelude.{IfSome, IsOk, if◌then◌else◌, vec_capacity}
+pub use Rattle.std.specs.declared.alloc.Global.{Global}
+pub use Rattle.pie_book.specs.Decision.{IsLegal, IsLegalAt, decision, is_refused_full, or_full, refusal_by_rule, refusal_with}
+pub use Rattle.pie_book.specs.Estimates.{due_after}
+pub use Rattle.pie_book.specs.History.{effective_moment}
+pub use Rattle.pie_book.specs.Run.{event_of}
+pub use Rattle.pie_event.specs.declared.command.Answer.{Answer}
+pub use Rattle.pie_event.specs.declared.command.Command.{Command}
+pub use Rattle.pie_event.specs.declared.command.Command.TheVariants.{Depart, Update}
+pub use Rattle.pie_event.specs.declared.command.Event.{Event}
+pub use Rattle.pie_event.specs.declared.opening.Mode.TheVariants.{Bounded, Rolling}
+pub use Rattle.pie_event.specs.declared.opening.Opening.{Opening}
+pub use Rattle.pie_event.specs.declared.refusal.Refusal.{Refusal}
+pub use Rattle.pie_kept.specs.Bursts.{Reply, always, arrive}
+pub use Rattle.pie_kept.specs.Entries.{entries_of, events_in, handed_out, handed_to, left_in, number_of, tail_in}
+pub use Rattle.pie_kept.specs.EntryLaws.{EntriesLookBack}
+pub use Rattle.pie_kept.specs.declared.arrival.Arrival.{Arrival}
+pub use Rattle.pie_kept.specs.declared.entry.Entry.{Entry}
+pub use Rattle.pie_kept.specs.declared.entry.Entry.TheVariants.{Folded, Made}
+pub use Rattle.pie_kept.specs.declared.told.Told.{Told}
+pub use Rattle.pie_link.specs.Views.{CallerView, LinkView}
+pub use Rattle.pie_lock.proofs.Owns.{not_within, quiet_rest, within}
+pub use Rattle.pie_lock.proofs.Prefixes.{prefix_self, prefix_trans}
+pub use Rattle.pie_lock.specs.Own.{is_within, own}
+pub use Rattle.pie_lock.specs.Steps.{GoesOn}
+pub use Rattle.pie_storm.specs.Plans.{IsFair, IsSound, change, commands_after_senders, count_of, folder, opening_of, planned, senders, sent, updater}
+unfoldable pub use Rattle.pie_storm.specs.Plans.{calls_of, commands_of}
+pub use Rattle.pie_storm.specs.StormPlan.{arrivals_of, change_at, held_by, planned_arrival, sender_words, words_of}
+unfoldable pub use Rattle.pie_storm.specs.StormPlan.{words_after}
+pub use Rattle.pie_storm.specs.Storms.{AddedByAll, AreMade, HasMade, HasNoMore, IsAt, IsCutShort, IsEndOf, IsFor, IsMade, IsStorm, IsWell}
+pub use Rattle.pie_storm.specs.Storms.{IsWorkBelow, WereHanded, is_number}
+unfoldable pub use Rattle.pie_storm.specs.Storms.{CameOf, MadeOrCut}
+pub use Rattle.pie_storm.specs.declared.plan.Call.{Call}
+pub use Rattle.pie_storm.specs.declared.plan.Call.TheVariants.{Ask, Fold}
+pub use Rattle.pie_storm.specs.declared.plan.Plan.{Plan}
+pub use Rattle.pie_storm.specs.declared.worker.Work.{Work}
+pub use mathlib.Core.List.{IsPrefix}
+pub use mathlib.Core.Logic.{dite}
+pub use native.Mathlib.Decide.{ℕ_discrete}

@@ -114,6 +114,20 @@ uint32_t pie_link_try_set_params(struct pie_port *port, const struct pie_params 
  * nothing is missing. Refused, in this order: PIE_CLOSED, PIE_BUSY, PIE_TOO_MANY (the log is empty), PIE_NO_MEMORY. Then nothing is written. */
 uint32_t pie_link_try_fold(struct pie_port *port, struct pie_event *event, struct pie_params *params);
 
+/* ---- Bursts: several events of one port, one after another in one turn, with nothing of another port between. They are read and written where they
+ * lie (`events` isn't NULL, also for none), so no call copies them or takes memory. Each is told as its own call is, also that it was refused, which
+ * changes nothing; those that weren't asked stay as they were. An event of kind PIE_EVENT_UPDATE is an update at its moment, and rides in either
+ * burst. Both answer PIE_DONE, or PIE_CLOSED or PIE_BUSY: then each event is as it was. A burst of no events is done also where another port has
+ * the turn. */
+
+/* The packets arrive, as by pie_link_try_arrive. After one that is refused, PIE_BAD_ECN too, the next is handed in all the same. */
+uint32_t pie_link_try_arrive_all(struct pie_port *port, struct pie_event *events, size_t count);
+
+/* Packets leave, each at its event's moment, as by pie_link_try_depart. The burst ends after `count` events; after a departure without a packet
+ * (PIE_NONE, which is recorded, or refused), or an update that is refused but as too soon; and before a departure whose packet has more bytes than
+ * remain of `bytes`, which the packets that leave together never exceed (UINT64_MAX: as many as there are). `*made` is how many events were asked. */
+uint32_t pie_link_try_depart_all(struct pie_port *port, uint64_t bytes, struct pie_event *events, size_t count, size_t *made);
+
 /* ---- Calls that wait while another port has the turn: the same, again and again, with a pause that doubles up to 64 instructions, then with the
  * processor given up, then asleep until one that has waited too has had its turn, at most a millisecond. Tested, and not proved; nothing says
  * that a call that waits is ever served. */
@@ -218,6 +232,14 @@ static inline uint32_t pie_link_set_params(struct pie_port *port, const struct p
 
 static inline uint32_t pie_link_fold(struct pie_port *port, struct pie_event *event, struct pie_params *params) {
     PIE_LINK_WAITING(pie_link_try_fold(port, event, params));
+}
+
+static inline uint32_t pie_link_arrive_all(struct pie_port *port, struct pie_event *events, size_t count) {
+    PIE_LINK_WAITING(pie_link_try_arrive_all(port, events, count));
+}
+
+static inline uint32_t pie_link_depart_all(struct pie_port *port, uint64_t bytes, struct pie_event *events, size_t count, size_t *made) {
+    PIE_LINK_WAITING(pie_link_try_depart_all(port, bytes, events, count, made));
 }
 
 /* A code of a call at a port in words, for a log. */

@@ -1,5 +1,6 @@
-/* Calls at the ports of a link, as C11 and C++11: what each answers and leaves, by one thread; then sixteen threads that count what they asked,
- * four of which are cancelled between two calls; then each request for memory refused in turn. bindings/c/threads.sh builds and runs it. */
+/* Calls at the ports of a link, as C11 and C++11: what each answers and leaves, by one thread; bursts, by one and by five; then sixteen threads that
+ * count what they asked, four of which are cancelled between two calls; then each request for memory refused in turn. bindings/c/threads.sh builds
+ * and runs it. */
 #include "pie_link.h"
 
 #include <pthread.h>
@@ -94,6 +95,145 @@ static void calls(void) {
     CHECK(strcmp(pie_link_text(PIE_BUSY), "another port has the turn") == 0 && strcmp(pie_link_text(PIE_MARK), pie_text(PIE_MARK)) == 0);
     CHECK(pie_link_close(&port) == PIE_DONE && pie_link_close(&port) == PIE_CLOSED && pie_link_arrive(&other, &event) == PIE_ENQUEUE);
     CHECK(pie_link_close(&other) == PIE_DONE);
+}
+
+/* So many events from this tag on, a nanosecond apart. */
+static void events_from(uint64_t tag, struct pie_event *events, size_t count) {
+    size_t i;
+    for (i = 0; i < count; i++)
+        events[i] = event_at(tag + i, tag + i);
+}
+
+/* Which events of a burst are no longer as they were: a bit each. */
+static unsigned changed(const struct pie_event *events, const struct pie_event *before, size_t count) {
+    unsigned bits = 0;
+    size_t i;
+    for (i = 0; i < count; i++)
+        bits |= (unsigned)(memcmp(&events[i], &before[i], sizeof events[i]) != 0) << i;
+    return bits;
+}
+
+static void bursts(void) {
+    struct pie_port port = PIE_PORT_CLOSED, other = PIE_PORT_CLOSED;
+    struct pie_opening opening;
+    struct pie_event events[6], before[6], event;
+    struct pie_params params;
+    size_t made = 9;
+    pie_default_opening(&opening, 100000000);
+    opening.mode = PIE_BOUNDED;
+    opening.tail = 11;
+    events_from(10, events, 6);
+    memcpy(before, events, sizeof events);
+    /* closed */
+    CHECK(pie_link_try_arrive_all(&port, events, 6) == PIE_CLOSED && changed(events, before, 6) == 0);
+    CHECK(pie_link_try_depart_all(&port, UINT64_MAX, events, 6, &made) == PIE_CLOSED && changed(events, before, 6) == 0 && made == 0);
+    CHECK(pie_link_open(&opening, 2, &port) == PIE_DONE && pie_link_share(&port, &other) == PIE_DONE);
+    /* none */
+    CHECK(pie_link_arrive_all(&port, events, 0) == PIE_DONE && changed(events, before, 6) == 0);
+    made = 9;
+    CHECK(pie_link_depart_all(&port, UINT64_MAX, events, 0, &made) == PIE_DONE && changed(events, before, 6) == 0 && made == 0);
+    /* arrivals: one has a bad ECN field, an update rides, one has no bytes; the rest are queued */
+    events[1].ecn = 4;
+    events[2].kind = PIE_EVENT_UPDATE;
+    events[2].moment = 15000000;
+    events[3].size = 0;
+    CHECK(pie_link_arrive_all(&other, events, 5) == PIE_DONE);
+    CHECK(events[0].kind == PIE_EVENT_ARRIVE && events[0].answer == PIE_ENQUEUE && events[0].caller == 1 && events[0].tag == 10);
+    CHECK(events[1].answer == PIE_BAD_ECN && events[1].caller == 1 && events[1].tag == 11 && events[1].ecn == 4 && events[1].size == 1000);
+    CHECK(events[2].kind == PIE_EVENT_UPDATE && events[2].answer == PIE_DONE && events[2].burst == 150000000 && events[2].tag == 0);
+    CHECK(events[3].answer == PIE_BAD_SIZE && events[3].tag == 13 && events[4].answer == PIE_ENQUEUE && events[4].tag == 14);
+    CHECK(memcmp(&events[5], &before[5], sizeof event) == 0);
+    /* a budget for one packet and a half: the burst ends before the second, and the update before it rides */
+    events_from(90, events, 6);
+    events[0].kind = events[2].kind = PIE_EVENT_UPDATE;
+    memcpy(before, events, sizeof events);
+    CHECK(pie_link_depart_all(&port, 999, events, 6, &made) == PIE_DONE && made == 1 && events[0].answer == PIE_TOO_SOON);
+    CHECK(changed(events, before, 6) == 1);
+    CHECK(pie_link_depart_all(&port, 1999, events, 6, &made) == PIE_DONE && made == 3 && changed(events, before, 6) == 7);
+    CHECK(events[1].kind == PIE_EVENT_DEPART && events[1].answer == PIE_DONE && events[1].caller == 0 && events[1].tag == 10);
+    CHECK(events[1].size == 1000 && events[1].word == 0 && events[2].answer == PIE_TOO_SOON);
+    /* a packet that takes all of the budget leaves, and the next departure finds none and is the last */
+    CHECK(pie_link_depart_all(&port, 1000, events + 1, 5, &made) == PIE_DONE && made == 3 && changed(events, before, 6) == 15);
+    CHECK(events[1].tag == 14 && events[2].answer == PIE_TOO_SOON && events[3].answer == PIE_NONE && events[3].tag == 0);
+    /* without a budget */
+    events_from(20, events, 6);
+    CHECK(pie_link_arrive_all(&port, events, 2) == PIE_DONE && events[1].answer == PIE_ENQUEUE);
+    CHECK(pie_link_depart_all(&port, UINT64_MAX, events, 2, &made) == PIE_DONE && made == 2 && events[0].tag == 20 && events[1].tag == 21);
+    /* the log has room for one event more: an arrival, and the next is refused; a refused departure is the last of a burst */
+    events_from(30, events, 6);
+    memcpy(before, events, sizeof events);
+    CHECK(pie_link_arrive_all(&port, events, 2) == PIE_DONE && events[0].answer == PIE_ENQUEUE && events[1].answer == PIE_FULL);
+    CHECK(pie_link_depart_all(&port, UINT64_MAX, events + 2, 2, &made) == PIE_DONE && made == 1 && events[2].answer == PIE_FULL);
+    CHECK(changed(events, before, 6) == 7);
+    /* what was made, in its order */
+    CHECK(pie_link_fold(&port, &event, &params) == PIE_DONE && event.tag == 10 && event.caller == 1 && event.kind == PIE_EVENT_ARRIVE);
+    CHECK(pie_link_fold(&port, &event, &params) == PIE_DONE && event.kind == PIE_EVENT_UPDATE && event.burst == 150000000);
+    CHECK(pie_link_fold(&port, &event, &params) == PIE_DONE && event.tag == 14 && event.kind == PIE_EVENT_ARRIVE);
+    CHECK(pie_link_fold(&port, &event, &params) == PIE_DONE && event.tag == 10 && event.kind == PIE_EVENT_DEPART && event.moment == 91);
+    CHECK(pie_link_close(&port) == PIE_DONE && pie_link_close(&other) == PIE_DONE);
+}
+
+enum { SENDERS = 4, BURST = 16, BURSTS = 500 };
+
+/* Sends bursts one after another: one that finds another port's turn is as it was. */
+static void *send_bursts(void *of) {
+    struct pie_port *port = (struct pie_port *)of;
+    struct pie_event events[BURST], before[BURST];
+    uint64_t count;
+    for (count = 0; count < BURSTS; count++) {
+        uint32_t code;
+        int i;
+        events_from(count * BURST, events, BURST);
+        memcpy(before, events, sizeof events);
+        while ((code = pie_link_try_arrive_all(port, events, BURST)) == PIE_BUSY)
+            CHECK(memcmp(events, before, sizeof events) == 0);
+        CHECK(code == PIE_DONE);
+        for (i = 0; i < BURST; i++)
+            CHECK(events[i].kind == PIE_EVENT_ARRIVE && events[i].answer < 100);
+    }
+    return NULL;
+}
+
+static void bursts_of_several(void) {
+    static struct pie_port ports[SENDERS + 1];
+    static uint64_t next[SENDERS + 1];
+    pthread_t ids[SENDERS];
+    struct pie_opening opening;
+    struct pie_event events[BURST], before[BURST], event;
+    struct pie_params params;
+    size_t made;
+    uint64_t left = 0;
+    uint32_t code;
+    int i, caller = 0;
+    pie_default_opening(&opening, 100000000);
+    opening.tail = 1 << 20;
+    CHECK(pie_link_open(&opening, SENDERS + 1, &ports[0]) == PIE_DONE);
+    for (i = 1; i <= SENDERS; i++)
+        CHECK(pie_link_share(&ports[0], &ports[i]) == PIE_DONE);
+    for (i = 0; i < SENDERS; i++)
+        CHECK(pthread_create(&ids[i], NULL, send_bursts, &ports[1 + i]) == 0);
+    events_from(0, before, BURST);
+    while (left < SENDERS * BURSTS) { /* departures meanwhile, of a few packets each */
+        memcpy(events, before, sizeof events);
+        code = pie_link_try_depart_all(&ports[0], 2999, events, BURST, &made);
+        CHECK(code == PIE_DONE ? made > 0 && made <= 2 + (events[made - 1].answer == PIE_NONE) : code == PIE_BUSY && made == 0);
+        CHECK(memcmp(events + made, before + made, (BURST - made) * sizeof *events) == 0);
+        left += code == PIE_DONE;
+    }
+    for (i = 0; i < SENDERS; i++)
+        CHECK(pthread_join(ids[i], NULL) == 0);
+    /* each sender's packets once and in its order, with nothing of another within a burst */
+    while ((code = pie_link_fold(&ports[0], &event, &params)) == PIE_DONE) {
+        CHECK(caller == 0 || event.caller == caller);
+        if (event.caller != 0) {
+            CHECK(event.kind == PIE_EVENT_ARRIVE && event.tag == next[event.caller]++);
+            caller = event.tag % BURST == BURST - 1 ? 0 : event.caller;
+        }
+    }
+    CHECK(code == PIE_TOO_MANY);
+    for (i = 1; i <= SENDERS; i++)
+        CHECK(next[i] == BURSTS * BURST && pie_link_close(&ports[i]) == PIE_DONE);
+    CHECK(pie_link_close(&ports[0]) == PIE_DONE);
 }
 
 enum { THREADS = 16, TIMES = 2000 };
@@ -203,6 +343,8 @@ static void memory(void) {
 
 int main(void) {
     calls();
+    bursts();
+    bursts_of_several();
     threads();
     memory();
     return 0;

@@ -23,7 +23,7 @@ RUST_TYPES = {"Params": "pie_params", "State": "pie_state", "RawUpdated": "pie_u
 PARAMETERS = {("pie_arrive", "bits"): "ecn", ("pie_write_refused", "number"): "record", ("pie_write_queued", "bits"): "ecn",
               ("pie_write_clock", "unix"): "unix_time", ("pie_period_clock", "unix"): "unix_time"}  # (compilers of C may define `unix`)
 # a slice is a pointer and a length
-SLICES = {"&[u8]": ("&char", "length"), "&mut [u8]": ("&mut unsigned char", "room")}
+SLICES = {"&[u8]": ("&char", "length"), "&mut [u8]": ("&mut unsigned char", "room"), "&mut [PieEvent]": ("&mut pie_event", "count")}
 CODES = {"DONE": ["PIE_DONE", "PIE_ENQUEUE"], "OVER_BYTES": ["PIE_BYTES"], "OVER_PACKETS": ["PIE_PACKETS"]}
 ECN = {"NotEct": "PIE_NOT_ECT", "Ect1": "PIE_ECT1", "Ect0": "PIE_ECT0", "Ce": "PIE_CE"}
 REFUSALS = {"Moment": "PIE_BAD_MOMENT", "Size": "PIE_BAD_SIZE", "TooSoon": "PIE_TOO_SOON", "Params": "PIE_BAD_PARAMS",

@@ -3,3 +3,4 @@ pub mod Events
 pub mod Calls
 pub mod Folds
 pub mod Owned
+pub mod Bursts

@@ -11,6 +11,8 @@
 #![tactic(auto)]
 
 mod asked;
+mod burst;
+mod burst_calls;
 mod calls;
 mod code;
 mod filling;

@@ -25,8 +25,8 @@ use std::sync::Arc;
 /// A caller of a link, and a share of the link.
 #[derive(Drop)]
 pub struct Port {
-    link: Arc<Link, Global>,
-    caller: Caller,
+    pub(crate) link: Arc<Link, Global>,
+    pub(crate) caller: Caller,
 }
 
 impl Model for Port {
@@ -200,7 +200,7 @@ impl Port {
 
 /// Whether the event names a packet whose ECN field is none.
 #[inline(always)]
-fn has_bad_ecn(asked: Asked, event: &PieEvent) -> bool
+pub(crate) fn has_bad_ecn(asked: Asked, event: &PieEvent) -> bool
     ensures { result ≡ has_bad_ecn asked event.now }
 {
     matches!(asked, Asked::Arrive) && event.ecn > 3

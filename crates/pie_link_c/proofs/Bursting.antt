@@ -1,0 +1,112 @@
+-- One event more of a burst is told.
+use Rattle.std.proofs.Common.{◌≡◌, ◌+◌, ◌<◌, ℕ, zero, suc, Bool, Option, List, [], ◌∷◌, ◌++◌, refl, ap, sym, ◌∙◌, subst, length, drop, map, add-one, arith, get_or, length-append}
+use Rattle.std.proofs.Math.ListN.{set}
+use Rattle.pie_kept.specs.Bursts.{Reply}
+use Rattle.pie_link.specs.Bursts.{AnswersWithin}
+use Rattle.pie_link.specs.Views.{CallerView, LinkView, StaysOne, WasBusy}
+use Rattle.pie_abi.specs.declared.event.PieEvent.{PieEvent}
+use Rattle.pie_link_c.specs.declared.asked.Asked.{Asked}
+use Rattle.pie_link_c.specs.Bursts.{IsAnswered, Took, WasNotTried, asks, told_event, told_events}
+
+none_told : (asked : Asked) (caller : ℕ) (es : List PieEvent) → told_events asked caller es [] ≡ es
+none_told asked caller [] = refl
+none_told asked caller (e ∷ es) = refl
+
+told-more : (asked : Asked) (caller : ℕ) (es : List PieEvent) (rs : List Reply) (r : Reply) (d : PieEvent) → length rs < length es
+    → told_events asked caller es (rs ++ r ∷ [])
+    ≡ set (told_events asked caller es rs) (length rs) (told_event asked caller (get_or (told_events asked caller es rs) (length rs) d) r)
+told-more asked caller [] rs r d some = absurd (omega (arith, some))
+told-more asked caller (e ∷ es) [] r d some = ap (λ (l : List PieEvent). told_event asked caller e r ∷ l) (none_told asked caller es)
+told-more asked caller (e ∷ es) (q ∷ rs) r d some =
+    ap (λ (l : List PieEvent). told_event asked caller e q ∷ l) (told-more asked caller es rs r d (omega (arith, some)))
+
+length-told : (asked : Asked) (caller : ℕ) (es : List PieEvent) (rs : List Reply) → length (told_events asked caller es rs) ≡ length es
+length-told asked caller [] rs = refl
+length-told asked caller (e ∷ es) [] = refl
+length-told asked caller (e ∷ es) (r ∷ rs) = omega (arith, length-told asked caller es rs)
+
+-- an event of zeros, for where there is none
+abbrev pub zeros : PieEvent
+zeros = record {
+  moment = 0;
+  tag = 0;
+  word = 0;
+  delay = 0;
+  prob = 0;
+  burst = 0;
+  size = 0;
+  answer = 0;
+  caller = 0;
+  kind = 0;
+  ecn = 0;
+  reserved = 0;
+}
+
+-- a burst took one reply more: the event at its place was told it
+pub took : (asked : Asked) (caller number : ℕ) (events now next : List PieEvent) (place done : ℕ) (replies : List Reply) (reply : Reply) (d : PieEvent)
+    → Took asked caller number events now done replies → done ≡ place → place < length now
+    → next ≡ set now place (told_event asked number (get_or now place d) reply)
+    → Took asked caller number events next (place + 1) (replies ++ reply ∷ [])
+took asked caller number events now next place done replies reply d before at some is =
+    let here : place ≡ length replies = sym at ∙ before.so_many in
+    let few : length replies < length events = omega (
+      arith,
+      some,
+      here,
+      ap (λ (l : List PieEvent). length l) before.told,
+      length-told asked caller events replies,
+    ) in
+    let said = told-more asked caller events replies reply d few in record {
+      told = is
+          ∙ (ap (λ (c : ℕ). set now place (told_event asked c (get_or now place d) reply)) before.same
+          ∙ (ap (λ (l : List PieEvent). set l place (told_event asked caller (get_or l place d) reply)) before.told
+          ∙ (ap (λ (n : ℕ). set (told_events asked caller events replies) n
+          (told_event asked caller (get_or (told_events asked caller events replies) n d) reply)) here ∙ sym said)));
+      so_many = omega (arith, here, length-append replies (reply ∷ []));
+      same = before.same;
+    }
+
+-- the events after a place stay
+pub drop-set : (l : List PieEvent) (i : ℕ) (e : PieEvent) → drop (suc i) (set l i e) ≡ drop (suc i) l
+drop-set [] i e = refl
+drop-set (x ∷ l) zero e = refl
+drop-set (x ∷ l) (suc i) e = drop-set l i e
+
+pub later_stay : (asked : Asked) (l now : List PieEvent) (i : ℕ) (e : PieEvent) → now ≡ set l i e
+    → map (asks asked) (drop (i + 1) now) ≡ map (asks asked) (drop (i + 1) l)
+later_stay asked l now i e is =
+    ap (λ (k : List PieEvent). map (asks asked) (drop (i + 1) k)) is
+    ∙ (ap (λ (n : ℕ). map (asks asked) (drop n (set l i e))) (add-one i)
+    ∙ (ap (map (asks asked)) (drop-set l i e) ∙ ap (λ (n : ℕ). map (asks asked) (drop n l)) (sym (add-one i))))
+
+-- a burst begins
+pub begun : (asked : Asked) (caller : ℕ) (events : List PieEvent) (done : ℕ) → done ≡ 0 → Took asked caller caller events events done []
+begun asked caller events done none = record { told = sym (none_told asked caller events); so_many = none; same = refl }
+
+-- it was answered
+pub answered : (asked : Asked) (budget : Option ℕ) (go : Reply → Bool) (link : LinkView) (before inside after : CallerView)
+    (events now : List PieEvent) (number its done code : ℕ) (replies : List Reply) → before ≡ inside → inside.lock ≡ link
+    → AnswersWithin budget go link inside (map (asks asked) events) [] replies after → StaysOne inside after
+    → Took asked number its events now done replies → number ≡ before.first → code ≡ 0
+    → IsAnswered asked budget go before events done code now after
+answered asked budget go link before inside after events now number its done code replies same lock answers stays took_all is told = record {
+  replies = replies;
+  answered = subst (λ (b : CallerView). AnswersWithin budget go b.lock b (map (asks asked) events) [] replies after) (sym same)
+      (subst (λ (l : LinkView). AnswersWithin budget go l inside (map (asks asked) events) [] replies after) (sym lock) answers);
+  stays = subst (λ (b : CallerView). StaysOne b after) (sym same) stays;
+  told = took_all.told ∙ ap (λ (n : ℕ). told_events asked n events replies) is;
+  counted = took_all.so_many;
+  done = told;
+}
+
+-- or it was not
+pub not_tried : (asked : Asked) (before inside after : CallerView) (events : List PieEvent) (done code : ℕ) → before ≡ inside
+    → WasBusy inside after → done ≡ 0 → (length (map (asks asked) events) ≡ 0 → ⊥) → code ≡ 121
+    → WasNotTried before events done code events after
+not_tried asked before inside after events done code same busy none some told = record {
+  busy = subst (λ (b : CallerView). WasBusy b after) (sym same) busy;
+  stays = refl;
+  counted = none;
+  some = λ empty. some (ap (λ (l : List PieEvent). length (map (asks asked) l)) empty);
+  told = told;
+}

@@ -2,4 +2,5 @@ pub mod Codes
 pub mod Events
 pub mod Calls
 pub mod Folds
+pub mod Readings
 pub mod Owned

@@ -19,4 +19,5 @@ mod handle;
 mod loose;
 mod opening;
 mod port;
+mod readings;
 mod sharing;

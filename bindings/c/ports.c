@@ -60,7 +60,7 @@ static void readings(struct pie_port *port, const struct pie_params *params) {
     memset(&totals, 1, sizeof totals);
     CHECK(pie_link_registers(port, &held) == PIE_DONE && held.count == 7 && held.moment == 15000002 && held.packets == 1 && held.bytes == 1000);
     CHECK(held.prob == 0 && held.old_delay == 0 && held.accu == 0 && held.burst == 150000000 && held.average == 0 && held.measuring == 0);
-    CHECK(held.last == 15000001 && held.due == held.last + params->t_update && held.active == 1);
+    CHECK(held.last == 15000000 && held.due == held.last + params->t_update && held.active == 1);
     CHECK(memcmp(&held.params, params, sizeof *params) == 0);
     CHECK(pie_link_stats(port, &totals) == PIE_DONE && totals.count == 7 && totals.stats.arrivals == 2 && totals.stats.enqueued == 2);
     CHECK(totals.stats.left == 1 && totals.stats.left_bytes == 1000 && totals.stats.empty == 1 && totals.stats.updates == 1);

@@ -82,10 +82,7 @@ fn registers(told: &Told<Registers>) -> PieRegisters
 }
 
 // Writes the registers that were read, and answers the code.
-fn write_registers(
-    reply: &Result<Told<Registers>, Tried<Refusal>>,
-    out: &mut PieRegisters,
-) -> u32
+fn write_registers(reply: &Result<Told<Registers>, Tried<Refusal>>, out: &mut PieRegisters) -> u32
     ensures code { result ≡ read_code reply.now }
     ensures out { out.new ≡ read_into registers_of out.old reply.now }
 {

@@ -25,7 +25,7 @@
  * - Each packet is a name here, `tag`: the link has the order in which packets leave, and the caller has the packets.
  *
  * A call with `try` in its name never waits: it answers PIE_BUSY where another port has the turn, and its event is as it was. None but
- * pie_link_open, pie_link_share and pie_link_try_fold takes memory; where there is none, nothing is done, and nothing is lost. */
+ * pie_link_open and pie_link_share takes memory; where there is none, nothing is done, and nothing is lost. */
 #ifndef PIE_LINK_H
 #define PIE_LINK_H
 
@@ -109,10 +109,47 @@ uint32_t pie_link_try_reset(struct pie_port *port, struct pie_event *event);
  * PIE_FULL. */
 uint32_t pie_link_try_set_params(struct pie_port *port, const struct pie_params *params, struct pie_event *event);
 
-/* Hands out the oldest event of the log, which leaves it, and of an event PIE_EVENT_PARAMS its parameters: pie_write_event and pie_write_params make
- * its record. What all folds of a link hand out, in their order, is the history as far as they come; of a link that lets none go (PIE_BOUNDED)
- * nothing is missing. Refused, in this order: PIE_CLOSED, PIE_BUSY, PIE_TOO_MANY (the log is empty), PIE_NO_MEMORY. Then nothing is written. */
-uint32_t pie_link_try_fold(struct pie_port *port, struct pie_event *event, struct pie_params *params);
+/* ---- Folds: the history, as far as it has come. */
+
+#define PIE_LINK_MOST 64 /* events that one fold hands out at most */
+
+/* Hands out the oldest events of the log, oldest first, which leave it: up to `count`, at most PIE_LINK_MOST, and none after one that sets parameters
+ * (PIE_EVENT_PARAMS), which are in `params` then. `folded` is how many there were, 0 but at PIE_DONE; the other structs stay as they were.
+ * pie_write_event and pie_write_params make the records. What all folds of a link hand out, in their order, is the history as far as they come; of a
+ * link that lets none go (PIE_BOUNDED) nothing is missing. Refused, in this order: PIE_CLOSED, PIE_BUSY, PIE_TOO_MANY (the log holds no event, or
+ * `count` is 0). Then no event is written. `events` is never NULL, not even with a count of 0. */
+uint32_t pie_link_try_fold(struct pie_port *port, struct pie_event *events, size_t count, size_t *folded, struct pie_params *params);
+
+/* ---- Readings: what the controller and its queue hold. They make no event. */
+
+/* Times are in nanoseconds, probabilities in units of 10^-12. */
+struct pie_registers {
+    uint64_t count;           /* how many events there were */
+    uint64_t moment;          /* the effective moment, the greatest so far */
+    uint64_t packets;         /* how many packets wait */
+    uint64_t bytes;           /* their bytes */
+    uint64_t prob;            /* the probability of drop or mark */
+    uint64_t old_delay;       /* the delay at the last update */
+    uint64_t accu;            /* the accumulated probability */
+    uint64_t burst;           /* the burst allowance */
+    uint64_t last;            /* the moment of the last update, or of the opening */
+    uint64_t due;             /* the moment from which the next update is due */
+    uint64_t average;         /* the average time in which dq_threshold bytes depart; 0 with no sample */
+    uint64_t measuring;       /* 1 where a cycle of the departure rate is begun, and else 0 */
+    uint64_t active;          /* 1 while the controller is active, and else 0; always 1 with PIE_ALWAYS_ON */
+    struct pie_params params; /* the parameters in force */
+};
+
+/* The statistics of all events. */
+struct pie_totals {
+    uint64_t count;         /* how many events there were */
+    struct pie_stats stats; /* their statistics */
+};
+
+/* Read the registers and the statistics, as they are after `count` events of the history. Refused, in this order: PIE_CLOSED, PIE_BUSY. Then the
+ * struct stays as it was. */
+uint32_t pie_link_try_registers(struct pie_port *port, struct pie_registers *registers);
+uint32_t pie_link_try_stats(struct pie_port *port, struct pie_totals *totals);
 
 /* ---- Bursts: several events of one port, one after another in one turn, with nothing of another port between. They are read and written where they
  * lie (`events` isn't NULL, also for none), so no call copies them or takes memory. Each is told as its own call is, also that it was refused, which
@@ -230,8 +267,16 @@ static inline uint32_t pie_link_set_params(struct pie_port *port, const struct p
     PIE_LINK_WAITING(pie_link_try_set_params(port, params, event));
 }
 
-static inline uint32_t pie_link_fold(struct pie_port *port, struct pie_event *event, struct pie_params *params) {
-    PIE_LINK_WAITING(pie_link_try_fold(port, event, params));
+static inline uint32_t pie_link_fold(struct pie_port *port, struct pie_event *events, size_t count, size_t *folded, struct pie_params *params) {
+    PIE_LINK_WAITING(pie_link_try_fold(port, events, count, folded, params));
+}
+
+static inline uint32_t pie_link_registers(struct pie_port *port, struct pie_registers *registers) {
+    PIE_LINK_WAITING(pie_link_try_registers(port, registers));
+}
+
+static inline uint32_t pie_link_stats(struct pie_port *port, struct pie_totals *totals) {
+    PIE_LINK_WAITING(pie_link_try_stats(port, totals));
 }
 
 static inline uint32_t pie_link_arrive_all(struct pie_port *port, struct pie_event *events, size_t count) {

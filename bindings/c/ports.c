@@ -27,17 +27,66 @@ static struct pie_event event_at(uint64_t moment, uint64_t tag) {
     return event;
 }
 
+/* The log of calls(): an arrival, a departure, one that found none, an update, a reset, parameters, an arrival. */
+static void folds(struct pie_port *port, uint64_t dq_threshold) {
+    struct pie_event events[PIE_LINK_MOST + 1], before;
+    struct pie_params params;
+    size_t folded = 9;
+    memset(events, 1, sizeof events);
+    memset(&params, 0, sizeof params);
+    before = events[0];
+    /* no room, then room for two: the others stay */
+    CHECK(pie_link_fold(port, events, 0, &folded, &params) == PIE_TOO_MANY && folded == 0);
+    CHECK(pie_link_fold(port, events, 2, &folded, &params) == PIE_DONE && folded == 2 && params.target == 0);
+    CHECK(events[0].kind == PIE_EVENT_ARRIVE && events[0].caller == 2 && events[0].tag == 7 && events[0].reserved == 0);
+    CHECK(events[0].word == UINT64_C(0x9e3779b97f4a7c15) * 8 && events[0].ecn == PIE_ECT0 && events[0].prob == 0);
+    CHECK(events[1].kind == PIE_EVENT_DEPART && events[1].caller == 0 && events[1].tag == 7 && events[1].moment == 30);
+    CHECK(memcmp(&events[2], &before, sizeof before) == 0);
+    /* no further than what sets parameters */
+    CHECK(pie_link_fold(port, events, PIE_LINK_MOST + 1, &folded, &params) == PIE_DONE && folded == 4);
+    CHECK(events[0].kind == PIE_EVENT_DEPART && events[0].answer == PIE_NONE && events[0].moment == 30);
+    CHECK(events[1].kind == PIE_EVENT_UPDATE && events[1].burst == 150000000 && events[2].kind == PIE_EVENT_RESET);
+    CHECK(events[3].kind == PIE_EVENT_PARAMS && params.target == 5000000 && params.dq_threshold == dq_threshold);
+    CHECK(memcmp(&events[4], &before, sizeof before) == 0);
+    params.target = 7;
+    CHECK(pie_link_fold(port, events, PIE_LINK_MOST, &folded, &params) == PIE_DONE && folded == 1 && events[0].tag == 10 && params.target == 7);
+    CHECK(pie_link_fold(port, events, PIE_LINK_MOST, &folded, &params) == PIE_TOO_MANY && folded == 0 && events[0].tag == 10);
+}
+
+/* What calls() left behind: 7 events, of which a packet waits that arrived at 15000002. */
+static void readings(struct pie_port *port, const struct pie_params *params) {
+    struct pie_registers held;
+    struct pie_totals totals;
+    memset(&held, 1, sizeof held);
+    memset(&totals, 1, sizeof totals);
+    CHECK(pie_link_registers(port, &held) == PIE_DONE && held.count == 7 && held.moment == 15000002 && held.packets == 1 && held.bytes == 1000);
+    CHECK(held.prob == 0 && held.old_delay == 0 && held.accu == 0 && held.burst == 150000000 && held.average == 0 && held.measuring == 0);
+    CHECK(held.last == 15000000 && held.due == held.last + params->t_update && held.active == 1);
+    CHECK(memcmp(&held.params, params, sizeof *params) == 0);
+    CHECK(pie_link_stats(port, &totals) == PIE_DONE && totals.count == 7 && totals.stats.arrivals == 2 && totals.stats.enqueued == 2);
+    CHECK(totals.stats.left == 1 && totals.stats.left_bytes == 1000 && totals.stats.empty == 1 && totals.stats.updates == 1);
+    CHECK(totals.stats.resets == 1 && totals.stats.changes == 1 && totals.stats.largest_queue == 1000 && totals.stats.waited == 20);
+    CHECK(totals.stats.marked == 0 && totals.stats.early == 0 && totals.stats.over_bytes == 0 && totals.stats.over_packets == 0);
+    CHECK(totals.stats.largest_delay == 0 && totals.stats.waited_high == 0);
+}
+
 static void calls(void) {
     struct pie_port port = PIE_PORT_CLOSED, other = PIE_PORT_CLOSED, third = PIE_PORT_CLOSED;
     struct pie_opening opening;
     struct pie_params params;
     struct pie_event event = event_at(10, 7), before = event;
+    struct pie_registers registers;
+    struct pie_totals totals;
+    size_t folded = 9;
+    registers.count = totals.count = 9;
     pie_default_opening(&opening, 100000000);
     opening.mode = PIE_BOUNDED;
     opening.tail = 7;
     /* closed */
     CHECK(pie_link_try_arrive(&port, &event) == PIE_CLOSED && memcmp(&event, &before, sizeof event) == 0);
     CHECK(pie_link_close(&port) == PIE_CLOSED && pie_link_share(&port, &other) == PIE_CLOSED && pie_link_gather(&port, &other) == PIE_CLOSED);
+    CHECK(pie_link_registers(&port, &registers) == PIE_CLOSED && registers.count == 9 && pie_link_stats(&port, &totals) == PIE_CLOSED && totals.count == 9);
+    CHECK(pie_link_fold(&port, &event, 1, &folded, &params) == PIE_CLOSED && folded == 0 && memcmp(&event, &before, sizeof event) == 0);
     /* opening */
     CHECK(pie_link_open(&opening, 0, &port) == PIE_NO_CALLERS);
     opening.profile = 3;
@@ -80,18 +129,9 @@ static void calls(void) {
     event = event_at(15000002, 10);
     CHECK(pie_link_arrive(&port, &event) == PIE_ENQUEUE);
     CHECK(pie_link_arrive(&port, &event) == PIE_FULL);
-    /* the log: an arrival, a departure, one that found none, an update, a reset, parameters, an arrival */
-    memset(&params, 0, sizeof params);
-    CHECK(pie_link_fold(&other, &event, &params) == PIE_DONE && event.kind == PIE_EVENT_ARRIVE && event.caller == 2 && event.tag == 7);
-    CHECK(event.word == UINT64_C(0x9e3779b97f4a7c15) * 8 && event.ecn == PIE_ECT0 && params.target == 0);
-    CHECK(pie_link_fold(&other, &event, &params) == PIE_DONE && event.kind == PIE_EVENT_DEPART && event.caller == 0 && event.tag == 7);
-    CHECK(pie_link_fold(&other, &event, &params) == PIE_DONE && event.kind == PIE_EVENT_DEPART && event.answer == PIE_NONE);
-    CHECK(pie_link_fold(&other, &event, &params) == PIE_DONE && event.kind == PIE_EVENT_UPDATE && event.burst == 150000000);
-    CHECK(pie_link_fold(&other, &event, &params) == PIE_DONE && event.kind == PIE_EVENT_RESET);
-    CHECK(pie_link_fold(&other, &event, &params) == PIE_DONE && event.kind == PIE_EVENT_PARAMS && params.target == 5000000);
-    CHECK(params.dq_threshold == opening.params.dq_threshold);
-    CHECK(pie_link_fold(&other, &event, &params) == PIE_DONE && event.tag == 10);
-    CHECK(pie_link_fold(&other, &event, &params) == PIE_TOO_MANY && event.tag == 10);
+    readings(&port, &params);
+    folds(&other, opening.params.dq_threshold);
+    readings(&other, &params); /* a fold changes nothing but the log */
     CHECK(strcmp(pie_link_text(PIE_BUSY), "another port has the turn") == 0 && strcmp(pie_link_text(PIE_MARK), pie_text(PIE_MARK)) == 0);
     CHECK(pie_link_close(&port) == PIE_DONE && pie_link_close(&port) == PIE_CLOSED && pie_link_arrive(&other, &event) == PIE_ENQUEUE);
     CHECK(pie_link_close(&other) == PIE_DONE);
@@ -264,10 +304,11 @@ static void threads(void) {
     static struct pie_port ports[THREADS];
     pthread_t ids[THREADS];
     struct pie_opening opening;
-    struct pie_event event;
+    struct pie_event events[PIE_LINK_MOST];
     struct pie_params params;
     uint64_t found[THREADS] = {0}, next[THREADS] = {0};
     uint32_t code;
+    size_t folded, place;
     int i;
     pie_default_opening(&opening, 100000000);
     opening.tail = 1 << 20;
@@ -280,10 +321,15 @@ static void threads(void) {
         pthread_cancel(ids[1 + i]);
     for (i = 0; i < THREADS; i++)
         CHECK(pthread_join(ids[i], NULL) == 0);
-    while ((code = pie_link_fold(&ports[0], &event, &params)) == PIE_DONE) {
-        found[event.caller]++;
-        if (event.kind == PIE_EVENT_ARRIVE)
-            CHECK(event.tag == next[event.caller]++); /* each caller's calls, once and in its order */
+    /* by rooms of 1 to the most: the same history as one by one */
+    for (i = 1; (code = pie_link_fold(&ports[0], events, (size_t)i, &folded, &params)) == PIE_DONE; i = i % PIE_LINK_MOST + 1) {
+        CHECK(folded <= (size_t)i);
+        for (place = 0; place < folded; place++) {
+            const struct pie_event *event = &events[place];
+            found[event->caller]++;
+            if (event->kind == PIE_EVENT_ARRIVE)
+                CHECK(event->tag == next[event->caller]++); /* each caller's calls, once and in its order */
+        }
     }
     CHECK(code == PIE_TOO_MANY);
     for (i = 0; i < THREADS; i++) {
@@ -323,6 +369,7 @@ static void memory(void) {
     struct pie_event event = event_at(0, 1);
     struct pie_params params;
     uint32_t code;
+    size_t folded;
     long number, requests = 0;
     int was_refused;
     pie_default_opening(&opening, 100000000);
@@ -335,9 +382,8 @@ static void memory(void) {
     requests += number;
     CHECK(REFUSING(0, pie_link_arrive(&other, &event)) == PIE_ENQUEUE && !was_refused && event.caller == 1);
     CHECK(REFUSING(0, pie_link_depart(&port, &event)) == PIE_DONE && !was_refused);
-    for (number = 0; REFUSING(number, pie_link_fold(&port, &event, &params)) != PIE_DONE; number++)
-        CHECK(code == PIE_NO_MEMORY && was_refused);
-    CHECK(event.kind == PIE_EVENT_ARRIVE && requests + number > 4);
+    CHECK(REFUSING(0, pie_link_fold(&port, &event, 1, &folded, &params)) == PIE_DONE && !was_refused && folded == 1);
+    CHECK(event.kind == PIE_EVENT_ARRIVE && requests > 4);
     CHECK(pie_link_close(&port) == PIE_DONE && pie_link_close(&other) == PIE_DONE);
 }
 

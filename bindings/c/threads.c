@@ -49,9 +49,10 @@ static void *transmit(void *of) {
 
 int main(void) {
     struct pie_opening opening;
-    struct pie_event event;
+    struct pie_event events[PIE_LINK_MOST];
     struct pie_params params;
     pthread_t threads[3];
+    size_t folded;
     unsigned char record[PIE_RECORD_ROOM];
     uint32_t code;
     pie_default_opening(&opening, 100000000);
@@ -68,9 +69,10 @@ int main(void) {
             return 1;
     for (;;) {
         int last = working == 0;
-        while ((code = pie_link_fold(&ports[3], &event, &params)) == PIE_DONE)
-            fwrite(record, 1, event.kind == PIE_EVENT_PARAMS ? pie_write_params(&event, &params, record, sizeof record)
-                                                             : pie_write_event(&event, record, sizeof record), stdout);
+        while ((code = pie_link_fold(&ports[3], events, PIE_LINK_MOST, &folded, &params)) == PIE_DONE)
+            for (size_t i = 0; i < folded; i++)
+                fwrite(record, 1, events[i].kind == PIE_EVENT_PARAMS ? pie_write_params(&events[i], &params, record, sizeof record)
+                                                                     : pie_write_event(&events[i], record, sizeof record), stdout);
         if (last || code != PIE_TOO_MANY)
             break;
     }

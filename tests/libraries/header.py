@@ -282,7 +282,8 @@ def compare_numbers(header, source):
 def compare_link(root):
     """include/pie_link.h, beside crates/pie_link_c: its calls with their parameters, its codes, the words for them, and the port, of which C sees a pointer."""
     header = Header((root / "include/pie_link.h").read_text())
-    source = Rust(read_source(root / "crates/pie_link_c/src", "*.rt"), {**TYPES, "PiePort": "pie_port"}, r'pub extern "C" ')
+    names = {**TYPES, "PiePort": "pie_port", "PieRegisters": "pie_registers", "PieTotals": "pie_totals"}
+    source = Rust(read_source(root / "crates/pie_link_c/src", "*.rt"), names, r'pub extern "C" ')
     # (a `Global` takes no bytes: C hands nothing over)
     calls = {name: (result, [it for it in given if it[0] != "Global"]) for name, (result, given) in source.functions.items()}
     given = {name: (result, [(kind, {"added": "new"}.get(field, field)) for kind, field in it]) for name, (result, it) in header.functions.items()}
@@ -290,6 +291,10 @@ def compare_link(root):
     if not re.search(r"pub struct PiePort \{\s*at: \*mut u8,\s*alloc: Global,\s*///.*?\s*pub ghost", source.text):
         yield "crates/pie_link_c/src: a port is not a pointer alone"
     yield from same("include/pie_link.h: a port", header.structs.get("pie_port"), [("&mut void", "at")], "here")
+    for name in ("pie_registers", "pie_totals"):
+        yield from same(f"include/pie_link.h: struct {name}", header.structs.get(name), source.structs.get(name), "in crates/pie_link_c/src")
+    most = re.findall(r"const MOST: usize = (\d+);", source.text)
+    yield from same("include/pie_link.h: how many events a fold hands out", [header.defines.get("PIE_LINK_MOST")], most, "in crates/pie_link_c/src")
     found = {"PIE_" + name: int(number) for name, number in re.findall(r"const ([A-Z_]+): u32 = (\d+);", source.text)}
     yield from same("include/pie_link.h: codes", header.constants, found, "in crates/pie_link_c/src")
     words = re.findall(r"case (PIE_\w+): return", header.text)

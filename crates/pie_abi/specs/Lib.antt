@@ -3,3 +3,4 @@ pub mod Choices
 pub mod Packets
 pub mod Opening
 pub mod Events
+pub mod Stats

@@ -8,7 +8,9 @@ pub mod event;
 pub mod opening;
 pub mod packet;
 pub mod params;
+pub mod stats;
 
 pub use event::PieEvent;
 pub use opening::PieOpening;
 pub use params::PieParams;
+pub use stats::PieStats;

@@ -4,6 +4,7 @@ pub mod CoreFacts
 pub mod BookFacts
 pub mod StandingFacts
 pub mod FoldParts
+pub mod OldestFacts
 pub mod CopyFacts
 pub mod RunFacts
 pub mod RangeFacts

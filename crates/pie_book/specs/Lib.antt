@@ -16,6 +16,7 @@ pub mod Step
 pub mod Beside
 pub mod Standing
 pub mod Excerpt
+pub mod Oldest
 unfoldable pub use Types.*
 unfoldable pub use History.*
 unfoldable pub use Shown.*
@@ -34,3 +35,4 @@ unfoldable pub use Step.*
 unfoldable pub use Beside.*
 unfoldable pub use Standing.*
 unfoldable pub use Excerpt.*
+unfoldable pub use Oldest.*

@@ -7,7 +7,8 @@
 //! `Core::step` and `Book::apply`: for every history that the core shows or the book tells, the answer is the decision after
 //! that history, or exactly its refusal (clause `decides`); the history with this event is shown or told afterwards (`shows`,
 //! `recorded`); a refusal leaves all as it was (`refused`). `Book::fold` refuses exactly where the tail holds fewer events or for
-//! want of memory, hands out the oldest ones, and the book tells the same history (`too_many`, `refused`, `folded`, `told`).
+//! want of memory, hands out the oldest ones, and the book tells the same history (`too_many`, `refused`, `folded`, `told`);
+//! `Book::fold_into` copies as many as there are into a vector that has room (`handed`), and never refuses.
 //! `open` and `open_with` refuse only for the listed reasons, in that order, or for lack of memory. The readers are what the definitions say:
 //! `registers`, `stats`, `count` and `waiting` of the whole history, `checkpoint` and `checkpoint_stats` of the history without
 //! the tail. `folds_change_no_answer` is the law over runs, and `all_numbers_are_held` the law that every register, statistic and answer after a
@@ -24,6 +25,7 @@ pub mod book;
 mod book_events;
 mod book_excerpt;
 mod book_folds;
+mod book_oldest;
 mod book_readers;
 mod book_standing;
 mod core_commands;

@@ -8,7 +8,8 @@
 //! Each call that is not answered `Busy` was decided after one history that begins with the caller's front and has no
 //! further entry of this caller. An event call at Ok has the decision there, and a refusal is that of the book there: `HistoryFull`
 //! comes exactly where the tail of a bounded link is full. A fold of n events is Ok only where the tail holds n, and hands out the
-//! oldest; `TooMany` names how many there are. The caller has then been shown that history, with its event or fold.
+//! oldest; `TooMany` names how many there are. `try_fold_into` hands out as many as there are, into a vector of the caller's. The caller has then
+//! been shown that history, with its event or fold.
 //! `arrive_all`, `try_arrive_all` and `depart_all` make a burst of such calls after one history, with nothing of another caller between.
 //! `registers` and `stats` are the look-back over such a history, and an `excerpt` is its end, with what that stands on. `Busy` is not answered
 //! to a caller with all numbers. `Link::open` and `open_with` promise the headline (clause `headline`, `specs/Headline.antt`): whenever the
@@ -26,6 +27,8 @@ pub mod caller;
 mod calls;
 mod excerpt_calls;
 mod excerpt_turn;
+mod fold_calls;
+mod fold_turn;
 pub mod link;
 pub mod refusal;
 pub mod told;

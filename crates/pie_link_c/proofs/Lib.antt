@@ -2,3 +2,4 @@ pub mod Values
 pub mod Handles
 pub mod Gathers
 pub mod Bursting
+pub mod Written

@@ -2,5 +2,6 @@ pub mod Codes
 pub mod Events
 pub mod Calls
 pub mod Folds
+pub mod Readings
 pub mod Owned
 pub mod Bursts

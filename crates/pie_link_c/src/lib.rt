@@ -21,4 +21,5 @@ mod handle;
 mod loose;
 mod opening;
 mod port;
+mod readings;
 mod sharing;

@@ -6,12 +6,13 @@ ghost use Rattle.pie_link_c.specs.Events.{has_bad_ecn};
 use crate::asked::Asked;
 use crate::code::{NO_MEMORY, ONE_NUMBER};
 use crate::filling::{fill, fill_number, fill_set};
-use crate::folding::write_folded;
+use crate::folding::{MOST, room, write_folded};
 use atomic_table::TableRule;
 use pie_abi::code::{BAD_ECN, BAD_PARAMS};
 use pie_abi::event::PARAMS;
 use pie_abi::packet::ecn;
 use pie_abi::{PieEvent, PieParams};
+use pie_book::Recorded;
 use pie_event::{Answer, Opening, Refusal};
 use pie_kept::KeptBook;
 use pie_link::{Caller, Entry, Link, Told, Tried};
@@ -27,10 +28,12 @@ use std::sync::Arc;
 pub struct Port {
     pub(crate) link: Arc<Link, Global>,
     pub(crate) caller: Caller,
+    /// Where the events go that a fold hands out.
+    folded: Vec<Recorded>,
 }
 
 impl Model for Port {
-    ghost use Rattle.std.specs.Prelude.{◌≡◌};
+    ghost use Rattle.std.specs.Prelude.{◌≡◌, ◌≤◌, vec_capacity};
     ghost use Rattle.std.specs.Arc.{arc_value};
     ghost use Rattle.pie_link.specs.Views.{CallerView};
 
@@ -38,7 +41,7 @@ impl Model for Port {
 
     ghost view = { λ p. p.caller };
 
-    ghost invariant = { λ p. p.caller.lock ≡ arc_value p.link };
+    ghost invariant = { λ p. (p.caller.lock ≡ arc_value p.link) × (64 ≤ vec_capacity p.folded) };
 }
 
 impl Port {
@@ -64,8 +67,15 @@ impl Port {
         let Ok((link, caller)) = Link::open_with(alloc, opening, callers) else {
             return None;
         };
+        let Some(folded) = room(alloc) else {
+            return None;
+        };
         match Arc::new(alloc, link) {
-            Ok(link) => Some(Port { link, caller }),
+            Ok(link) => Some(Port {
+                link,
+                caller,
+                folded,
+            }),
             Err(_) => None,
         }
     }
@@ -128,12 +138,21 @@ impl Port {
         fill_set(event, caller, &reply)
     }
 
-    /// Asks for the oldest event of the log, and writes what was handed out.
-    pub(crate) fn try_fold(&mut self, event: &mut PieEvent, params: &mut PieParams) -> u32
-        ensures { IsFolded self.old event.old params.old result event.new params.new self.new }
+    /// Asks for the oldest events of the log, and writes what was handed out.
+    pub(crate) fn try_fold(
+        &mut self,
+        events: &mut [PieEvent],
+        count: &mut usize,
+        params: &mut PieParams,
+    ) -> u32
+        ensures { IsFolded self.old events.old params.old result events.new count.new params.new self.new }
     {
-        let reply = self.link.try_fold(&mut self.caller, 1);
-        write_folded(&reply, event, params)
+        self.folded.clear();
+        let most = events.len().min(MOST);
+        let reply = self
+            .link
+            .try_fold_into(&mut self.caller, most, &mut self.folded);
+        write_folded(&reply, &self.folded, events, count, params)
     }
 
     /// A new port with the highest number of this one, which keeps it where the new one can't be had.
@@ -192,8 +211,13 @@ impl Port {
     fn into_caller(self) -> Caller
         ensures { result ≡ self }
     {
-        let Port { link, caller } = self;
+        let Port {
+            link,
+            caller,
+            folded,
+        } = self;
         drop(link);
+        drop(folded);
         caller
     }
 }
@@ -215,7 +239,15 @@ fn boxed(alloc: Global, link: &Arc<Link, Global>, caller: Caller) -> Result<Box<
     let Ok(link) = Arc::try_clone(link) else {
         return Err(caller);
     };
-    match Box::new(alloc, Port { link, caller }) {
+    let Some(folded) = room(alloc) else {
+        return Err(caller);
+    };
+    let port = Port {
+        link,
+        caller,
+        folded,
+    };
+    match Box::new(alloc, port) {
         Ok(port) => Ok(port),
         Err(AllocFailed { value }) => Err(value.into_caller()),
     }

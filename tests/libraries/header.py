@@ -115,7 +115,7 @@ def plain_c(text):
 
 
 def plain_rust(text, names):
-    text = text.replace("*mut u8", "&mut unsigned char")
+    text = re.sub(r"\*mut (?!u8)(\w+)", r"&mut \1", text.replace("*mut u8", "&mut unsigned char"))
     for name, plain in names.items():
         text = re.sub(rf"\b{name}\b", plain, text)
     return text
@@ -295,7 +295,7 @@ def compare_link(root):
     waits = set(re.findall(r"static inline uint32_t pie_link_(\w+)\(struct pie_port", header.text))
     yield from same("include/pie_link.h: the calls that wait", sorted(waits), sorted(tries), "of those that don't")
     members = re.search(r"class pie_link_port \{(.*?)\n\};", header.text, re.S)
-    handed = re.findall(r"uint32_t (\w+)\([^)]*\) noexcept \{ return (?:this [^?]*\? )?pie_link_(\w+)\(", members[1] if members else "")
+    handed = re.findall(r"uint32_t (\w+)\([^)]*\) noexcept \{\s*return (?:this [^?]*\? )?pie_link_(\w+)\(", members[1] if members else "")
     yield from same("include/pie_link.h: what a member of pie_link_port calls", [it for it in handed if it[0] != it[1]], [], "here")
     yield from same("include/pie_link.h: the members of pie_link_port", sorted(it[0] for it in handed),
                     sorted([name[9:] for name in calls] + [*waits]), "of the calls")
@@ -305,7 +305,9 @@ def compare_link(root):
 def compare_rust_link(root, header):
     """The declarations in Rust of the calls of include/pie_link.h, the codes of its refusals and the orders in which they are told."""
     text = read_source(root / "bindings/rust/src", "link*.rs")
-    rust = Rust(text, {**RUST_TYPES, "RawPort": "pie_port"}, r"(?<!pub )")
+    rust = Rust(text, {**RUST_TYPES, "RawPort": "pie_port", "Registers": "pie_registers", "Totals": "pie_totals"}, r"(?<!pub )")
+    for name in ("pie_registers", "pie_totals"):
+        yield from same(f"bindings/rust: {name}", rust.structs.get(name), header.structs.get(name), "in include/pie_link.h")
     yield from same("bindings/rust: calls of a link", rust.functions, header.functions, "in include/pie_link.h")
     found = {LINK_REFUSALS.get(name): int(number) for number, name in re.findall(r"(\d+) => LinkRefusal::(\w+)", text)}
     codes = {**Header((root / "include/pie.h").read_text()).constants, **header.constants}

@@ -8,6 +8,7 @@
 #include "pie_text.h"
 
 #include <pthread.h>
+#include <sched.h>
 #include <time.h>
 
 #define UNIX_TIME UINT64_C(1795550400000000000)
@@ -209,6 +210,7 @@ static void at_full_speed(uint64_t events, uint64_t wanted) {
             break;
         } else {
             is_last = PIE_LOAD(is_over);
+            sched_yield();
         }
     }
     pthread_join(writer, NULL);
@@ -232,7 +234,7 @@ int main(int count, char **words) {
     expect(anew > 40, "too few texts that begin anew", anew);
     threads(seed, 4 * events, 200000);
     threads(seed, 4 * events, 1000);
-    at_full_speed(200 * events, 2000);
+    at_full_speed(50 * events, 2000);
     at_full_speed(20 * events, 100000);
     printf("follow: %" PRIu64 " looks, %" PRIu64 " texts that began anew\n", looks, anew);
     free(ends);

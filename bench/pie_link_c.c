@@ -1,4 +1,4 @@
-/* Events a second of one to four threads at one controller, in bursts: at a link (include/pie_link.h), where each event is a turn of its own; at a
+/* Events a second of one to four threads at one controller, in bursts: at a link (include/pie_link.h); at a
  * spin lock around the recorded calls of pie.h, each of whose events a flight recorder keeps; and at the same lock around the plain calls, whose
  * events are put into the recorder in bulk, as a data plane does. Each thread lets a burst of packets arrive, and as many depart, and between two
  * bursts spends on each packet the time of making it; none is more than a burst ahead of another, so that they meet. An event is a packet that
@@ -223,8 +223,9 @@ static void two_turns(struct worker *worker, int threads) {
     update(worker, moment);
     make(worker, moment);
     if (worker->kind == LINK) {
-        for (uint32_t i = 0; i < worker->burst; i++)
-            pie_link_arrive(&worker->port, &worker->burst_of[i]);
+        uint32_t code = pie_link_arrive_all(&worker->port, worker->burst_of, worker->burst);
+        if (code != PIE_DONE)
+            die("a burst of arrivals", code);
     } else {
         take(worker);
         worker->kind == RECORDED ? arrive_recorded(worker) : arrive_bulk(worker);
@@ -232,10 +233,9 @@ static void two_turns(struct worker *worker, int threads) {
     }
     moment = now();
     if (worker->kind == LINK) {
-        for (made = 0; made < worker->burst; made++) {
-            worker->burst_of[made] = (struct pie_event){.moment = moment};
-            pie_link_depart(&worker->port, &worker->burst_of[made]);
-        }
+        for (uint32_t i = 0; i < worker->burst; i++)
+            worker->burst_of[i] = (struct pie_event){.moment = moment};
+        pie_link_depart_all(&worker->port, UINT64_MAX, worker->burst_of, worker->burst, &made);
     } else {
         take(worker);
         made = worker->kind == RECORDED ? depart_recorded(worker, moment) : depart_bulk(worker, moment);
@@ -276,14 +276,16 @@ static void open_link(int threads) {
 
 /* How often an event's turn follows on another caller's, of the turns whose events the log holds; and closes the link. */
 static double changes_of_log(int threads, uint32_t burst) {
-    struct pie_event event;
+    struct pie_event events[PIE_LINK_MOST];
     struct pie_params params;
     uint64_t count = 0, changes = 0;
+    size_t folded;
     int before = 0;
-    for (; pie_link_fold(&workers[0].port, &event, &params) == PIE_DONE; count++) {
-        changes += event.caller != before;
-        before = event.caller;
-    }
+    while (pie_link_fold(&workers[0].port, events, PIE_LINK_MOST, &folded, &params) == PIE_DONE)
+        for (size_t i = 0; i < folded; i++, count++) {
+            changes += events[i].caller != before;
+            before = events[i].caller;
+        }
     for (int i = 0; i < threads; i++)
         pie_link_close(&workers[i].port);
     return (double)changes * burst / (double)(count + (count == 0));
@@ -306,8 +308,7 @@ static void run(enum kind kind, int threads, uint32_t burst, uint64_t millisecon
         for (uint32_t k = 0; i == 0 && k < STANDING; k += burst) {
             make(worker, opening.moment);
             if (kind == LINK)
-                for (uint32_t i = 0; i < burst; i++)
-                    pie_link_arrive(&worker->port, &worker->burst_of[i]);
+                pie_link_arrive_all(&worker->port, worker->burst_of, burst);
             else
                 kind == RECORDED ? arrive_recorded(worker) : arrive_bulk(worker);
         }

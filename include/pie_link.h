@@ -335,14 +335,30 @@ public:
     uint32_t try_update(pie_event &event) noexcept { return pie_link_try_update(&port, &event); }
     uint32_t try_reset(pie_event &event) noexcept { return pie_link_try_reset(&port, &event); }
     uint32_t try_set_params(const pie_params &params, pie_event &event) noexcept { return pie_link_try_set_params(&port, &params, &event); }
-    uint32_t try_fold(pie_event &event, pie_params &params) noexcept { return pie_link_try_fold(&port, &event, &params); }
+    uint32_t try_arrive_all(pie_event *events, size_t count) noexcept { return pie_link_try_arrive_all(&port, events, count); }
+    uint32_t try_depart_all(uint64_t bytes, pie_event *events, size_t count, size_t &made) noexcept {
+        return pie_link_try_depart_all(&port, bytes, events, count, &made);
+    }
+    uint32_t try_fold(pie_event *events, size_t room, size_t &folded, pie_params &params) noexcept {
+        return pie_link_try_fold(&port, events, room, &folded, &params);
+    }
+    uint32_t try_registers(pie_registers &registers) noexcept { return pie_link_try_registers(&port, &registers); }
+    uint32_t try_stats(pie_totals &totals) noexcept { return pie_link_try_stats(&port, &totals); }
 
     uint32_t arrive(pie_event &event) noexcept { return pie_link_arrive(&port, &event); }
     uint32_t depart(pie_event &event) noexcept { return pie_link_depart(&port, &event); }
     uint32_t update(pie_event &event) noexcept { return pie_link_update(&port, &event); }
     uint32_t reset(pie_event &event) noexcept { return pie_link_reset(&port, &event); }
     uint32_t set_params(const pie_params &params, pie_event &event) noexcept { return pie_link_set_params(&port, &params, &event); }
-    uint32_t fold(pie_event &event, pie_params &params) noexcept { return pie_link_fold(&port, &event, &params); }
+    uint32_t arrive_all(pie_event *events, size_t count) noexcept { return pie_link_arrive_all(&port, events, count); }
+    uint32_t depart_all(uint64_t bytes, pie_event *events, size_t count, size_t &made) noexcept {
+        return pie_link_depart_all(&port, bytes, events, count, &made);
+    }
+    uint32_t fold(pie_event *events, size_t room, size_t &folded, pie_params &params) noexcept {
+        return pie_link_fold(&port, events, room, &folded, &params);
+    }
+    uint32_t registers(pie_registers &registers) noexcept { return pie_link_registers(&port, &registers); }
+    uint32_t stats(pie_totals &totals) noexcept { return pie_link_stats(&port, &totals); }
 
 private:
     uint32_t with_itself(uint32_t code) const noexcept { return is_open() ? code : uint32_t(PIE_CLOSED); }

@@ -52,6 +52,28 @@ static uint64_t next_word(uint64_t *word) {
     return *word;
 }
 
+/* A burst of arrivals, or of departures, each later than the one before by a nanosecond; those that were answered are summed up. */
+static void ask_many(struct worker *worker, size_t number, const struct pie_event *first, uint64_t word, uint64_t *last) {
+    struct pie_event events[8];
+    size_t count = 1 + word % 8, made = count, i;
+    uint32_t code;
+    for (i = 0; i < count; i++) {
+        events[i] = *first;
+        events[i].moment = *last += i != 0;
+    }
+    if (word >> 32 & 1)
+        code = pie_link_arrive_all(&worker->port, events, count);
+    else
+        code = pie_link_depart_all(&worker->port, 1 + (word >> 40 & 8191), events, count, &made);
+    CHECK(code == PIE_DONE && made <= count);
+    for (i = 0; i < made; i++) {
+        CHECK(events[i].caller == number);
+        if (events[i].answer < 100)
+            add(&worker->sum, events[i].kind, events[i].moment);
+    }
+    answered[number] = worker->sum.count;
+}
+
 /* A call of some kind: one in five without waiting. */
 static uint32_t ask(struct worker *worker, struct pie_event *event, uint64_t word) {
     struct pie_port *port = &worker->port;
@@ -83,6 +105,11 @@ static void *work(void *of) {
         struct pie_event event = {.tag = ++tag, .size = 1 + (uint32_t)(random >> 54), .ecn = random >> 52 & 3, .word = next_word(&word)};
         uint32_t code;
         event.moment = last = time > last ? time : last + 1;
+        if (next_word(&word) >> 62 == 0) {
+            ask_many(worker, number, &event, next_word(&word), &last);
+            pthread_testcancel();
+            continue;
+        }
         code = ask(worker, &event, next_word(&word));
         if (code < 100) {
             CHECK(event.caller == number && event.moment == last);
@@ -110,23 +137,19 @@ static int have_gone_on(const unsigned long long *before, int threads) {
 
 /* Writes what the log holds, but no more than it has room for at once; whether it came to its end. */
 static int fold(void) {
-    struct pie_event event;
+    struct pie_event events[PIE_LINK_MOST];
     struct pie_params params;
-    unsigned char bytes[64 * PIE_RECORD_ROOM];
-    size_t count = 0, folded = 0, length;
+    unsigned char bytes[PIE_LINK_MOST * PIE_RECORD_ROOM];
+    size_t folded = 0, count;
     uint32_t code = PIE_DONE;
-    while (folded < opening.tail && (code = pie_link_fold(&workers[0].port, &event, &params)) == PIE_DONE) {
-        length = event.kind == PIE_EVENT_PARAMS ? pie_write_params(&event, &params, bytes + count, sizeof bytes - count)
-                                                : pie_write_event(&event, bytes + count, sizeof bytes - count);
-        CHECK(length != 0);
-        count += length;
-        folded++;
-        if (sizeof bytes - count < PIE_RECORD_ROOM) {
-            CHECK(fwrite(bytes, 1, count, stdout) == count);
-            count = 0;
-        }
+    for (; folded < opening.tail && (code = pie_link_fold(&workers[0].port, events, PIE_LINK_MOST, &count, &params)) == PIE_DONE; folded += count) {
+        size_t written = 0, i;
+        for (i = 0; i < count; i++)
+            written += events[i].kind == PIE_EVENT_PARAMS ? pie_write_params(&events[i], &params, bytes + written, sizeof bytes - written)
+                                                          : pie_write_event(&events[i], bytes + written, sizeof bytes - written);
+        CHECK(fwrite(bytes, 1, written, stdout) == written);
     }
-    CHECK((code == PIE_DONE || code == PIE_TOO_MANY) && fwrite(bytes, 1, count, stdout) == count);
+    CHECK(code == PIE_DONE || code == PIE_TOO_MANY);
     return code == PIE_TOO_MANY;
 }
 

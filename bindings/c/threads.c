@@ -1,16 +1,15 @@
 /* Four threads at one controller: two senders, the link that sends what waits, and a writer of the history, which `pie audit` decides again.
- *     (cd crates/pie_c && rt lib) && (cd crates/pie_link_c && rt lib)
+ *     bindings/c/library.py
  *     cc -Iinclude -o threads bindings/c/threads.c crates/pie_link_c/out/libpie_link_c.a crates/pie_c/out/libpie_c.a -pthread
  *     ./threads > history && pie audit < history */
 #include "pie_link.h"
+#include "pie_text.h"
 
 #include <pthread.h>
 #include <stdio.h>
-#include <stdlib.h>
-#include <threads.h>
 
 enum { PACKETS = 20000 };
-static struct pie_port ports[4]; /* of the link, of each sender, of the writer: one thread each */
+static struct pie_port ports[4]; /* of the writer, of the link, of each sender: one thread each */
 static atomic_int working = 3;   /* threads that make events */
 
 static uint64_t now(void) {
@@ -20,11 +19,10 @@ static uint64_t now(void) {
 }
 
 static void *send(void *of) {
-    struct pie_port *port = of;
-    uint64_t word = 0x9e3779b97f4a7c15 * (uint64_t)(port - ports), count;
-    for (count = 1; count <= PACKETS; count++) {
-        struct pie_event event = {.moment = now(), .tag = count, .size = 1000, .ecn = PIE_ECT0, .word = word};
-        while (pie_link_arrive(port, &event) == PIE_FULL) /* until the writer has made room */
+    uint64_t word = 0x9e3779b97f4a7c15 * (uint64_t)((struct pie_port *)of - ports);
+    for (uint64_t tag = 1; tag <= PACKETS; tag++) {
+        struct pie_event event = {.moment = now(), .tag = tag, .size = 1000, .ecn = PIE_ECT0, .word = word};
+        while (pie_link_arrive(of, &event) == PIE_FULL) /* until the writer has made room */
             sched_yield();
         word ^= word << 13, word ^= word >> 7, word ^= word << 17; /* (use a better one) */
     }
@@ -33,51 +31,48 @@ static void *send(void *of) {
 }
 
 static void *transmit(void *of) {
-    struct pie_event event = {0};
-    uint32_t code = PIE_NONE;
-    while (working > 1 || code != PIE_NONE) {
-        event.moment = now();
-        code = pie_link_depart(of, &event); /* event.tag is the packet that leaves */
+    for (uint32_t code = PIE_NONE; working > 1 || code != PIE_NONE;) {
+        struct pie_event event = {.moment = now()};
+        pie_link_update(of, &event);        /* PIE_TOO_SOON, most of the time */
+        code = pie_link_depart(of, &event); /* event.tag is the packet that leaves; or none waits, or the log is full */
         if (code != PIE_DONE)
-            thrd_sleep(&(struct timespec){.tv_nsec = 20000}, NULL); /* (it finds nothing, or a full log) */
-        event.moment = now();
-        pie_link_update(of, &event); /* PIE_TOO_SOON, most of the time */
+            sched_yield();
     }
     working--;
     return NULL;
 }
 
-int main(void) {
-    struct pie_opening opening;
+/* Writes what the log holds: PIE_TOO_MANY at its end. */
+static uint32_t fold(void) {
+    static struct pie_history text;
     struct pie_event events[PIE_LINK_MOST];
     struct pie_params params;
-    pthread_t threads[3];
-    size_t folded;
     unsigned char record[PIE_RECORD_ROOM];
     uint32_t code;
+    for (size_t count; (code = pie_link_fold(&ports[0], events, PIE_LINK_MOST, &count, &params)) == PIE_DONE;)
+        for (size_t i = 0; i < count; i++)
+            fwrite(record, 1, pie_text_event(&text, &events[i], &params, record, sizeof record), stdout);
+    return code;
+}
+
+int main(void) {
+    struct pie_opening opening;
+    unsigned char record[PIE_RECORD_ROOM];
+    pthread_t threads[3];
     pie_default_opening(&opening, 100000000);
     opening.mode = PIE_BOUNDED; /* no event goes but by a fold */
     opening.moment = now();
+    fwrite(record, 1, pie_write_opening(&opening, record, sizeof record), stdout);
     if (pie_link_open(&opening, 4, &ports[0]) != PIE_DONE)
         return 1;
-    for (int i = 1; i < 4; i++)
-        if (pie_link_share(&ports[0], &ports[i]) != PIE_DONE)
+    for (int i = 3; i > 0; i--)
+        if (pie_link_share(&ports[0], &ports[i]) != PIE_DONE || pthread_create(&threads[i - 1], NULL, i == 1 ? transmit : send, &ports[i]) != 0)
             return 1;
-    fwrite(record, 1, pie_write_opening(&opening, record, sizeof record), stdout);
-    for (int i = 0; i < 3; i++)
-        if (pthread_create(&threads[i], NULL, i == 0 ? transmit : send, &ports[i]) != 0)
-            return 1;
-    for (;;) {
-        int last = working == 0;
-        while ((code = pie_link_fold(&ports[3], events, PIE_LINK_MOST, &folded, &params)) == PIE_DONE)
-            for (size_t i = 0; i < folded; i++)
-                fwrite(record, 1, events[i].kind == PIE_EVENT_PARAMS ? pie_write_params(&events[i], &params, record, sizeof record)
-                                                                     : pie_write_event(&events[i], record, sizeof record), stdout);
-        if (last || code != PIE_TOO_MANY)
-            break;
-    }
+    while (working != 0 && fold() == PIE_TOO_MANY)
+        sched_yield();
     for (int i = 0; i < 3; i++)
         pthread_join(threads[i], NULL);
+    uint32_t code = fold();
     for (int i = 0; i < 4; i++)
         pie_link_close(&ports[i]);
     return code == PIE_TOO_MANY ? 0 : 1;

@@ -116,7 +116,7 @@ def plain_c(text):
 
 
 def plain_rust(text, names):
-    text = text.replace("*mut u8", "&mut unsigned char")
+    text = re.sub(r"\*mut (?!u8)(\w+)", r"&mut \1", text.replace("*mut u8", "&mut unsigned char"))
     for name, plain in names.items():
         text = re.sub(rf"\b{name}\b", plain, text)
     return text
@@ -313,7 +313,9 @@ def compare_link(root):
 def compare_rust_link(root, header):
     """The declarations in Rust of the calls of include/pie_link.h, the codes of its refusals and the orders in which they are told."""
     text = read_source(root / "bindings/rust/src", "link*.rs")
-    rust = Rust(text, {**RUST_TYPES, "RawPort": "pie_port"}, r"(?<!pub )")
+    rust = Rust(text, {**RUST_TYPES, "RawPort": "pie_port", "Registers": "pie_registers", "Totals": "pie_totals"}, r"(?<!pub )")
+    for name in ("pie_registers", "pie_totals"):
+        yield from same(f"bindings/rust: {name}", rust.structs.get(name), header.structs.get(name), "in include/pie_link.h")
     yield from same("bindings/rust: calls of a link", rust.functions, header.functions, "in include/pie_link.h")
     found = {LINK_REFUSALS.get(name): int(number) for number, name in re.findall(r"(\d+) => LinkRefusal::(\w+)", text)}
     codes = {**Header((root / "include/pie.h").read_text()).constants, **header.constants}

@@ -67,7 +67,7 @@ fn main() -> Result<(), Box<dyn Error>> {
         loop {
             let is_last = workers.load(SeqCst) == 0;
             match writer.fold() {
-                Ok(event) => event.record(&mut history)?,
+                Ok(mut events) => events.try_for_each(|event| event.record(&mut history))?,
                 Err(LinkRefusal::NoEvent) if is_last => return Ok(()),
                 Err(LinkRefusal::NoEvent) => thread::sleep(PAUSE),
                 Err(why) => return Err(why.into()),

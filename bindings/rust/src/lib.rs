@@ -49,6 +49,8 @@ mod link;
 #[cfg(feature = "link")]
 mod link_library;
 #[cfg(feature = "link")]
+mod link_readings;
+#[cfg(feature = "link")]
 mod link_refusal;
 #[cfg(feature = "link")]
 mod link_wait;
@@ -65,7 +67,9 @@ pub use event::{Event, Packet, ParamsEvent};
 pub use flight::DumpFault;
 pub use flight::{Flight, FlightRefusal};
 #[cfg(feature = "link")]
-pub use link::{Folded, Link, LinkUpdated, Port};
+pub use link::{Folded, Folds, Link, LinkUpdated, Port};
+#[cfg(feature = "link")]
+pub use link_readings::{Registers, Totals};
 #[cfg(feature = "link")]
 pub use link_refusal::LinkRefusal;
 pub use opening::{Mode, Opening};

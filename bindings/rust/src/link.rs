@@ -7,9 +7,11 @@ use std::vec::Vec;
 
 use crate::library::RawEvent;
 use crate::link_library::{
-    RawPort, pie_link_close, pie_link_gather, pie_link_open, pie_link_share, pie_link_try_arrive, pie_link_try_depart, pie_link_try_fold,
-    pie_link_try_reset, pie_link_try_set_params, pie_link_try_update,
+    RawPort, pie_link_close, pie_link_gather, pie_link_open, pie_link_share, pie_link_try_arrive, pie_link_try_arrive_all, pie_link_try_depart,
+    pie_link_try_depart_all, pie_link_try_fold, pie_link_try_registers, pie_link_try_reset, pie_link_try_set_params, pie_link_try_stats,
+    pie_link_try_update,
 };
+use crate::link_readings::{Registers, Totals};
 use crate::link_refusal::{link_done, link_done_with, link_refusal};
 use crate::link_wait::until_served;
 use crate::{Ecn, Event, LinkRefusal, Opening, Packet, Params, ParamsEvent, Recorder, Verdict};
@@ -17,8 +19,12 @@ use crate::{Ecn, Event, LinkRefusal, Opening, Packet, Params, ParamsEvent, Recor
 /// The code that a departure answers where there was no packet.
 const NONE: u32 = 5;
 
-/// The kind of an event that sets parameters.
+/// The kinds of an update, and of an event that sets parameters.
+const UPDATE: u8 = 3;
 const SETS: u8 = 5;
+
+/// How many events one fold hands out at most.
+const MOST: usize = 64;
 
 /// Links that were opened so far, each of which has its number.
 static LINKS: AtomicU64 = AtomicU64::new(0);
@@ -43,7 +49,8 @@ static LINKS: AtomicU64 = AtomicU64::new(0);
 /// assert_eq!(sends.join().unwrap()?, Verdict::Enqueue);
 /// let packet = link.depart(25)?.ok_or("no packet waits")?;
 /// assert_eq!((packet.tag, link.depart(26)?), (7, None));
-/// assert_eq!(link.fold()?.to_string(), "arrive,0,10,7,1500,ect0,11400714819323198485,enqueue");
+/// let records = link.fold()?.map(|event| event.to_string()).collect::<Vec<_>>();
+/// assert_eq!(records[0], "arrive,0,10,7,1500,ect0,11400714819323198485,enqueue");
 /// # Ok(())
 /// # }
 /// ```
@@ -119,6 +126,74 @@ impl fmt::Display for Folded {
     }
 }
 
+/// The events that one fold handed out, oldest first.
+#[derive(Clone, Debug)]
+pub struct Folds {
+    events: [RawEvent; MOST],
+    at: usize,
+    count: usize,
+    params: Params,
+}
+
+impl Iterator for Folds {
+    type Item = Folded;
+
+    fn next(&mut self) -> Option<Folded> {
+        let raw = *self.events[..self.count].get(self.at)?;
+        self.at += 1;
+        let event = Event::of_raw(raw);
+        Some(if raw.kind == SETS { Folded::Params(ParamsEvent::of_raw(event, self.params)) } else { Folded::Event(event) })
+    }
+}
+
+/// Events of a burst: what is asked, and once it was made what was answered.
+impl Event {
+    /// A packet is to arrive; `word` is random.
+    #[must_use]
+    pub fn arrival(packet: Packet, word: u64, moment: u64) -> Event {
+        let Packet { tag, size, ecn } = packet;
+        Event::of_raw(RawEvent { moment, tag, word, size, ecn: ecn as u8, ..RawEvent::default() })
+    }
+
+    /// The link is to ask for the next packet.
+    #[must_use]
+    pub fn departure(moment: u64) -> Event {
+        Event::of_raw(RawEvent { moment, ..RawEvent::default() })
+    }
+
+    /// An update is to be made, which rides in a burst of either kind.
+    #[must_use]
+    pub fn update(moment: u64) -> Event {
+        Event::of_raw(RawEvent { moment, kind: UPDATE, ..RawEvent::default() })
+    }
+
+    /// What an arrival was answered.
+    ///
+    /// # Errors
+    /// Why it was refused.
+    pub fn verdict(&self) -> Result<Verdict, LinkRefusal> {
+        let code = self.raw().answer;
+        Verdict::of(code).map_err(|_| link_refusal(code))
+    }
+
+    /// The packet that left by a departure, if one did.
+    ///
+    /// # Errors
+    /// Why it was refused.
+    pub fn departed(&self) -> Result<Option<Packet>, LinkRefusal> {
+        packet_of(self.raw().answer, self.raw())
+    }
+}
+
+/// The packet that left, by what the departure answered.
+fn packet_of(code: u32, event: &RawEvent) -> Result<Option<Packet>, LinkRefusal> {
+    match code {
+        0 => Ok(Some(Packet { tag: event.tag, size: event.size, ecn: Ecn::of(event.ecn) })),
+        NONE => Ok(None),
+        code => Err(link_refusal(code)),
+    }
+}
+
 impl Link {
     /// Opens a link with an empty queue, and the port with all its numbers, 0 to `callers` - 1.
     ///
@@ -187,11 +262,8 @@ impl Port {
     pub fn try_depart(&mut self, moment: u64) -> Result<Option<Packet>, LinkRefusal> {
         let mut event = RawEvent { moment, ..RawEvent::default() };
         // SAFETY: as `link_library` says.
-        match unsafe { pie_link_try_depart(&mut self.raw, &mut event) } {
-            0 => Ok(Some(Packet { tag: event.tag, size: event.size, ecn: Ecn::of(event.ecn) })),
-            NONE => Ok(None),
-            code => Err(link_refusal(code)),
-        }
+        let code = unsafe { pie_link_try_depart(&mut self.raw, &mut event) };
+        packet_of(code, &event)
     }
 
     /// The probability is computed anew.
@@ -225,18 +297,62 @@ impl Port {
         link_done_with(unsafe { pie_link_try_set_params(&mut self.raw, params, &mut event) }, params)
     }
 
-    /// Hands out the oldest event of the log, which leaves it. What all folds of a link hand out, in their order, is its history as far as they
-    /// come; of a link that lets no event go ([`Mode::Bounded`](crate::Mode::Bounded)) nothing is missing.
+    /// The packets arrive one after another in one turn, with nothing of another port between: each event is told as a call of its own would be, also
+    /// that it was refused, after which the next is handed in all the same.
     ///
     /// # Errors
-    /// In this order: `Busy`, `NoEvent`, `NoMemory`.
-    pub fn try_fold(&mut self) -> Result<Folded, LinkRefusal> {
-        let (mut event, mut params) = (RawEvent::default(), Params::UNSET);
+    /// `Busy`, with each event as it was.
+    pub fn try_arrive_all(&mut self, events: &mut [Event]) -> Result<(), LinkRefusal> {
+        // SAFETY: as `link_library` says; an event is a `RawEvent`, and no more.
+        link_done(unsafe { pie_link_try_arrive_all(&mut self.raw, events.as_mut_ptr().cast(), events.len()) })
+    }
+
+    /// Packets leave one after another in one turn, and answers how many of these events were made. The burst ends after the last of them; after a
+    /// departure without a packet, or an update that is refused but as too soon; and before a departure whose packet has more bytes than remain of
+    /// `bytes` (`u64::MAX`: as many as there are).
+    ///
+    /// # Errors
+    /// `Busy`, with each event as it was.
+    pub fn try_depart_all(&mut self, bytes: u64, events: &mut [Event]) -> Result<usize, LinkRefusal> {
+        let mut made = 0;
+        // SAFETY: as `link_library` says; an event is a `RawEvent`, and no more.
+        link_done(unsafe { pie_link_try_depart_all(&mut self.raw, bytes, events.as_mut_ptr().cast(), events.len(), &mut made) })?;
+        Ok(made)
+    }
+
+    /// Hands out the oldest events of the log, at most 64, which leave it: one at least. What all folds of a link hand out, in their order, is its
+    /// history as far as they come; of a link that lets no event go ([`Mode::Bounded`](crate::Mode::Bounded)) nothing is missing.
+    ///
+    /// # Errors
+    /// In this order: `Busy`, `NoEvent`.
+    pub fn try_fold(&mut self) -> Result<Folds, LinkRefusal> {
+        let mut folds = Folds { events: [RawEvent::default(); MOST], at: 0, count: 0, params: Params::UNSET };
+        let Folds { events, count, params, .. } = &mut folds;
         // SAFETY: as `link_library` says.
-        link_done(unsafe { pie_link_try_fold(&mut self.raw, &mut event, &mut params) })?;
-        let is_set = event.kind == SETS;
-        let event = Event::of_raw(event);
-        Ok(if is_set { Folded::Params(ParamsEvent::of_raw(event, params)) } else { Folded::Event(event) })
+        link_done(unsafe { pie_link_try_fold(&mut self.raw, events.as_mut_ptr(), MOST, count, params) })?;
+        Ok(folds)
+    }
+
+    /// What the controller and its queue hold.
+    ///
+    /// # Errors
+    /// `Busy`.
+    pub fn try_registers(&mut self) -> Result<Registers, LinkRefusal> {
+        let mut registers = Registers::UNSET;
+        // SAFETY: as `link_library` says.
+        link_done(unsafe { pie_link_try_registers(&mut self.raw, &mut registers) })?;
+        Ok(registers)
+    }
+
+    /// The statistics of all events.
+    ///
+    /// # Errors
+    /// `Busy`.
+    pub fn try_stats(&mut self) -> Result<Totals, LinkRefusal> {
+        let mut totals = Totals::default();
+        // SAFETY: as `link_library` says.
+        link_done(unsafe { pie_link_try_stats(&mut self.raw, &mut totals) })?;
+        Ok(totals)
     }
 }
 
@@ -282,11 +398,39 @@ impl Port {
         until_served(|| self.try_set_params(params, moment))
     }
 
+    /// [`Port::try_arrive_all`], once it has the turn.
+    pub fn arrive_all(&mut self, events: &mut [Event]) {
+        // (it is refused as busy alone)
+        let _ = until_served(|| self.try_arrive_all(events));
+    }
+
+    /// [`Port::try_depart_all`], once it has the turn.
+    pub fn depart_all(&mut self, bytes: u64, events: &mut [Event]) -> usize {
+        // (it is refused as busy alone)
+        until_served(|| self.try_depart_all(bytes, events)).unwrap_or(0)
+    }
+
     /// [`Port::try_fold`], once it has the turn.
     ///
     /// # Errors
     /// As of that, but `Busy`.
-    pub fn fold(&mut self) -> Result<Folded, LinkRefusal> {
+    pub fn fold(&mut self) -> Result<Folds, LinkRefusal> {
         until_served(|| self.try_fold())
+    }
+
+    /// [`Port::try_registers`], once it has the turn.
+    ///
+    /// # Errors
+    /// None: as of that, but `Busy`.
+    pub fn registers(&mut self) -> Result<Registers, LinkRefusal> {
+        until_served(|| self.try_registers())
+    }
+
+    /// [`Port::try_stats`], once it has the turn.
+    ///
+    /// # Errors
+    /// None: as of that, but `Busy`.
+    pub fn stats(&mut self) -> Result<Totals, LinkRefusal> {
+        until_served(|| self.try_stats())
     }
 }

@@ -4,8 +4,9 @@
 use core::ffi::c_void;
 use core::ptr::null_mut;
 
-use crate::Params;
 use crate::library::{RawEvent, RawOpening};
+use crate::link_readings::{Registers, Totals};
+use crate::Params;
 
 /// A port as the library holds it: a pointer, null where it is closed. It is moved, and never copied.
 #[repr(C)]
@@ -19,8 +20,9 @@ impl RawPort {
     pub(crate) const CLOSED: RawPort = RawPort { at: null_mut() };
 }
 
-// SAFETY, of each call of these: the declarations are the library's, the references live for the call, and none overlaps another. A port is
-// handed in by a reference that nobody else has, and memory is ordered where it goes to another thread, as safe Rust has it.
+// SAFETY, of each call of these: the declarations are the library's, the references live for the call, `events` has as many events as are told, and
+// none overlaps another. A port is handed in by a reference that nobody else has, and memory is ordered where it goes to another thread, as safe
+// Rust has it.
 unsafe extern "C" {
     pub(crate) fn pie_link_open(opening: &RawOpening, callers: u16, port: &mut RawPort) -> u32;
     pub(crate) fn pie_link_share(port: &mut RawPort, added: &mut RawPort) -> u32;
@@ -31,5 +33,9 @@ unsafe extern "C" {
     pub(crate) fn pie_link_try_update(port: &mut RawPort, event: &mut RawEvent) -> u32;
     pub(crate) fn pie_link_try_reset(port: &mut RawPort, event: &mut RawEvent) -> u32;
     pub(crate) fn pie_link_try_set_params(port: &mut RawPort, params: &Params, event: &mut RawEvent) -> u32;
-    pub(crate) fn pie_link_try_fold(port: &mut RawPort, event: &mut RawEvent, params: &mut Params) -> u32;
+    pub(crate) fn pie_link_try_arrive_all(port: &mut RawPort, events: *mut RawEvent, count: usize) -> u32;
+    pub(crate) fn pie_link_try_depart_all(port: &mut RawPort, bytes: u64, events: *mut RawEvent, count: usize, made: &mut usize) -> u32;
+    pub(crate) fn pie_link_try_fold(port: &mut RawPort, events: *mut RawEvent, count: usize, folded: &mut usize, params: &mut Params) -> u32;
+    pub(crate) fn pie_link_try_registers(port: &mut RawPort, registers: &mut Registers) -> u32;
+    pub(crate) fn pie_link_try_stats(port: &mut RawPort, totals: &mut Totals) -> u32;
 }

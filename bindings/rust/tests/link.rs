@@ -5,7 +5,7 @@ use std::sync::{Barrier, mpsc};
 use std::thread;
 
 use juniperbowls::{
-    Ecn, Folded, Link, LinkRefusal, LinkUpdated, MAX_MOMENT, Mode, Opening, Packet, Parameter, Params, Port, Refusal, Verdict,
+    Ecn, Event, Folded, Link, LinkRefusal, LinkUpdated, MAX_MOMENT, Mode, Opening, Packet, Parameter, Params, Port, Refusal, Verdict,
 };
 
 const PACKET: Packet = Packet { tag: 7, size: 1000, ecn: Ecn::Ect0 };
@@ -19,7 +19,7 @@ fn folded(port: &mut Port) -> Vec<String> {
     let mut records = Vec::new();
     loop {
         match port.fold() {
-            Ok(event) => records.push(event.to_string()),
+            Ok(events) => records.extend(events.map(|event| event.to_string())),
             Err(why) => {
                 assert_eq!(why, LinkRefusal::NoEvent);
                 return records;
@@ -75,7 +75,13 @@ fn each_call_answers() {
     assert_eq!(first.arrive(marked, 1, 15_000_003), Ok(Verdict::Enqueue));
     assert_eq!(first.depart(15_000_004), Ok(Some(marked)));
     assert_eq!(first.arrive(PACKET, 9, 15_000_005), Err(LinkRefusal::Full));
-    assert!(matches!(first.fold(), Ok(Folded::Event(event)) if event.to_string() == "arrive,0,10,7,1000,ect0,9,enqueue"));
+    let registers = second.registers().unwrap();
+    assert_eq!((registers.count, registers.packets, registers.due, registers.params.target), (8, 0, 30_000_000, 5));
+    let totals = second.stats().unwrap();
+    assert_eq!((totals.count, totals.stats.arrivals, totals.stats.empty, totals.stats.changes), (8, 2, 1, 1));
+    let folds = first.fold().unwrap().collect::<Vec<_>>();
+    assert!(matches!(folds[0], Folded::Event(event) if event.to_string() == "arrive,0,10,7,1000,ect0,9,enqueue"));
+    let records = folds[1..].iter().map(Folded::to_string).chain(folded(&mut second)).collect::<Vec<_>>();
     let events = [
         "depart,1,30,left,7,1000,ect0",
         "depart,1,31,empty",
@@ -85,9 +91,28 @@ fn each_call_answers() {
         "arrive,0,15000003,18446744073709551615,65535,ce,1,enqueue",
         "depart,0,15000004,left,18446744073709551615,65535,ce",
     ];
-    assert_eq!(folded(&mut second), events);
+    assert_eq!(records, events);
     drop(first);
     assert_eq!(second.arrive(PACKET, 9, 15_000_006), Ok(Verdict::Enqueue));
+}
+
+/// Bursts: each event answers as a call of its own, an update rides, and departures end by a budget of bytes or where no packet waits.
+#[test]
+fn bursts() {
+    let mut port = Link::open(&opening(64), 1).unwrap();
+    let mut none = [];
+    port.arrive_all(&mut none);
+    let mut events = [10, 20, 30].map(|moment| Event::arrival(Packet { tag: moment, ..PACKET }, 9, moment));
+    events[1] = Event::arrival(Packet { size: 0, ..PACKET }, 9, 20);
+    port.arrive_all(&mut events);
+    let verdicts = events.map(|it| it.verdict());
+    assert_eq!(verdicts, [Ok(Verdict::Enqueue), Err(LinkRefusal::Refused(Refusal::Size)), Ok(Verdict::Enqueue)]);
+    let mut events = [Event::update(40), Event::departure(41), Event::departure(42), Event::departure(43)];
+    assert_eq!(port.depart_all(1999, &mut events), 2);
+    assert_eq!(events[1].departed(), Ok(Some(Packet { tag: 10, ..PACKET })));
+    assert_eq!(port.depart_all(u64::MAX, &mut events[2..]), 2);
+    assert_eq!((events[2].departed(), events[3].departed()), (Ok(Some(Packet { tag: 30, ..PACKET })), Ok(None)));
+    assert_eq!(folded(&mut port).len(), 5);
 }
 
 #[test]
@@ -137,7 +162,7 @@ fn threads_meet() {
             loop {
                 let is_last = done.load(SeqCst) == THREADS as u64;
                 match port.fold() {
-                    Ok(event) => send.send(event.to_string()).unwrap(),
+                    Ok(events) => events.for_each(|event| send.send(event.to_string()).unwrap()),
                     Err(LinkRefusal::NoEvent) if is_last => return,
                     Err(LinkRefusal::NoEvent) => thread::yield_now(),
                     Err(why) => panic!("{why}"),

@@ -17,7 +17,7 @@ pub type Replies = Vec<Reply>;
 ///
 /// `commands` are its commands from a place on, and `goes_on` says after which replies it goes on. `shows first burst replies` says that what
 /// `first` was has been given these replies, in their order, and is `burst` now; and `has_room burst place` that the replies from this place on
-/// fit; `room` is how many fit in all.
+/// fit; `room` is a number that stays: how many fit in all, or the name of the memory where they go.
 pub trait Burst {
     ghost commands: { Self → ℕ → List Command };
 

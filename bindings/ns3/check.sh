@@ -1,7 +1,7 @@
 #!/usr/bin/env bash
 # Builds the queue discipline and the dumbbell, and runs three simulated seconds with ECN, by RFC 8033's usual elements and by the others all at
-# once: packets are marked and dropped, and the history is clean. Each choice alone opens a history of its own words. Where ns-3 is not installed, a
-# line that begins with NOT RUN says so.
+# once: packets are marked and dropped, the history is clean, and the records of periods are those of `pie explain`. Each choice alone opens a
+# history of its own words. Where ns-3 is not installed, a line that begins with NOT RUN says so.
 # usage: bindings/ns3/check.sh [PIE]      PIE: crates/pie/out/pie where none is given
 # needs: program, library, an early start
 set -u

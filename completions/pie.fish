@@ -24,6 +24,7 @@ complete -c pie -n '__fish_seen_subcommand_from explain' -l from -x -d 'only at 
 complete -c pie -n '__fish_seen_subcommand_from explain' -l to -x -d 'only at this moment or time of day and earlier'
 complete -c pie -n '__fish_seen_subcommand_from explain' -l summary -d 'sum up the chosen events'
 complete -c pie -n '__fish_seen_subcommand_from explain' -l every -x -d 'sum up the events of each period of this length'
+complete -c pie -n '__fish_seen_subcommand_from explain' -l flows -x -d 'sum up by flow: so many, and all others in one'
 complete -c pie -n '__fish_seen_subcommand_from explain' -l digest -d 'sum up, and explain lost and marked packets'
 complete -c pie -n '__fish_seen_subcommand_from explain' -l csv -d 'write CSV in place of words'
 complete -c pie -n '__fish_seen_subcommand_from explain' -l wall -d 'tell moments as times of day in UTC'

@@ -4,6 +4,13 @@
 const DATA = JSON.parse(document.getElementById("data").textContent);
 const element = (id) => document.getElementById(id);
 
+// ----- Whose packets they were, where a file names flows: each period's record has the bytes of each flow behind its own fields.
+const FLOWS = DATA.flows ?? [];
+const flowField = (at) => `bytes of flow ${at}`;
+FLOWS.forEach((_, at) => DATA.fields.push(flowField(at)));
+DATA.periods.forEach((row, at) => FLOWS.length > 0 && row.push(...DATA.flow_bytes[at]));
+const flowName = (at) => (FLOWS[at][2] === "others" ? "all others" : DATA.flow_names[at] || FLOWS[at][2]);
+
 // ----- Numbers: counts and moments may be past what a JavaScript number holds exactly, so they are read as whole numbers where that matters.
 const column = new Map(DATA.fields.map((name, at) => [name, at]));
 const has = (name) => column.has(name);
@@ -194,6 +201,33 @@ function causes() {
     }
 }
 
+// A row for each of the flows with the most bytes, and one for all others.
+function flows() {
+    if (FLOWS.length === 0) return;
+    const field = new Map(DATA.flow_fields.map((name, at) => [name, at]));
+    const of = (flow, name) => Number(flow[field.get(name)]);
+    const all = (name) => FLOWS.reduce((sum, flow) => sum + of(flow, name), 0);
+    const where = element("flows");
+    where.hidden = false;
+    add(where, "h2", "Whose packets they were");
+    const list = add(where, "table");
+    const head = add(list, "tr");
+    for (const title of ["flow", "arrivals", "of all bytes", "of the queue", "marked", "dropped", "mean wait"]) add(head, "th", title);
+    FLOWS.forEach((flow, at) => {
+        const row = add(list, "tr", undefined, { "data-flow": flow[2] });
+        const cell = add(row, "td", undefined, { title: flow[2] });
+        add(cell, "span", undefined, { class: `swatch c-${flow[2] === "others" ? "others" : `flow${at}`}` });
+        cell.append(flowName(at));
+        const dropped = of(flow, "early") + of(flow, "bytes") + of(flow, "packets");
+        add(row, "td", grouped(of(flow, "arrivals")));
+        add(row, "td", percent(of(flow, "arrived_bytes"), all("arrived_bytes")));
+        add(row, "td", percent(of(flow, "byte_microseconds"), all("byte_microseconds")));
+        for (const count of [of(flow, "mark"), dropped]) add(row, "td", grouped(count));
+        add(row, "td", `${millis(of(flow, "mean_wait"))} ms`);
+    });
+    add(where, "p", "Of all bytes that arrived; and of the queue: bytes times the time that they waited.", { class: "quiet" });
+}
+
 // ----- The points over time: a record of each period that has events, which begins `at` ns after the first moment
 const PHASE = Number(FIRST % BigInt(PERIOD));
 const ROWS = DATA.periods.map((row) => {
@@ -229,6 +263,7 @@ const CHARTS = [
     {
         title: "Rate, Mbit/s", height: 120, rates: [
             { name: "offered", color: "offered", field: "arrived_bytes", area: true },
+            ...FLOWS.map((flow, at) => ({ name: flowName(at), color: flow[2] === "others" ? "others" : `flow${at}`, field: flowField(at), band: true })),
             has("carried_bytes") && { name: "carried", color: "carried", field: "carried_bytes" },
         ],
     },
@@ -350,16 +385,19 @@ function drawRates(chart, held) {
     const shown = chart.series.filter((it) => !it.hidden);
     const value = (it, one) => (8000 * sum(one, it.field)) / (one.to - one.from);
     const up = axes(chart, 1.05 * Math.max(0.001, ...shown.flatMap((it) => held.map((one) => value(it, one)))), 0);
+    const bases = held.map(() => 0); // of the next band, which stands on those before it
     for (const it of shown) {
         let path = "";
         let end = null;
-        for (const one of held) {
-            const [from, to, y] = [round(across(one.from)), round(across(one.to)), round(up(value(it, one)))];
-            if (it.area) path += `M${from} ${round(up(0))}V${y}H${to}V${round(up(0))}Z`;
+        for (const [at, one] of held.entries()) {
+            const base = it.band ? bases[at] : 0;
+            const [from, to, y] = [round(across(one.from)), round(across(one.to)), round(up(base + value(it, one)))];
+            if (it.band) bases[at] += value(it, one);
+            if (it.area || it.band) path += `M${from} ${round(up(base))}V${y}H${to}V${round(up(base))}Z`;
             else path += end === from ? `V${y}H${to}` : `${end === null ? "M" + from + " " : `V${round(up(0))}H${from}V`}${y}H${to}`;
             end = to;
         }
-        if (path) draw(chart.inside, "path", { class: `${it.area ? "area" : "line"} c-${it.color}`, d: path });
+        if (path) draw(chart.inside, "path", { class: `${it.area || it.band ? "area" : "line"} c-${it.color}`, d: path });
     }
 }
 
@@ -626,6 +664,7 @@ function next(by) {
 heading();
 headline();
 causes();
+flows();
 cut();
 fill();
 redraw();

@@ -59,8 +59,8 @@ runs recorded
 runs recorded-all
 # with Flows each flow of the history stands in the file, by its addresses, and no other
 "$here/out/dumbbell" --queue=recorded --seconds=1 --warm-up=0 --udp=0.5 --history="$work/history" --flows-file="$work/flows" > /dev/null || exit 1
-told=$(sed 1d "$work/flows" | cut -d , -f 1 | while read -r flow; do echo $((flow)); done | sort)
-found=$(awk -F, '$1 == "arrive" { print int($4 / 4294967296) }' "$work/history" | sort -u)
+told=$(sed 1d "$work/flows" | cut -d , -f 1 | sort)
+found=$("$program" explain --flows 1000 --csv "$work/history" | sed 1d | cut -d , -f 3 | sort)
 if [ "$(wc -l <<< "$told")" -lt 2 ] || [ "$told" != "$found" ] || ! grep -q '^0x[0-9a-f]*,udp,10\.[0-9.]*,[0-9]*,10\.[0-9.]*,[0-9]*$' "$work/flows"; then
     echo "bindings/ns3/check.sh: flows of the history: $found; the file has"
     cat "$work/flows"

@@ -1,6 +1,7 @@
 #!/usr/bin/env bash
 # A flood of UDP beside four TCP flows through the link in user space (examples/link): within a second of its first packet the link names it by its
-# addresses and ports, while it runs; the file that tells flows has it, and each other flow of the history, which is clean. Without root or /dev/net/tun all of it runs in a Linux in a process, bench/uml. Where this machine lacks
+# addresses and ports, while it runs, and afterwards one line of `pie explain --flows` does, with the file that tells flows; the history is clean,
+# and has no flow that the file doesn't tell. Without root or /dev/net/tun all of it runs in a Linux in a process, bench/uml. Where this machine lacks
 # something that it takes, a line that begins with NOT RUN says so.
 # usage: tests/program/flood.sh [PROGRAM]      PROGRAM: crates/pie/out/pie where none is given
 # needs: program, library, root, quiet
@@ -75,17 +76,19 @@ if ! awk -v at="$at" -v first="$first" 'BEGIN { exit !(at - first / 1e9 <= 1 && 
     echo "$script: the flood began at $first ns, and was named at $at s"
     exit 1
 fi
+# afterwards: one line
+line=$("$program" explain --flows 1 --from "${first}ns" --to "$((first + 1000000000))ns" "$work/history" | sed -n 3p)
 row=$(grep "^$number," "$work/flows")
-if [[ $row != "$number,udp,$near,40000,$far,9" ]]; then
-    echo "$script: the file tells $row"
+if [[ $line != "  flow $number: "* || $row != "$number,udp,$near,40000,$far,9" ]]; then
+    echo "$script: the flood's second says $line; the file tells $row"
     exit 1
 fi
 events=$(grep -c -E '^(arrive|depart|update),' "$work/history")
 found=$("$program" audit < "$work/history")
-told=$(sed 1d "$work/flows" | cut -d , -f 1 | while read -r it; do echo $((it)); done | sort -u)
-there=$(awk -F, '$1 == "arrive" { print int($4 / 4294967296) }' "$work/history" | sort -u)
+told=$(sed 1d "$work/flows" | cut -d , -f 1 | sort -u)
+there=$("$program" explain --flows 1000 --csv "$work/history" | sed 1d | cut -d , -f 3 | sort)
 if [ "$found" != "clean,$events" ] || [ "$told" != "$there" ] || [ "$(wc -l <<< "$there")" -lt 6 ]; then
     echo "$script: $found of $events events; flows of the history: $there; of the file: $told"
     exit 1
 fi
-echo "$script: named after $(awk -v at="$at" -v first="$first" 'BEGIN { printf "%.1f", at - first / 1e9 }') s: $flow"
+echo "$script: named after $(awk -v at="$at" -v first="$first" 'BEGIN { printf "%.1f", at - first / 1e9 }') s:$line"

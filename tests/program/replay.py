@@ -237,9 +237,14 @@ def flows(tool):
     wanted = list(dict.fromkeys(it[2] for it in made))
     expect(len(wanted) == len(made) - 4 and told.read_text().splitlines() == ["flow,protocol,source,source_port,destination,destination_port", *wanted],
            f"flows: the file has {told.read_text()}")
-    # cut before the ports: by addresses and protocol
+    # cut before the ports: by addresses and protocol; and by one line whose packets they were
     _, lines, _, _, _ = tool.run(pcap(ETHERNET, frames[:1], snap=35), "--flows", told)
     expect(int(arrivals(lines)[0][3]) >> 32 == flow_number(17, made[0][0][12:16], made[0][0][16:20]), "flows: of a packet that is cut before its ports")
+    flood = [(i * 10**5, frame(ETHERNET, made[0 if i % 4 else 2][0])) for i in range(400)]
+    tool.run(pcap(ETHERNET, flood), "--flows", told, "--rate", "10mbit")
+    words = subprocess.run([PIE, "explain", "--summary", "--flows", "1", tool.work / "history"], capture_output=True, text=True, check=False).stdout
+    top = words.splitlines()[2]
+    expect(top.startswith(f"  flow 0x{made[0][1]:08x}: 300 arrivals, 60000 bytes, 75.0000 % of all; "), f"flows: of a flood {words}")
 
 
 def choices(tool):

@@ -1,6 +1,7 @@
 #!/usr/bin/env python3
 """Reports of histories (report/pie-report). Of each page what stands in it is what `pie explain` says, and the policy in its head fits its script and
-style; of a history that differs or has a fault the page says so; hostile texts stay text; and FILE is written as `pie -o` writes it.
+style; by --flows whose packets they were is what `pie explain --flows` says; of a history that differs or has a fault the page says so; hostile texts
+stay text; and FILE is written as `pie -o` writes it.
 
 Then Debian's Chromium opens pages of examples/, of a part of one, and of damaged ones: nothing on its console, the numbers that are seen are those of
 `pie explain --summary`, a zoom, a click, a search and keys do what they say, no picture is blank, and narrow windows hold it.
@@ -140,6 +141,63 @@ case "$*" in *--digest*) {PROGRAM} "$@" | grep -v '^event \\|^  '; cat {folder}/
     path.write_text(f"#!/bin/sh\necho 'events,{HOSTILE}'; echo '1,2'\n".replace("'hurt'", "hurt"))
     check(report(ROOT / "examples/overload.history", using=path)[0] == 1, "hostile names of fields: a page was made")
     return place
+
+
+def flows(folder):
+    """A page of a history whose tags have twelve flows: those with the most bytes by their names, the others in one, and what came of each in each
+    period; and files that name no flows."""
+    lines = (ROOT / "examples/overload.history").read_text().splitlines(keepends=True)
+    for at, line in enumerate(lines):
+        fields = line.split(",")
+        place = 3 if fields[0] == "arrive" else 4 if fields[0] == "depart" and fields[3] == "left" else None
+        if place is not None:
+            fields[place] = str((int(fields[place]) % 13 * int(fields[place]) % 12 + 1) << 32 | int(fields[place]))
+        lines[at] = ",".join(fields)
+    path, named = Path(folder, "flows.history"), Path(folder, "flows.csv")
+    path.write_text("".join(lines))
+    header = "flow,protocol,source,source_port,destination,destination_port\n"
+    named.write_text(header + "".join(f"0x{flow:08x},udp,10.0.0.{flow},53,fd00::{flow},9\n" for flow in range(2, 12)) + "0x00000001,47,::1,,::2,\n"
+                     + "0x00000002,tcp,10.0.0.2,1,10.0.0.3,2\n")
+    status, page, errors = report(path, "--flows", named)
+    check(status == 0, f"flows: status {status}, {errors}")
+    hold_data("flows", page, path)
+    data = inside(page)[0]
+    rows = table(explain(path, "--flows=10", "--csv")[1])
+    check([dict(zip(data["flow_fields"], map(str, row))) for row in data["flows"]] == rows and len(rows) == 11, f"flows: {data['flows']}")
+    names = dict(zip((row["flow"] for row in rows), data["flow_names"]))
+    check(names["0x00000003"] == "udp 10.0.0.3:53 > [fd00::3]:9" and names["0x00000001"] == "47 ::1 > ::2" and names["others"] == ""
+          and names["0x00000002"] == "udp 10.0.0.2:53 > [fd00::2]:9 or tcp 10.0.0.2:1 > 10.0.0.3:2", f"flows: names {names}")
+    sums = [sum(int(part[at]) for part in data["flow_bytes"]) for at in range(len(rows))]
+    check(sums == [int(row["arrived_bytes"]) for row in rows], f"flows: bytes over time {sums}")
+    arrived = data["fields"].index("arrived_bytes")
+    check([sum(map(int, part)) for part in data["flow_bytes"]] == [row[arrived] for row in data["periods"]], "flows: bytes of each period")
+    for text in ("0x1,udp,10.0.0.1,53,10.0.0.2,9\n", f"0x00000001,{HOSTILE},10.0.0.1,53,10.0.0.2,9\n", "0x00000001,udp,10.0.0.1,53,10.0.0.2,9"):
+        named.write_text(header + text)
+        status, wrong, errors = report(path, "--flows", named)
+        check(status == 1 and not wrong and "line 2: not a flow" in errors, f"flows: of {text!r}: {status}, {errors}")
+    check(report(path, "--flows", f"{folder}/none")[0] == 1, "flows: a file that isn't there")
+    place = Path(folder, "flows.html")
+    place.write_text(page)
+    return place, rows, data
+
+
+def hold_flows(driver, place, rows, data):
+    """A row for each flow, and a band of its colour in the chart of rates."""
+    page = Page(driver, "flows", place)
+    seen = page.run("return [...document.querySelectorAll('#flows tr[data-flow]')].map((it) => [...it.cells].map((cell) => cell.textContent))")
+    total = sum(int(row["arrived_bytes"]) for row in rows)
+    for row, cells, name in zip(rows, seen, data["flow_names"], strict=True):
+        wanted = [name or "all others", row["arrivals"], share(int(row["arrived_bytes"]), total)]
+        page.says([cells[0], number(cells[1]), cells[2]] == wanted, f"a row of {cells}, and not {wanted}")
+        lost = int(row["early"]) + int(row["bytes"]) + int(row["packets"])
+        page.says([number(cells[4]), number(cells[5])] == [row["mark"], str(lost)] and close(cells[6], row["mean_wait"]), f"a row of {cells}")
+    bands = page.run("return [...CHARTS.find((it) => it.kind === 'rates').inside.querySelectorAll('path.area')].map((it) => it.getAttribute('class'))")
+    wanted = ["area c-offered", *(f"area c-flow{at}" for at in range(10)), "area c-others"]
+    page.says(bands == wanted, f"bands {bands}")
+    colors = page.run("return [...document.querySelectorAll('#flows .swatch')].map((it) => getComputedStyle(it).getPropertyValue('--c'))")
+    page.says(len(set(colors)) == 11, f"colours {colors}")
+    page.picture("wide")
+    page.quiet()
 
 
 def files(folder):
@@ -381,6 +439,7 @@ def main():
         made = list(pages(folder))
         files(folder)
         lies = lying_program(folder)
+        by_flow = flows(folder)
         driver = browser()
         if driver:
             try:
@@ -389,6 +448,7 @@ def main():
                 hold_zoom(driver, overload[2])
                 hold_use(driver, overload[2], overload[1])
                 hold_looks(driver, overload[2])
+                hold_flows(driver, *by_flow)
                 Page(driver, "hostile words of a program", lies).quiet()
             finally:
                 driver.quit()

@@ -16,6 +16,7 @@ use Rattle.pie_units.specs.declared.when.When.{When}
 use Rattle.pie_units.specs.declared.when.When.TheVariants as when
 use Rattle.pie_units.specs.declared.when.WhenFault.{WhenFault}
 use Rattle.pie_explanation.specs.Output.{pages}
+use Rattle.pie_summary.specs.ByFlow.{flows_whole}
 use Rattle.pie_summary.specs.Summary.{summary_of}
 use Rattle.pie_commands.specs.declared.explain.Tale.{Tale}
 
@@ -73,9 +74,17 @@ every_of options = every_in (moment_given (codes "every") options)
 abbrev pub is_digest : List Row → Bool
 is_digest options = flag_given (codes "digest") options
 
--- .. for summaries: of all chosen events, or of each period
+-- how many flows have a row of their own, where these options ask for sums by flow
+abbrev pub flows_of : List Row → Option ℕ
+flows_of options = number_given (codes "flows") options
+
+-- .. for summaries: of all chosen events, of each period, or by flow
 abbrev pub is_summary : List Row → Bool
-is_summary options = (flag_given (codes "summary") options || is_some (every_of options)) || is_digest options
+is_summary options = (flag_given (codes "summary") options || is_some (every_of options)) || (is_digest options || is_some (flows_of options))
+
+-- .. for either of what is said between summaries, and sums by flow
+abbrev pub is_either : Bool → Option ℕ → Bool
+is_either digest flows = not (digest && is_some flows)
 
 -- the events that are chosen, where exactly one of the five options chooses some; a summary is of all where none does
 abbrev pub chosen : Bool → Option ℕ → Option ℕ → Bool → Bool → Bool → Option Which
@@ -104,16 +113,18 @@ in_order (Some (when.Moment from)) (Some (when.Moment to)) = nat_le from to
 in_order (Some (when.Unix from)) (Some (when.Unix to)) = nat_le from to
 in_order _ _ = true
 
--- these events, from one bound to another, where both can be read and so can the length of a period, which is above 0
-abbrev pub choice_at : Option Which → Result (Option When) WhenFault → Result (Option When) WhenFault → Result (Option ℕ) MomentFault → Option Choice
-choice_at (Some which) (Ok from) (Ok to) (Ok every) =
-    if lasts every && in_order from to then Some (record { which = which; from = from; to = to }) else None
-choice_at _ _ _ _ = None
+-- these events, from one bound to another, where both can be read and so can the length of a period, which is above 0; and only where this holds
+abbrev pub choice_at : Option Which → Result (Option When) WhenFault → Result (Option When) WhenFault → Result (Option ℕ) MomentFault → Bool
+    → Option Choice
+choice_at (Some which) (Ok from) (Ok to) (Ok every) told =
+    if lasts every && (told && in_order from to) then Some (record { which = which; from = from; to = to }) else None
+choice_at _ _ _ _ told = None
 
 -- what these options choose; nothing where they don't say it as they have to
 unfoldable pub choice_of : List Row → Option Choice
 choice_of options =
     choice_at (which_of options) (bound_given (codes "from") options) (bound_given (codes "to") options) (moment_given (codes "every") options)
+    (is_either (is_digest options) (flows_of options))
 
 -- in words, and as CSV where the first holds; with times of day where the second does
 abbrev pub form_where : Bool → Bool → Form
@@ -125,14 +136,16 @@ form_where false false = Words
 abbrev pub form_of : List Row → Form
 form_of options = form_where (flag_given (codes "csv") options) (is_by_wall options)
 
--- what is told of the explained events: each; or summaries of all or of each period, with the words for lost and marked packets or without
-abbrev pub tale_by : Bool → Bool → Option ℕ → Form → List Explained → List ℕ
-tale_by true digest every form = summary_of (record { form = form; every = every; packets = digest })
-tale_by false digest every form = pages form
+-- what is told of the explained events: each; or sums by flow, of all or of each period; or such summaries, with the words for lost and marked
+-- packets or without
+abbrev pub tale_by : Bool → Bool → Option ℕ → Option ℕ → Form → List Explained → List ℕ
+tale_by true digest (Some most) every form = flows_whole (record { form = form; every = every; most = most })
+tale_by true digest None every form = summary_of (record { form = form; every = every; packets = digest })
+tale_by false digest flows every form = pages form
 
 abbrev pub tale_of : List Row → List Explained → List ℕ
-tale_of options = tale_by (is_summary options) (is_digest options) (every_of options) (form_of options)
+tale_of options = tale_by (is_summary options) (is_digest options) (flows_of options) (every_of options) (form_of options)
 
 -- .. as this says
 abbrev pub told_by : Tale → List Explained → List ℕ
-told_by tale = tale_by tale.summary tale.digest tale.every tale.form
+told_by tale = tale_by tale.summary tale.digest tale.flows tale.every tale.form

@@ -1,12 +1,12 @@
 //! `pie explain`: which events the words choose, and how explaining them ends.
-ghost use Rattle.std.specs.Prelude.{◌≡◌, IfSome, Some};
+ghost use Rattle.std.specs.Prelude.{◌≡◌, IfSome, Some, true};
 ghost use Rattle.clap.specs.Words.{found_of, rows_of};
 ghost use Rattle.pie_record.specs.Text.{records_of};
 ghost use Rattle.pie_explain.specs.Either.{ExplainsEither};
 ghost use Rattle.pie_files.specs.Files.{text_given};
 ghost use Rattle.pie_options.specs.Words.{file_in};
-ghost use Rattle.pie_commands.specs.Choice.{choice_of, chosen, every_of, form_of, is_by_wall, is_digest, is_summary, lasts};
-ghost use Rattle.pie_commands.specs.Choice.{tale_of, told_by, which_of};
+ghost use Rattle.pie_commands.specs.Choice.{choice_of, chosen, every_of, flows_of, form_of, is_by_wall, is_digest, is_either, is_summary, lasts};
+ghost use Rattle.pie_commands.specs.Choice.{tale_by, tale_of, told_by, which_of};
 ghost use Rattle.pie_commands.specs.ExplainEnds.{EndsExplain, end_of_explain, explain_ends};
 
 use crate::end::{End, failed, faulted};
@@ -16,17 +16,20 @@ use clap::ArgMatches;
 use pie_explain::{Choice, ExplainFault, Form, Which};
 use pie_files::{NamedFiles, Watched, fault, reader_of};
 use pie_options::{file, flag, number};
-use pie_summary::Summary;
+use pie_summary::{ByFlow, Summary};
 use std::alloc::Global;
 use std::io::{Read, Write};
 use std::time::Clock;
 
 /// What is said where the words don't choose events by exactly one option.
 const NO_CHOICE: &str =
-    "explain takes one of --event N, --tag T, --lost, --marked and --all, or --summary, --every or --digest; see pie explain --help";
+    "explain takes one of --event N, --tag T, --lost, --marked and --all, or --summary, --every, --flows or --digest; see pie explain --help";
 
 /// What is said where a period has no length.
 const NO_PERIOD: &str = "--every: a period lasts at least 1 ns";
+
+/// What is said where both are asked for.
+const NOT_BOTH: &str = "--flows and --digest: explain takes one of them";
 
 /// The events that are chosen, where exactly one of the five options chooses some; a summary is of all where none does.
 fn chosen(
@@ -67,11 +70,26 @@ fn is_digest(options: &ArgMatches<'_>) -> bool
     flag(options, "digest")
 }
 
-/// Whether these options ask for summaries, of all chosen events or of each period.
+/// How many flows have a row of their own, where these options ask for sums by flow.
+fn flows_of(options: &ArgMatches<'_>) -> Option<u64>
+    ensures { result ≡ flows_of (rows_of (found_of options.now)) }
+{
+    number(options, "flows")
+}
+
+/// Whether these options ask for summaries, of all chosen events, of each period or by flow.
 fn is_summary(options: &ArgMatches<'_>) -> bool
     ensures { result ≡ is_summary (rows_of (found_of options.now)) }
 {
-    flag(options, "summary") || every_of(options).is_some() || is_digest(options)
+    let (digest, flows) = (is_digest(options), flows_of(options).is_some());
+    (flag(options, "summary") || every_of(options).is_some()) || (digest || flows)
+}
+
+/// Whether at most one is asked for: what is said between summaries, and sums by flow.
+fn is_either(digest: bool, flows: Option<u64>) -> bool
+    ensures { result ≡ is_either digest flows }
+{
+    !(digest && flows.is_some())
 }
 
 /// Whether a period lasts some time.
@@ -124,6 +142,10 @@ fn choice_of<E: Write>(options: &ArgMatches<'_>, errors: &mut E) -> Option<Choic
         fault(errors, NO_PERIOD);
         return None;
     }
+    if !is_either(is_digest(options), flows_of(options)) {
+        fault(errors, NOT_BOTH);
+        return None;
+    }
     if !in_order(from, to) {
         fault(errors, NO_ORDER);
         return None;
@@ -150,6 +172,8 @@ pub(crate) struct Tale {
     summary: bool,
     /// With what there is to say of lost and marked packets between them.
     digest: bool,
+    /// By flow, so many with a row of their own.
+    flows: Option<u64>,
     every: Option<u64>,
     form: Form,
 }
@@ -162,12 +186,41 @@ fn tale_of(options: &ArgMatches<'_>) -> Tale
     Tale {
         summary,
         digest,
+        flows: flows_of(options),
         every: every_of(options),
         form: form_of(options),
     }
 }
 
-/// Writes what there is to say of the chosen events: of each, or summaries, or summaries and of the lost and marked packets.
+/// Writes sums over the chosen events: by flow, or summaries, or these and what there is to say of the lost and marked packets.
+fn tell_sums<R: Read + Drop, W: Write>(
+    alloc: Global,
+    input: R,
+    output: &mut W,
+    choice: Choice,
+    tale: Tale,
+) -> Result<u64, ExplainFault>
+    ensures { IfSome (R.remaining input) (λ text. ExplainsEither choice (tale_by true tale.digest tale.flows tale.every tale.form) (records_of text)
+        result (W.contents output.old) (W.contents output.new)) }
+{
+    let (form, every, packets) = (tale.form, tale.every, tale.digest);
+    match tale.flows {
+        Some(most) => {
+            let by_flow = ByFlow { form, every, most };
+            pie_explain::explain(alloc, input, output, choice, by_flow)
+        }
+        None => {
+            let summaries = Summary {
+                form,
+                every,
+                packets,
+            };
+            pie_explain::explain(alloc, input, output, choice, summaries)
+        }
+    }
+}
+
+/// Writes what there is to say of the chosen events: of each, or sums over them.
 fn tell<R: Read + Drop, W: Write>(
     alloc: Global,
     input: R,
@@ -178,16 +231,10 @@ fn tell<R: Read + Drop, W: Write>(
     ensures { IfSome (R.remaining input) (λ text. ExplainsEither choice (told_by tale) (records_of text) result (W.contents output.old)
         (W.contents output.new)) }
 {
-    let (form, every, packets) = (tale.form, tale.every, tale.digest);
     if tale.summary {
-        let summaries = Summary {
-            form,
-            every,
-            packets,
-        };
-        pie_explain::explain(alloc, input, output, choice, summaries)
+        tell_sums(alloc, input, output, choice, tale)
     } else {
-        pie_explain::explain(alloc, input, output, choice, form)
+        pie_explain::explain(alloc, input, output, choice, tale.form)
     }
 }
 

@@ -12,7 +12,8 @@ pub(crate) const ABOUT: &str =
 
 /// What `pie explain --help` says below its options.
 pub(crate) const HELP: &str =
-    "One of --event, --tag, --lost, --marked and --all chooses the events; with --summary, --every or --digest none has to. Each
+    "One of --event, --tag, --lost, --marked and --all chooses the events; with --summary, --every, --flows or
+--digest none has to. Each
 event of the history is decided again, as pie audit does, and of a chosen one is said which case of the rules decided it, and on
 which numbers: those before the event.
 
@@ -32,6 +33,12 @@ the delays that updates took, and the probabilities after the events; and when t
 there is such a summary of each period that has chosen events: with 100ms one of those before 100 ms, one of those from
 100 ms to before 200 ms, and so on. With --csv there is a header, and one record a summary. A summary is of the events before
 the first fault and the first event that differs.
+
+With --flows N what is summed up, of all or of each period, is summed up by flow: of each of the N flows with the most bytes that
+arrived, and of all others in one, what arrived, what became of it, how long it had waited that left, and which part of the queue
+it was: bytes times the microseconds that they had waited. A flow is the upper 32 bits of a packet's tag, written in hexadecimal
+digits; the file of --flows of what wrote the history has the addresses and ports of each. With --csv there is one record a flow
+and period, and it is not for --digest.
 
 With --digest a history is read once for both: there are these summaries, and what --lost and --marked say of the chosen events, in
 the order of the events. A summary stands before the words for the first event of the next period, and these are words also with
@@ -109,6 +116,11 @@ const ARGUMENTS: &[Argument] = &[
         name: "every",
         takes: Takes::Value("TIME"),
         help: "Sum up the events of each period of this length, such as 100ms or 1m",
+    },
+    Argument {
+        name: "flows",
+        takes: Takes::Number(1, 1000),
+        help: "Sum up by flow: the N flows with the most bytes, and all others in one",
     },
     Argument {
         name: "digest",

@@ -7,3 +7,7 @@ pub mod PeriodFacts
 pub mod SummaryFacts
 pub mod LiveFacts
 pub mod NotedFacts
+pub mod FlowSumsFacts
+pub mod FlowFacts
+pub mod ByFlowFacts
+mod FlowExamples

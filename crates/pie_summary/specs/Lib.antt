@@ -7,3 +7,7 @@ pub mod Words
 pub mod Record
 pub mod Live
 pub mod Summary
+pub mod FlowSums
+pub mod Flows
+pub mod FlowWords
+pub mod ByFlow

@@ -6,6 +6,11 @@
 //! the numbers. With `packets` each packet that was lost or marked is explained between the summaries, so that a history is read once for both.
 #![tactic(auto)]
 
+pub mod by_flow;
+pub mod flow;
+pub mod flow_period;
+pub mod flow_sums;
+pub mod flow_words;
 mod line;
 pub mod live;
 mod live_record;
@@ -20,6 +25,11 @@ pub mod summary;
 pub mod sums;
 mod words;
 
+pub use by_flow::ByFlow;
+pub use flow::{Flow, FlowTable};
+pub use flow_period::FlowPeriod;
+pub use flow_sums::FlowSums;
+pub use flow_words::{Name, Span};
 pub use line::Line;
 pub use live::LivePeriod;
 pub use meter::Meter;

@@ -20,6 +20,16 @@ pub(crate) fn period_of(every: Option<u64>, moment: u64) -> u64
     }
 }
 
+/// Whether an event in this period is not in that of the events before it.
+pub(crate) fn begins(before: Option<u64>, period: u64) -> bool
+    ensures { result ≡ begins before period }
+{
+    match before {
+        Some(before) => before != period,
+        None => false,
+    }
+}
+
 /// The numbers of the last events, as far back as they are in the same period.
 #[derive(Drop)]
 pub struct Period {
@@ -52,10 +62,7 @@ impl Period {
     pub(crate) fn ends_before(&self, period: u64) -> bool
         ensures { result ≡ begins self.now.number period }
     {
-        match self.number {
-            Some(before) => before != period,
-            None => false,
-        }
+        begins(self.number, period)
     }
 
     /// Forgets the events before one that is in this period, where they are in another.

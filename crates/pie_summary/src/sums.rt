@@ -55,7 +55,7 @@ pub struct Sums {
 }
 
 /// The place of an answer's count.
-fn answer_place(answer: Answer) -> usize
+pub(crate) fn answer_place(answer: Answer) -> usize
     ensures place { result ≡ answer_place answer }
     ensures within { result < 9 }
 {
@@ -94,7 +94,7 @@ fn counted<const N: usize>(counts: [u64; N], place: usize) -> [u64; N]
 }
 
 /// The size of the packet that arrived.
-fn size_by(command: Command) -> Option<u64>
+pub(crate) fn size_by(command: Command) -> Option<u64>
     ensures { result ≡ size_by command }
 {
     match command {
@@ -144,7 +144,7 @@ fn time_where(moment: Option<u64>, time: Option<u64>) -> Option<u64>
 }
 
 /// How many bytes the packet had that left; 0 of any other event.
-fn carried_by(answer: Answer) -> u64
+pub(crate) fn carried_by(answer: Answer) -> u64
     ensures { result ≡ carried_by answer }
 {
     match answer {

@@ -91,7 +91,7 @@ pub(crate) fn mean(series: &Series) -> u64
 
 /// How many events there are, and when the first and the last were.
 #[tactic(auto, unfolding(crate::specs::Words::head_words))]
-fn push_head(page: &mut String, moments: &Series) -> Result<(), AllocError>
+pub(crate) fn push_head(page: &mut String, moments: &Series) -> Result<(), AllocError>
     ensures { OnOk result (string_bytes page.new ≡ string_bytes page.old ++ head_words moments.now) }
 {
     let (count, first, last) = (moments.count, Millis(moments.first), Millis(moments.last));
@@ -100,7 +100,7 @@ fn push_head(page: &mut String, moments: &Series) -> Result<(), AllocError>
 
 /// Between which times of day, behind these spaces, where they are asked for.
 #[tactic(auto, unfolding(crate::specs::Words::time_words))]
-fn push_times(
+pub(crate) fn push_times(
     page: &mut String,
     by_wall: bool,
     spaces: &str,

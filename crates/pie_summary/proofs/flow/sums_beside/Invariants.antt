@@ -1,0 +1,6 @@
+use Rattle.std.proofs.Common.{◌≡◌, take}
+use Rattle.pie_summary.specs.Flows.{sums_beside}
+use Rattle.pie_summary.proofs.flow.sums_beside.Given as goal
+
+abbrev pub invariant-loop-at : goal.invariant-loop-at
+invariant-loop-at l = l.sums ≡ sums_beside l.some (take l.at l.flows)

@@ -1,0 +1,14 @@
+use Rattle.std.proofs.Common.{◌∙◌, ap, sym}
+use Rattle.pie_summary.specs.declared.flow_sums.FlowSums.{FlowSums}
+use Rattle.pie_summary.specs.FlowSums.{together}
+use Rattle.pie_summary.proofs.FlowFacts.{beside-more, beside-same}
+use Rattle.pie_summary.proofs.flow.with_beside.Goals as goal
+
+pub returns-then-is_among : goal.returns-then-is_among
+returns-then-is_among c = λ flows same.
+    same ∙ beside-same c.args.some.now flows c.args.one.now (sym c.is_among.ensures ∙ c.if-is_among.true)
+
+pub returns-else-is_among : goal.returns-else-is_among
+returns-else-is_among c = λ flows same.
+    c.plus.ensures ∙ ap (λ (s : FlowSums). together s c.args.one.now.sums) same
+    ∙ beside-more c.args.some.now flows c.args.one.now (sym c.is_among.ensures ∙ c.if-is_among.false)

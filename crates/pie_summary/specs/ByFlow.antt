@@ -1,0 +1,57 @@
+-- What is written for sums by flow of the explained events.
+use Rattle.std.specs.Prelude.{ℕ, ◌≡◌, Bool, true, false, List, [], ◌∷◌, ◌++◌, map, codes}
+use Rattle.std.specs.List.{filter_map, flat_map}
+use Rattle.pie_aqm.specs.Places.{Place, places}
+use Rattle.pie_explanation.specs.declared.explanation.Explained.{Explained}
+use Rattle.pie_explanation.specs.declared.form.Form.{Form}
+use Rattle.pie_explanation.specs.declared.form.Form.TheVariants.{Text, Csv, TextByWall, CsvByWall}
+use Rattle.pie_explanation.specs.Record.{line_of}
+use Rattle.pie_summary.specs.declared.by_flow.ByFlow.{ByFlow}
+use Rattle.pie_summary.specs.declared.flow.Flow.{Flow}
+use Rattle.pie_summary.specs.declared.flow_period.FlowPeriod.{FlowPeriod}
+use Rattle.pie_summary.specs.declared.flow_words.Span.{Span}
+use Rattle.pie_summary.specs.Flows.{HasFlows, flows_of}
+use Rattle.pie_summary.specs.FlowWords.{flow_names, flows_said}
+use Rattle.pie_summary.specs.Period.{begins, last_events, last_period, period_at}
+use Rattle.pie_summary.specs.Series.{series_of}
+use Rattle.pie_summary.specs.Sums.{moment_at, time_at}
+
+-- when these events were
+abbrev pub span_of : List Explained → Span
+span_of all = record { moments = series_of (map moment_at all); times = series_of (filter_map time_at all) }
+
+-- what stands before the first period: for CSV the header row
+unfoldable pub flow_header : Form → List ℕ
+flow_header Text = []
+flow_header Csv = line_of flow_names
+flow_header TextByWall = []
+flow_header CsvByWall = line_of (flow_names ++ codes "wall" ∷ [])
+
+-- what these events come to, by flow
+abbrev pub said_by_flow : ByFlow → List Explained → List ℕ
+said_by_flow by_flow all = flows_said by_flow.form (span_of all) by_flow.most (flows_of all)
+
+-- .. of these flows, where their events have come to their end
+abbrev pub ended_by_flow : ByFlow → Bool → Span → List Flow → List ℕ
+ended_by_flow by_flow true span flows = flows_said by_flow.form span by_flow.most flows
+ended_by_flow by_flow false span flows = []
+
+-- what is written at an event: sums of the last events before it, where they are in another period
+abbrev pub flows_at : ByFlow → Place Explained → List ℕ
+flows_at by_flow place =
+    ended_by_flow by_flow (begins (last_period by_flow.every place.before) (period_at by_flow.every place.event))
+    (span_of (last_events by_flow.every place.before)) (flows_of (last_events by_flow.every place.before))
+
+-- .. at each of these events
+abbrev pub flows_so_far : ByFlow → List Explained → List ℕ
+flows_so_far by_flow all = flow_header by_flow.form ++ flat_map (flows_at by_flow) (places all)
+
+-- .. and behind them, sums of the last ones
+abbrev pub flows_whole : ByFlow → List Explained → List ℕ
+flows_whole by_flow all = flows_so_far by_flow all ++ said_by_flow by_flow (last_events by_flow.every all)
+
+-- what is kept is the period of the last of these events, and when the last events in it were, and their flows
+pub record KeepsFlows (by_flow : ByFlow) (period : FlowPeriod) (all : List Explained) : Type 0 where
+  pub number : period.number ≡ last_period by_flow.every all
+  pub span : period.span ≡ span_of (last_events by_flow.every all)
+  pub flows : HasFlows period.table.rows.entries (last_events by_flow.every all)

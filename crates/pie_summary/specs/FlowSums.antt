@@ -1,0 +1,101 @@
+-- The numbers of a flow: which events are of it, and what these come to.
+use Rattle.std.specs.Prelude.{ℕ, ◌+◌, ◌*◌, ◌/◌, ◌^◌, ◌==◌, max, Bool, false, List, map, Option, Some, None, unwrap_or, is_some, if◌then◌else◌}
+use Rattle.std.specs.List.{sum}
+use Rattle.pie_aqm.specs.Places.{greatest}
+use Rattle.pie_event.specs.declared.command.Command.{Command}
+use Rattle.pie_event.specs.declared.command.Command.TheVariants.{Arrive}
+use Rattle.pie_event.specs.declared.command.Answer.{Answer}
+use Rattle.pie_event.specs.declared.command.Answer.TheVariants.{Left}
+use Rattle.pie_explanation.specs.declared.explanation.Explained.{Explained}
+use Rattle.pie_summary.specs.declared.flow_sums.FlowSums.{FlowSums}
+use Rattle.pie_summary.specs.Counts.{kept}
+use Rattle.pie_summary.specs.Sums.{answer_of, carried_in, size_in, wait_in}
+
+-- ---- of one event
+
+-- the flow of the packet that left
+abbrev pub flow_left : Answer → Option ℕ
+flow_left (Left packet) = Some (packet.tag / 2 ^ 32)
+flow_left _ = None
+
+-- the flow of an event: that of the packet that arrived or left, the upper 32 bits of its tag; no other event has one
+abbrev pub flow_by : Command → Answer → Option ℕ
+flow_by (Arrive moment packet word) answer = Some (packet.tag / 2 ^ 32)
+flow_by _ answer = flow_left answer
+
+abbrev pub flow_in : Explained → Option ℕ
+flow_in one = flow_by one.told.event.command one.told.event.answer
+
+-- an event is of this flow
+abbrev pub is_this : ℕ → Option ℕ → Bool
+is_this flow None = false
+is_this flow (Some other) = flow == other
+
+abbrev pub is_of : ℕ → Explained → Bool
+is_of flow one = is_this flow (flow_in one)
+
+-- 1 of an event whose answer has this place, and 0 of any other
+abbrev pub answered : ℕ → Explained → ℕ
+answered place one = if answer_of one == place then 1 else 0
+
+-- how long the packet had waited that left
+abbrev pub waited_in : Explained → ℕ
+waited_in one = unwrap_or (wait_in one) 0
+
+-- what one event counts: its packet arrived, with so many bytes; the verdict on it; it left, with so many bytes, and had waited so long; and what it
+-- had of the queue, its bytes times the microseconds that it had waited
+unfoldable pub numbers_of : Explained → FlowSums
+numbers_of one = record {
+  arrivals = if is_some (size_in one) then 1 else 0;
+  bytes = unwrap_or (size_in one) 0;
+  queued = answered 0 one;
+  marked = answered 1 one;
+  early = answered 2 one;
+  no_bytes = answered 3 one;
+  no_packets = answered 4 one;
+  left = answered 5 one;
+  carried = carried_in one;
+  waited = waited_in one;
+  greatest_wait = waited_in one;
+  held = kept (carried_in one * (waited_in one / 1000));
+}
+
+-- ---- of several
+
+-- what numbers come to: each the sum of theirs, but for the longest wait
+unfoldable pub added_up : List FlowSums → FlowSums
+added_up all = record {
+  arrivals = kept (sum (map (λ one. one.arrivals) all));
+  bytes = kept (sum (map (λ one. one.bytes) all));
+  queued = kept (sum (map (λ one. one.queued) all));
+  marked = kept (sum (map (λ one. one.marked) all));
+  early = kept (sum (map (λ one. one.early) all));
+  no_bytes = kept (sum (map (λ one. one.no_bytes) all));
+  no_packets = kept (sum (map (λ one. one.no_packets) all));
+  left = kept (sum (map (λ one. one.left) all));
+  carried = kept (sum (map (λ one. one.carried) all));
+  waited = kept (sum (map (λ one. one.waited) all));
+  greatest_wait = greatest (map (λ one. one.greatest_wait) all);
+  held = kept (sum (map (λ one. one.held) all));
+}
+
+-- .. those of these events
+abbrev pub flow_sums : List Explained → FlowSums
+flow_sums all = added_up (map numbers_of all)
+
+-- .. two of them
+abbrev pub together : FlowSums → FlowSums → FlowSums
+together some more = record {
+  arrivals = kept (some.arrivals + more.arrivals);
+  bytes = kept (some.bytes + more.bytes);
+  queued = kept (some.queued + more.queued);
+  marked = kept (some.marked + more.marked);
+  early = kept (some.early + more.early);
+  no_bytes = kept (some.no_bytes + more.no_bytes);
+  no_packets = kept (some.no_packets + more.no_packets);
+  left = kept (some.left + more.left);
+  carried = kept (some.carried + more.carried);
+  waited = kept (some.waited + more.waited);
+  greatest_wait = max some.greatest_wait more.greatest_wait;
+  held = kept (some.held + more.held);
+}

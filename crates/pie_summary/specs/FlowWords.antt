@@ -1,0 +1,114 @@
+-- Sums by flow in words, and as CSV records.
+use Rattle.std.specs.Prelude.{ℕ, ◌-◌, ◌/◌, nat_lt, max, Bool, true, false, List, [], ◌∷◌, ◌++◌, length, replicate, codes, if◌then◌else◌}
+use Rattle.std.specs.Fmt.{decimal, digits}
+use Rattle.pie_explanation.specs.declared.form.Form.{Form}
+use Rattle.pie_explanation.specs.declared.form.Form.TheVariants.{Text, Csv, TextByWall, CsvByWall}
+use Rattle.pie_explanation.specs.Words.{joined, millis, share}
+use Rattle.pie_summary.specs.declared.flow.Flow.{Flow}
+use Rattle.pie_summary.specs.declared.flow_sums.FlowSums.{FlowSums}
+use Rattle.pie_summary.specs.declared.flow_words.Name.{Name}
+use Rattle.pie_summary.specs.declared.flow_words.Name.TheVariants as name
+use Rattle.pie_summary.specs.declared.flow_words.Span.{Span}
+use Rattle.pie_summary.specs.Flows.{first_of, sums_beside}
+use Rattle.pie_summary.specs.Record.{last_fields, number_fields}
+use Rattle.pie_summary.specs.Words.{head_words, time_words}
+
+-- ---- names
+
+-- a flow's number in eight hexadecimal digits
+unfoldable pub flow_text : ℕ → List ℕ
+flow_text flow = joined (codes "0x" ∷ replicate (8 - length (digits 16 false flow)) 48 ∷ digits 16 false flow ∷ [])
+
+-- what a row is of, in words and in CSV
+unfoldable pub name_words : Name → List ℕ
+name_words (name.Of flow) = joined (codes "flow " ∷ flow_text flow ∷ [])
+name_words (name.Others count) = joined (codes "the other " ∷ decimal count ∷ codes " flows" ∷ [])
+
+abbrev pub name_field : Name → List ℕ
+name_field (name.Of flow) = flow_text flow
+name_field (name.Others count) = codes "others"
+
+-- ---- in words
+
+-- what arrived of a flow, of all bytes that did, and what it had of the queue
+unfoldable pub amount_words : Name → FlowSums → FlowSums → List ℕ
+amount_words name total sums =
+    joined (codes "  " ∷ name_words name ∷ codes ": " ∷ decimal sums.arrivals ∷ codes " arrivals, " ∷ decimal sums.bytes ∷ codes " bytes, "
+    ∷ share sums.bytes total.bytes ∷ codes " of all; " ∷ share sums.held total.held ∷ codes " of the queue\n" ∷ [])
+
+-- what became of its packets
+unfoldable pub fate_words : FlowSums → List ℕ
+fate_words sums =
+    joined (codes "    queued " ∷ decimal sums.queued ∷ codes ", marked " ∷ decimal sums.marked ∷ codes ", dropped early " ∷ decimal sums.early
+    ∷ codes ", without room in bytes " ∷ decimal sums.no_bytes ∷ codes ", in packets " ∷ decimal sums.no_packets ∷ codes "\n" ∷ [])
+
+-- the mean wait of the packets that left, rounded down; 0 where none did
+abbrev pub mean_wait : FlowSums → ℕ
+mean_wait sums = sums.waited / max sums.left 1
+
+-- how long those had waited that left
+unfoldable pub wait_words : FlowSums → List ℕ
+wait_words sums =
+    joined (codes "    left " ∷ decimal sums.left ∷ codes ", with " ∷ decimal sums.carried ∷ codes " bytes; they had waited at most "
+    ∷ millis sums.greatest_wait ∷ codes ",\n    and in the mean " ∷ millis (mean_wait sums) ∷ codes "\n" ∷ [])
+
+unfoldable pub flow_words : Name → FlowSums → FlowSums → List ℕ
+flow_words name total sums = joined (amount_words name total sums ∷ fate_words sums ∷ wait_words sums ∷ [])
+
+-- how many flows there are, and what arrived
+unfoldable pub total_words : ℕ → FlowSums → List ℕ
+total_words count total =
+    joined (codes "  " ∷ decimal count ∷ codes " flows: " ∷ decimal total.arrivals ∷ codes " arrivals, " ∷ decimal total.bytes ∷ codes " bytes\n" ∷ [])
+
+-- ---- as a record
+
+-- the names of the fields
+abbrev pub flow_names : List (List ℕ)
+flow_names = codes "first_moment" ∷ codes "last_moment" ∷ codes "flow" ∷ codes "arrivals" ∷ codes "arrived_bytes" ∷ codes "enqueue" ∷ codes "mark"
+    ∷ codes "early" ∷ codes "bytes" ∷ codes "packets" ∷ codes "left" ∷ codes "carried_bytes" ∷ codes "greatest_wait" ∷ codes "mean_wait"
+    ∷ codes "byte_microseconds" ∷ []
+
+abbrev pub flow_numbers : FlowSums → List ℕ
+flow_numbers sums = sums.arrivals ∷ sums.bytes ∷ sums.queued ∷ sums.marked ∷ sums.early ∷ sums.no_bytes ∷ sums.no_packets ∷ sums.left
+    ∷ sums.carried ∷ sums.greatest_wait ∷ mean_wait sums ∷ []
+
+-- a record, with a time of day or not
+unfoldable pub flow_record : Bool → Span → Name → FlowSums → List ℕ
+flow_record by_wall span name sums =
+    joined (number_fields (span.moments.first ∷ span.moments.last ∷ []) ∷ name_field name ∷ codes "," ∷ number_fields (flow_numbers sums)
+    ∷ last_fields by_wall sums.held span.times ∷ [])
+
+-- ---- in either form
+
+-- what stands before the flows
+unfoldable pub head_said : Form → Span → ℕ → FlowSums → List ℕ
+head_said Text span count total = joined (head_words span.moments ∷ total_words count total ∷ [])
+head_said TextByWall span count total =
+    joined (head_words span.moments ∷ time_words true (codes "  ") span.times ∷ total_words count total ∷ [])
+head_said Csv span count total = []
+head_said CsvByWall span count total = []
+
+-- a flow
+abbrev pub flow_said : Form → Span → FlowSums → Name → FlowSums → List ℕ
+flow_said Text span total name sums = flow_words name total sums
+flow_said TextByWall span total name sums = flow_words name total sums
+flow_said Csv span total name sums = flow_record false span name sums
+flow_said CsvByWall span total name sums = flow_record true span name sums
+
+-- .. one after another
+abbrev pub each_said : Form → Span → FlowSums → List Flow → List ℕ
+each_said form span total [] = []
+each_said form span total (flow ∷ flows) = flow_said form span total (name.Of flow.number) flow.sums ++ each_said form span total flows
+
+-- the flows behind the first so many, in one; nothing where there are none
+abbrev pub others_said : Form → Span → FlowSums → ℕ → List Flow → List Flow → List ℕ
+others_said form span total most first flows =
+    if nat_lt most (length flows) then flow_said form span total (name.Others (length flows - most)) (sums_beside first flows) else []
+
+unfoldable pub parts_said : Form → Span → FlowSums → ℕ → List Flow → List Flow → List ℕ
+parts_said form span total most first flows =
+    joined (head_said form span (length flows) total ∷ each_said form span total first ∷ others_said form span total most first flows ∷ [])
+
+-- the first so many of these flows, and the others
+abbrev pub flows_said : Form → Span → ℕ → List Flow → List ℕ
+flows_said form span most flows = parts_said form span (sums_beside [] flows) most (first_of most flows) flows

@@ -1,0 +1,65 @@
+-- The flows of a list of events, each with its numbers, and those with the most bytes.
+use Rattle.std.specs.Prelude.{ℕ, ◌≡◌, ◌==◌, ◌&&◌, ◌||◌, nat_eq, nat_lt, Bool, true, false, not, List, [], ◌∷◌, ◌++◌, map, filter, fold, take}
+use Rattle.std.specs.Prelude.{if◌then◌else◌}
+use Rattle.std.specs.List.{IsDistinct, filter_map, list_any}
+use Rattle.pie_explanation.specs.declared.explanation.Explained.{Explained}
+use Rattle.pie_summary.specs.declared.flow.Flow.{Flow}
+use Rattle.pie_summary.specs.declared.flow_sums.FlowSums.{FlowSums}
+use Rattle.pie_summary.specs.FlowSums.{added_up, flow_in, flow_sums, is_of}
+
+-- ---- each flow once
+
+-- numbers, and one more at their end where it is none of them
+abbrev pub with_new : List ℕ → ℕ → List ℕ
+with_new numbers one = if list_any (nat_eq one) numbers then numbers else numbers ++ one ∷ []
+
+-- each of these numbers once, in the order in which they first come
+unfoldable pub distinct : List ℕ → List ℕ
+distinct numbers = fold with_new [] numbers
+
+-- the flows that have events among these
+abbrev pub flows_in : List Explained → List ℕ
+flows_in all = distinct (filter_map flow_in all)
+
+-- a flow, with the numbers of its events among these
+abbrev pub flow_of : List Explained → ℕ → Flow
+flow_of all flow = record { number = flow; sums = flow_sums (filter (is_of flow) all) }
+
+-- all flows
+abbrev pub flows_of : List Explained → List Flow
+flows_of all = map (flow_of all) (flows_in all)
+
+-- ---- the most bytes first
+
+-- a flow stands before another: more bytes of it arrived, or as many and its number is less
+abbrev pub precedes : Flow → Flow → Bool
+precedes one other = nat_lt other.sums.bytes one.sums.bytes || one.sums.bytes == other.sums.bytes && nat_lt one.number other.number
+
+-- flows with one more, before the first that it stands before
+abbrev pub placed : List Flow → Flow → List Flow
+placed [] one = one ∷ []
+placed (first ∷ flows) one = if precedes one first then one ∷ first ∷ flows else first ∷ placed flows one
+
+-- flows in their order
+unfoldable pub in_order : List Flow → List Flow
+in_order flows = fold placed [] flows
+
+-- the first so many of them
+abbrev pub first_of : ℕ → List Flow → List Flow
+first_of most flows = take most (in_order flows)
+
+-- a flow is one of these
+abbrev pub is_among : List Flow → Flow → Bool
+is_among some one = list_any (λ other. one.number == other.number) some
+
+-- the numbers of all flows but these
+abbrev pub sums_beside : List Flow → List Flow → FlowSums
+sums_beside some flows = added_up (map (λ one. one.sums) (filter (λ one. not (is_among some one)) flows))
+
+-- ---- what is kept
+
+-- these are all flows of the events, by their numbers
+pub record HasFlows (rows : List (ℕ × Flow)) (all : List Explained) : Type 0 where
+  pub are : rows ≡ map (λ flow. (flow, flow_of all flow)) (flows_in all)
+  pub apart : IsDistinct nat_eq (flows_in all)
+  pub others : (flow : ℕ) → list_any (nat_eq flow) (flows_in all) ≡ false → filter (is_of flow) all ≡ []

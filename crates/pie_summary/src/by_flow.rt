@@ -1,0 +1,117 @@
+//! Sums of the explained events by flow.
+ghost use Rattle.std.specs.Prelude.{◌≡◌, ◌++◌, OnOk};
+ghost use Rattle.pie_explanation.specs.declared.explanation.Explained.{Explained};
+ghost use Rattle.pie_summary.specs.ByFlow.{ended_by_flow, flow_header};
+ghost use Rattle.pie_summary.specs.FlowWords.{flows_said};
+ghost use Rattle.pie_summary.specs.Period.{begins};
+
+use crate::flow::Flow;
+use crate::flow_period::FlowPeriod;
+use crate::flow_words::{NAMES, Span, push_flows};
+use crate::period::{begins, period_of};
+use pie_explanation::{Explained, Form, Report};
+use pie_page::Page;
+use std::alloc::AllocError;
+
+/// Sums of the explained events by flow: what arrived, what became of it and how long it waited, of each of the flows with the most bytes,
+/// and of all others in one. Of all events, or of each period that has some; each is written when its last event is known.
+///
+/// A flow is the upper 32 bits of its packets' tags (this project's own). Memory is taken for each flow of a period.
+#[derive(Clone, Copy, Debug, PartialEq, Eq)]
+pub struct ByFlow {
+    /// In words, or as CSV: a header row, and one record a flow and period. By times of day words tell those of the first and the last event
+    /// that has one, and a last field of a record that of the first.
+    pub form: Form,
+    /// How many nanoseconds a period lasts, 1 at least, the first from moment 0 on; none where all events are summed up together.
+    pub every: Option<u64>,
+    /// How many flows have a row of their own: those with the most bytes that arrived, and of equal ones those with the least number.
+    pub most: u64,
+}
+
+/// Writes what stands before the first period: for CSV the header row.
+#[tactic(auto, unfolding(crate::specs::ByFlow::flow_header))]
+fn push_header(page: &mut Page, form: Form) -> Result<(), AllocError>
+    ensures { OnOk result (page.new ≡ page.old ++ flow_header form) }
+{
+    match form {
+        Form::Text | Form::TextByWall => Ok(()),
+        Form::Csv => {
+            page.push(NAMES.as_bytes())?;
+            page.push(b"\n")
+        }
+        Form::CsvByWall => {
+            page.push(NAMES.as_bytes())?;
+            page.push(b",wall\n")
+        }
+    }
+}
+
+/// Writes these flows onto the page.
+fn push_said(
+    page: &mut Page,
+    by_flow: &ByFlow,
+    span: &Span,
+    flows: &[Flow],
+) -> Result<(), AllocError>
+    ensures { OnOk result (page.new ≡ page.old ++ flows_said by_flow.now.form span.now by_flow.now.most flows.now) }
+{
+    let mut text = page.words();
+    push_flows(
+        page.allocator(),
+        &mut text,
+        by_flow.form,
+        span,
+        by_flow.most as usize,
+        flows,
+    )?;
+    page.put(text)
+}
+
+/// Writes the flows of a period, where the next event is in another one.
+fn push_ended(
+    page: &mut Page,
+    by_flow: &ByFlow,
+    ends: bool,
+    span: &Span,
+    flows: &[Flow],
+) -> Result<(), AllocError>
+    ensures { OnOk result (page.new ≡ page.old ++ ended_by_flow by_flow.now ends span.now flows.now) }
+{
+    if !ends {
+        return Ok(());
+    }
+    push_said(page, by_flow, span, flows)
+}
+
+impl Report for ByFlow {
+    type State = FlowPeriod;
+
+    ghost use Rattle.pie_summary.specs.ByFlow.{KeepsFlows, flows_so_far, flows_whole};
+
+    ghost shows = { KeepsFlows };
+
+    ghost so_far = { flows_so_far };
+
+    ghost whole = { flows_whole };
+
+    fn begin(&self, page: &mut Page) -> Result<FlowPeriod, AllocError> {
+        push_header(page, self.form)?;
+        Ok(FlowPeriod::empty(page.allocator()))
+    }
+
+    fn tell(
+        &self,
+        state: &mut FlowPeriod,
+        told: &Explained,
+        page: &mut Page,
+    ) -> Result<(), AllocError> {
+        let ends = begins(state.number, period_of(self.every, told.told.moment));
+        push_ended(page, self, ends, &state.span, state.table.flows())?;
+        state.take(self.every, told)?;
+        Ok(())
+    }
+
+    fn end(&self, state: &FlowPeriod, page: &mut Page) -> Result<(), AllocError> {
+        push_said(page, self, &state.span, state.table.flows())
+    }
+}

@@ -1,0 +1,172 @@
+//! The flows of the events that were shown, and those of them with the most bytes.
+ghost use Rattle.std.specs.Prelude.{◌≡◌, ◌≤◌, ◌++◌, ◌∷◌, [], List, IfOk, OnOk, Some, filter, insert, length};
+ghost use Rattle.pie_explanation.specs.declared.explanation.Explained.{Explained};
+ghost use Rattle.pie_summary.specs.FlowSums.{flow_in, flow_sums, is_of};
+ghost use Rattle.pie_summary.specs.Flows.{HasFlows, first_of, flows_of, is_among, placed, precedes, sums_beside};
+
+use crate::flow_sums::{FlowSums, flow_by};
+use indexmap::IndexMap;
+use pie_explanation::Explained;
+use std::alloc::{AllocError, Global};
+
+/// A flow: its number, and what its events come to.
+#[derive(Clone, Copy, Debug)]
+pub struct Flow {
+    /// The upper 32 bits of the tags of its packets.
+    pub number: u32,
+    /// What its events come to.
+    pub sums: FlowSums,
+}
+
+/// All flows of the events that were shown.
+#[derive(Drop)]
+pub struct FlowTable {
+    /// Each by its number, in the order in which they first came.
+    pub rows: IndexMap<u32, Flow>,
+}
+
+impl FlowTable {
+    /// Of no event.
+    pub(crate) fn empty(alloc: Global) -> FlowTable
+        ensures { HasFlows result.rows.entries [] }
+    {
+        FlowTable {
+            rows: IndexMap::new(alloc),
+        }
+    }
+
+    /// Forgets all events.
+    pub(crate) fn clear(&mut self)
+        ensures { HasFlows self.new.rows.entries [] }
+    {
+        self.rows.clear();
+    }
+
+    /// What the events of this flow come to.
+    fn sums_of(&self, flow: u32) -> FlowSums
+        ensures { (shown : List Explained) → HasFlows self.now.rows.entries shown → result ≡ flow_sums (filter (is_of flow) shown) }
+    {
+        match self.rows.get(&flow) {
+            Some(row) => row.sums,
+            None => FlowSums::empty(),
+        }
+    }
+
+    /// Takes one more event, which is of this flow.
+    fn count(&mut self, flow: u32, told: &Explained) -> Result<(), AllocError>
+        ensures { (shown : List Explained) → HasFlows self.old.rows.entries shown → Some flow ≡ flow_in told.now
+            → OnOk result (HasFlows self.new.rows.entries (shown ++ told.now ∷ [])) }
+    {
+        let sums = self.sums_of(flow).with(told);
+        let row = Flow { number: flow, sums };
+        match self.rows.insert(flow, row) {
+            Ok(_) => Ok(()),
+            Err(_) => Err(AllocError),
+        }
+    }
+
+    /// Takes one more event.
+    ///
+    /// # Errors
+    ///
+    /// `AllocError` where it is the first of its flow, and there is no memory for it.
+    pub(crate) fn take(&mut self, told: &Explained) -> Result<(), AllocError>
+        ensures { (shown : List Explained) → HasFlows self.old.rows.entries shown
+            → OnOk result (HasFlows self.new.rows.entries (shown ++ told.now ∷ [])) }
+    {
+        match flow_by(told.told.event.command, told.told.event.answer) {
+            Some(flow) => self.count(flow, told),
+            None => Ok(()),
+        }
+    }
+
+    /// All flows, in the order in which they first came.
+    pub(crate) fn flows(&self) -> &[Flow]
+        ensures { (shown : List Explained) → HasFlows self.now.rows.entries shown → result.now ≡ flows_of shown }
+    {
+        self.rows.values().as_slice()
+    }
+}
+
+/// Whether a flow stands before another: more bytes of it arrived, or as many and its number is less.
+fn precedes(one: &Flow, other: &Flow) -> bool
+    ensures { result ≡ precedes one.now other.now }
+{
+    other.sums.bytes < one.sums.bytes
+        || one.sums.bytes == other.sums.bytes && one.number < other.number
+}
+
+/// The place of the first flow that this one stands before.
+fn place_for(flows: &[Flow], one: &Flow) -> usize
+    ensures placed { insert flows.now result one.now ≡ placed flows.now one.now }
+    ensures within { result ≤ length flows.now }
+{
+    match flows {
+        [] => 0,
+        [first, rest @ ..] => {
+            if precedes(one, first) {
+                0
+            } else {
+                place_for(rest, one) + 1
+            }
+        }
+    }
+}
+
+/// Puts one more flow among the first so many of others, where it is one of these.
+fn place(first: &mut Vec<Flow>, most: usize, one: &Flow) -> Result<(), AllocError>
+    ensures { (flows : List Flow) → first.old.items ≡ first_of most flows
+        → OnOk result (first.new.items ≡ first_of most (flows ++ one.now ∷ [])) }
+{
+    let place = place_for(first.as_slice(), one);
+    first.insert(place, *one)?;
+    first.truncate(most);
+    Ok(())
+}
+
+/// The first so many of these flows: those with the most bytes.
+///
+/// # Errors
+///
+/// `AllocError` where there is no memory for them.
+pub(crate) fn first_of(alloc: Global, flows: &[Flow], most: usize) -> Result<Vec<Flow>, AllocError>
+    ensures { IfOk result (λ first. first.items ≡ first_of most flows.now) }
+{
+    let mut first = Vec::new(alloc);
+    for at in 0..flows.len() {
+        place(&mut first, most, &flows[at])?;
+    }
+    Ok(first)
+}
+
+/// Whether a flow is one of these.
+fn is_among(some: &[Flow], one: &Flow) -> bool
+    ensures { result ≡ is_among some.now one.now }
+{
+    match some {
+        [] => false,
+        [first, rest @ ..] => one.number == first.number || is_among(rest, one),
+    }
+}
+
+/// With the numbers of one more flow, where it is none of these.
+fn with_beside(sums: FlowSums, some: &[Flow], one: &Flow) -> FlowSums
+    ensures { (flows : List Flow) → sums ≡ sums_beside some.now flows → result ≡ sums_beside some.now (flows ++ one.now ∷ []) }
+{
+    if is_among(some, one) {
+        sums
+    } else {
+        sums.plus(&one.sums)
+    }
+}
+
+/// What all flows but some come to.
+pub(crate) fn sums_beside(some: &[Flow], flows: &[Flow]) -> FlowSums
+    ensures { result ≡ sums_beside some.now flows.now }
+{
+    let mut sums = FlowSums::empty();
+    for at in 0..flows.len() {
+        sums = with_beside(sums, some, &flows[at]);
+    }
+    sums
+}

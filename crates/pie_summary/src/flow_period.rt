@@ -1,0 +1,94 @@
+//! The period that is being summed up by flow.
+ghost use Rattle.std.specs.Prelude.{◌≡◌, ◌++◌, ◌∷◌, [], ℕ, List, None, OnOk, Option, Some};
+ghost use Rattle.pie_explanation.specs.declared.explanation.Explained.{Explained};
+ghost use Rattle.pie_summary.specs.ByFlow.{span_of};
+ghost use Rattle.pie_summary.specs.Flows.{HasFlows};
+ghost use Rattle.pie_summary.specs.Period.{last_events, last_period, period_at, since};
+
+use crate::flow::FlowTable;
+use crate::flow_words::Span;
+use crate::period::{begins, period_of};
+use crate::series::Series;
+use pie_explanation::{Explained, time_of};
+use std::alloc::{AllocError, Global};
+
+/// The flows of the last events, as far back as they are in the same period.
+#[derive(Drop)]
+pub struct FlowPeriod {
+    /// The number of that period; none before the first event.
+    pub number: Option<u64>,
+    /// When these events were.
+    pub span: Span,
+    /// Their flows.
+    pub table: FlowTable,
+}
+
+/// When no event was.
+fn no_span() -> Span
+    ensures { result ≡ span_of [] }
+{
+    Span {
+        moments: Series::empty(),
+        times: Series::empty(),
+    }
+}
+
+/// When events were, with one more.
+fn span_with(span: Span, told: &Explained) -> Span
+    ensures { (shown : List Explained) → span ≡ span_of shown → result ≡ span_of (shown ++ told.now ∷ []) }
+{
+    let moment = told.told.moment;
+    Span {
+        moments: span.moments.with(moment),
+        times: span.times.with_some(time_of(told.told.clock, moment)),
+    }
+}
+
+impl FlowPeriod {
+    /// No event yet.
+    pub(crate) fn empty(alloc: Global) -> FlowPeriod
+        ensures number { result.number ≡ None }
+        ensures span { result.span ≡ span_of [] }
+        ensures flows { HasFlows result.table.rows.entries [] }
+    {
+        FlowPeriod {
+            number: None,
+            span: no_span(),
+            table: FlowTable::empty(alloc),
+        }
+    }
+
+    /// Forgets the events before one that is in this period, where they are in another.
+    fn begin(&mut self, period: u64)
+        ensures span { (shown : List Explained) (every : Option ℕ) → self.old.number ≡ last_period every shown
+            → self.old.span ≡ span_of (last_events every shown) → self.new.span ≡ span_of (since every (Some period) shown) }
+        ensures flows { (shown : List Explained) (every : Option ℕ) → self.old.number ≡ last_period every shown
+            → HasFlows self.old.table.rows.entries (last_events every shown)
+            → HasFlows self.new.table.rows.entries (since every (Some period) shown) }
+    {
+        if begins(self.number, period) {
+            self.span = no_span();
+            self.table.clear();
+        }
+    }
+
+    /// Takes one more event.
+    ///
+    /// # Errors
+    ///
+    /// `AllocError` where there is no memory for its flow.
+    pub(crate) fn take(&mut self, every: Option<u64>, told: &Explained) -> Result<(), AllocError>
+        ensures number { (shown : List Explained) → self.new.number ≡ last_period every (shown ++ told.now ∷ []) }
+        ensures span { (shown : List Explained) → self.old.number ≡ last_period every shown
+            → self.old.span ≡ span_of (last_events every shown) → self.new.span ≡ span_of (last_events every (shown ++ told.now ∷ [])) }
+        ensures flows { (shown : List Explained) → self.old.number ≡ last_period every shown
+            → HasFlows self.old.table.rows.entries (last_events every shown)
+            → OnOk result (HasFlows self.new.table.rows.entries (last_events every (shown ++ told.now ∷ []))) }
+    {
+        let number = period_of(every, told.told.moment);
+        self.begin(number);
+        self.number = Some(number);
+        self.span = span_with(self.span, told);
+        self.table.take(told)
+    }
+}

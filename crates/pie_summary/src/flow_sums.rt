@@ -1,0 +1,158 @@
+//! The numbers of a flow.
+ghost use Rattle.std.specs.Prelude.{◌≡◌, ◌*◌, ◌/◌, ◌++◌, ◌∷◌, ◌==◌, [], List, if◌then◌else◌, is_some};
+ghost use Rattle.pie_explanation.specs.declared.explanation.Explained.{Explained};
+ghost use Rattle.pie_summary.specs.Counts.{kept};
+ghost use Rattle.pie_summary.specs.FlowSums.{added_up, flow_by, flow_left, flow_sums, numbers_of, together};
+ghost use Rattle.pie_summary.specs.Sums.{answer_place};
+
+use crate::sums::{answer_place, carried_by, size_by, where_left};
+use pie_book::{Answer, Command};
+use pie_explanation::Explained;
+
+/// The numbers of a flow, or of several, each over all events that were shown: 2^64 - 1 where a number would be above it.
+#[derive(Clone, Copy, Debug)]
+pub struct FlowSums {
+    /// How many packets arrived.
+    pub arrivals: u64,
+    /// Their bytes.
+    pub bytes: u64,
+    /// How many of them were queued unmarked.
+    pub queued: u64,
+    /// How many were marked, and queued.
+    pub marked: u64,
+    /// How many were dropped early.
+    pub early: u64,
+    /// How many were dropped since there was no room in bytes.
+    pub no_bytes: u64,
+    /// How many were dropped since there was no room in packets.
+    pub no_packets: u64,
+    /// How many packets left.
+    pub left: u64,
+    /// Their bytes.
+    pub carried: u64,
+    /// How long they had waited, in nanoseconds, all together.
+    pub waited: u64,
+    /// The longest that one of them had, in nanoseconds.
+    pub greatest_wait: u64,
+    /// What they had of the queue: of each its bytes times the whole microseconds that it had waited.
+    pub held: u64,
+}
+
+/// The flow of the packet that left.
+fn flow_left(answer: Answer) -> Option<u32>
+    ensures { result ≡ flow_left answer }
+{
+    match answer {
+        Answer::Left(packet) => Some((packet.tag >> 32) as u32),
+        _ => None,
+    }
+}
+
+/// The flow of an event: of the packet that arrived or left, the upper 32 bits of its tag.
+pub(crate) fn flow_by(command: Command, answer: Answer) -> Option<u32>
+    ensures { result ≡ flow_by command answer }
+{
+    match command {
+        Command::Arrive { packet, .. } => Some((packet.tag >> 32) as u32),
+        _ => flow_left(answer),
+    }
+}
+
+/// 1 where there is a number.
+fn one_of(number: Option<u64>) -> u64
+    ensures { result ≡ (if is_some number then 1 else 0) }
+{
+    match number {
+        Some(_) => 1,
+        None => 0,
+    }
+}
+
+/// 1 of an answer whose count has this place, and 0 of any other.
+fn answered(answer: Answer, place: usize) -> u64
+    ensures { result ≡ (if answer_place answer == place then 1 else 0) }
+{
+    if answer_place(answer) == place { 1 } else { 0 }
+}
+
+/// What a packet of so many bytes had of the queue.
+fn held_by(carried: u64, waited: u64) -> u64
+    ensures { result ≡ kept (carried * (waited / 1000)) }
+{
+    carried.saturating_mul(waited / 1000)
+}
+
+/// What one event counts.
+#[tactic(auto, unfolding(crate::specs::FlowSums::numbers_of))]
+fn numbers_of(all: &Explained) -> FlowSums
+    ensures { result ≡ numbers_of all.now }
+{
+    let answer = all.told.event.answer;
+    let size = size_by(all.told.event.command);
+    let carried = carried_by(answer);
+    let waited = where_left(answer, all.told.waited).unwrap_or(0);
+    FlowSums {
+        arrivals: one_of(size),
+        bytes: size.unwrap_or(0),
+        queued: answered(answer, 0),
+        marked: answered(answer, 1),
+        early: answered(answer, 2),
+        no_bytes: answered(answer, 3),
+        no_packets: answered(answer, 4),
+        left: answered(answer, 5),
+        carried,
+        waited,
+        greatest_wait: waited,
+        held: held_by(carried, waited),
+    }
+}
+
+impl FlowSums {
+    /// Of nothing.
+    #[tactic(auto, unfolding(crate::specs::FlowSums::added_up, pie_aqm::specs::Places::greatest))]
+    pub(crate) fn empty() -> FlowSums
+        ensures { result ≡ added_up [] }
+    {
+        FlowSums {
+            arrivals: 0,
+            bytes: 0,
+            queued: 0,
+            marked: 0,
+            early: 0,
+            no_bytes: 0,
+            no_packets: 0,
+            left: 0,
+            carried: 0,
+            waited: 0,
+            greatest_wait: 0,
+            held: 0,
+        }
+    }
+
+    /// Both together.
+    pub(crate) fn plus(self, more: &FlowSums) -> FlowSums
+        ensures { result ≡ together self more.now }
+    {
+        FlowSums {
+            arrivals: self.arrivals.saturating_add(more.arrivals),
+            bytes: self.bytes.saturating_add(more.bytes),
+            queued: self.queued.saturating_add(more.queued),
+            marked: self.marked.saturating_add(more.marked),
+            early: self.early.saturating_add(more.early),
+            no_bytes: self.no_bytes.saturating_add(more.no_bytes),
+            no_packets: self.no_packets.saturating_add(more.no_packets),
+            left: self.left.saturating_add(more.left),
+            carried: self.carried.saturating_add(more.carried),
+            waited: self.waited.saturating_add(more.waited),
+            greatest_wait: self.greatest_wait.max(more.greatest_wait),
+            held: self.held.saturating_add(more.held),
+        }
+    }
+
+    /// With one more event.
+    pub(crate) fn with(self, all: &Explained) -> FlowSums
+        ensures { (shown : List Explained) → self ≡ flow_sums shown → result ≡ flow_sums (shown ++ all.now ∷ []) }
+    {
+        self.plus(&numbers_of(all))
+    }
+}

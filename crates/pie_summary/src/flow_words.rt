@@ -1,0 +1,324 @@
+//! Sums by flow in words, and as CSV records.
+ghost use Rattle.std.specs.Prelude.{◌≡◌, ◌++◌, OnOk, string_bytes};
+ghost use Rattle.pie_summary.specs.FlowWords.{amount_words, each_said, fate_words, flow_record, flow_said, flow_words, flows_said, head_said, mean_wait};
+ghost use Rattle.pie_summary.specs.FlowWords.{name_field, name_words, others_said, parts_said, total_words, wait_words};
+
+use crate::flow::{Flow, first_of, sums_beside};
+use crate::flow_sums::FlowSums;
+use crate::record::{push_last, push_numbers};
+use crate::series::Series;
+use crate::words::{push_head, push_times};
+use pie_explanation::{Form, Millis, Share};
+use std::alloc::{AllocError, Global};
+use std::fmt;
+use std::fmt::Display;
+
+/// What a row is of.
+#[derive(Clone, Copy, Debug)]
+pub enum Name {
+    /// The flow of this number.
+    Of(u32),
+    /// So many others.
+    Others(u64),
+}
+
+/// When the summed events were.
+#[derive(Clone, Copy, Debug)]
+pub struct Span {
+    /// Their effective moments, in nanoseconds.
+    pub moments: Series,
+    /// Their times of day, where a record before them tells it, in nanoseconds after 1970-01-01T00:00:00Z.
+    pub times: Series,
+}
+
+/// The names of the fields, as the header row has them.
+pub(crate) const NAMES: &str =
+    "first_moment,last_moment,flow,arrivals,arrived_bytes,enqueue,mark,early,bytes,packets,left,carried_bytes,\
+    greatest_wait,mean_wait,byte_microseconds";
+
+/// A flow's number in eight hexadecimal digits.
+#[derive(Clone, Copy)]
+struct Number(u32);
+
+impl Display for Number {
+    ghost use Rattle.std.specs.Prelude.{Some};
+    ghost use Rattle.pie_summary.specs.FlowWords.{flow_text};
+
+    ghost output = { λ flow. Some (flow_text flow.0) };
+
+    fn fmt<W: fmt::Write>(&self, f: &mut fmt::Formatter<W>) -> fmt::Result {
+        let number = self.0;
+        write!(f, "0x{number:08x}")
+    }
+}
+
+/// What a row is of, in words.
+#[tactic(auto, unfolding(crate::specs::FlowWords::name_words))]
+fn push_name(page: &mut String, name: Name) -> Result<(), AllocError>
+    ensures { OnOk result (string_bytes page.new ≡ string_bytes page.old ++ name_words name) }
+{
+    match name {
+        Name::Of(flow) => {
+            let flow = Number(flow);
+            write!(page, "flow {flow}")
+        }
+        Name::Others(count) => write!(page, "the other {count} flows"),
+    }
+}
+
+/// What a row is of, as a field.
+fn push_field(page: &mut String, name: Name) -> Result<(), AllocError>
+    ensures { OnOk result (string_bytes page.new ≡ string_bytes page.old ++ name_field name) }
+{
+    match name {
+        Name::Of(flow) => {
+            let flow = Number(flow);
+            write!(page, "{flow}")
+        }
+        Name::Others(_) => write!(page, "others"),
+    }
+}
+
+/// What arrived of a flow, of all bytes that did, and what it had of the queue.
+#[tactic(auto, unfolding(crate::specs::FlowWords::amount_words))]
+fn push_amount(
+    page: &mut String,
+    name: Name,
+    total: &FlowSums,
+    sums: &FlowSums,
+) -> Result<(), AllocError>
+    ensures { OnOk result (string_bytes page.new ≡ string_bytes page.old ++ amount_words name total.now sums.now) }
+{
+    let (arrivals, bytes) = (sums.arrivals, sums.bytes);
+    let of_bytes = Share {
+        count: bytes,
+        all: total.bytes,
+    };
+    let of_queue = Share {
+        count: sums.held,
+        all: total.held,
+    };
+    write!(page, "  ")?;
+    push_name(page, name)?;
+    write!(
+        page,
+        ": {arrivals} arrivals, {bytes} bytes, {of_bytes} of all; {of_queue} of the queue\n"
+    )
+}
+
+/// What became of the packets of a flow.
+#[tactic(auto, unfolding(crate::specs::FlowWords::fate_words))]
+fn push_fate(page: &mut String, sums: &FlowSums) -> Result<(), AllocError>
+    ensures { OnOk result (string_bytes page.new ≡ string_bytes page.old ++ fate_words sums.now) }
+{
+    let (queued, marked, early) = (sums.queued, sums.marked, sums.early);
+    let (no_bytes, no_packets) = (sums.no_bytes, sums.no_packets);
+    write!(
+        page,
+        "    queued {queued}, marked {marked}, dropped early {early}, without room in bytes {no_bytes}, in packets {no_packets}\n"
+    )
+}
+
+/// The mean wait of the packets that left, rounded down; 0 where none did.
+fn mean_wait(sums: &FlowSums) -> u64
+    ensures { result ≡ mean_wait sums.now }
+{
+    sums.waited / sums.left.max(1)
+}
+
+/// How long the packets of a flow had waited that left.
+#[tactic(auto, unfolding(crate::specs::FlowWords::wait_words))]
+fn push_wait(page: &mut String, sums: &FlowSums) -> Result<(), AllocError>
+    ensures { OnOk result (string_bytes page.new ≡ string_bytes page.old ++ wait_words sums.now) }
+{
+    let (left, carried) = (sums.left, sums.carried);
+    let (greatest, mean) = (Millis(sums.greatest_wait), Millis(mean_wait(sums)));
+    write!(
+        page,
+        "    left {left}, with {carried} bytes; they had waited at most {greatest},\n    and in the mean {mean}\n"
+    )
+}
+
+/// A flow in words.
+#[tactic(auto, unfolding(crate::specs::FlowWords::flow_words))]
+fn push_words(
+    page: &mut String,
+    name: Name,
+    total: &FlowSums,
+    sums: &FlowSums,
+) -> Result<(), AllocError>
+    ensures { OnOk result (string_bytes page.new ≡ string_bytes page.old ++ flow_words name total.now sums.now) }
+{
+    push_amount(page, name, total, sums)?;
+    push_fate(page, sums)?;
+    push_wait(page, sums)
+}
+
+/// How many flows there are, and what arrived.
+#[tactic(auto, unfolding(crate::specs::FlowWords::total_words))]
+fn push_total(page: &mut String, count: u64, total: &FlowSums) -> Result<(), AllocError>
+    ensures { OnOk result (string_bytes page.new ≡ string_bytes page.old ++ total_words count total.now) }
+{
+    let (arrivals, bytes) = (total.arrivals, total.bytes);
+    write!(
+        page,
+        "  {count} flows: {arrivals} arrivals, {bytes} bytes\n"
+    )
+}
+
+/// A flow as a record, with a time of day or not.
+#[tactic(auto, unfolding(crate::specs::FlowWords::flow_record))]
+fn push_record(
+    page: &mut String,
+    by_wall: bool,
+    span: &Span,
+    name: Name,
+    sums: &FlowSums,
+) -> Result<(), AllocError>
+    ensures { OnOk result (string_bytes page.new ≡ string_bytes page.old ++ flow_record by_wall span.now name sums.now) }
+{
+    let moments = [span.moments.first, span.moments.last];
+    let numbers = [
+        sums.arrivals,
+        sums.bytes,
+        sums.queued,
+        sums.marked,
+        sums.early,
+        sums.no_bytes,
+        sums.no_packets,
+        sums.left,
+        sums.carried,
+        sums.greatest_wait,
+        mean_wait(sums),
+    ];
+    push_numbers(page, &moments)?;
+    push_field(page, name)?;
+    write!(page, ",")?;
+    push_numbers(page, &numbers)?;
+    push_last(page, by_wall, sums.held, &span.times)
+}
+
+/// What stands before the flows.
+#[tactic(auto, unfolding(crate::specs::FlowWords::head_said))]
+fn push_top(
+    page: &mut String,
+    form: Form,
+    span: &Span,
+    count: u64,
+    total: &FlowSums,
+) -> Result<(), AllocError>
+    ensures { OnOk result (string_bytes page.new ≡ string_bytes page.old ++ head_said form span.now count total.now) }
+{
+    match form {
+        Form::Text => {
+            push_head(page, &span.moments)?;
+            push_total(page, count, total)
+        }
+        Form::TextByWall => {
+            push_head(page, &span.moments)?;
+            push_times(page, true, "  ", &span.times)?;
+            push_total(page, count, total)
+        }
+        Form::Csv | Form::CsvByWall => Ok(()),
+    }
+}
+
+/// A flow in a form.
+fn push_flow(
+    page: &mut String,
+    form: Form,
+    span: &Span,
+    total: &FlowSums,
+    name: Name,
+    sums: &FlowSums,
+) -> Result<(), AllocError>
+    ensures { OnOk result (string_bytes page.new ≡ string_bytes page.old ++ flow_said form span.now total.now name sums.now) }
+{
+    match form {
+        Form::Text | Form::TextByWall => push_words(page, name, total, sums),
+        Form::Csv => push_record(page, false, span, name, sums),
+        Form::CsvByWall => push_record(page, true, span, name, sums),
+    }
+}
+
+/// Flows in a form, one after another.
+fn push_each(
+    page: &mut String,
+    form: Form,
+    span: &Span,
+    total: &FlowSums,
+    flows: &[Flow],
+) -> Result<(), AllocError>
+    ensures { OnOk result (string_bytes page.new ≡ string_bytes page.old ++ each_said form span.now total.now flows.now) }
+{
+    match flows {
+        [] => Ok(()),
+        [first, rest @ ..] => {
+            push_flow(page, form, span, total, Name::Of(first.number), &first.sums)?;
+            push_each(page, form, span, total, rest)
+        }
+    }
+}
+
+/// The flows behind the first so many, in one, where there are some.
+fn push_others(
+    page: &mut String,
+    form: Form,
+    span: &Span,
+    total: &FlowSums,
+    most: usize,
+    first: &[Flow],
+    flows: &[Flow],
+) -> Result<(), AllocError>
+    ensures { OnOk result (string_bytes page.new ≡ string_bytes page.old ++ others_said form span.now total.now most first.now flows.now) }
+{
+    if flows.len() <= most {
+        return Ok(());
+    }
+    let name = Name::Others((flows.len() - most) as u64);
+    push_flow(page, form, span, total, name, &sums_beside(first, flows))
+}
+
+/// What stands before the flows, the first so many, and the others.
+#[tactic(auto, unfolding(crate::specs::FlowWords::parts_said))]
+fn push_parts(
+    page: &mut String,
+    form: Form,
+    span: &Span,
+    total: &FlowSums,
+    most: usize,
+    first: &[Flow],
+    flows: &[Flow],
+) -> Result<(), AllocError>
+    ensures { OnOk result (string_bytes page.new ≡ string_bytes page.old ++ parts_said form span.now total.now most first.now flows.now) }
+{
+    push_top(page, form, span, flows.len() as u64, total)?;
+    push_each(page, form, span, total, first)?;
+    push_others(page, form, span, total, most, first, flows)
+}
+
+/// Writes the first so many of these flows, and the others, behind a text.
+///
+/// # Errors
+///
+/// `AllocError` where there is no memory.
+pub(crate) fn push_flows(
+    alloc: Global,
+    page: &mut String,
+    form: Form,
+    span: &Span,
+    most: usize,
+    flows: &[Flow],
+) -> Result<(), AllocError>
+    ensures { OnOk result (string_bytes page.new ≡ string_bytes page.old ++ flows_said form span.now most flows.now) }
+{
+    let total = sums_beside(&[], flows);
+    match first_of(alloc, flows, most) {
+        Ok(first) => {
+            let pushed = push_parts(page, form, span, &total, most, first.as_slice(), flows);
+            drop(first);
+            pushed
+        }
+        Err(AllocError) => Err(AllocError),
+    }
+}

@@ -1,0 +1,160 @@
+#!/usr/bin/env python3
+"""Holds `pie explain --flows` to a count of its own over the records of `pie explain --all --csv`: of each history of examples/, and of random ones by
+tests/shared/reference.py, whose tags are written anew with flows in their upper 32 bits. Of all events, of those within some moments, of lost ones,
+and of each period, in words and as CSV, for one flow, some, and more than there are. Exit status 1 where something differs.
+
+usage: tests/program/flows.py [PROGRAM [FIRST_SEED [RUNS [STEPS]]]]      PROGRAM: crates/pie/out/pie where none is given
+needs: program
+"""
+import os
+import random
+import sys
+from itertools import compress
+
+sys.path.insert(0, f"{os.path.dirname(os.path.abspath(__file__))}/../shared")
+from checks import expect  # noqa: E402
+from explaining import LOST, hold_each, pie, records, within, written  # noqa: E402
+
+VERDICTS = ("enqueue", "mark", "early", "bytes", "packets")
+NAMES = ["arrivals", "arrived_bytes", *VERDICTS, "left", "carried_bytes", "greatest_wait", "mean_wait", "byte_microseconds"]
+FLOWS = (0, 1, 0x10, 0xFFFFFFFF, 0x80000000, 0x9C1DE0A7, 0x12345678, 7)
+
+
+def with_flows(history, seed):
+    """The history with a flow above each packet's tag: of few packets most of the flows, so that some have as many bytes."""
+    picks = random.Random(seed)
+    flows, lines = {}, history.splitlines(keepends=True)
+    for number, line in enumerate(lines):
+        fields = line.split(",")
+        place = {"arrive": 3, "depart": 4}.get(fields[0])
+        if place is not None and len(fields) > place and (fields[0] == "arrive" or fields[3] == "left"):
+            tag = int(fields[place])
+            flow = flows.setdefault(tag, FLOWS[min(int(picks.expovariate(0.7)), len(FLOWS) - 1)])
+            fields[place] = str(flow << 32 | tag & 0xFFFFFFFF)
+            lines[number] = ",".join(fields)
+    return "".join(lines)
+
+
+def millis(time):
+    return f"{time // 10**6}.{time % 10**6:06} ms ({time} ns)"
+
+
+def share(part, whole):
+    parts = part * 10**6 // max(whole, 1)
+    return f"{parts // 10**4}.{parts % 10**4:04} %"
+
+
+def flow_of(row):
+    """The flow of a record of an arrival or of a packet that left; none of any other."""
+    return int(row["tag"]) >> 32 if row["kind"] == "arrive" or row["verdict"] == "left" else None
+
+
+def numbers(rows):
+    arrivals = [row for row in rows if row["kind"] == "arrive"]
+    left = [row for row in rows if row["verdict"] == "left"]
+    waits = [int(row["waited"]) for row in left]
+    found = {"arrivals": len(arrivals), "arrived_bytes": sum(int(row["size"]) for row in arrivals)}
+    found |= {verdict: sum(row["verdict"] == verdict for row in arrivals) for verdict in VERDICTS}
+    found |= {"left": len(left), "carried_bytes": sum(int(row["size"]) for row in left)}
+    found |= {"greatest_wait": max(waits, default=0), "mean_wait": sum(waits) // max(len(waits), 1)}
+    return found | {"byte_microseconds": sum(int(row["size"]) * (int(row["waited"]) // 1000) for row in left)}
+
+
+def by_flow(rows, most):
+    """The flows of these records, in their order: of so many the number and its numbers, and last those of all others with how many these are."""
+    flows = {}
+    for row in rows:
+        if flow_of(row) is not None:
+            flows.setdefault(flow_of(row), []).append(row)
+    order = sorted(flows, key=lambda flow: (-numbers(flows[flow])["arrived_bytes"], flow))
+    found = [(f"0x{flow:08x}", numbers(flows[flow])) for flow in order[:most]]
+    others = order[most:]
+    if others:
+        found.append((len(others), numbers([row for flow in others for row in flows[flow]])))
+    return found, len(order), numbers([row for flow in order for row in flows[flow]])
+
+
+def span(rows):
+    moments = [int(row["effective_moment"]) for row in rows]
+    return (moments[0], moments[-1]) if moments else (0, 0)
+
+
+def in_words(rows, most):
+    found, count, total = by_flow(rows, most)
+    first, last = span(rows)
+    lines = [f"{len(rows)} events, from {millis(first)} to {millis(last)}"]
+    lines += [f"  {count} flows: {total['arrivals']} arrivals, {total['arrived_bytes']} bytes"]
+    for name, n in found:
+        name = f"flow {name}" if isinstance(name, str) else f"the other {name} flows"
+        of_all, of_queue = share(n["arrived_bytes"], total["arrived_bytes"]), share(n["byte_microseconds"], total["byte_microseconds"])
+        lines += [f"  {name}: {n['arrivals']} arrivals, {n['arrived_bytes']} bytes, {of_all} of all; {of_queue} of the queue"]
+        lines += [f"    queued {n['enqueue']}, marked {n['mark']}, dropped early {n['early']}, without room in bytes {n['bytes']}, in packets {n['packets']}"]
+        lines += [f"    left {n['left']}, with {n['carried_bytes']} bytes; they had waited at most {millis(n['greatest_wait'])},"]
+        lines += [f"    and in the mean {millis(n['mean_wait'])}"]
+    return "".join(line + "\n" for line in lines)
+
+
+def in_csv(rows, most):
+    first, last = span(rows)
+    lines = []
+    for name, n in by_flow(rows, most)[0]:
+        lines.append([first, last, name if isinstance(name, str) else "others", *(n[field] for field in NAMES)])
+    return "".join(",".join(map(str, line)) + "\n" for line in lines)
+
+
+HEADER = ",".join(["first_moment", "last_moment", "flow", *NAMES]) + "\n"
+
+
+def by_period(rows, every):
+    """The records of each period that has some; of nothing where there is none."""
+    periods = [int(row["effective_moment"]) // every for row in rows]
+    starts = [0] + [place for place in range(1, len(rows)) if periods[place] != periods[place - 1]]
+    return [rows[start:end] for start, end in zip(starts, [*starts[1:], len(rows)])]
+
+
+def hold(name, history, words):
+    history = with_flows(history, words.randrange(2**32))
+    _, rows, moments = records(name, history)
+    length = max(moments[-1] - moments[0], 100)
+    for options, are_kept in within(moments, words):
+        kept = list(compress(rows, are_kept))
+        for which, some in (((), kept), (("--lost",), [row for row in kept if row["verdict"] in LOST])):
+            most = words.choice((1, 2, 3, 5, len(FLOWS) - 1, len(FLOWS), 1000))
+            every = words.choice((10**6, length // 2 + 1, length // words.randrange(3, 30) + 1))
+            period, flows = f"--every={written(every, words)}", f"--flows={most}"
+            for form, told in (((), in_words), (("--csv",), in_csv)):
+                header = HEADER if form else ""
+                got = pie(history, *words.choice(((), ("--summary",))), flows, *form, *which, *options)
+                expect(f"{name}: {flows} {form} {which} {options}", got, (0, header + told(some, most), ""))
+                got = pie(history, flows, *options, *which, *form, period)
+                wanted = header + "".join(told(part, most) for part in by_period(some, every))
+                expect(f"{name}: {flows} {period} {form} {which} {options}", got, (0, wanted, ""))
+
+
+def by_wall():
+    """Times of day: of the events, where the history tells them, and else an empty field."""
+    history = "open3,0,4,16,100\narrive,1,1500000,42949672967,100,ect0,0,enqueue\n"
+    told = pie(history, "--flows", "1", "--wall", "--csv")
+    expect("--wall without a clock", (told[0], told[1].splitlines()[0][-5:], told[1].splitlines()[1][-3:]), (0, ",wall", ",0,"))
+    history = history.replace("100\n", "100\nclock,1000000,1795550400000000000\n", 1)
+    told = pie(history, "--flows", "1", "--wall", "--csv")
+    wanted = "1500000,1500000,0x0000000a,1,100,1,0,0,0,0,0,0,0,0,0,2026-11-24T20:00:00.000500000Z"
+    expect("--wall", (told[0], told[1].splitlines()[1:]), (0, [wanted]))
+    words = pie(history, "--flows", "1", "--wall")[1].splitlines()[1]
+    expect("--wall in words", words, "  by the time of day from 2026-11-24T20:00:00.000500000Z to 2026-11-24T20:00:00.000500000Z")
+
+
+def refusals():
+    history = "open,0,4,16,100\nreset,1,1500000,done\n"
+    expect("--flows --digest", pie(history, "--flows=2", "--digest"), (1, "", "pie: --flows and --digest: explain takes one of them\n"))
+    for text in ("0", "1001", "x"):
+        expect(f"--flows {text}", pie(history, "--flows", text)[0], 1)
+
+
+def main():
+    refusals()
+    by_wall()
+    hold_each(hold, "their flows are summed up as they have to be")
+
+
+main()

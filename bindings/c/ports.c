@@ -27,6 +27,12 @@ static struct pie_event event_at(uint64_t moment, uint64_t tag) {
     return event;
 }
 
+/* The oldest event alone. */
+static uint32_t fold_one(struct pie_port *port, struct pie_event *event, struct pie_params *params) {
+    size_t folded;
+    return pie_link_fold(port, event, 1, &folded, params);
+}
+
 /* The log of calls(): an arrival, a departure, one that found none, an update, a reset, parameters, an arrival. */
 static void folds(struct pie_port *port, uint64_t dq_threshold) {
     struct pie_event events[PIE_LINK_MOST + 1], before;
@@ -206,10 +212,10 @@ static void bursts(void) {
     CHECK(pie_link_depart_all(&port, UINT64_MAX, events + 2, 2, &made) == PIE_DONE && made == 1 && events[2].answer == PIE_FULL);
     CHECK(changed(events, before, 6) == 7);
     /* what was made, in its order */
-    CHECK(pie_link_fold(&port, &event, &params) == PIE_DONE && event.tag == 10 && event.caller == 1 && event.kind == PIE_EVENT_ARRIVE);
-    CHECK(pie_link_fold(&port, &event, &params) == PIE_DONE && event.kind == PIE_EVENT_UPDATE && event.burst == 150000000);
-    CHECK(pie_link_fold(&port, &event, &params) == PIE_DONE && event.tag == 14 && event.kind == PIE_EVENT_ARRIVE);
-    CHECK(pie_link_fold(&port, &event, &params) == PIE_DONE && event.tag == 10 && event.kind == PIE_EVENT_DEPART && event.moment == 91);
+    CHECK(fold_one(&port, &event, &params) == PIE_DONE && event.tag == 10 && event.caller == 1 && event.kind == PIE_EVENT_ARRIVE);
+    CHECK(fold_one(&port, &event, &params) == PIE_DONE && event.kind == PIE_EVENT_UPDATE && event.burst == 150000000);
+    CHECK(fold_one(&port, &event, &params) == PIE_DONE && event.tag == 14 && event.kind == PIE_EVENT_ARRIVE);
+    CHECK(fold_one(&port, &event, &params) == PIE_DONE && event.tag == 10 && event.kind == PIE_EVENT_DEPART && event.moment == 91);
     CHECK(pie_link_close(&port) == PIE_DONE && pie_link_close(&other) == PIE_DONE);
 }
 
@@ -263,7 +269,7 @@ static void bursts_of_several(void) {
     for (i = 0; i < SENDERS; i++)
         CHECK(pthread_join(ids[i], NULL) == 0);
     /* each sender's packets once and in its order, with nothing of another within a burst */
-    while ((code = pie_link_fold(&ports[0], &event, &params)) == PIE_DONE) {
+    while ((code = fold_one(&ports[0], &event, &params)) == PIE_DONE) {
         CHECK(caller == 0 || event.caller == caller);
         if (event.caller != 0) {
             CHECK(event.kind == PIE_EVENT_ARRIVE && event.tag == next[event.caller]++);

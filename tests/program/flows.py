@@ -133,7 +133,7 @@ def hold(name, history, words):
 
 def by_wall():
     """Times of day: of the events, where the history tells them, and else an empty field."""
-    history = "open3,0,4,16,100\narrive,1,1500000,42949672967,100,ect0,0,enqueue\n"
+    history = "open3,1,rate,derandomized,capped,unscaled,bounded,0,4,16,100\narrive,1,1500000,42949672967,100,ect0,0,enqueue\n"
     told = pie(history, "--flows", "1", "--wall", "--csv")
     expect("--wall without a clock", (told[0], told[1].splitlines()[0][-5:], told[1].splitlines()[1][-3:]), (0, ",wall", ",0,"))
     history = history.replace("100\n", "100\nclock,1000000,1795550400000000000\n", 1)

@@ -187,7 +187,7 @@ def hold_flows(driver, place, rows, data):
     seen = page.run("return [...document.querySelectorAll('#flows tr[data-flow]')].map((it) => [...it.cells].map((cell) => cell.textContent))")
     total = sum(int(row["arrived_bytes"]) for row in rows)
     for row, cells, name in zip(rows, seen, data["flow_names"], strict=True):
-        wanted = [name or "all others", row["arrivals"], share(int(row["arrived_bytes"]), total)]
+        wanted = [name or {"others": "all others"}.get(row["flow"], row["flow"]), row["arrivals"], share(int(row["arrived_bytes"]), total)]
         page.says([cells[0], number(cells[1]), cells[2]] == wanted, f"a row of {cells}, and not {wanted}")
         lost = int(row["early"]) + int(row["bytes"]) + int(row["packets"])
         page.says([number(cells[4]), number(cells[5])] == [row["mark"], str(lost)] and close(cells[6], row["mean_wait"]), f"a row of {cells}")

@@ -108,7 +108,7 @@ enum {
     PIE_BAD_ARRIVED = 118, /* a packet that arrived later than the state's moment */
     PIE_NOT_WAITED = 119,  /* pie_depart where delays come from time stamps: pie_depart_waited says when the packet arrived */
     PIE_BAD_LIMITS = 120,  /* the mode, or the packets, tail or events of an opening out of their ranges */
-    PIE_BAD_EVERY = 121    /* a length of periods outside 1 to 2^60 - 1 ns */
+    PIE_BAD_EVERY = 128    /* a length of periods outside 1 to 2^60 - 1 ns */
 };
 
 /* The ECN field of an IP header (RFC 3168, section 5). */

@@ -37,4 +37,4 @@ pub record Adds (refusal : ℕ) (before after : LivePeriod) (told : Explained �
 
 -- why a length of periods is refused, and 0 where it isn't
 abbrev pub every_refusal : ℕ → ℕ
-every_refusal every = if (every == 0) || nat_lt last_moment every then 121 else 0
+every_refusal every = if (every == 0) || nat_lt last_moment every then 128 else 0

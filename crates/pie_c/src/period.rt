@@ -15,7 +15,7 @@ use pie_fixed::MAX_NANOS;
 use pie_summary::{Line, LivePeriod};
 
 /// Refused: a length of periods out of its range.
-pub const BAD_EVERY: u32 = 121;
+pub const BAD_EVERY: u32 = 128;
 
 /// Opens periods of so many nanoseconds, 1 to 2^60 - 1, whose records end with the time of day where `wall` isn't 0.
 #[unsafe(no_mangle)]

@@ -23,6 +23,7 @@ class Refusal(IntEnum):
     BAD_ARRIVED = 118
     NOT_WAITED = 119
     BAD_LIMITS = 120
+    BAD_EVERY = 128
 
 
 def text_of(code: int) -> str:

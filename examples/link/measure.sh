@@ -1,4 +1,4 @@
-# For run.sh and tests/program/link.sh, which source this file: `measure` runs TCP and ping through the link, between network namespaces
+# For run.sh, tests/program/link.sh and flood.sh, which source this file: `measure` runs TCP and ping through the link, between network namespaces
 # that it makes. All that it starts and makes is gone when the script ends, also by a signal.
 # Traffic is IPv6 where LINK_FAMILY is 6, and else IPv4.
 
@@ -79,65 +79,65 @@ counters() {
             value["Ip:InHdrErrors"] + value["Ip6InHdrErrors"] }'
 }
 
-# kill_in_the_middle FOLDER SECONDS FLOWS [OPTIONS OF THE LINK..]: the same with a flight recorder, but the link's recorder is asked for its text
-# after half of the time (folder/flight.history), and then the link is killed; folder/flight is what it left
-kill_in_the_middle() {
-    local folder=$1 seconds=$2 flows=$3 name link
-    shift 3
+# begin FOLDER [OPTIONS OF THE LINK..]: the namespaces, the link between them, $process, with what it says in FOLDER/link, and a server of iperf3
+begin() {
+    local folder=$1 name
+    shift
     mkdir -p "$folder"
-    bound=$((seconds + 30))
     for name in "${names[@]}"; do
         ip netns add "$name" || return 1
     done
-    (exec ip netns exec "${names[1]}" "$link_program" --from senders --to receivers --for "${bound}s" --flight "$folder/flight" "$@") \
+    # shellcheck disable=SC2086
+    (exec ip netns exec "${names[1]}" $before_others "$link_program" --from senders --to receivers --for "${bound}s" "$@") \
         > "$folder/link" 2>&1 &
-    link=$!
-    started+=("$link")
+    process=$!
+    started+=("$process")
     wait_for has_device "${names[1]}" senders && wait_for has_device "${names[1]}" receivers || return 1
     set_up_end "${names[0]}" senders "$near" "$far" && set_up_end "${names[2]}" receivers "$far" "$near" || return 1
     (within "${names[2]}" iperf3 --server --one-off) > "$folder/server" 2>&1 &
     started+=($!)
-    wait_for is_listening "${names[2]}" || return 1
-    (within "${names[0]}" iperf3 --client "$far" --parallel "$flows" --time "$seconds" --congestion cubic) > "$folder/tcp" 2>&1 &
+    wait_for is_listening "${names[2]}"
+}
+
+# send FOLDER SECONDS FLOWS [OPTIONS OF IPERF3..]: sends so many flows of TCP, in the background
+send() {
+    local folder=$1 seconds=$2 flows=$3
+    shift 3
+    (within "${names[0]}" iperf3 --client "$far" --parallel "$flows" --time "$seconds" --congestion cubic "$@") > "$folder/tcp" 2>&1 &
     started+=($!)
+}
+
+# kill_in_the_middle FOLDER SECONDS FLOWS [OPTIONS OF THE LINK..]: TCP through a link with a flight recorder, which is asked for its text after
+# half of the time (folder/flight.history), and then the link is killed; folder/flight is what it left
+kill_in_the_middle() {
+    local folder=$1 seconds=$2 flows=$3 process
+    shift 3
+    bound=$((seconds + 30))
+    begin "$folder" --flight "$folder/flight" "$@" || return 1
+    send "$folder" "$seconds" "$flows"
     sleep "$((seconds / 2))"
-    kill -USR1 "$link"
+    kill -USR1 "$process"
     wait_for test -s "$folder/flight.history" || return 1
     sleep 1
-    kill -KILL "$link"
-    wait "$link" 2> /dev/null
+    kill -KILL "$process"
+    wait "$process" 2> /dev/null
     clean_up
 }
 
 # measure FOLDER SECONDS FLOWS [OPTIONS OF THE LINK..]: leaves history, tcp, ping and link (what each program said), and counters (what the
 # receivers' kernel counted) in FOLDER
 measure() {
-    local folder=$1 seconds=$2 flows=$3 name link
+    local folder=$1 seconds=$2 flows=$3 process
     shift 3
-    mkdir -p "$folder"
     bound=$((seconds + 30))
-    for name in "${names[@]}"; do
-        ip netns add "$name" || return 1
-    done
-    # shellcheck disable=SC2086
-    (within "${names[1]}" $before_others "$link_program" --from senders --to receivers --for "${bound}s" --history "$folder/history" "$@") \
-        > "$folder/link" 2>&1 &
-    link=$!
-    started+=("$link")
-    wait_for has_device "${names[1]}" senders && wait_for has_device "${names[1]}" receivers || return 1
-    set_up_end "${names[0]}" senders "$near" "$far" && set_up_end "${names[2]}" receivers "$far" "$near" || return 1
-    (within "${names[2]}" iperf3 --server --one-off) > "$folder/server" 2>&1 &
-    started+=($!)
-    wait_for is_listening "${names[2]}" || return 1
+    begin "$folder" --history "$folder/history" "$@" || return 1
     (within "${names[0]}" ping -n -i 0.05 -w "$seconds" "$far") > "$folder/ping" 2>&1 &
     started+=($!)
-    (within "${names[0]}" iperf3 --client "$far" --parallel "$flows" --time "$seconds" --congestion cubic --format k) \
-        > "$folder/tcp" 2>&1 &
-    started+=($!)
+    send "$folder" "$seconds" "$flows" --format k
     wait $! || { cat "$folder/tcp" >&2; return 1; }
     # the link writes out its history when it is ended
-    kill -TERM "$link"
-    wait "$link"
+    kill -TERM "$process"
+    wait "$process"
     counters "${names[2]}" > "$folder/counters"
     clean_up
 }

@@ -6,27 +6,7 @@
 # usage: tests/program/flood.sh [PROGRAM]      PROGRAM: crates/pie/out/pie where none is given
 # needs: program, library, root, quiet
 . "$(dirname "$0")/../shared/script.sh"
-link=$top/examples/link
-inside=()
-if ! missing=$("$link/missing.sh"); then
-    ! "$top/bench/uml/helps.sh" "$missing" || inside=("$top/bench/uml/run.sh")
-fi
-command -v python3 > /dev/null || missing="$missing python3" inside=()
-if [ -n "$missing" ] && [ ${#inside[@]} = 0 ]; then
-    echo "NOT RUN: $script: no flood went through the link in user space, for want of $(tr '\n' ' ' <<<"$missing")"
-    exit 0
-fi
-if ! (cd "$top/crates/pie_c" && { [ -e out/libpie_c.a ] || rt lib; } && make -s -C "$link") > "$work/build.log" 2>&1; then
-    cat "$work/build.log"
-    exit 1
-fi
-if [ ${#inside[@]} != 0 ]; then
-    echo "$script: in a Linux in a process (bench/uml), for want of $(tr '\n' ' ' <<< "$missing")"
-    "${inside[@]}" "$here/flood.sh" "$program"
-    exit
-fi
-. "$link/measure.sh"
-trap 'clean_up; rm -rf "$work"' EXIT
+. "$top/tests/shared/through_link.sh" python3
 
 # 3000 datagrams of 1000 bytes from port 40000 to port 9: some 16 Mbit/s for a second and a half
 flood='import socket, sys, time
@@ -38,38 +18,25 @@ for burst in range(300):
     time.sleep(0.005)'
 
 bound=40
-for name in "${names[@]}"; do
-    ip netns add "$name" || exit 1
-done
-# shellcheck disable=SC2086
-(within "${names[1]}" $before_others "$link_program" --from senders --to receivers --for "${bound}s" --rate 10mbit --rtt 20ms \
-    --history "$work/history" --flows "$work/flows") > "$work/said" 2>&1 &
-pid=$!
-started+=("$pid")
-wait_for has_device "${names[1]}" senders && wait_for has_device "${names[1]}" receivers || exit 1
-set_up_end "${names[0]}" senders "$near" "$far" && set_up_end "${names[2]}" receivers "$far" "$near" || exit 1
-(within "${names[2]}" iperf3 --server --one-off) > "$work/server" 2>&1 &
-started+=($!)
-wait_for is_listening "${names[2]}" || exit 1
-(within "${names[0]}" iperf3 --client "$far" --parallel 4 --time 8 --congestion cubic) > "$work/tcp" 2>&1 &
-started+=($!)
+begin "$work" --rate 10mbit --rtt 20ms --history "$work/history" --flows "$work/flows" || exit 1
+send "$work" 8 4
 sleep 3
 (within "${names[0]}" python3 -c "$flood" "$near" "$far") > "$work/flood" 2>&1 &
 started+=($!)
 flow="udp $near:40000 > $far:9"
-if ! wait_for grep -q "most came of flow 0x[0-9a-f]*, $flow:" "$work/said"; then
+if ! wait_for grep -q "most came of flow 0x[0-9a-f]*, $flow:" "$work/link"; then
     echo "$script: the flood is not named while it runs:"
-    cat "$work/said" "$work/flood"
+    cat "$work/link" "$work/flood"
     exit 1
 fi
-kill -0 "$pid" || { echo "$script: the link ended"; exit 1; }
+kill -0 "$process" || { echo "$script: the link ended"; exit 1; }
 sleep 2
-kill -TERM "$pid"
-wait "$pid"
+kill -TERM "$process"
+wait "$process"
 clean_up
 
 # within a second: by the link's clock, from the flood's first packet to the end of the period that names it
-read -r at number < <(sed -n "s/^link: at \([0-9.]*\) s most came of flow \(0x[0-9a-f]*\), $flow:.*/\1 \2/p" "$work/said" | head -n 1)
+read -r at number < <(sed -n "s/^link: at \([0-9.]*\) s most came of flow \(0x[0-9a-f]*\), $flow:.*/\1 \2/p" "$work/link" | head -n 1)
 first=$("$program" explain --all --csv "$work/history" | python3 -c 'import csv, sys
 print(next(row["moment"] for row in csv.DictReader(sys.stdin) if row["kind"] == "arrive" and int(row["tag"]) >> 32 == int(sys.argv[1], 16)))' "$number")
 if ! awk -v at="$at" -v first="$first" 'BEGIN { exit !(at - first / 1e9 <= 1 && at > first / 1e9) }'; then

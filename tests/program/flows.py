@@ -13,7 +13,7 @@ from itertools import compress
 
 sys.path.insert(0, f"{os.path.dirname(os.path.abspath(__file__))}/../shared")
 from checks import expect  # noqa: E402
-from explaining import LOST, hold_each, pie, records, within, written  # noqa: E402
+from explaining import LOST, hold_each, millis, pie, records, within, written  # noqa: E402
 
 VERDICTS = ("enqueue", "mark", "early", "bytes", "packets")
 NAMES = ["arrivals", "arrived_bytes", *VERDICTS, "left", "carried_bytes", "greatest_wait", "mean_wait", "byte_microseconds"]
@@ -33,10 +33,6 @@ def with_flows(history, seed):
             fields[place] = str(flow << 32 | tag & 0xFFFFFFFF)
             lines[number] = ",".join(fields)
     return "".join(lines)
-
-
-def millis(time):
-    return f"{time // 10**6}.{time % 10**6:06} ms ({time} ns)"
 
 
 def share(part, whole):

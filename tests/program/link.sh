@@ -8,27 +8,8 @@
 # usage: tests/program/link.sh [PROGRAM]      PROGRAM: crates/pie/out/pie where none is given
 # needs: program, library, root, quiet
 . "$(dirname "$0")/../shared/script.sh"
-link=$top/examples/link
 seconds=5
-inside=()
-if ! missing=$("$link/missing.sh"); then
-    ! "$top/bench/uml/helps.sh" "$missing" || inside=("$top/bench/uml/run.sh")
-fi
-if [ -n "$missing" ] && [ ${#inside[@]} = 0 ]; then
-    echo "NOT RUN: $script: no packet went through the link in user space, for want of $(tr '\n' ' ' <<<"$missing")"
-    exit 0
-fi
-if ! (cd "$top/crates/pie_c" && { [ -e out/libpie_c.a ] || rt lib; } && make -s -C "$link") > "$work/build.log" 2>&1; then
-    cat "$work/build.log"
-    exit 1
-fi
-if [ ${#inside[@]} != 0 ]; then
-    echo "$script: in a Linux in a process (bench/uml), for want of $(tr '\n' ' ' <<< "$missing")"
-    "${inside[@]}" "$here/link.sh" "$program"
-    exit
-fi
-. "$link/measure.sh"
-trap 'clean_up; rm -rf "$work"' EXIT
+. "$top/tests/shared/through_link.sh" iperf3
 
 "$link/out/packet_test" || exit 1
 

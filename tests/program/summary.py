@@ -14,7 +14,7 @@ from itertools import compress
 
 sys.path.insert(0, f"{os.path.dirname(os.path.abspath(__file__))}/../shared")
 from checks import expect  # noqa: E402
-from explaining import LOST, hold_each, pie, records, within, written  # noqa: E402
+from explaining import LOST, hold_each, millis, pie, records, within, written  # noqa: E402
 
 VERDICTS = {"enqueue": "queued", "mark": "queued and marked", "early": "dropped early"}
 VERDICTS |= {"bytes": "dropped, no room in bytes", "packets": "dropped, no room in packets"}
@@ -22,10 +22,6 @@ PICKED = [f"picked_by_{how}{fate}" for how in ("sum", "word") for fate in ("", "
 CAUSES = "no_room_in_bytes no_room_in_packets inactive burst_allowed low_delay short_queue no_probability little_accumulated".split()
 CAUSES += [*PICKED, "word_not_below"]
 DEFAULT_TARGET = 15_000_000
-
-
-def millis(time):
-    return f"{time // 10**6}.{time % 10**6:06} ms ({time} ns)"
 
 
 def share(part, whole):

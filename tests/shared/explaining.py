@@ -40,6 +40,11 @@ def records(name, history):
     return text.splitlines(keepends=True), rows, [int(row["effective_moment"]) for row in rows]
 
 
+def millis(time):
+    """A time as explanations write it."""
+    return f"{time // 10**6}.{time % 10**6:06} ms ({time} ns)"
+
+
 def written(moment, words):
     """A way of writing a moment."""
     unit, places = words.choice((("", 0), ("ns", 0), ("us", 3), ("ms", 6), ("s", 9)))

@@ -233,32 +233,34 @@ struct pie_peak {
 };
 
 struct pie_total {
-    uint64_t count;    /* how many numbers there were */
-    uint64_t greatest; /* the greatest */
-    uint64_t high;     /* their sum, which stays at 2^128 - 1: the high 64 bits */
-    uint64_t low;      /* the low 64 bits */
+    uint64_t high; /* the sum of some numbers, which stays at 2^128 - 1: the high 64 bits */
+    uint64_t low;  /* the low 64 bits */
 };
 
 /* The numbers of a period's record, of all events in it. Times are in ns. */
 struct pie_meter {
-    uint64_t answers[9];         /* events by their answers: PIE_ENQUEUE, PIE_MARK, PIE_EARLY, PIE_BYTES, PIE_PACKETS, a packet that left, none
-                                    that did, an update, a reset or new parameters */
-    uint64_t causes[16];         /* arrivals by what decided them, in the order of the record's fields; and all other events */
-    struct pie_bounds moments;     /* the effective moments of the events */
-    struct pie_total arrived;    /* the sizes of the packets that arrived, in bytes */
-    struct pie_total waits;      /* how long the packets that left had waited */
-    struct pie_bounds departures;  /* the moments at which they left */
-    struct pie_peak delays;      /* the delays of the updates, while the controller was active */
-    struct pie_peak probs;       /* the probabilities after the events */
-    struct pie_bounds turned_on;   /* the moments of events that turned the controller on */
-    struct pie_bounds turned_off;  /* .. that turned it off */
-    struct pie_bounds times;       /* the times of day of the events, in ns since 1970, where they are told */
-    uint64_t carried;            /* the bytes of the packets that left */
-    uint64_t above;              /* for how long updates took a delay above the target */
-    uint64_t longer;             /* packets that had waited longer than the target */
-    uint64_t late;               /* for how long they had, at the head of the queue */
-    uint64_t target;             /* the target after the last event */
-    uint64_t burst;              /* the burst allowance after the last event */
+    uint64_t answers[9];          /* events by their answers: PIE_ENQUEUE, PIE_MARK, PIE_EARLY, PIE_BYTES, PIE_PACKETS, a packet that left, none
+                                     that did, an update, a reset or new parameters */
+    uint64_t causes[15];          /* arrivals by what decided them, in the order of the record's fields */
+    uint64_t first;               /* the effective moment of the first event */
+    uint64_t last;                /* .. of the last one */
+    uint64_t since;               /* .. of the last one at which a packet left, or of the first where none did */
+    uint64_t arrivals;            /* packets that arrived */
+    struct pie_total arrived;     /* their sizes, in bytes */
+    struct pie_total waits;       /* how long the packets that left had waited */
+    uint64_t greatest_wait;       /* the longest of these waits */
+    struct pie_peak delays;       /* the delays of the updates, while the controller was active */
+    struct pie_peak probs;        /* the probabilities after the events */
+    struct pie_bounds turned_on;  /* the moments of events that turned the controller on */
+    struct pie_bounds turned_off; /* .. that turned it off */
+    uint64_t timed;               /* 1 where the time of day of an event is told, and else 0 */
+    uint64_t time;                /* the first one's, in ns since 1970 */
+    uint64_t carried;             /* the bytes of the packets that left */
+    uint64_t above;               /* for how long updates took a delay above the target */
+    uint64_t longer;              /* packets that had waited longer than the target */
+    uint64_t late;                /* for how long they had, at the head of the queue */
+    uint64_t target;              /* the target after the last event */
+    uint64_t burst;               /* the burst allowance after the last event */
 };
 
 #define PIE_RANGES 1720 /* ranges of waits: each is told by its first two decimal digits */

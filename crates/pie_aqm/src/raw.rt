@@ -3,11 +3,12 @@ ghost use Rattle.std.specs.Prelude.{◌≡◌, ◌+◌, ◌^◌, ◌<◌, ◌≤
 ghost use Rattle.pie_event.specs.Cause.{verdict_of};
 ghost use Rattle.pie_aqm.specs.{IsSound, held_by, accu_left, anew, arrived, capped, cause, changed, count_kept_open, delay_answered, delay_in};
 ghost use Rattle.pie_aqm.specs.{departed, due, is_too_soon, is_unmeasured, measures, opened, passed, reset, updated, verdict, wait_of, with_count};
+ghost use Rattle.pie_event.specs.CauseName.{name_of, place_of_cause};
 ghost use Rattle.pie_event.specs.Verdict.{is_queued};
 
 use crate::profile::opens_active;
 use crate::verdict::{verdict_of, wakes};
-use crate::{Arrival, Cause, Profile, Verdict};
+use crate::{Arrival, Cause, CauseName, Profile, Verdict};
 use pie_control::{MAX_DELAY, RawControl};
 use pie_early::decide;
 use pie_params::{Delay, Elements, Picking, RawParams, Size};
@@ -74,6 +75,20 @@ impl RawController {
         ensures fits { is_queued result ≡ true → (arrival.is_full ≡ false) × (arrival.queued + arrival.size ≤ self.old.params.limit_bytes) }
         ensures after { held_by self.new ≡ arrived (held_by self.old) arrival moment }
     {
+        self.arrive_with_place(arrival, moment).0
+    }
+
+    /// The same, with the place of what decides it, in the order of the decision: that of the name of its
+    /// [`cause`](crate::Controller::cause).
+    #[inline(always)]
+    pub fn arrive_with_place(&mut self, arrival: Arrival, moment: u64) -> (Verdict, usize)
+        requires { arrival.queued ≤ 2 ^ 30 }
+        ensures verdict { result.0 ≡ verdict (held_by self.old) arrival }
+        ensures place { (packets : ℕ) → result.1 ≡ place_of_cause (name_of (cause (held_by self.old) arrival packets)) }
+        ensures within { result.1 < 15 }
+        ensures fits { is_queued result.0 ≡ true → (arrival.is_full ≡ false) × (arrival.queued + arrival.size ≤ self.old.params.limit_bytes) }
+        ensures after { held_by self.new ≡ arrived (held_by self.old) arrival moment }
+    {
         self.arrive_by(self.elements, arrival, moment)
     }
 
@@ -93,7 +108,7 @@ impl RawController {
                     size: Size::Unscaled,
                     ..self.elements
                 };
-                self.arrive_by(elements, arrival, moment)
+                self.arrive_by(elements, arrival, moment).0
             }
             _ => self.arrive_apart(
                 arrival.queued,
@@ -135,42 +150,50 @@ impl RawController {
 
     /// The same by these elements, which are its own.
     #[inline(always)]
-    fn arrive_by(&mut self, elements: Elements, arrival: Arrival, moment: u64) -> Verdict
+    fn arrive_by(&mut self, elements: Elements, arrival: Arrival, moment: u64) -> (Verdict, usize)
         requires queued { arrival.queued ≤ 2 ^ 30 }
         requires own { elements ≡ self.old.elements }
-        ensures verdict { result ≡ verdict (held_by self.old) arrival }
-        ensures fits { is_queued result ≡ true → (arrival.is_full ≡ false) × (arrival.queued + arrival.size ≤ self.old.params.limit_bytes) }
+        ensures verdict { result.0 ≡ verdict (held_by self.old) arrival }
+        ensures place { (packets : ℕ) → result.1 ≡ place_of_cause (name_of (cause (held_by self.old) arrival packets)) }
+        ensures within { result.1 < 15 }
+        ensures fits { is_queued result.0 ≡ true → (arrival.is_full ≡ false) × (arrival.queued + arrival.size ≤ self.old.params.limit_bytes) }
         ensures after { held_by self.new ≡ arrived (held_by self.old) arrival moment }
     {
-        let (verdict, accu) = self.judge(elements, arrival);
+        let (verdict, accu, place) = self.judge(elements, arrival);
         self.accu = accu;
         self.pass(moment);
         if wakes(self.active, self.params.limit_bytes, verdict, arrival) {
             self.start_anew();
             self.active = true;
         }
-        verdict
+        (verdict, place)
     }
 
-    /// The verdict on an arriving packet, and the accumulated probability after it: tail drop by bytes, then by packets, before all
-    /// else, and then early drop, while the controller is active (RFC 8033, sections 4.1, 5.1, 5.4 and Appendix A).
+    /// The verdict on an arriving packet, the accumulated probability after it, and the place of what decides it: tail drop by bytes, then by
+    /// packets, before all else, and then early drop, while the controller is active (RFC 8033, sections 4.1, 5.1, 5.4 and Appendix A).
     #[inline(always)]
-    #[tactic(auto, unfolding(crate::specs::Steps::verdict, crate::specs::Steps::accu_left))]
-    fn judge(&self, elements: Elements, arrival: Arrival) -> (Verdict, u64)
+    #[tactic(auto, unfolding(crate::specs::Steps::cause, crate::specs::Steps::verdict, crate::specs::Steps::accu_left))]
+    fn judge(&self, elements: Elements, arrival: Arrival) -> (Verdict, u64, usize)
         requires queued { arrival.queued ≤ 2 ^ 30 }
         requires own { elements ≡ self.now.elements }
         ensures verdict { result.0 ≡ verdict (held_by self.now) arrival }
         ensures accu { result.1 ≡ accu_left (held_by self.now) arrival }
+        ensures place { (packets : ℕ) → result.2 ≡ place_of_cause (name_of (cause (held_by self.now) arrival packets)) }
+        ensures within { result.2 < 15 }
         ensures fits { is_queued result.0 ≡ true → (arrival.is_full ≡ false) × (arrival.queued + arrival.size ≤ self.now.params.limit_bytes) }
     {
         if self.params.limit_bytes < arrival.queued + u64::from(arrival.size) {
-            return (Verdict::DroppedBytes, 0);
+            return (Verdict::DroppedBytes, 0, CauseName::NoRoomInBytes.place());
         }
         if arrival.is_full {
-            return (Verdict::DroppedPackets, 0);
+            return (
+                Verdict::DroppedPackets,
+                0,
+                CauseName::NoRoomInPackets.place(),
+            );
         }
         if !self.active {
-            return (Verdict::Enqueued, self.accu);
+            return (Verdict::Enqueued, self.accu, CauseName::Inactive.place());
         }
         let decision = decide(
             &self.params,
@@ -179,7 +202,7 @@ impl RawController {
             arrival.offered(),
             self.accu,
         );
-        (verdict_of(decision.choice), decision.accu)
+        (verdict_of(decision.choice), decision.accu, decision.place)
     }
 
     /// What would decide an arriving packet, as [`Controller::cause`](crate::Controller::cause) says it.

@@ -15,7 +15,8 @@ use Rattle.pie_event.specs.declared.profile.Profile.TheVariants.{One, Two}
 use Rattle.pie_aqm.specs.Held.{Held}
 use Rattle.pie_aqm.specs.History.{Shows}
 use Rattle.pie_aqm.specs.Steps.{anew, accu_left, arrived, bytes_with, capped, changed, count_below, count_kept_open, departed, is_unmeasured}
-use Rattle.pie_aqm.specs.Steps.{judged, opened, passed, reset, turns_on, verdict, with_count}
+use Rattle.pie_aqm.specs.Steps.{cause, judged, opened, passed, reset, turns_on, verdict, with_count}
+use Rattle.pie_event.specs.CauseName.{name_of, place_of_cause}
 use Rattle.pie_aqm.specs.Steps.{measures}
 use Rattle.pie_rate.specs.Estimate.{Begun}
 use Rattle.pie_params.specs.declared.elements.Delay.TheVariants.{Rate, Stamp}
@@ -375,6 +376,13 @@ pub verdict-later : (s t : PieState) (a b : Arrival) (moment : ℕ) (h : Held) (
     → v ≡ verdict (held_in s) b
 unfolding held_in verdict
 verdict-later s t a b moment h v at held is same = rw (is, held, same, at) refl
+
+-- .. and the place of what decides it, which the moment has no part in
+pub place-later : (s t : PieState) (a b : Arrival) (moment packets : ℕ) (h : Held) (place : ℕ) → t ≡ at_later s moment → h ≡ held_in t
+    → ((n : ℕ) → place ≡ place_of_cause (name_of (cause h a n))) → a ≡ b
+    → place ≡ place_of_cause (name_of (cause (held_in s) b packets))
+unfolding held_in cause
+place-later s t a b moment packets h place at held is same = is packets ∙ rw (held, same, at) refl
 
 -- ---- the state after the other calls
 

@@ -13,21 +13,22 @@ use Rattle.pie_explanation.specs.declared.explanation.Explained.{Explained}
 use Rattle.pie_summary.specs.declared.live.LivePeriod.{LivePeriod}
 use Rattle.pie_summary.specs.declared.noted.Met.{Met}
 use Rattle.pie_summary.specs.declared.noted.Noted.{Noted}
-use Rattle.pie_summary.specs.Live.{Holds, IsSet, Meets, noted_of}
+use Rattle.pie_summary.specs.Live.{Holds, IsSet, Meets, clock_of, noted_of}
 use Rattle.pie_summary.specs.Sums.{answer_place}
 use Rattle.pie_abi.specs.Choices.{last_moment}
 use Rattle.pie_abi.specs.Packets.{is_bad_size, verdict_number}
 use Rattle.pie_c.specs.declared.state.PieState.{PieState}
 use Rattle.pie_c.specs.declared.updated.PieUpdated.{PieUpdated}
-use Rattle.pie_c.specs.Calls.{arrival_refusal, moment_refusal, unless_refused, update_refusal}
+use Rattle.pie_c.specs.Calls.{arrival_refusal, if_taken, moment_refusal, unless_refused, update_refusal}
 use Rattle.pie_c.specs.Calls.{nothing_updated, updated_by, updated_with}
-use Rattle.pie_c.specs.State.{held_in}
+use Rattle.pie_c.specs.State.{held_in, takes_stamps, with_departure, with_rate}
+use Rattle.pie_aqm.specs.Held.{Held}
 use Rattle.pie_aqm.specs.Steps.{delay_answered, updated}
 use Rattle.pie_c.specs.Summed.{Adds, Tells}
 
 -- what an event met, by the states before and after it
-abbrev pub met_by : PieState → PieState → Option Clock → Met
-met_by before after clock = record {
+abbrev pub met_by : PieState → PieState → Met
+met_by before after = record {
   moment = after.moment;
   was = before.active == 1;
   is = after.active == 1;
@@ -36,11 +37,10 @@ met_by before after clock = record {
   prob = after.prob;
   burst = after.burst;
   target = after.params.target;
-  clock = clock;
 }
 
 pub meets : (before after : PieState) (clock : Option Clock) (event : Event) (cause : Option Cause) (waited : ℕ) (one : Explained) (met : Met)
-    → met ≡ met_by before after clock → Tells before after clock event cause waited one → Meets met one
+    → met ≡ met_by before after → Tells before after clock event cause waited one → Meets met one
 meets before after clock event cause waited one met is t = subst (λ (m : Met). Meets m one) (sym is) (record {
   moment = t.moment;
   was = t.was;
@@ -50,8 +50,31 @@ meets before after clock event cause waited one met is t = subst (λ (m : Met). 
   prob = t.prob;
   burst = t.burst;
   target = t.target;
-  clock = t.clock;
 })
+
+-- a departure leaves what it met, but for what it changes
+pub unmoved : (before after : PieState) (refusal : ℕ) (held : Held) → after ≡ if_taken refusal before (with_departure before held)
+    → met_by after after ≡ met_by before after
+unmoved before after refusal held is = λ i. record {
+  moment = after.moment;
+  was = (kept (λ (s : PieState). s.active == 1) refl refl) i;
+  is = after.active == 1;
+  held = (kept (λ (s : PieState). s.params.target) refl refl) i;
+  last = (kept (λ (s : PieState). s.last) refl refl) i;
+  prob = after.prob;
+  burst = after.burst;
+  target = after.params.target;
+}
+  where
+    kept : {A : Type 0} (of : PieState → A) → of (record before { moment = held.moment; waited = held.waited }) ≡ of before
+        → of (with_rate before held) ≡ of before → of after ≡ of before
+    kept {A} of stamped by_rate = ap of is ∙ by_test (refusal == 0) (takes_stamps before)
+      where
+        by_test : (taken stamps : Bool) → of (if taken then (if stamps then record before { moment = held.moment; waited = held.waited }
+            else with_rate before held) else before) ≡ of before
+        by_test true true = stamped
+        by_test true false = by_rate
+        by_test false stamps = refl
 
 -- the place of a verdict's count is its number
 pub verdict-place : (verdict : Verdict) → verdict_number verdict ≡ answer_place (answer_of verdict)
@@ -71,13 +94,15 @@ verdict-few DroppedPackets = omega arith
 -- what a call adds, by whether it was taken
 pub adds-by : (refusal : ℕ) (before after : LivePeriod) (told : Explained → Type 0) (taken : Bool) (noted : Noted) → IsSet before after
     → (taken ≡ false → after ≡ before)
-    → ((all : List Explained) (one : Explained) → taken ≡ true → noted ≡ noted_of one → Holds before all → Holds after (all ++ one ∷ []))
-    → (taken ≡ true → refusal ≡ 0) → (taken ≡ false → refusal ≡ 0 → ⊥) → ((one : Explained) → refusal ≡ 0 → told one → noted ≡ noted_of one)
+    → ((all : List Explained) (one : Explained) → taken ≡ true → noted ≡ noted_of one → one.told.clock ≡ clock_of before → Holds before all
+    → Holds after (all ++ one ∷ []))
+    → (taken ≡ true → refusal ≡ 0) → (taken ≡ false → refusal ≡ 0 → ⊥)
+    → ((one : Explained) → refusal ≡ 0 → told one → (noted ≡ noted_of one) × (one.told.clock ≡ clock_of before))
     → Adds refusal before after told
 adds-by refusal before after told true noted set same adds so otherwise is = record {
   refused = λ r. absurd (r (so refl));
   settings = set;
-  adds = λ all one taken tells holds. adds all one refl (is one taken tells) holds;
+  adds = λ all one taken tells holds. adds all one refl (is one taken tells).0 (is one taken tells).1 holds;
 }
 adds-by refusal before after told false noted set same adds so otherwise is = record {
   refused = λ r. same refl;
@@ -136,19 +161,11 @@ pub done-refused : (refusal answer : ℕ) → answer ≡ refusal → (answer == 
 done-refused refusal answer is otherwise taken = let zero_there : (answer == 0) ≡ true = eq-eqb answer 0 (is ∙ taken) in
     false≢true (sym otherwise ∙ zero_there)
 
--- an arrival that is taken meets a queue that can be
-pub arrival-queue : (queued size ecn moment : ℕ) → arrival_refusal queued size ecn moment ≡ 0 → queued ≤ 2 ^ 30
-unfolding arrival_refusal
-arrival-queue queued size ecn moment taken =
-    let fits : nat_lt (2 ^ 30) queued ≡ false = tests (nat_lt last_moment moment) (is_bad_size size) (nat_lt 3 ecn) (nat_lt (2 ^ 30) queued) taken in
-    grind (arith, nat_tests, fits)
-  where
-    tests : (a b c d : Bool) → refusal_by a b c d ≡ 0 → d ≡ false
-    tests true b c d e = absurd (omega (arith, e))
-    tests false true c d e = absurd (omega (arith, e))
-    tests false false true d e = absurd (omega (arith, e))
-    tests false false false true e = absurd (omega (arith, e))
-    tests false false false false e = refl
+-- an arrival that is taken is answered by a verdict
+pub arrival-few : (refusal answer : ℕ) (verdict : Verdict) → answer ≡ unless_refused refusal (verdict_number verdict) → refusal ≡ 0 → answer ≤ 4
+arrival-few refusal answer verdict is taken =
+    let number : answer ≡ verdict_number verdict = is ∙ ap (λ (r : ℕ). unless_refused r (verdict_number verdict)) taken in
+    omega (arith, number, verdict-few verdict)
 
 -- the place at which an arrival that was taken counts
 pub arrival-place : (refusal answer : ℕ) (verdict : Verdict) → answer ≡ unless_refused refusal (verdict_number verdict) → refusal ≡ 0

@@ -9,10 +9,6 @@ use Rattle.pie_summary.specs.Live.{Holds, IsSet}
 use Rattle.pie_abi.specs.Choices.{last_moment}
 use Rattle.pie_c.specs.declared.state.PieState.{PieState}
 
--- the time of day that was told last
-abbrev pub clock_of : LivePeriod → Option Clock
-clock_of period = if period.told == 1 then Some (record { moment = period.clock_moment; unix = period.clock_unix }) else None
-
 -- an event is explained as the one that left this of that state: with this cause, and such a wait of the packet that left
 pub record Tells (before after : PieState) (day : Option Clock) (made : Event) (decided : Option Cause) (wait : ℕ) (one : Explained) : Type 0 where
   pub event : one.told.event ≡ made

@@ -1,11 +1,12 @@
 //! The calls on a state. Those for each packet read the state's numbers as they are: their rules are total, so nothing of the state
 //! is checked. The others refuse a state that isn't sound. Each refuses what it is handed out of its range, lets the controller
 //! make its step, and writes back what that changed.
-ghost use Rattle.std.specs.Prelude.{◌≡◌, ◌<◌, ◌+◌, ◌-◌, ◌^◌, ◌∷◌, [], ◌++◌, List, if◌then◌else◌, max, min, true};
+ghost use Rattle.std.specs.Prelude.{◌≡◌, ◌<◌, ◌+◌, ◌-◌, ◌^◌, ◌≤◌, ◌∷◌, [], ◌++◌, ℕ, List, if◌then◌else◌, max, min, true};
 ghost use Rattle.pie_aqm.specs.Calls.{Arrive, Change, Depart, Pass, Restart, Update, after_call, shown_by};
 ghost use Rattle.pie_aqm.specs.Events.{ControllerEvent, Opened};
 ghost use Rattle.pie_aqm.specs.History.{Shows};
-ghost use Rattle.pie_aqm.specs.Steps.{arrived, capped, departed, verdict};
+ghost use Rattle.pie_aqm.specs.Steps.{arrived, capped, cause, departed, verdict};
+ghost use Rattle.pie_event.specs.CauseName.{name_of, place_of_cause};
 ghost use Rattle.pie_abi.specs.Params.{raw_of};
 ghost use Rattle.pie_abi.specs.Choices.{elements_of};
 ghost use Rattle.pie_c.specs.State.{held_in, is_sound, takes_stamps, with_departure, with_rate};
@@ -80,17 +81,17 @@ pub(crate) fn decide(
     let is_usual = room != 0 && state.active == 1 && state.choices <= 1;
     if is_usual {
         let elements = usual_but_delay(state.choices);
-        arrive(state, elements, queued, size, room, bits, word, moment)
+        arrive(state, elements, queued, size, room, bits, word, moment).0
     } else {
         arrive_apart(state, queued, size, room, bits, word, moment)
     }
 }
 
-/// The same, to be compiled where it is called: where the controller is known to be active and the ring to have room, there is nothing
+/// The same, and the place of what decides it, to be compiled where it is called: where the controller is known to be active and the ring to have room, there is nothing
 /// of turning it on, nor of a full ring. The moment is written first, so that no register holds it from then on.
 #[inline(always)]
 #[tactic(auto, unfolding(crate::specs::Calls::arrival_refusal))]
-fn arrive(
+pub(crate) fn arrive(
     state: &mut PieState,
     elements: Elements,
     queued: u64,
@@ -99,21 +100,23 @@ fn arrive(
     bits: u32,
     word: u64,
     moment: u64,
-) -> u32
+) -> (u32, usize)
     requires { elements ≡ elements_of state.old.choices }
-    ensures { Arrives state.old (arrival_of queued size room bits word) (arrival_refusal queued size bits moment) moment result state.new }
+    ensures arrives { Arrives state.old (arrival_of queued size room bits word) (arrival_refusal queued size bits moment) moment result.0 state.new }
+    ensures place { result.0 ≤ 4 → (packets : ℕ)
+        → result.1 ≡ place_of_cause (name_of (cause (held_in state.old) (arrival_of queued size room bits word) packets)) }
 {
     if moment > MAX_NANOS {
-        return BAD_MOMENT;
+        return (BAD_MOMENT, 0);
     }
     if is_bad_size(size) {
-        return BAD_SIZE;
+        return (BAD_SIZE, 0);
     }
     let Some(ecn) = ecn(bits) else {
-        return BAD_ECN;
+        return (BAD_ECN, 0);
     };
     if queued > MAX_QUEUED {
-        return BAD_QUEUE;
+        return (BAD_QUEUE, 0);
     }
     let arrival = Arrival {
         queued,
@@ -124,10 +127,10 @@ fn arrive(
     };
     state.reach(moment);
     let mut held = raw_with(state, elements);
-    let verdict = held.arrive(arrival, state.moment);
+    let (verdict, place) = held.arrive_with_place(arrival, state.moment);
     state.keep_arrived(&held);
     laws();
-    of_verdict(verdict)
+    (of_verdict(verdict), place)
 }
 
 /// The same as a function of its own: the registers that turning on takes cost an active controller nothing then.
@@ -144,7 +147,7 @@ fn arrive_apart(
     ensures { Arrives state.old (arrival_of queued size room bits word) (arrival_refusal queued size bits moment) moment result state.new }
 {
     let elements = elements(state.choices);
-    arrive(state, elements, queued, size, room, bits, word, moment)
+    arrive(state, elements, queued, size, room, bits, word, moment).0
 }
 
 /// Takes in a packet that left the queue, with `left` bytes after it (RFC 8033, section 5.2). An inactive controller takes in the

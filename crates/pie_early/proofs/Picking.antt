@@ -1,8 +1,8 @@
 -- What the tests of the decision say in facts.
-use Rattle.std.proofs.Common.{inl, inr, ltb, ◌≡◌, ℕ, ◌+◌, ◌*◌, ◌<◌, ◌≤◌, ◌⊎◌, ◌↔◌, Bool, true, false, cond, ◌&&◌, refl, sym, ap, ◌∙◌, arith}
-use Rattle.std.specs.Prelude.{IsTrue}
+use Rattle.std.proofs.Common.{eqb, inl, inr, ltb, ◌≡◌, ℕ, ◌+◌, ◌*◌, ◌<◌, ◌≤◌, ◌⊎◌, ◌↔◌, Bool, true, false, cond, ◌&&◌, refl, sym, ap, ◌∙◌, arith}
+use Rattle.std.specs.Prelude.{IsTrue, ◌||◌, not, if◌then◌else◌}
 use Rattle.std.proofs.lemmas.Bool.Decides.{nat_tests}
-use Rattle.std.proofs.lemmas.Bool.{and_parts, and_from}
+use Rattle.std.proofs.lemmas.Bool.{and_parts, and_from, false≢true, ne_eqb}
 use Rattle.pie_fixed.specs.Fixed.{Picks}
 use Rattle.pie_params.specs.declared.raw.RawParams.{RawParams}
 use Rattle.pie_params.specs.declared.elements.Picking.{Picking}
@@ -13,7 +13,7 @@ use Rattle.pie_queue.specs.declared.ecn.Ecn.{Ecn}
 use Rattle.pie_queue.specs.Ecn.{is_capable}
 use Rattle.pie_early.specs.declared.early.Choice.{Choice}
 use Rattle.pie_early.specs.declared.early.Choice.TheVariants.{Enqueue, Mark, Drop}
-use Rattle.pie_early.specs.Decision.{a_fifth, never_picked, always_picked, is_considered, is_picked, picked_choice, choice_at, is_pick, IsPicked}
+use Rattle.pie_early.specs.Decision.{a_fifth, never_picked, always_picked, is_considered, is_picked, picked_choice, accu_at, choice_at, is_pick, IsPicked}
 
 considered_facts : (params : RawParams) (control : Parts) (bytes : ℕ) → is_considered params control bytes ≡ true
     → (control.burst ≡ 0) × (2 * params.mean_pkt < bytes) × ((params.target ≤ 2 * control.old_delay) ⊎ (a_fifth ≤ control.prob))
@@ -112,3 +112,23 @@ module _ (picking : Picking) (params : RawParams) (control : Parts) (prob bytes 
 
 pub picked_zero_at : (picking : Picking) (prob sum word : ℕ) → prob ≡ 0 → is_picked picking prob sum word ≡ false
 picked_zero_at picking prob sum word z = rw z (picked-zero picking sum word)
+
+-- where probabilities accumulate, the sum grows by that of a considered arrival that isn't picked
+unpicked_sum : (considered picked nothing : Bool) (choice : Choice) (accu prob : ℕ) → considered ≡ true → is_pick choice ≡ true → nothing ≡ false
+    → Enqueue ≡ (if considered && picked then choice else Enqueue)
+    → (if not considered then accu else if nothing || picked then 0 else accu + prob) ≡ accu + prob
+unpicked_sum true true nothing choice accu prob considered pick some queued = absurd (false≢true (ap is_pick queued ∙ pick))
+unpicked_sum true false false choice accu prob considered pick some queued = refl
+unpicked_sum true false true choice accu prob considered pick some queued = absurd (false≢true (sym some))
+unpicked_sum false picked nothing choice accu prob considered pick some queued = absurd (false≢true considered)
+
+pub grown : (picking : Picking) (params : RawParams) (control : Parts) (prob bytes : ℕ) (ecn : Ecn) (word accu after : ℕ) (choice : Choice)
+    → picking ≡ Derandomized → is_considered params control bytes ≡ true → 0 < prob → choice ≡ Enqueue
+    → choice ≡ choice_at picking params control prob bytes ecn word accu → after ≡ accu_at picking params control prob bytes word accu
+    → after ≡ accu + prob
+grown picking params control prob bytes ecn word accu after choice accumulates considered some queued chosen is =
+    is ∙ ap (λ (p : Picking). accu_at p params control prob bytes word accu) accumulates
+    ∙ unpicked_sum (is_considered params control bytes) (is_picked Derandomized prob (accu + prob) word) (eqb prob 0)
+    (picked_choice params control.prob ecn) accu prob considered (is_pick-picked_choice params control.prob ecn)
+    (ne_eqb prob 0 (λ none. omega (arith, none, some)))
+    (sym queued ∙ chosen ∙ ap (λ (p : Picking). choice_at p params control prob bytes ecn word accu) accumulates)

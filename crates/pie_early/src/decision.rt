@@ -1,14 +1,18 @@
-ghost use Rattle.std.specs.Prelude.{◌≡◌, ◌+◌, ◌*◌, ◌^◌, ◌<◌, ◌≤◌, ℕ, nat_lt, false, if◌then◌else◌};
+ghost use Rattle.std.specs.Prelude.{◌≡◌, ◌+◌, ◌*◌, ◌^◌, ◌<◌, ◌≤◌, ◌&&◌, ℕ, nat_le, nat_lt, false, if◌then◌else◌};
 ghost use Rattle.pie_control.specs.Parts.{parts_of};
 ghost use Rattle.pie_params.specs.declared.elements.Size.TheVariants.{Scaled};
+ghost use Rattle.pie_params.specs.Elements.{accumulates};
 ghost use Rattle.pie_event.specs.Cause.{verdict_of, verdict_on_picked};
+ghost use Rattle.pie_event.specs.CauseName.{name_of, place_of_cause};
+ghost use Rattle.pie_event.specs.declared.cause.Cause.TheVariants.{PickedBySum, PickedByWord};
 ghost use Rattle.pie_event.specs.declared.verdict.Verdict.TheVariants.{Enqueued};
 ghost use Rattle.pie_early.specs.Cause.{considered_cause, early_cause, fate_of};
-ghost use Rattle.pie_early.specs.Decision.{accu_after, choice_of, chosen, counted_as, is_below, is_considered, is_picked, picked_choice};
+ghost use Rattle.pie_early.specs.Decision.{accu_after, always_picked, choice_of, chosen, counted_as, is_below, is_considered, is_picked};
+ghost use Rattle.pie_early.specs.Decision.{never_picked, picked_choice};
 
 use crate::early::{Choice, LOW_PROB, NEVER_PICKED};
 use pie_control::RawControl;
-use pie_event::{Cause, Fate};
+use pie_event::{Cause, CauseName, Fate};
 use pie_fixed::{ALWAYS_PICKED, picks};
 use pie_params::{Elements, Picking, RawParams, Size};
 use pie_queue::Ecn;
@@ -33,6 +37,8 @@ pub struct Decision {
     pub choice: Choice,
     /// The accumulated probability, in units of `10^-12`.
     pub accu: u64,
+    /// The place of what decided it, in the order of the decision: that of the name of its [`cause`].
+    pub place: usize,
 }
 
 /// Decides by plain numbers, whether they are in their ranges or not, as [`Early::consider`](crate::Early::consider) does by
@@ -50,11 +56,14 @@ pub fn decide(
 ) -> Decision
     ensures choice { result.choice ≡ choice_of elements params.now (parts_of control.now) offered accu }
     ensures accu { result.accu ≡ accu_after elements params.now (parts_of control.now) offered accu }
+    ensures place { result.place ≡ place_of_cause (name_of (early_cause elements params.now (parts_of control.now) offered accu)) }
+    ensures within { result.place < 15 }
 {
     if !is_considered(params, control, offered.bytes) {
         return Decision {
             choice: Choice::Enqueue,
             accu,
+            place: unconsidered_place(params, control, offered.bytes),
         };
     }
     let prob = counted_as(elements.size, params, offered.size, control.prob);
@@ -62,6 +71,7 @@ pub fn decide(
         return Decision {
             choice: Choice::Enqueue,
             accu: 0,
+            place: CauseName::NoProbability.place(),
         };
     }
     if !is_picked(elements.picking, prob, accu, offered.word) {
@@ -71,11 +81,77 @@ pub fn decide(
                 Picking::Derandomized => accu + prob,
                 Picking::Random => accu,
             },
+            place: unpicked_place(elements.picking, prob, accu),
         };
     }
     Decision {
         choice: picked_choice(params, control.prob, offered.ecn),
         accu: 0,
+        place: picked_place(elements.picking, prob, accu)
+            + fate_place(params, control.prob, offered.ecn),
+    }
+}
+
+/// The place of why an arrival isn't considered.
+#[inline(always)]
+#[tactic(auto, using(std::proofs::lemmas::Bool::Decides::nat_tests), unfolding(crate::specs::Decision::is_considered, crate::specs::Cause::early_cause))]
+fn unconsidered_place(params: &RawParams, control: &RawControl, bytes: u64) -> usize
+    requires { is_considered params.now (parts_of control.now) bytes ≡ false }
+    ensures place { (elements : Elements) (offered : Offered) (accu : ℕ) → offered.bytes ≡ bytes
+        → result ≡ place_of_cause (name_of (early_cause elements params.now (parts_of control.now) offered accu)) }
+    ensures within { result < 15 }
+{
+    let name = if control.burst > 0 {
+        CauseName::BurstAllowed
+    } else if control.old_delay < half(params.target) && control.prob < LOW_PROB {
+        CauseName::LowDelay
+    } else {
+        CauseName::ShortQueue
+    };
+    name.place()
+}
+
+/// The place of why a considered arrival isn't picked, at a probability that isn't 0.
+#[inline(always)]
+fn unpicked_place(picking: Picking, prob: u64, accu: u64) -> usize
+    ensures { result ≡ (if accumulates picking && nat_lt (accu + prob) never_picked then 7 else 14) }
+{
+    let name = match (picking, accu.checked_add(prob)) {
+        (Picking::Derandomized, Some(sum)) if sum < NEVER_PICKED => CauseName::LittleAccumulated,
+        _ => CauseName::WordNotBelow,
+    };
+    name.place()
+}
+
+/// The place of what picks an arrival, were it marked: by the sum, or by the word.
+#[inline(always)]
+fn picked_place(picking: Picking, prob: u64, accu: u64) -> usize
+    ensures { result ≡ (if accumulates picking && nat_le always_picked (accu + prob) then 8 else 11) }
+{
+    let name = match (picking, accu.checked_add(prob)) {
+        (Picking::Random, _) => CauseName::PickedByWord,
+        (Picking::Derandomized, Some(sum)) if sum < ALWAYS_PICKED => CauseName::PickedByWord,
+        _ => CauseName::PickedBySum,
+    };
+    name.place()
+}
+
+/// How far behind that place is that of what becomes of the picked packet. A number, since the name of each fate cost all arrivals five
+/// instructions.
+#[inline(always)]
+fn fate_place(params: &RawParams, prob: u64, ecn: Ecn) -> usize
+    ensures place { (accu counted word : ℕ) → let fate = fate_of params.now prob ecn in
+        (place_of_cause (name_of (PickedBySum accu counted fate)) ≡ 8 + result)
+        × (place_of_cause (name_of (PickedByWord accu counted word fate)) ≡ 11 + result) }
+    ensures within { result < 3 }
+{
+    let threshold = params.mark_ecnth;
+    if !ecn.capable() {
+        1
+    } else if prob >= threshold {
+        2
+    } else {
+        0
     }
 }
 
@@ -166,8 +242,8 @@ fn picked_choice(params: &RawParams, prob: u64, ecn: Ecn) -> Choice
 }
 
 /// What decides an arrival, by the same numbers as [`decide`]: the first case of the rules that holds, with the numbers that it compared.
-/// Its verdict is that choice. It stands beside `decide`, and not within it: a verdict that was read off the cause cost a considered
-/// arrival five instructions more, of 59.
+/// Its verdict is that choice, and its name has that place. It stands beside `decide`, and not within it: a verdict that was read off the
+/// cause cost a considered arrival five instructions more, of 59.
 pub fn cause(
     params: &RawParams,
     elements: Elements,

@@ -9,7 +9,6 @@ use Rattle.pie_event.specs.declared.verdict.Verdict.{Verdict}
 use Rattle.pie_event.specs.declared.verdict.Verdict.TheVariants as verdicts
 use Rattle.pie_event.specs.Verdict.{answer_of}
 use Rattle.pie_explanation.specs.declared.explanation.Explained.{Explained}
-use Rattle.pie_explanation.specs.Choice.{time_of}
 use Rattle.pie_summary.specs.declared.noted.Met.{Met}
 use Rattle.pie_summary.specs.declared.noted.Noted.{Noted}
 use Rattle.pie_summary.specs.Live.{Meets, bare_noted, noted_of}
@@ -29,7 +28,6 @@ noted_by met one answer = record {
   prob = met.prob;
   turned_on = turned_at true met.was met.is met.moment;
   turned_off = turned_at false met.was met.is met.moment;
-  time = time_of met.clock met.moment;
   carried = carried_by answer;
   above = above_by met.was answer met.held (met.moment - met.last);
   target = met.target;
@@ -49,7 +47,6 @@ noted-by met one answer m is = λ i. record {
   prob = m.prob i;
   turned_on = turned_at true (m.was i) (m.is i) (m.moment i);
   turned_off = turned_at false (m.was i) (m.is i) (m.moment i);
-  time = time_of (m.clock i) (m.moment i);
   carried = carried_by (is i);
   above = above_by (m.was i) (is i) (m.held i) (m.moment i - m.last i);
   target = m.target i;
@@ -104,7 +101,6 @@ still-noted met one answer place cause arrived still m is place-is cause-is size
       prob = met.prob;
       turned_on = turned_at true met.was met.is met.moment;
       turned_off = turned_at false met.was met.is met.moment;
-      time = time_of met.clock met.moment;
       carried = still.carried i;
       above = no_time answer met.was met.held (met.moment - met.last) still.other i;
       target = met.target;
@@ -146,7 +142,6 @@ left-noted met one packet size waited excess m is size-is waited-is cause-is non
       prob = met.prob;
       turned_on = turned_at true met.was met.is met.moment;
       turned_off = turned_at false met.was met.is met.moment;
-      time = time_of met.clock met.moment;
       carried = (sym size-is) i;
       above = no_time (Left packet) met.was met.held (met.moment - met.last) (λ e. omega (arith, e)) i;
       target = met.target;
@@ -171,7 +166,6 @@ updated-noted met one time prob burst above delay m is cause-is none delay-is ab
       prob = met.prob;
       turned_on = turned_at true met.was met.is met.moment;
       turned_off = turned_at false met.was met.is met.moment;
-      time = time_of met.clock met.moment;
       carried = 0;
       above = above-is i;
       target = met.target;

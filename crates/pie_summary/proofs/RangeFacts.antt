@@ -1,12 +1,12 @@
 -- Ranges of numbers.
-use Rattle.std.proofs.Common.{◌≡◌, ◌+◌, ◌-◌, ◌*◌, ◌/◌, ◌^◌, ◌<◌, ◌≤◌, arith, ℕ, suc, Bool, true, false, List, [], ◌∷◌, ◌++◌, length, refl, sym}
+use Rattle.std.proofs.Common.{◌≡◌, ◌+◌, ◌-◌, ◌*◌, ◌/◌, ◌^◌, ◌<◌, ◌≤◌, arith, ℕ, lit≤, suc, zero, Bool, true, false, List, [], ◌∷◌, ◌++◌, length, refl, sym}
 use Rattle.std.proofs.Common.{ap, ◌∙◌}
-use Rattle.std.specs.Prelude.{min, nat_le, slice_index, slice_set, take, Option, Some}
+use Rattle.std.specs.Prelude.{if◌then◌else◌, min, nat_le, nat_lt, slice_index, slice_set, take, Option, Some}
 use Rattle.std.specs.List.{find, range_with_len, sum}
 use Rattle.std.proofs.lemmas.Bool.Decides.{nat_tests}
 use Rattle.std.proofs.lemmas.List.Sums.{sum_by_more}
-use Rattle.std.proofs.Math.Nat.{pow-suc}
-use Rattle.pie_summary.specs.Ranges.{first_up_to, range_of, ranges_of}
+use Rattle.std.proofs.Math.Nat.{div-div-eq-div-mul, pow-suc}
+use Rattle.pie_summary.specs.Ranges.{first_up_to, range_of, range_within, ranges_of}
 use Rattle.pie_summary.proofs.CountFacts.{counted-push}
 
 -- without its last digit a number has one less
@@ -15,6 +15,48 @@ shorter digits number some few = less (10 ^ (digits - 1)) (10 ^ digits) (ap (λ 
   where
     less : (power longer : ℕ) → longer ≡ power * 10 → number < 100 * longer → number / 10 < 100 * power
     less power longer is below = omega (arith, is, below)
+
+-- the range of a number of two digits and so many more: the two, and 90 for each other
+pub range_at : (digits more number : ℕ) → more ≤ digits → 10 * 10 ^ more ≤ number → number < 100 * 10 ^ more
+    → range_within digits number ≡ number / 10 ^ more + 90 * more
+range_at zero zero number within from to = omega arith
+range_at (suc digits) zero number within from to = two (range_within digits (number / 10))
+  where
+    two : (longer : ℕ) → (if nat_lt number 100 then number else longer + 90) ≡ number / 1 + 90 * 0
+    two longer = grind (arith, nat_tests)
+range_at zero (suc more) number within from to = absurd (omega arith)
+range_at (suc digits) (suc more) number within from to =
+    let power = 10 ^ more in
+    let longer : 10 ^ suc more ≡ power * 10 = pow-suc 10 more in
+    let some : 1 ≤ power = power_some more in
+    let low : 10 * power ≤ number / 10 = least power (10 ^ suc more) longer from in
+    let high : number / 10 < 100 * power = most power (10 ^ suc more) longer to in
+    let rest : range_within digits (number / 10) ≡ number / 10 / power + 90 * more = range_at digits more (number / 10) (omega arith) low high in
+    let divided : number / 10 / power ≡ number / 10 ^ suc more = div-div-eq-div-mul number 10 power ∙ ap (λ (p : ℕ). number / p) (turned power (10 ^ suc more) longer) in
+    many power (range_within digits (number / 10)) some low ∙ ap (λ (n : ℕ). n + 90) (rest ∙ ap (λ (n : ℕ). n + 90 * more) divided)
+    ∙ one_more (number / 10 ^ suc more)
+  where
+    power_some : (k : ℕ) → 1 ≤ 10 ^ k
+    power_some zero = lit≤ tt
+    power_some (suc k) = let step = pow-suc 10 k in let below = power_some k in grow (10 ^ k) (10 ^ suc k) step below
+      where
+        grow : (p q : ℕ) → q ≡ p * 10 → 1 ≤ p → 1 ≤ q
+        grow p q is some = omega (arith, is, some)
+
+    least : (p q : ℕ) → q ≡ p * 10 → 10 * q ≤ number → 10 * p ≤ number / 10
+    least p q is below = omega (arith, is, below)
+
+    most : (p q : ℕ) → q ≡ p * 10 → number < 100 * q → number / 10 < 100 * p
+    most p q is above = omega (arith, is, above)
+
+    turned : (p q : ℕ) → q ≡ p * 10 → 10 * p ≡ q
+    turned p q is = omega (arith, is)
+
+    many : (p longer : ℕ) → 1 ≤ p → 10 * p ≤ number / 10 → (if nat_lt number 100 then number else longer + 90) ≡ longer + 90
+    many p longer some low = grind (arith, nat_tests)
+
+    one_more : (n : ℕ) → n + 90 * more + 90 ≡ n + 90 * suc more
+    one_more n = omega arith
 
 -- so many are counted up to one more place
 up-to-more : (counts : List ℕ) (place : ℕ) → place < length counts

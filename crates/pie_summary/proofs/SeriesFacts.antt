@@ -1,5 +1,5 @@
 -- A list of numbers with one more.
-use Rattle.std.proofs.Common.{◌≡◌, ◌+◌, ◌==◌, arith, ℕ, suc, List, [], ◌∷◌, ◌++◌, length, refl, sym, ap, ◌∙◌}
+use Rattle.std.proofs.Common.{◌≡◌, ◌+◌, ◌≤◌, ◌==◌, arith, ℕ, suc, List, [], ◌∷◌, ◌++◌, length, refl, sym, ap, ◌∙◌}
 use Rattle.std.specs.Prelude.{max, min, slice_index, if◌then◌else◌}
 use Rattle.std.specs.List.{sum}
 use Rattle.std.proofs.lemmas.List.{length_push}
@@ -28,6 +28,15 @@ last-held number (first ∷ numbers) = later (length numbers)
   where
     later : (n : ℕ) → (if kept (suc n) == 0 then number else last_or first numbers) ≡ last_or first numbers
     later n = grind arith
+
+-- the last number is none greater than the greatest
+last-from : (number : ℕ) (numbers : List ℕ) → last_or number numbers ≤ max number (greatest numbers)
+unfolding last_or greatest
+last-from number [] = omega arith
+last-from number (first ∷ numbers) = let rest = last-from first numbers in omega (arith, rest)
+
+pub last-below : (numbers : List ℕ) → last_or 0 numbers ≤ greatest numbers
+last-below numbers = let below = last-from 0 numbers in omega (arith, below)
 
 -- the parts of a series
 abbrev pub the_series : ℕ → ℕ → ℕ → ℕ → ℕ → Series

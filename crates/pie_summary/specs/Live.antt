@@ -1,8 +1,10 @@
 -- A period that is summed up as it goes: the numbers of a summary's record, kept in as much memory as they take.
 use Rattle.std.specs.Prelude.{ℕ, ◌≡◌, ◌≤◌, ◌<◌, ◌+◌, ◌-◌, ◌*◌, ◌/◌, ◌%◌, ◌^◌, ◌==◌}
-use Rattle.std.specs.Prelude.{Bool, true, false, not, ◌&&◌, nat_le, nat_lt, min, max, slice_index, codes, List, [], ◌∷◌, ◌++◌, Option, Some, None, count_by, if◌then◌else◌}
+use Rattle.std.specs.Prelude.{Bool, true, false, not, ◌&&◌, nat_le, nat_lt, min, max, slice_index, codes, length, map, List, [], ◌∷◌, ◌++◌, Option, Some, None, count_by, if◌then◌else◌}
 use Rattle.std.specs.Fmt.{decimal}
-use Rattle.pie_aqm.specs.Places.{Place, places}
+use Rattle.std.specs.List.{filter_map, sum}
+use Rattle.pie_aqm.specs.Places.{Place, greatest, last_or, places}
+use Rattle.pie_record.specs.declared.clock.Clock.{Clock}
 use Rattle.pie_explanation.specs.Words.{joined}
 use Rattle.pie_units.specs.Utc.{utc_text}
 use Rattle.pie_summary.specs.Record.{count_fields, number_fields}
@@ -13,17 +15,15 @@ use Rattle.pie_summary.specs.declared.live.LivePeriod.{LivePeriod}
 use Rattle.pie_summary.specs.declared.meter.Meter.{Meter}
 use Rattle.pie_summary.specs.declared.noted.Met.{Met}
 use Rattle.pie_summary.specs.declared.noted.Noted.{Noted}
-use Rattle.pie_explanation.specs.Choice.{time_of}
 use Rattle.pie_summary.specs.declared.series.Series.{Series}
 use Rattle.pie_summary.specs.declared.spans.Peak.{Peak}
 use Rattle.pie_summary.specs.declared.spans.Bounds.{Bounds}
 use Rattle.pie_summary.specs.declared.spans.Total.{Total}
-use Rattle.pie_summary.specs.declared.sums.Sums.{Sums}
-use Rattle.pie_summary.specs.Counts.{kept}
+use Rattle.pie_summary.specs.Counts.{counts_of, kept}
 use Rattle.pie_summary.specs.Period.{last_events, last_period, period_at, period_of, since}
 use Rattle.pie_summary.specs.Series.{series_of}
-use Rattle.pie_summary.specs.Sums.{above_in, answer_of, burst_at, carried_in, cause_of, delay_in, excess_in, left_at, moment_at, prob_at, size_in}
-use Rattle.pie_summary.specs.Sums.{sums_of, target_at, time_at, turned_at, turned_off, turned_on, wait_in, waits_of}
+use Rattle.pie_summary.specs.Sums.{above_in, answer_of, burst_at, carried_in, cause_of, delay_in, excess_in, first_since, late_at, left_at, moment_at, prob_at}
+use Rattle.pie_summary.specs.Sums.{size_in, target_at, time_at, turned_at, turned_off, turned_on, wait_in, waits_of}
 
 -- ---- parts of what a summary keeps
 
@@ -35,7 +35,7 @@ peak_in series = record { greatest = series.greatest; last = series.last }
 
 -- .. the sum in two parts of 64 bits
 abbrev pub total_in : Series → Total
-total_in series = record { count = series.count; greatest = series.greatest; high = series.total / 2 ^ 64; low = series.total % 2 ^ 64 }
+total_in series = record { high = series.total / 2 ^ 64; low = series.total % 2 ^ 64 }
 
 abbrev pub sum_in : Total → ℕ
 sum_in total = total.high * 2 ^ 64 + total.low
@@ -49,36 +49,55 @@ peak_of numbers = peak_in (series_of numbers)
 abbrev pub total_of : List ℕ → Total
 total_of numbers = total_in (series_of numbers)
 
+-- a sum with one more in its high part, or the greatest where that is as great as it can be
+abbrev pub carried_over : Total → Total
+carried_over total =
+    if total.high == 2 ^ 64 - 1 then record { high = total.high; low = 2 ^ 64 - 1 } else record { high = total.high + 1; low = total.low }
+
 -- a count with one more, where there is a number
 abbrev pub counted_some : ℕ → Option ℕ → ℕ
 counted_some count None = count
 counted_some count (Some number) = kept (count + 1)
 
--- the parts of a summary's numbers that its record has
-abbrev pub meter_in : Sums → Meter
-meter_in sums = record {
-  answers = sums.answers;
-  causes = sums.causes;
-  moments = bounds_in sums.moments;
-  arrived = total_in sums.arrived;
-  waits = total_in sums.waits;
-  departures = bounds_in sums.departures;
-  delays = peak_in sums.delays;
-  probs = peak_in sums.probs;
-  turned_on = bounds_in sums.turned_on;
-  turned_off = bounds_in sums.turned_off;
-  times = bounds_in sums.times;
-  carried = sums.carried;
-  above = sums.above;
-  longer = sums.excesses.count;
-  late = sums.late;
-  target = sums.target;
-  burst = sums.burst;
+-- the numbers that the record of these events is made of
+unfoldable pub meter_of : List Explained → Meter
+meter_of all = record {
+  answers = counts_of answer_of 9 all;
+  causes = counts_of cause_of 15 all;
+  first = slice_index (map moment_at all) 0;
+  last = last_or 0 (map moment_at all);
+  since = last_or (slice_index (map moment_at all) 0) (filter_map left_at all);
+  arrivals = kept (length (filter_map size_in all));
+  arrived = total_of (filter_map size_in all);
+  waits = total_of (filter_map wait_in all);
+  greatest_wait = greatest (filter_map wait_in all);
+  delays = peak_of (filter_map delay_in all);
+  probs = peak_of (map prob_at all);
+  turned_on = bounds_of (filter_map turned_on all);
+  turned_off = bounds_of (filter_map turned_off all);
+  timed = min (length (filter_map time_at all)) 1;
+  time = slice_index (filter_map time_at all) 0;
+  carried = kept (sum (map carried_in all));
+  above = kept (sum (map above_in all));
+  longer = kept (length (filter_map excess_in all));
+  late = kept (sum (map late_at (places all)));
+  target = last_or 0 (map target_at all);
+  burst = last_or 0 (map burst_at all);
 }
 
--- .. of these events
-abbrev pub meter_of : List Explained → Meter
-meter_of all = meter_in (sums_of all)
+-- .. where one more is the next: the first moment is known that the record will have, and since when the first packet in the queue is that
+abbrev pub reached : List Explained → Explained → Meter
+reached shown one = record (meter_of shown) {
+  first = slice_index (map moment_at (shown ++ one ∷ [])) 0;
+  since = first_since (record { before = shown; event = one });
+}
+
+-- .. and so is the first time of day
+abbrev pub awaiting : List Explained → Explained → Meter
+awaiting shown one = record (reached shown one) {
+  timed = min (length (filter_map time_at (shown ++ one ∷ []))) 1;
+  time = slice_index (filter_map time_at (shown ++ one ∷ [])) 0;
+}
 
 -- what a meter takes of an event
 abbrev pub noted_of : Explained → Noted
@@ -94,40 +113,40 @@ noted_of one = record {
   prob = prob_at one;
   turned_on = turned_on one;
   turned_off = turned_off one;
-  time = time_at one;
   carried = carried_in one;
   above = above_in one;
   target = target_at one;
   burst = burst_at one;
 }
 
--- ---- the record of these numbers: that of a summary (`record_of`), whose parts they are
+-- ---- the record of these numbers: that of a summary (`record_of`)
 
-abbrev pub mean_in : Total → ℕ
-mean_in waits = min (sum_in waits / max waits.count 1) (2 ^ 64 - 1)
+-- the mean of so many numbers with this sum
+abbrev pub mean_in : ℕ → Total → ℕ
+mean_in count total = min (sum_in total / max count 1) (2 ^ 64 - 1)
 
-unfoldable pub first_written : Bounds → Total → List ℕ
-first_written moments arrived =
-    joined (number_fields (moments.count ∷ moments.first ∷ moments.last ∷ arrived.count ∷ []) ∷ decimal (sum_in arrived) ∷ codes "," ∷ [])
+unfoldable pub first_written : Meter → List ℕ
+first_written meter =
+    joined (number_fields (kept (sum meter.answers) ∷ meter.first ∷ meter.last ∷ meter.arrivals ∷ []) ∷ decimal (sum_in meter.arrived) ∷ codes "," ∷ [])
 
 abbrev pub later_written : Meter → ℕ → List ℕ
 later_written meter most =
-    meter.waits.count ∷ meter.waits.greatest ∷ mean_in meter.waits
+    slice_index meter.answers 5 ∷ meter.greatest_wait ∷ mean_in (slice_index meter.answers 5) meter.waits
     ∷ slice_index meter.answers 7 ∷ meter.delays.greatest ∷ meter.delays.last ∷ meter.probs.greatest ∷ meter.probs.last
     ∷ meter.turned_on.count ∷ meter.turned_on.first ∷ meter.turned_on.last
     ∷ meter.turned_off.count ∷ meter.turned_off.first ∷ meter.turned_off.last
     ∷ most ∷ meter.carried ∷ meter.target ∷ meter.burst ∷ meter.above ∷ meter.longer ∷ []
 
-unfoldable pub last_written : Bool → ℕ → Bounds → List ℕ
-last_written false late times = joined (decimal late ∷ codes "\n" ∷ [])
-last_written true late times =
-    if times.count == 0 then joined (decimal late ∷ codes ",\n" ∷ [])
-    else joined (decimal late ∷ codes "," ∷ utc_text times.first ∷ codes "\n" ∷ [])
+unfoldable pub last_written : Bool → ℕ → ℕ → ℕ → List ℕ
+last_written false late timed time = joined (decimal late ∷ codes "\n" ∷ [])
+last_written true late timed time =
+    if timed == 0 then joined (decimal late ∷ codes ",\n" ∷ [])
+    else joined (decimal late ∷ codes "," ∷ utc_text time ∷ codes "\n" ∷ [])
 
 unfoldable pub meter_record : Bool → Meter → ℕ → List ℕ
 meter_record by_wall meter most =
-    joined (first_written meter.moments meter.arrived ∷ count_fields meter.answers meter.causes ∷ number_fields (later_written meter most)
-    ∷ last_written by_wall meter.late meter.times ∷ [])
+    joined (first_written meter ∷ count_fields meter.answers meter.causes ∷ number_fields (later_written meter most)
+    ∷ last_written by_wall meter.late meter.timed meter.time ∷ [])
 
 -- an event met this and left that
 pub record Meets (met : Met) (one : Explained) : Type 0 where
@@ -139,7 +158,6 @@ pub record Meets (met : Met) (one : Explained) : Type 0 where
   pub prob : one.after.prob ≡ met.prob
   pub burst : one.after.burst ≡ met.burst
   pub target : one.after.params.target ≡ met.target
-  pub clock : one.told.clock ≡ met.clock
 
 -- what a meter takes of such an event where nothing came or went
 abbrev pub bare_noted : Met → ℕ → Noted
@@ -155,7 +173,6 @@ bare_noted met answer = record {
   prob = met.prob;
   turned_on = turned_at true met.was met.is met.moment;
   turned_off = turned_at false met.was met.is met.moment;
-  time = time_of met.clock met.moment;
   carried = 0;
   above = 0;
   target = met.target;
@@ -201,9 +218,13 @@ pub record Holds (period : LivePeriod) (all : List Explained) : Type 0 where
 pub record Awaits (period : LivePeriod) (shown : List Explained) (one : Explained) : Type 0 where
   pub number : number_in period ≡ last_period (length_of period) (shown ++ one ∷ [])
   pub begun : period.begun ≡ periods_begun (length_of period) (shown ++ one ∷ [])
-  pub meter : period.meter ≡ meter_of (since (length_of period) (Some (period_at (length_of period) one)) shown)
+  pub meter : period.meter ≡ reached (since (length_of period) (Some (period_at (length_of period) one)) shown) one
   pub waits : period.waits ≡ waits_of (since (length_of period) (Some (period_at (length_of period) one)) shown)
   pub spans : Spans period
+
+-- the time of day that was told last
+abbrev pub clock_of : LivePeriod → Option Clock
+clock_of period = if period.told == 1 then Some (record { moment = period.clock_moment; unix = period.clock_unix }) else None
 
 -- what was set at the opening, and the time of day that was told, stay
 pub record IsSet (before after : LivePeriod) : Type 0 where
@@ -216,6 +237,10 @@ pub record IsSet (before after : LivePeriod) : Type 0 where
 -- a moment is in the period that is under way
 abbrev pub is_within : LivePeriod → ℕ → Bool
 is_within period moment = nat_le period.start moment && nat_lt moment period.end
+
+-- a period that has noted the first of these times of day, if there is one
+abbrev pub timed_by : LivePeriod → List ℕ → LivePeriod
+timed_by period times = record period { meter = record period.meter { timed = min (length times) 1; time = slice_index times 0 } }
 
 -- the form of the records: with a time of day, or without
 abbrev pub form_in : LivePeriod → Form

@@ -1,7 +1,9 @@
 //! A period that is summed up as it goes, in memory that its owner has.
-ghost use Rattle.std.specs.Prelude.{◌≡◌, ◌<◌, ◌++◌, ◌∷◌, [], List, not, if◌then◌else◌};
+ghost use Rattle.std.specs.Prelude.{◌≡◌, ◌<◌, ◌++◌, ◌∷◌, [], List, length, min, not, slice_index, if◌then◌else◌};
+ghost use Rattle.std.specs.List.{filter_map};
 ghost use Rattle.pie_explanation.specs.declared.explanation.Explained.{Explained};
-ghost use Rattle.pie_summary.specs.Live.{Awaits, Holds, IsSet, form_in, is_within, length_of, noted_of, number_in, starts};
+ghost use Rattle.pie_summary.specs.Live.{Awaits, Holds, IsSet, clock_of, form_in, is_within, length_of, noted_of, number_in, starts, timed_by};
+ghost use Rattle.pie_summary.specs.Sums.{time_at};
 ghost use Rattle.pie_summary.specs.Period.{last_events};
 ghost use Rattle.pie_summary.specs.Summary.{header, said_of};
 
@@ -11,6 +13,7 @@ use crate::meter::Meter;
 use crate::noted::Noted;
 use crate::ranges::{RANGES, clear_counts, count_some, most_of};
 use crate::record::NAMES;
+use pie_record::Clock;
 
 /// The numbers of the last events, as far back as they are in the same period, as `pie explain --every` sums them up.
 #[repr(C)]
@@ -58,7 +61,7 @@ impl LivePeriod {
             told: 0,
             clock_moment: 0,
             clock_unix: 0,
-            meter: Meter::empty(),
+            meter: Meter::begun(0),
             waits: [0; RANGES],
         }
     }
@@ -93,7 +96,7 @@ impl LivePeriod {
         self.start = number * every;
         self.end = self.start.saturating_add(every);
         self.begun = self.begun.saturating_add(1);
-        self.meter = Meter::empty();
+        self.meter = Meter::begun(moment);
         clear_counts(&mut self.waits);
     }
 
@@ -109,16 +112,51 @@ impl LivePeriod {
         self.turn(moment);
     }
 
+    /// Notes the time of day of an event at this moment, where it is the first that has one. Where as many are noted as are told, none or
+    /// one, there is nothing to do.
+    #[inline(always)]
+    fn note_time(&mut self, moment: u64)
+        ensures settings { IsSet self.old self.new }
+        ensures noted { (all : List Explained) (one : Explained) → one.told.moment ≡ moment → one.told.clock ≡ clock_of self.old
+            → self.old.meter.timed ≡ min (length (filter_map time_at all)) 1 → self.old.meter.time ≡ slice_index (filter_map time_at all) 0
+            → self.new ≡ timed_by self.old (filter_map time_at (all ++ one ∷ [])) }
+    {
+        if self.told == self.meter.timed {
+            return;
+        }
+        self.note_first_time(moment);
+    }
+
+    /// The same, whatever is told and noted.
+    #[cold]
+    #[inline(never)]
+    fn note_first_time(&mut self, moment: u64)
+        ensures settings { IsSet self.old self.new }
+        ensures noted { (all : List Explained) (one : Explained) → one.told.moment ≡ moment → one.told.clock ≡ clock_of self.old
+            → self.old.meter.timed ≡ min (length (filter_map time_at all)) 1 → self.old.meter.time ≡ slice_index (filter_map time_at all) 0
+            → self.new ≡ timed_by self.old (filter_map time_at (all ++ one ∷ [])) }
+    {
+        if self.told != 1 || self.meter.timed != 0 {
+            return;
+        }
+        let clock = Clock {
+            moment: self.clock_moment,
+            unix: self.clock_unix,
+        };
+        self.meter.timed = 1;
+        self.meter.time = clock.unix_at(moment);
+    }
+
     /// Takes one more event.
     #[inline(always)]
     pub fn take(&mut self, noted: &Noted)
-        requires answer { noted.now.answer < 9 }
-        requires cause { noted.now.cause < 16 }
+        requires { noted.now.answer < 9 }
         ensures settings { IsSet self.old self.new }
-        ensures holds { (shown : List Explained) (one : Explained) → noted.now ≡ noted_of one → Holds self.old shown
-            → Holds self.new (shown ++ one ∷ []) }
+        ensures holds { (shown : List Explained) (one : Explained) → noted.now ≡ noted_of one → one.told.clock ≡ clock_of self.old
+            → Holds self.old shown → Holds self.new (shown ++ one ∷ []) }
     {
         self.reach(noted.moment);
+        self.note_time(noted.moment);
         self.meter.take(noted);
         count_some(&mut self.waits, noted.wait);
     }
@@ -142,8 +180,7 @@ impl LivePeriod {
         requires { line.old ≡ [] }
         ensures { (shown : List Explained) → Holds self.now shown → line.new ≡ said_of (form_in self.now) (last_events (length_of self.now) shown) }
     {
-        let waits = &self.meter.waits;
-        let most = most_of(&self.waits, waits.count, waits.greatest);
+        let most = most_of(&self.waits, self.meter.answers[5], self.meter.greatest_wait);
         push_record(line, self.wall == 1, &self.meter, most);
     }
 }

@@ -1,30 +1,39 @@
-//! The numbers of a period that is summed up as it goes: those parts of `Sums` that are written in a record, in memory that its owner has.
-ghost use Rattle.std.specs.Prelude.{◌≡◌, ◌+◌, ◌-◌, ◌^◌, ◌<◌, ◌++◌, ◌∷◌, [], List, length, min, slice_index, slice_set};
+//! The numbers of a period that is summed up as it goes, in memory that its owner has: what the record of a summary is made of, and no more.
+ghost use Rattle.std.specs.Prelude.{◌≡◌, ◌+◌, ◌-◌, ◌^◌, ◌<◌, ◌++◌, ◌∷◌, [], ℕ, List, Option, Some, length, min, nat_lt, slice_index, slice_set, unwrap_or, if◌then◌else◌};
+ghost use Rattle.std.specs.List.{cons_option};
+ghost use Rattle.pie_aqm.specs.Places.{greatest};
 ghost use Rattle.pie_explanation.specs.declared.explanation.Explained.{Explained};
-ghost use Rattle.pie_summary.specs.Live.{counted_some, meter_of, noted_of};
+ghost use Rattle.pie_summary.specs.Counts.{kept};
+ghost use Rattle.pie_summary.specs.Live.{awaiting, counted_some, meter_of, noted_of};
+ghost use Rattle.pie_summary.specs.Sums.{excess_within};
 
 use crate::noted::Noted;
-use crate::series::held_or;
-use crate::spans::{Bounds, Peak, Total};
-use crate::sums::excess_within;
+use crate::spans::{Bounds, Peak, Total, raise};
 
-/// The numbers of a record, each over all events of a period.
+/// The numbers of a record, each over all events of a period. How many events there are, and how many packets left, the answers say.
 #[repr(C)]
 #[derive(Clone, Copy, Debug)]
 pub struct Meter {
     /// How many events have each answer: queued, marked, dropped early, in bytes, in packets, a packet that left, none that did, an
     /// update, and a reset or new parameters.
     pub answers: [u64; 9],
-    /// How many arrivals each cause decided, in the order of the decision; and how many other events there were.
-    pub causes: [u64; 16],
-    /// The effective moments of the events, in nanoseconds.
-    pub moments: Bounds,
-    /// The sizes of the packets that arrived, in bytes.
+    /// How many arrivals each cause decided, in the order of the decision.
+    pub causes: [u64; 15],
+    /// The effective moment of the first event, in nanoseconds.
+    pub first: u64,
+    /// That of the last event.
+    pub last: u64,
+    /// Since when the packet that leaves next is the first in the queue, as far as these events tell: the moment at which the last one left, or
+    /// that of the first event.
+    pub since: u64,
+    /// How many packets arrived.
+    pub arrivals: u64,
+    /// Their sizes, summed, in bytes.
     pub arrived: Total,
-    /// How long the packets that left had waited, in nanoseconds.
+    /// How long the packets that left had waited, summed, in nanoseconds.
     pub waits: Total,
-    /// The moments at which they left.
-    pub departures: Bounds,
+    /// The longest of these waits.
+    pub greatest_wait: u64,
     /// The delays that the updates took, while the controller was active, in nanoseconds.
     pub delays: Peak,
     /// The probabilities after the events, in units of 10^-12.
@@ -33,8 +42,10 @@ pub struct Meter {
     pub turned_on: Bounds,
     /// The moments of those that turned it off.
     pub turned_off: Bounds,
-    /// The times of day of the events, where they are told, in nanoseconds after 1970-01-01T00:00:00Z.
-    pub times: Bounds,
+    /// 1 where an event's time of day is told, and else 0.
+    pub timed: u64,
+    /// The first of these times, in nanoseconds after 1970-01-01T00:00:00Z.
+    pub time: u64,
     /// The bytes of the packets that left.
     pub carried: u64,
     /// How long it was, in nanoseconds, from the update before to each that took a delay above the target, while the controller was active.
@@ -58,34 +69,79 @@ fn count<const N: usize>(counts: &mut [u64; N], place: usize)
     counts[place] = counts[place].saturating_add(1);
 }
 
-/// A count with one more where there is a number.
+/// Counts one more at the place of what decided an arrival; any other event's place lies behind them.
 #[inline(always)]
-fn counted_some(count: u64, number: Option<u64>) -> u64
-    ensures { result ≡ counted_some count number }
+fn count_cause(causes: &mut [u64; 15], place: usize)
+    ensures { causes.new ≡ (if nat_lt place 15 then slice_set causes.old place (min (slice_index causes.old place + 1) (2 ^ 64 - 1))
+        else causes.old) }
 {
-    match number {
-        Some(_) => count.saturating_add(1),
-        None => count,
+    if place < 15 {
+        count(causes, place);
+    }
+}
+
+/// Counts one more where there is a number.
+#[inline(always)]
+fn count_some(count: &mut u64, number: Option<u64>)
+    ensures { count.new ≡ counted_some count.old number }
+{
+    if number.is_some() {
+        *count = count.saturating_add(1);
+    }
+}
+
+/// The greatest of some numbers, with one more or none.
+#[inline(always)]
+fn raise_some(most: &mut u64, number: Option<u64>)
+    ensures { (numbers : List ℕ) → most.old ≡ greatest numbers → most.new ≡ greatest (numbers ++ cons_option number []) }
+{
+    if let Some(number) = number {
+        raise(most, number);
+    }
+}
+
+/// Puts a number in the place of another, where there is one.
+#[inline(always)]
+fn set_some(held: &mut u64, number: Option<u64>)
+    ensures { held.new ≡ unwrap_or number held.old }
+{
+    if let Some(number) = number {
+        *held = number;
+    }
+}
+
+/// Adds as much of an excess as lies within so long, where there is one.
+#[inline(always)]
+fn add_excess(late: &mut u64, excess: Option<u64>, since: u64)
+    ensures { late.new ≡ kept (late.old + excess_within excess since) }
+{
+    let held = *late;
+    if let Some(excess) = excess {
+        *late = held.saturating_add(excess.min(since));
     }
 }
 
 impl Meter {
-    /// No event yet.
-    pub(crate) fn empty() -> Meter
-        ensures { result ≡ meter_of [] }
+    /// No event yet, and the first at this moment.
+    pub(crate) fn begun(moment: u64) -> Meter
+        ensures { result ≡ record (meter_of []) { first = moment; since = moment } }
     {
         Meter {
             answers: [0; 9],
-            causes: [0; 16],
-            moments: Bounds::empty(),
+            causes: [0; 15],
+            first: moment,
+            last: 0,
+            since: moment,
+            arrivals: 0,
             arrived: Total::empty(),
             waits: Total::empty(),
-            departures: Bounds::empty(),
+            greatest_wait: 0,
             delays: Peak::empty(),
             probs: Peak::empty(),
             turned_on: Bounds::empty(),
             turned_off: Bounds::empty(),
-            times: Bounds::empty(),
+            timed: 0,
+            time: 0,
             carried: 0,
             above: 0,
             longer: 0,
@@ -95,32 +151,30 @@ impl Meter {
         }
     }
 
-    /// Takes one more event.
+    /// Takes the event that it awaits. Where it is compiled, what its kind has none of costs nothing.
     #[inline(always)]
     pub(crate) fn take(&mut self, noted: &Noted)
-        requires answer { noted.now.answer < 9 }
-        requires cause { noted.now.cause < 16 }
-        ensures { (shown : List Explained) (one : Explained) → noted.now ≡ noted_of one → self.old ≡ meter_of shown
+        requires { noted.now.answer < 9 }
+        ensures { (shown : List Explained) (one : Explained) → noted.now ≡ noted_of one → self.old ≡ awaiting shown one
             → self.new ≡ meter_of (shown ++ one ∷ []) }
     {
-        let moments = self.moments.with(noted.moment);
-        let first_since = held_or(self.departures.count, self.departures.last, moments.first);
-        let late = excess_within(noted.excess, noted.moment.saturating_sub(first_since));
         count(&mut self.answers, noted.answer);
-        count(&mut self.causes, noted.cause);
-        self.moments = moments;
-        self.arrived = self.arrived.with_some(noted.arrived);
-        self.waits = self.waits.with_some(noted.wait);
-        self.departures = self.departures.with_some(noted.left);
-        self.delays = self.delays.with_some(noted.delay);
-        self.probs = self.probs.with(noted.prob);
-        self.turned_on = self.turned_on.with_some(noted.turned_on);
-        self.turned_off = self.turned_off.with_some(noted.turned_off);
-        self.times = self.times.with_some(noted.time);
+        count_cause(&mut self.causes, noted.cause);
+        self.last = noted.moment;
+        count_some(&mut self.longer, noted.excess);
+        let since = noted.moment.saturating_sub(self.since);
+        add_excess(&mut self.late, noted.excess, since);
+        set_some(&mut self.since, noted.left);
+        count_some(&mut self.arrivals, noted.arrived);
+        self.arrived.take_some(noted.arrived);
+        self.waits.take_some(noted.wait);
+        raise_some(&mut self.greatest_wait, noted.wait);
+        self.delays.take_some(noted.delay);
+        self.probs.take(noted.prob);
+        self.turned_on.take_some(noted.turned_on);
+        self.turned_off.take_some(noted.turned_off);
         self.carried = self.carried.saturating_add(noted.carried);
         self.above = self.above.saturating_add(noted.above);
-        self.longer = counted_some(self.longer, noted.excess);
-        self.late = self.late.saturating_add(late);
         self.target = noted.target;
         self.burst = noted.burst;
     }

@@ -9,8 +9,6 @@ ghost use Rattle.pie_summary.specs.Live.{Meets, bare_noted, noted_of};
 ghost use Rattle.pie_summary.specs.Sums.{above_by, answer_place, cause_of, delay_by, excess_by, size_in};
 
 use crate::sums::turned_at;
-use pie_explanation::time_of;
-use pie_record::Clock;
 
 /// What a meter takes of an event; what its kind has none of is none or 0.
 #[derive(Clone, Copy, Debug)]
@@ -38,8 +36,6 @@ pub struct Noted {
     pub turned_on: Option<u64>,
     /// Its effective moment, where it turned the controller off.
     pub turned_off: Option<u64>,
-    /// The time of day, where one is told, in nanoseconds after 1970-01-01T00:00:00Z.
-    pub time: Option<u64>,
     /// Of a packet that left its size, in bytes.
     pub carried: u64,
     /// Of an update that took a delay above the target, while the controller was active, how long it was since the update before.
@@ -69,8 +65,6 @@ pub struct Met {
     pub burst: u64,
     /// The target after it.
     pub target: u64,
-    /// The last time of day that was told before it.
-    pub clock: Option<Clock>,
 }
 
 /// How much longer than the target a packet had waited, where it had waited longer.
@@ -119,7 +113,6 @@ impl Met {
             prob: self.prob,
             turned_on: turned_at(true, self.was, self.is, self.moment),
             turned_off: turned_at(false, self.was, self.is, self.moment),
-            time: time_of(self.clock, self.moment),
             carried: 0,
             above: 0,
             target: self.target,

@@ -35,6 +35,36 @@ fn range_within(digits: u8, number: u64) -> u64
     range_within(digits - 1, number / 10) + 90
 }
 
+/// The range of a number: of 1,000,000 to 10^10 - 1, as most waits are in nanoseconds, by one division.
+#[inline(always)]
+fn range_place(number: u64) -> u64
+    ensures place { result ≡ range_of number }
+    ensures bound { result < 1720 }
+{
+    if number < 1_000_000 || number >= 10_000_000_000 {
+        return range_apart(number);
+    }
+    if number < 10_000_000 {
+        number / 100_000 + 450
+    } else if number < 100_000_000 {
+        number / 1_000_000 + 540
+    } else if number < 1_000_000_000 {
+        number / 10_000_000 + 630
+    } else {
+        number / 100_000_000 + 720
+    }
+}
+
+/// The same of any number.
+#[inline(never)]
+#[tactic(auto, unfolding(crate::specs::Ranges::range_of))]
+fn range_apart(number: u64) -> u64
+    ensures place { result ≡ range_of number }
+    ensures bound { result < 1720 }
+{
+    range_within(18, number)
+}
+
 /// The first place up to which so many are counted.
 fn first_up_to(counts: &[u64; RANGES], rank: u64) -> Option<usize>
     ensures first { result ≡ first_up_to counts.now rank }
@@ -79,7 +109,7 @@ pub(crate) fn clear_counts(counts: &mut [u64; RANGES])
 pub(crate) fn count_number(counts: &mut [u64; RANGES], number: u64)
     ensures { (numbers : List ℕ) → counts.old ≡ ranges_of numbers → counts.new ≡ ranges_of (numbers ++ number ∷ []) }
 {
-    let place = range_within(18, number) as usize;
+    let place = range_place(number) as usize;
     counts[place] = counts[place].saturating_add(1);
 }
 
@@ -127,8 +157,7 @@ impl Ranges {
     pub(crate) fn take(&mut self, number: u64)
         ensures { (numbers : List ℕ) → self.old ≡ ranges_of numbers → self.new ≡ ranges_of (numbers ++ number ∷ []) }
     {
-        let place = range_within(18, number) as usize;
-        self.counts[place] = self.counts[place].saturating_add(1);
+        count_number(&mut self.counts, number);
     }
 
     /// Takes one more number, or none.

@@ -1,7 +1,7 @@
 //! What a meter keeps of a list of numbers: the parts of a `Series` that are written, as plain numbers of 64 bits.
-ghost use Rattle.std.specs.Prelude.{◌≡◌, ◌+◌, ◌*◌, ◌^◌, ◌++◌, ◌∷◌, [], ℕ, List};
+ghost use Rattle.std.specs.Prelude.{◌≡◌, ◌+◌, ◌-◌, ◌*◌, ◌^◌, ◌++◌, ◌∷◌, [], ℕ, List, max};
 ghost use Rattle.std.specs.List.{cons_option};
-ghost use Rattle.pie_summary.specs.Live.{sum_in};
+ghost use Rattle.pie_summary.specs.Live.{carried_over, sum_in};
 
 use crate::series::held_or;
 
@@ -30,17 +30,13 @@ pub struct Peak {
     pub last: u64,
 }
 
-/// How many numbers there were, the greatest, and their sum; all 0 where there was none.
+/// The sum of some numbers, and 2^128 - 1 where it is more.
 #[repr(C)]
 #[derive(Clone, Copy, Debug)]
 pub struct Total {
-    /// How many there were, and 2^64 - 1 where there were more.
-    pub count: u64,
-    /// The greatest.
-    pub greatest: u64,
-    /// The high 64 bits of their sum, which is 2^128 - 1 where it is more.
+    /// Its high 64 bits.
     pub high: u64,
-    /// The low 64 bits.
+    /// Its low 64 bits.
     pub low: u64,
 }
 
@@ -58,26 +54,25 @@ impl Bounds {
         }
     }
 
-    /// With one more number.
-    #[inline(always)]
-    pub(crate) fn with(self, number: u64) -> Bounds
-        ensures { (numbers : List ℕ) → self ≡ bounds_of numbers → result ≡ bounds_of (numbers ++ number ∷ []) }
+    /// Takes one more number.
+    #[inline(never)]
+    pub(crate) fn take(&mut self, number: u64)
+        ensures { (numbers : List ℕ) → self.old ≡ bounds_of numbers → self.new ≡ bounds_of (numbers ++ number ∷ []) }
     {
-        Bounds {
+        *self = Bounds {
             count: self.count.saturating_add(1),
             first: held_or(self.count, self.first, number),
             last: number,
-        }
+        };
     }
 
-    /// With one more number, or with none.
+    /// Takes one more number, or none.
     #[inline(always)]
-    pub(crate) fn with_some(self, number: Option<u64>) -> Bounds
-        ensures { (numbers : List ℕ) → self ≡ bounds_of numbers → result ≡ bounds_of (numbers ++ cons_option number []) }
+    pub(crate) fn take_some(&mut self, number: Option<u64>)
+        ensures { (numbers : List ℕ) → self.old ≡ bounds_of numbers → self.new ≡ bounds_of (numbers ++ cons_option number []) }
     {
-        match number {
-            Some(number) => self.with(number),
-            None => self,
+        if let Some(number) = number {
+            self.take(number);
         }
     }
 }
@@ -95,25 +90,25 @@ impl Peak {
         }
     }
 
-    /// With one more number.
+    /// Takes one more number. Most are the number before, which is none greater than the greatest.
     #[inline(always)]
-    pub(crate) fn with(self, number: u64) -> Peak
-        ensures { (numbers : List ℕ) → self ≡ peak_of numbers → result ≡ peak_of (numbers ++ number ∷ []) }
+    pub(crate) fn take(&mut self, number: u64)
+        ensures { (numbers : List ℕ) → self.old ≡ peak_of numbers → self.new ≡ peak_of (numbers ++ number ∷ []) }
     {
-        Peak {
-            greatest: self.greatest.max(number),
-            last: number,
+        if self.last == number {
+            return;
         }
+        self.last = number;
+        raise(&mut self.greatest, number);
     }
 
-    /// With one more number, or with none.
+    /// Takes one more number, or none.
     #[inline(always)]
-    pub(crate) fn with_some(self, number: Option<u64>) -> Peak
-        ensures { (numbers : List ℕ) → self ≡ peak_of numbers → result ≡ peak_of (numbers ++ cons_option number []) }
+    pub(crate) fn take_some(&mut self, number: Option<u64>)
+        ensures { (numbers : List ℕ) → self.old ≡ peak_of numbers → self.new ≡ peak_of (numbers ++ cons_option number []) }
     {
-        match number {
-            Some(number) => self.with(number),
-            None => self,
+        if let Some(number) = number {
+            self.take(number);
         }
     }
 }
@@ -125,44 +120,58 @@ impl Total {
     pub(crate) fn empty() -> Total
         ensures { result ≡ total_of [] }
     {
-        Total {
-            count: 0,
-            greatest: 0,
-            high: 0,
-            low: 0,
-        }
+        Total { high: 0, low: 0 }
     }
 
     /// The sum.
-    #[inline(always)]
     pub(crate) fn sum(self) -> u128
         ensures { result ≡ sum_in self }
     {
         u128::from(self.high) * WORD + u128::from(self.low)
     }
 
-    /// With one more number.
+    /// Takes one more number.
     #[inline(always)]
-    pub(crate) fn with(self, number: u64) -> Total
-        ensures { (numbers : List ℕ) → self ≡ total_of numbers → result ≡ total_of (numbers ++ number ∷ []) }
+    pub(crate) fn take(&mut self, number: u64)
+        ensures { (numbers : List ℕ) → self.old ≡ total_of numbers → self.new ≡ total_of (numbers ++ number ∷ []) }
     {
-        let sum = self.sum().saturating_add(u128::from(number));
-        Total {
-            count: self.count.saturating_add(1),
-            greatest: self.greatest.max(number),
-            high: (sum / WORD) as u64,
-            low: (sum % WORD) as u64,
+        let (low, carries) = self.low.overflowing_add(number);
+        self.low = low;
+        if carries {
+            self.carry();
         }
     }
 
-    /// With one more number, or with none.
-    #[inline(always)]
-    pub(crate) fn with_some(self, number: Option<u64>) -> Total
-        ensures { (numbers : List ℕ) → self ≡ total_of numbers → result ≡ total_of (numbers ++ cons_option number []) }
+    /// Adds one to the high part, or makes all of it the greatest that it can be.
+    #[cold]
+    #[inline(never)]
+    fn carry(&mut self)
+        ensures { self.new ≡ carried_over self.old }
     {
-        match number {
-            Some(number) => self.with(number),
-            None => self,
+        if self.high == u64::MAX {
+            self.low = u64::MAX;
+        } else {
+            self.high += 1;
         }
+    }
+
+    /// Takes one more number, or none.
+    #[inline(always)]
+    pub(crate) fn take_some(&mut self, number: Option<u64>)
+        ensures { (numbers : List ℕ) → self.old ≡ total_of numbers → self.new ≡ total_of (numbers ++ cons_option number []) }
+    {
+        if let Some(number) = number {
+            self.take(number);
+        }
+    }
+}
+
+/// A greatest number, or a greater one in its place.
+#[inline(always)]
+pub(crate) fn raise(most: &mut u64, number: u64)
+    ensures { most.new ≡ max most.old number }
+{
+    if *most < number {
+        *most = number;
     }
 }

@@ -9,7 +9,7 @@ use Rattle.pie_abi.specs.Packets.{is_bad_size, verdict_number}
 use Rattle.pie_c.specs.Calls.{arrival_of, arrival_refusal}
 use Rattle.pie_abi.specs.Choices.{last_moment}
 use Rattle.pie_c.specs.State.{held_in, with_arrival}
-use Rattle.pie_c.proofs.Packets.{arrival-taken, arrived-state, handed, kept-later, leaves, moment-later, untouched, verdict-later}
+use Rattle.pie_c.proofs.Packets.{arrival-taken, arrived-state, handed, kept-later, leaves, moment-later, place-later, untouched, verdict-later}
 use Rattle.pie_c.proofs.calls.arrive.Goals as goal
 use Rattle.pie_c.proofs.calls.arrive.Goals.{After-of_verdict}
 
@@ -30,34 +30,34 @@ module _ (c : After-of_verdict) where
       (omega arith)
 
   left : c.keep_arrived.new.self ≡ with_arrival state (arrived (held_in state) arrival c.args.moment)
-  left = c.keep_arrived.ensures ∙ kept-later state _ _ _ c.args.moment _ _ c.reach.ensures c.raw_with-held.ensures.held c.arrive-verdict.ensures.after
+  left = c.keep_arrived.ensures ∙ kept-later state _ _ _ c.args.moment _ _ c.reach.ensures c.raw_with-held.ensures.held c.arrive_with_place.ensures.after
       (ap with_ecn c.in-Some.ensures.value)
 
-  decided : c.arrive-verdict.result ≡ verdict (held_in state) arrival
-  decided = verdict-later state _ _ _ c.args.moment _ _ c.reach.ensures c.raw_with-held.ensures.held c.arrive-verdict.ensures.verdict
+  decided : c.arrive_with_place.result ≡ verdict (held_in state) arrival
+  decided = verdict-later state _ _ _ c.args.moment _ _ c.reach.ensures c.raw_with-held.ensures.held c.arrive_with_place.ensures.verdict
       (ap with_ecn c.in-Some.ensures.value)
 
 pub keep_arrived-requires : goal.keep_arrived-requires
-keep_arrived-requires c = moment-later c.reach.new.self _ _ _ c.raw_with-held.ensures.held c.arrive-verdict.ensures.after
+keep_arrived-requires c = moment-later c.reach.new.self _ _ _ c.raw_with-held.ensures.held c.arrive_with_place.ensures.after
 
-pub returns-then-moment-gt-MAX_NANOS : goal.returns-then-moment-gt-MAX_NANOS
+pub returns-then-moment-gt-MAX_NANOS-clause-arrives : goal.returns-then-moment-gt-MAX_NANOS-clause-arrives
 unfolding arrival_refusal
-returns-then-moment-gt-MAX_NANOS c =
+returns-then-moment-gt-MAX_NANOS-clause-arrives c =
     let a = c.args in
     let late : nat_lt last_moment a.moment ≡ true = grind (arith, nat_tests) in
     untouched a.state.now _ _ a.moment 101 (rw late refl) refl
 
-pub returns-then-is_bad_size : goal.returns-then-is_bad_size
+pub returns-then-is_bad_size-clause-arrives : goal.returns-then-is_bad_size-clause-arrives
 unfolding arrival_refusal
-returns-then-is_bad_size c =
+returns-then-is_bad_size-clause-arrives c =
     let a = c.args in
     let early : nat_lt last_moment a.moment ≡ false = grind (arith, nat_tests) in
     let bad : is_bad_size a.size ≡ true = sym c.is_bad_size.ensures ∙ c.if-is_bad_size.true in
     untouched a.state.now _ _ a.moment 102 (rw (early, bad) refl) refl
 
-pub returns-then-queued-gt-MAX_QUEUED : goal.returns-then-queued-gt-MAX_QUEUED
+pub returns-then-queued-gt-MAX_QUEUED-clause-arrives : goal.returns-then-queued-gt-MAX_QUEUED-clause-arrives
 unfolding arrival_refusal
-returns-then-queued-gt-MAX_QUEUED c =
+returns-then-queued-gt-MAX_QUEUED-clause-arrives c =
     let a = c.args in
     let early : nat_lt last_moment a.moment ≡ false = grind (arith, nat_tests) in
     let good : is_bad_size a.size ≡ false = sym c.is_bad_size.ensures ∙ c.if-is_bad_size.false in
@@ -65,11 +65,16 @@ returns-then-queued-gt-MAX_QUEUED c =
     let many : nat_lt (2 ^ 30) a.queued ≡ true = grind (arith, nat_tests) in
     untouched a.state.now _ _ a.moment 112 (rw (early, good, known, many) refl) refl
 
-pub returns : goal.returns
+pub returns-clause-arrives : goal.returns-clause-arrives
 unfolding arrival_refusal
-returns c = let a = c.args in record {
+returns-clause-arrives c = let a = c.args in record {
   answer = rw (taken c) (c.of_verdict.ensures ∙ ap verdict_number (decided c));
   fields = rw (taken c) (left c);
   held = leaves c.laws.ensures.keeps c.laws.ensures.looks a.state.now _ (Arrive (arrival c) a.moment) _ (λ sound. rw (taken c) (left c ∙ arrived-state (state c) (arrival c) a.moment sound))
       (handed a.moment _);
 }
+
+pub returns-clause-place : goal.returns-clause-place
+returns-clause-place c = λ _ packets.
+    place-later (state c) _ _ _ c.args.moment packets _ _ c.reach.ensures c.raw_with-held.ensures.held c.arrive_with_place.ensures.place
+    (ap (with_ecn c) c.in-Some.ensures.value)

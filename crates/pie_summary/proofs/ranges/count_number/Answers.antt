@@ -1,11 +1,9 @@
 use Rattle.std.proofs.Common.{arith, refl}
-use Rattle.pie_summary.specs.Ranges.{range_of}
 use Rattle.pie_summary.proofs.RangeFacts.{ranges-push}
 use Rattle.pie_summary.proofs.ranges.count_number.Goals as goal
 
 pub returns : goal.returns
-unfolding range_of
 returns c = λ numbers same.
-    ranges-push c.range_within-place.result numbers c.args.number c.args.counts.now c.args.counts.now c.args.counts.now
+    ranges-push c.range_place-place.result numbers c.args.number c.args.counts.now c.args.counts.now c.args.counts.now
     c.saturating_add.result same refl refl c.saturating_add.ensures
-    c.range_within-place.ensures.place (omega (arith, c.range_within-place.ensures.bound))
+    c.range_place-place.ensures.place (omega (arith, c.range_place-place.ensures.bound))

@@ -3,7 +3,7 @@ use Rattle.std.proofs.Common.{◌≡◌}
 use Rattle.pie_early.specs.declared.decision.Decision.{Decision}
 use Rattle.pie_early.specs.Decision.{accu_after, choice_of, counted}
 use Rattle.pie_early.proofs.Arrivals.{accu_below, shows_arrival}
-use Rattle.pie_early.proofs.Picking.{picked}
+use Rattle.pie_early.proofs.Picking.{grown, picked}
 use Rattle.pie_early.proofs.early.Early.consider.Goals as goal
 
 pub invariant_of-self : goal.invariant_of-self
@@ -28,3 +28,11 @@ returns-clause-shows c events shown =
     = rw (← c.raw.ensures.same, ← c.raw-2.ensures, ← c.self.view_is) c.decide-decision.ensures.accu in
     rw (choice, accu) (shows_arrival a.elements.picking a.params.now a.control.now (counted a.elements a.params.now a.control.now a.offered)
     a.offered.bytes a.offered.word a.self.now events a.offered.ecn shown)
+
+pub returns-clause-grows : goal.returns-clause-grows
+returns-clause-grows c = λ accumulates considered some queued.
+    let a = c.args in
+    grown a.elements.picking a.params.now a.control.now (counted a.elements a.params.now a.control.now a.offered) a.offered.bytes a.offered.ecn
+    a.offered.word a.self.now c.decide-decision.result.accu c.decide-decision.result.choice accumulates considered some queued
+    (rw (← c.raw.ensures.same, ← c.raw-2.ensures, ← c.self.view_is) c.decide-decision.ensures.choice)
+    (rw (← c.raw.ensures.same, ← c.raw-2.ensures, ← c.self.view_is) c.decide-decision.ensures.accu)

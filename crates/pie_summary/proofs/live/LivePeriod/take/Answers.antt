@@ -1,26 +1,31 @@
-use Rattle.std.proofs.Common.{ℕ, List, ◌∙◌, ap, sym}
-use Rattle.std.specs.Prelude.{Option, Some}
+use Rattle.std.proofs.Common.{ℕ, List, ◌≡◌, ◌∷◌, [], ◌++◌, ◌∙◌, ap, sym}
+use Rattle.std.specs.List.{filter_map}
+use Rattle.std.specs.Prelude.{Option, Some, min, length, slice_index}
 use Rattle.pie_explanation.specs.declared.explanation.Explained.{Explained}
+use Rattle.pie_record.specs.declared.clock.Clock.{Clock}
+use Rattle.pie_summary.specs.declared.live.LivePeriod.{LivePeriod}
+use Rattle.pie_summary.specs.declared.meter.Meter.{Meter}
 use Rattle.pie_summary.specs.declared.noted.Noted.{Noted}
-use Rattle.pie_summary.specs.Live.{Awaits, length_of, meter_of}
+use Rattle.pie_summary.specs.Live.{Awaits, awaiting, clock_of, length_of, meter_of}
 use Rattle.pie_summary.specs.Period.{period_at, since}
-use Rattle.pie_summary.specs.Sums.{waits_of}
-use Rattle.pie_summary.proofs.PeriodFacts.{last_events-push}
+use Rattle.pie_summary.specs.Sums.{time_at}
+use Rattle.pie_summary.proofs.LiveFacts.{clock-same, holds-taken, meter-timed, meter-times}
 use Rattle.pie_summary.proofs.SumsFacts.{waits-push}
 use Rattle.pie_summary.proofs.live.LivePeriod.take.Goals as goal
 
 pub returns-clause-holds : goal.returns-clause-holds
-returns-clause-holds c = λ shown one noted holds.
+returns-clause-holds c = λ shown one noted clock holds.
     let period = c.reach.new.self in
     let every : Option ℕ = length_of period in
-    let awaits : Awaits period shown one =
-    c.reach.ensures.awaits shown one (sym (ap (λ (n : Noted). n.moment) noted)) holds in
+    let at = sym (ap (λ (n : Noted). n.moment) noted) in
+    let awaits : Awaits period shown one = c.reach.ensures.awaits shown one at holds in
     let before : List Explained = since every (Some (period_at every one)) shown in
-    record {
-      number = awaits.number;
-      begun = awaits.begun;
-      meter = c.take.ensures before one noted awaits.meter ∙ ap meter_of (sym (last_events-push every shown one));
-      waits = waits-push before one c.args.noted.now.wait period.waits c.count_some.new.counts c.count_some.ensures
-          (ap (λ (n : Noted). n.wait) noted) awaits.waits ∙ ap waits_of (sym (last_events-push every shown one));
-      spans = awaits.spans;
-    }
+    let times : List ℕ = filter_map time_at (before ++ one ∷ []) in
+    let known = meter-times period before one awaits.meter in
+    let timed = c.note_time.ensures.noted before one at (clock ∙ clock-same c.reach.ensures.settings) known.0 known.1 in
+    let awaited : c.note_time.new.self.meter ≡ awaiting before one = ap (λ (p : LivePeriod). p.meter) timed ∙ meter-timed period before one awaits.meter in
+    holds-taken period c.note_time.new.self shown one times c.take.new.self c.count_some.new.counts timed awaits
+    (c.take.ensures before one noted awaited)
+    (waits-push before one c.args.noted.now.wait period.waits c.count_some.new.counts
+    (λ numbers held. c.count_some.ensures numbers (ap (λ (p : LivePeriod). p.waits) timed ∙ held))
+    (ap (λ (n : Noted). n.wait) noted) awaits.waits)

@@ -1,6 +1,6 @@
-use Rattle.std.proofs.Common.{◌≡◌, ◌∙◌, ◌/◌, ◌*◌, ◌≤◌, arith, ℕ, Bool, true, false, not, ap, refl, sym}
+use Rattle.std.proofs.Common.{[], ◌≡◌, ◌∙◌, ◌/◌, ◌*◌, ◌≤◌, arith, ℕ, Bool, true, false, not, ap, refl, sym}
 use Rattle.std.specs.Prelude.{max}
-use Rattle.pie_summary.specs.Live.{number_in, starts}
+use Rattle.pie_summary.specs.Live.{meter_of, number_in, starts}
 use Rattle.pie_summary.proofs.LiveFacts.{awaits-new, awaits-same, within-period}
 use Rattle.pie_summary.proofs.live.LivePeriod.turn.Goals as goal
 
@@ -35,7 +35,8 @@ returns-clause-awaits c = λ shown one at holds.
     awaits-new period _ shown one holds refl
     (ap (starts (number_in period)) number ∙ is-so (starts (number_in period) (c.args.moment / every))
     (sym c.is_under_way.ensures ∙ c.if-is_under_way.false))
-    (sym number) c.saturating_add-self-2.ensures c.empty-self.ensures c.clear_counts.ensures
+    (sym number) c.saturating_add-self-2.ensures
+    (c.begun-self.ensures ∙ (λ i. record (meter_of []) { first = sym at i; since = sym at i })) c.clear_counts.ensures
     (λ moment from to. (
       λ none. omega (arith, none, c.saturating_add-self-2.ensures),
       ap (λ (e : ℕ). moment / e) (sym c.max-every.ensures)

@@ -1,6 +1,0 @@
-use Rattle.pie_summary.proofs.LiveFacts.{bounds-push}
-use Rattle.pie_summary.proofs.spans.Bounds.with.Goals as goal
-
-pub returns : goal.returns
-returns c = λ numbers same.
-    bounds-push numbers c.args.number c.args.self c.saturating_add.result c.held_or.result same c.saturating_add.ensures c.held_or.ensures

@@ -1,11 +1,11 @@
 //! The lock, and what its callers do with it.
-ghost use Rattle.std.specs.Prelude.{◌≡◌, ◌≢◌, ◌+◌, ◌<◌, ◌↔◌, [], ◌∷◌, ◌++◌, List, All, Some, None, IsOk, IsErr, IfOk, IfErr, OnOk, OnErr};
+ghost use Rattle.std.specs.Prelude.{◌≡◌, ◌≢◌, ◌+◌, ◌<◌, ◌↔◌, [], ◌∷◌, ◌++◌, List, All, Some, None, IsOk, IsErr, IsTrue, IfOk, IfErr, OnOk, OnErr};
 
 use crate::entries::Entries;
 use crate::kept::Kept;
 use crate::pass::{Held, Pass};
 use crate::refusal::{LockRefusal, OneNumber, StillHeld};
-use crate::rule::{Adding, FreeStep, JoinTwo, LockRule, MergeStep, SplitHighest, TakeStep};
+use crate::rule::{Adding, FreeStep, JoinTwo, LockRule, LookStep, MergeStep, SplitHighest, TakeStep};
 use crate::view::{LockOpening, Place};
 use atomic_table::{Refused, Seat, Table};
 use crossbeam_utils::Backoff;
@@ -70,7 +70,7 @@ impl<S: Kept> Model for RuledLock<S> {
 
 impl<S: Kept> RuledLock<S> {
     ghost use Rattle.pie_lock.specs.Views.{HoldsAll};
-    ghost use Rattle.pie_lock.specs.Steps.{GoesOn, pass_at, with_front, AreAdjacent};
+    ghost use Rattle.pie_lock.specs.Steps.{GoesOn, HasAll, pass_at, with_front, AreAdjacent};
     ghost use Rattle.pie_lock.specs.declared.view.Place.TheVariants.{Waits};
     ghost use Rattle.pie_lock.specs.Seating.{IsIdle, IsLeaving, IsMerged};
     ghost use Rattle.pie_lock.specs.Promises.{first_pass, HasTaken, pass_after, without_highest, highest_alone, IsBeside, IsBothOf};
@@ -161,6 +161,17 @@ impl<S: Kept> RuledLock<S> {
         self.table.shared.store::<FreeStep<J>>(seat, WORD, FREE);
     }
 
+    // Whether another pass is seen to have the state. A load shares the word with the processor of who has the state, from which an exchange that
+    // is refused would take it away.
+    fn is_out(&self, seat: &mut Seat<Option<S>, Place<S::Entry, S::Origin>>) -> bool
+        requires table { seat.old.table_id ≡ self.now.id }
+        requires waiting { IsIdle seat.old.me }
+        ensures seat { (seat.new.table_id ≡ seat.old.table_id) × (seat.new.id ≡ seat.old.id) × (seat.new.me ≡ seat.old.me) }
+        ensures other { IsTrue result → HasAll (pass_at seat.old.me.0) → ⊥ }
+    {
+        self.table.shared.load::<LookStep>(seat, WORD) != FREE
+    }
+
     /// Takes the state. It never blocks.
     ///
     /// # Errors
@@ -177,6 +188,9 @@ impl<S: Kept> RuledLock<S> {
             limit,
             mut seat,
         } = pass;
+        if self.is_out(&mut seat) {
+            return Err(Pass { first, limit, seat });
+        }
         let found = self
             .table
             .shared

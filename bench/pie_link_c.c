@@ -234,7 +234,7 @@ static void two_turns(struct worker *worker, int threads) {
     moment = now();
     if (worker->kind == LINK) {
         for (uint32_t i = 0; i < worker->burst; i++)
-            worker->burst_of[i] = (struct pie_event){.moment = moment};
+            worker->burst_of[i].moment = moment; /* (a departure reads no more, but that its kind is not an update) */
         pie_link_depart_all(&worker->port, UINT64_MAX, worker->burst_of, worker->burst, &made);
     } else {
         take(worker);

@@ -166,8 +166,8 @@ uint32_t pie_link_try_arrive_all(struct pie_port *port, struct pie_event *events
 uint32_t pie_link_try_depart_all(struct pie_port *port, uint64_t bytes, struct pie_event *events, size_t count, size_t *made);
 
 /* ---- Calls that wait while another port has the turn: the same, again and again, with a pause that doubles up to 64 instructions, then with the
- * processor given up, then asleep until one that has waited too has had its turn, at most a millisecond. Tested, and not proved; nothing says
- * that a call that waits is ever served. */
+ * processor given up some 500 times, then asleep until one that has waited too has had its turn, at most a millisecond. Tested, and not proved;
+ * nothing says that a call that waits is ever served. */
 
 #ifdef __cplusplus
 #define PIE_LINK_WORD std::atomic<uint32_t>
@@ -186,6 +186,8 @@ struct pie_link_sleepers {
 };
 
 __attribute__((weak)) struct pie_link_sleepers pie_link_asleep;
+
+#define PIE_LINK_ROUNDS 512 /* that a call waits before it sleeps: most turns are over by then, and a sleep with its wake costs more than a turn */
 
 /* How long a call has waited: its rounds, and `turns` before its last look. */
 struct pie_link_patience {
@@ -209,13 +211,13 @@ static inline void pie_link_wait(struct pie_link_patience *waited) {
         return;
     }
 #ifdef __linux__
-    if (waited->rounds > 16) {
+    if (waited->rounds > PIE_LINK_ROUNDS) {
         const struct timespec most = {0, 1000000};
         syscall(SYS_futex, (uint32_t *)&pie_link_asleep.turns, FUTEX_WAIT_PRIVATE, waited->seen, &most, NULL, 0);
         waited->seen = PIE_LINK_LOAD(pie_link_asleep.turns);
         return;
     }
-    if (waited->rounds == 16) {
+    if (waited->rounds == PIE_LINK_ROUNDS) {
         /* from now on it counts among those that sleep, and looks once more before it does: a turn that ends after this look wakes it */
         PIE_LINK_ADD(pie_link_asleep.count, 1);
         waited->seen = PIE_LINK_LOAD(pie_link_asleep.turns);
@@ -228,7 +230,7 @@ static inline void pie_link_wait(struct pie_link_patience *waited) {
 /* After a turn: one that sleeps is woken. */
 static inline void pie_link_had_turn(const struct pie_link_patience *waited) {
 #ifdef __linux__
-    if (waited->rounds > 16)
+    if (waited->rounds > PIE_LINK_ROUNDS)
         PIE_LINK_ADD(pie_link_asleep.count, UINT32_MAX);
     if (PIE_LINK_LOAD(pie_link_asleep.count) != 0) {
         PIE_LINK_ADD(pie_link_asleep.turns, 1);

@@ -1,14 +1,16 @@
 -- A burst without a budget.
 use Rattle.std.proofs.Common.{◌≡◌, ℕ, Bool, List, [], ◌∷◌, ◌++◌, None, refl, ap, sym, ◌∙◌, append_assoc}
 use Rattle.std.specs.Prelude.{if◌then◌else◌}
+use Rattle.std.proofs.lemmas.List.{append-nil}
 use Rattle.pie_event.specs.declared.command.Command.{Command}
 use Rattle.pie_event.specs.declared.opening.Opening.{Opening}
 use Rattle.pie_kept.specs.declared.entry.Entry.{Entry}
 use Rattle.pie_kept.specs.Bursts.{Reply, entries_by, entries_to, entries_within, replies_to, replies_within, reply_in}
+use Rattle.pie_kept.specs.BudgetLaws.{BurstsNeedNoBudget}
 
 module _ (goes_on : Reply → Bool) (opening : Opening) (caller : ℕ) where
   -- it is answered as one that has none
-  pub unlimited-replies : (history made : List Entry) (commands : List Command)
+  unlimited-replies : (history made : List Entry) (commands : List Command)
       → replies_within None goes_on opening caller history made commands ≡ replies_to goes_on opening caller (history ++ made) commands
   unfolding replies_within replies_to
   unlimited-replies history made [] = refl
@@ -20,7 +22,7 @@ module _ (goes_on : Reply → Bool) (opening : Opening) (caller : ℕ) where
       ∙ ap (λ (h : List Entry). replies_to goes_on opening caller h later) (sym (append_assoc history made added)))
 
   -- and makes its entries
-  pub unlimited-entries : (history made : List Entry) (commands : List Command)
+  unlimited-entries : (history made : List Entry) (commands : List Command)
       → entries_within None goes_on opening caller history made commands ≡ entries_to goes_on opening caller (history ++ made) commands
   unfolding entries_within entries_to
   unlimited-entries history made [] = refl
@@ -30,3 +32,12 @@ module _ (goes_on : Reply → Bool) (opening : Opening) (caller : ℕ) where
       ap (λ (l : List Entry). added ++ (if goes_on reply then l else []))
       (unlimited-entries history (made ++ added) later
       ∙ ap (λ (h : List Entry). entries_to goes_on opening caller h later) (sym (append_assoc history made added)))
+
+-- .. as the law of it
+pub bursts_need_no_budget : BurstsNeedNoBudget
+bursts_need_no_budget = record {
+  replies = λ goes_on opening caller history commands. unlimited-replies goes_on opening caller history [] commands
+      ∙ ap (λ (h : List Entry). replies_to goes_on opening caller h commands) (append-nil history);
+  entries = λ goes_on opening caller history commands. unlimited-entries goes_on opening caller history [] commands
+      ∙ ap (λ (h : List Entry). entries_to goes_on opening caller h commands) (append-nil history);
+}

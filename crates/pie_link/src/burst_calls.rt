@@ -13,7 +13,7 @@ use crate::caller::Caller;
 use crate::link::Link;
 use crate::told::{NoRoom, Tried};
 use core::mem::{replace, replace_with};
-use pie_kept::{Arrival, Arrivals, Burst, Departures, Replies};
+use pie_kept::{Arrival, Arrivals, Burst, Departures, Replies, bursts_need_no_budget};
 use std::sync::Wait;
 
 // Whether a vector has room for so many more.
@@ -98,6 +98,7 @@ impl Link {
         if !has_room(answers, arrivals.len()) {
             return Err(NoRoom);
         }
+        bursts_need_no_budget();
         let replies = replace(answers, Vec::new(self.alloc));
         let burst = Arrivals { arrivals, replies };
         *answers = self.answer_all(rt, caller, burst).replies;
@@ -128,6 +129,7 @@ impl Link {
         if !has_room(answers, arrivals.len()) {
             return Err(Tried::Refused(NoRoom));
         }
+        bursts_need_no_budget();
         let replies = replace(answers, Vec::new(self.alloc));
         let burst = Arrivals { arrivals, replies };
         match self.try_answer_all(caller, None, burst) {
@@ -169,6 +171,7 @@ impl Link {
         if !has_room(answers, most) {
             return Err(NoRoom);
         }
+        bursts_need_no_budget();
         let replies = replace(answers, Vec::new(self.alloc));
         let burst = Departures {
             moment,

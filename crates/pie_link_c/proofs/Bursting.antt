@@ -1,12 +1,24 @@
 -- One event more of a burst is told.
-use Rattle.std.proofs.Common.{◌≡◌, ◌+◌, ◌<◌, ℕ, zero, suc, Bool, Option, List, [], ◌∷◌, ◌++◌, refl, ap, sym, ◌∙◌, subst, length, drop, map, add-one, arith, get_or, length-append}
+use Rattle.std.proofs.Common.{◌≡◌, ◌+◌, ◌<◌, ℕ, zero, suc, Bool, Option, List, [], ◌∷◌, ◌++◌, refl, ap, sym, ◌∙◌, subst, length, drop, map, add-one, arith, get_or, length-append, length-drop}
 use Rattle.std.proofs.Math.ListN.{set}
+use Rattle.std.proofs.lemmas.List.{drop_more, length-map}
+use Rattle.pie_event.specs.declared.command.Command.{Command}
 use Rattle.pie_kept.specs.Bursts.{Reply}
 use Rattle.pie_link.specs.Bursts.{AnswersWithin}
 use Rattle.pie_link.specs.Views.{CallerView, LinkView, StaysOne, WasBusy}
 use Rattle.pie_abi.specs.declared.event.PieEvent.{PieEvent}
 use Rattle.pie_link_c.specs.declared.asked.Asked.{Asked}
 use Rattle.pie_link_c.specs.Bursts.{IsAnswered, Took, WasNotTried, asks, told_event, told_events}
+
+-- what is asked from a place on: its event's command, and those after it
+pub is_at : (asked : Asked) (es : List PieEvent) (i : ℕ) (d : PieEvent) (command : Command) → i < length es → command ≡ asks asked (get_or es i d)
+    → map (asks asked) (drop i es) ≡ command ∷ map (asks asked) (drop (i + 1) es)
+is_at asked es i d command some is =
+    ap (map (asks asked)) (drop_more es i d some) ∙ ap (λ (first : Command). first ∷ map (asks asked) (drop (i + 1) es)) (sym is)
+
+-- a place from which something is asked is one of an event
+pub is_place : (asked : Asked) (es : List PieEvent) (i : ℕ) → 0 < length (map (asks asked) (drop i es)) → i < length es
+is_place asked es i some = omega (arith, some, length-map (drop i es) (asks asked), length-drop i es)
 
 none_told : (asked : Asked) (caller : ℕ) (es : List PieEvent) → told_events asked caller es [] ≡ es
 none_told asked caller [] = refl

@@ -1,4 +1,4 @@
--- The exchange of FREE for HELD keeps the rule, won or lost.
+-- A look at the word keeps the rule, and so does the exchange of FREE for HELD, won or lost.
 use Rattle.std.proofs.Common.{◌≡◌, ◌≢◌, ℕ, ◌==◌, ◌<◌, true, List, [], ◌∷◌, Option, Some, length, get_or, set, refl, ap, sym, ◌∙◌, subst, inr, ⊎_elim}
 use Rattle.std.proofs.Common.{arith, length-set, get_or-set_same}
 use Rattle.std.specs.List.{All}
@@ -15,7 +15,7 @@ use Rattle.pie_lock.specs.declared.view.Place.{Place}
 use Rattle.pie_lock.specs.declared.view.Place.TheVariants.{Waits, Holds}
 use Rattle.pie_lock.specs.Own.{is_within}
 use Rattle.pie_lock.specs.Rule.{Follows, Agreed, WhileFree, WhileHeld, Ruled}
-use Rattle.pie_lock.specs.Steps.{with_front, HasAll, Won, taken}
+use Rattle.pie_lock.specs.Steps.{with_front, HasAll, Won, looked, taken}
 use Rattle.pie_lock.proofs.Owns.{whole_is_front, within}
 use Rattle.pie_lock.proofs.Following.{follows_whole}
 use Rattle.pie_lock.proofs.Seats.{set_at, agreed_set, apart_as_before}
@@ -102,20 +102,22 @@ module _ {S E O : Type 0} (number : E → ℕ) (origin_of : S → O) (tells : S 
       let a = all.0 in let b = all.1 in let c = f.of_all in let d = g.nonempty in let l = g.below in
       agreed.apart holder id (Holds q) (Waits p) q.first ne there at (omega arith, omega arith) (omega arith, omega arith))
 
-  loses : (id : ℕ) (p : Shown E O) (s : Table) → Rule s → get_elem? s.views id ≡ some (Waits p) → (n : ℕ) → get_or s.words 0 0 ≡ n → n ≢ 0
-      → (w : Place E O) × (a : Act (Option S)) × Valid s.homes [] a × Rule (stepped s 0 n id [] w a)
-      × (◌≡◌ {A = Me (Option S) (Place E O)} (w, carried_after [] a) (Waits p, [])) × (HasAll p → ⊥)
-  loses id p s rule at n is ne =
+  -- where the word stays, all does
+  stays : (id : ℕ) (p : Shown E O) (s : Table) → Rule s → get_elem? s.views id ≡ some (Waits p) → (n : ℕ) → get_or s.words 0 0 ≡ n
+      → Rule (stepped s 0 n id [] (Waits p) keeps)
+  stays id p s rule at n is =
       let words : set s.words 0 n ≡ s.words = subst (λ (k : ℕ). set s.words 0 k ≡ s.words) is (word_again s.words rule.0) in
       let views : set s.views id (Waits p) ≡ s.views = set_again s.views id (Waits p) at in
-      let same : stepped s 0 n id [] (Waits p) keeps ≡ s = λ i. record { words = words i; homes = s.homes; views = views i } in (
-        Waits p,
-        keeps,
-        tt,
-        subst Rule (sym same) rule,
-        refl,
-        λ all. ⊎_elim (λ free. ne (sym is ∙ free.0)) (λ held. no_other id p s rule.1.0 at rule.1.1 held all) rule.1.2,
-      )
+      let same : stepped s 0 n id [] (Waits p) keeps ≡ s = λ i. record { words = words i; homes = s.homes; views = views i } in
+      subst Rule (sym same) rule
+
+  -- and where it isn't FREE, the seat has not all numbers
+  not_all : (id : ℕ) (p : Shown E O) (s : Table) → Rule s → get_elem? s.views id ≡ some (Waits p) → get_or s.words 0 0 ≢ 0 → HasAll p → ⊥
+  not_all id p s rule at ne all = ⊎_elim (λ free. ne free.0) (λ held. no_other id p s rule.1.0 at rule.1.1 held all) rule.1.2
+
+  pub looks_keep : (slots id : ℕ) (p : Shown E O) → Allows Rule slots id (Waits p, []) 0 (λ n. n) (looked (step slots 0 0 0 none) (Waits p, []))
+  looks_keep slots id p s rule sized at wide =
+      (Waits p, keeps, tt, stays id p s rule at (get_or s.words 0 0) refl, (refl, not_all id p s rule at))
 
   pub takes_keep : (slots id : ℕ) (p : Shown E O)
       → Allows Rule slots id (Waits p, []) 0 (λ n. either (n == 0) 1 n) (taken number origin_of tells (step slots 0 0 1 none) (Waits p, []))
@@ -130,4 +132,4 @@ module _ {S E O : Type 0} (number : E → ℕ) (origin_of : S → O) (tells : S 
       × Won number origin_of tells p (w, carried_after [] a) =
       ⊎_elim (λ free. wins id p s rule.1.0 rule.0 at rule.1.1 free) (λ held. let one = held.0 in absurd (omega arith)) rule.1.2 in
       (won.0, won.1, won.2, won.3, (λ _. won.4, λ ne. absurd (ne hit))))
-      (λ miss. let lost = loses id p s rule at n refl miss in (lost.0, lost.1, lost.2, lost.3, (λ e. absurd (miss e), λ _. (lost.4, lost.5))))
+      (λ miss. (Waits p, keeps, tt, stays id p s rule at n refl, (λ e. absurd (miss e), λ ne. (refl, not_all id p s rule at ne))))

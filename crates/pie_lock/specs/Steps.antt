@@ -87,6 +87,10 @@ module _ {S E O : Type 0} (number : E → ℕ) (origin_of : S → O) (tells : S 
       (found ≡ 0 → Won (pass_at before.0) after) × (found ≢ 0 → (after ≡ before) × (HasAll (pass_at before.0) → ⊥))
 
 module _ {S E O : Type 0} where
+  -- a load of the word: nothing changed, and a pass with all numbers finds it FREE
+  abbrev pub looked : Step (Option S) → Me (Option S) (Place E O) → ℕ → Me (Option S) (Place E O) → Type 0
+  looked step before found after = (after ≡ before) × (found ≢ 0 → HasAll (pass_at before.0) → ⊥)
+
   -- the store of FREE by a put that adds these entries: the slot is given back, and the entries join the seat's front
   abbrev pub freed : List E → Step (Option S) → Me (Option S) (Place E O) → ℕ → Me (Option S) (Place E O) → Type 0
   freed added step before found after =

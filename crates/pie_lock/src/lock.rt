@@ -1,11 +1,13 @@
 //! The lock, and what its callers do with it.
-ghost use Rattle.std.specs.Prelude.{◌≡◌, ◌≢◌, ◌+◌, ◌<◌, ◌↔◌, [], ◌∷◌, ◌++◌, List, All, Some, None, IsOk, IsErr, IfOk, IfErr, OnOk, OnErr};
+ghost use Rattle.std.specs.Prelude.{◌≡◌, ◌≢◌, ◌+◌, ◌<◌, ◌↔◌, [], ◌∷◌, ◌++◌, List, All, Some, None, IsOk, IsErr, IsTrue, IfOk, IfErr, OnOk, OnErr};
 
 use crate::entries::Entries;
 use crate::kept::Kept;
 use crate::pass::{Held, Pass};
 use crate::refusal::{LockRefusal, OneNumber, StillHeld};
-use crate::rule::{Adding, FreeStep, JoinTwo, LockRule, MergeStep, SplitHighest, TakeStep};
+use crate::rule::{
+    Adding, FreeStep, JoinTwo, LockRule, LookStep, MergeStep, SplitHighest, TakeStep,
+};
 use crate::view::{LockOpening, Place};
 use atomic_table::{Refused, Seat, Table};
 use crossbeam_utils::Backoff;
@@ -36,6 +38,9 @@ const AWAITED: u64 = 1;
 
 // How many milliseconds who sleeps until a put sleeps at most: a put of a call that never waits wakes nobody.
 const SLEEP: u64 = 1;
+
+// How often who waits spins, longer each time, or gives the processor up, before it sleeps: a sleep and its wake cost as much as some of these.
+const ROUNDS: u32 = 512;
 
 // A turn of so many calls or more is a long one.
 const LONG: usize = 16;
@@ -70,7 +75,7 @@ impl<S: Kept> Model for RuledLock<S> {
 
 impl<S: Kept> RuledLock<S> {
     ghost use Rattle.pie_lock.specs.Views.{HoldsAll};
-    ghost use Rattle.pie_lock.specs.Steps.{GoesOn, pass_at, with_front, AreAdjacent};
+    ghost use Rattle.pie_lock.specs.Steps.{GoesOn, HasAll, pass_at, with_front, AreAdjacent};
     ghost use Rattle.pie_lock.specs.declared.view.Place.TheVariants.{Waits};
     ghost use Rattle.pie_lock.specs.Seating.{IsIdle, IsLeaving, IsMerged};
     ghost use Rattle.pie_lock.specs.Promises.{first_pass, HasTaken, pass_after, without_highest, highest_alone, IsBeside, IsBothOf};
@@ -161,6 +166,17 @@ impl<S: Kept> RuledLock<S> {
         self.table.shared.store::<FreeStep<J>>(seat, WORD, FREE);
     }
 
+    // Whether another pass is seen to have the state. A load shares the word with the processor of who has the state, from which an exchange that
+    // is refused would take it away.
+    fn is_out(&self, seat: &mut Seat<Option<S>, Place<S::Entry, S::Origin>>) -> bool
+        requires table { seat.old.table_id ≡ self.now.id }
+        requires waiting { IsIdle seat.old.me }
+        ensures seat { (seat.new.table_id ≡ seat.old.table_id) × (seat.new.id ≡ seat.old.id) × (seat.new.me ≡ seat.old.me) }
+        ensures other { IsTrue result → HasAll (pass_at seat.old.me.0) → ⊥ }
+    {
+        self.table.shared.load::<LookStep>(seat, WORD) != FREE
+    }
+
     /// Takes the state. It never blocks.
     ///
     /// # Errors
@@ -177,6 +193,9 @@ impl<S: Kept> RuledLock<S> {
             limit,
             mut seat,
         } = pass;
+        if self.is_out(&mut seat) {
+            return Err(Pass { first, limit, seat });
+        }
         let found = self
             .table
             .shared
@@ -224,29 +243,31 @@ impl<S: Kept> RuledLock<S> {
         ensures { HasTaken S.number_of S.origin_of S.tells pass result }
     {
         let mut waiting = pass;
+        let mut rounds = ROUNDS;
         let backoff = Backoff::new();
         for _ in rt.forever() {
+            let sleeps = rounds == 0;
             // Before each look at the word that a sleep may follow, and after each sleep, since others may sleep still: a put
             // that does not see it came before this look, and the put of who takes the lock now wakes the next.
-            if backoff.is_completed() {
+            if sleeps {
                 self.awaited.store(AWAITED, Ordering::SeqCst);
             }
             waiting = match self.try_take(waiting) {
                 Ok(held) => return held,
                 Err(pass) => pass,
             };
-            if backoff.is_completed() {
+            if sleeps {
                 self.awaited
                     .park_timeout(rt, AWAITED as u32, Duration::from_millis(SLEEP));
             } else if !self.seen_free(looks) {
                 backoff.snooze();
+                rounds -= 1;
             }
         }
         unreachable!()
     }
 
-    // Whether one of so many looks finds that no pass has the state. A look shares the word with the processor of who has the state, from which
-    // an exchange that is refused would take it away.
+    // Whether one of so many looks finds that no pass has the state.
     fn seen_free(&self, looks: usize) -> bool {
         for _ in 0..looks {
             if self.table.shared.peek(WORD) == FREE {

@@ -1,6 +1,6 @@
 //! The rule of the lock's table, and what its steps tell.
 ghost use Rattle.std.specs.Prelude.{List, []};
-ghost use Rattle.pie_lock.specs.Steps.{taken, freed, merged, all_but_highest, highest, meeting};
+ghost use Rattle.pie_lock.specs.Steps.{looked, taken, freed, merged, all_but_highest, highest, meeting};
 ghost use Rattle.pie_lock.specs.declared.view.Place.TheVariants.{Spent};
 
 use crate::kept::Kept;
@@ -17,6 +17,13 @@ impl<S: Kept> TableRule<Option<S>, Place<S::Entry, S::Origin>, LockOpening<S>> f
     ghost holds = { λ key. Ruled S.number_of S.origin_of S.tells (S.origin_of key.state.value) key.numbers };
 
     ghost first = { λ key. opened (S.origin_of key.state.value) key.numbers };
+}
+
+/// The step that looks whether the lock is free: a load.
+pub(crate) struct LookStep;
+
+impl<S: Kept> Play<Option<S>, Place<S::Entry, S::Origin>> for LookStep {
+    ghost then = { looked };
 }
 
 /// The step that takes the lock: the exchange of FREE for HELD.

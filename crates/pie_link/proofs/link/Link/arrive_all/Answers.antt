@@ -8,6 +8,6 @@ pub returns-clause-answered : goal.returns-clause-answered
 returns-clause-answered g c =
     let commands = map arrive c.args.arrivals.now in
     let said = c.answer_all.ensures.answered c.answer_all.result c.args.answers.now.items (λ i. (c.replace-replies.ensures.value i).items) in
-    let answered = unlimited always c.args.self.now c.args.caller.now commands c.args.answers.now.items said.0 c.answer_all.new.caller said.2 in
+    let answered = unlimited c.bursts_need_no_budget.ensures always c.args.self.now c.args.caller.now commands c.args.answers.now.items said.0 c.answer_all.new.caller said.2 in
     subst (λ (replies : List Reply). AnswersAll always c.args.self.now c.args.caller.now commands c.args.answers.now.items replies
     c.answer_all.new.caller) (sym said.1) answered

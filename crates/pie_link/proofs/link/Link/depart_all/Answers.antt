@@ -10,7 +10,7 @@ returns-clause-answered g c =
     let all : c.args.most - 0 ≡ c.args.most = omega arith in
     let within = subst (λ (most : ℕ). AnswersWithin None has_left c.args.self.now c.args.caller.now (departures most c.args.moment)
     c.args.answers.now.items said.0 c.answer_all.new.caller) all said.2 in
-    let answered = unlimited has_left c.args.self.now c.args.caller.now (departures c.args.most c.args.moment) c.args.answers.now.items said.0
+    let answered = unlimited c.bursts_need_no_budget.ensures has_left c.args.self.now c.args.caller.now (departures c.args.most c.args.moment) c.args.answers.now.items said.0
     c.answer_all.new.caller within in
     subst (λ (replies : List Reply). AnswersAll has_left c.args.self.now c.args.caller.now (departures c.args.most c.args.moment)
     c.args.answers.now.items replies c.answer_all.new.caller) (sym said.1) answered

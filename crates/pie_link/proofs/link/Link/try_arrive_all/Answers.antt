@@ -9,6 +9,6 @@ unfolding TriesToAnswerAll
 returns-in-Ok-clause-answered c =
     let commands = map arrive c.args.arrivals.now in
     let said = c.in-Ok.ensures.answered c.in-Ok.after c.args.answers.now.items (λ i. (c.replace-replies.ensures.value i).items) in
-    let answered = unlimited always c.args.self.now c.args.caller.now commands c.args.answers.now.items said.0 c.try_answer_all.new.caller said.2 in
+    let answered = unlimited c.bursts_need_no_budget.ensures always c.args.self.now c.args.caller.now commands c.args.answers.now.items said.0 c.try_answer_all.new.caller said.2 in
     subst (λ (replies : List Reply). AnswersAll always c.args.self.now c.args.caller.now commands c.args.answers.now.items replies
     c.try_answer_all.new.caller) (sym said.1) answered

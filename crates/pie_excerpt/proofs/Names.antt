@@ -19,7 +19,7 @@ pub use Rattle.pie_excerpt.specs.Beginning.{numbers_fault, or_fault, queued_afte
 unfoldable pub use Rattle.pie_excerpt.specs.Beginning.{core_from, resumed_of, with_queue}
 pub use Rattle.pie_excerpt.specs.Fits.{ControllerFits, CycleFits, ResumeFits, SetterFits, WaitingFits}
 pub use Rattle.pie_excerpt.specs.Reading.{fields_read, setter_at, setter_of}
-unfoldable pub use Rattle.pie_excerpt.specs.Reading.{control_at, cycle_at, later_at, queued_of, rate_at, resume_of, stats_at}
+unfoldable pub use Rattle.pie_excerpt.specs.Reading.{later_at, numbers_from, queued_of, resume_of}
 pub use Rattle.pie_excerpt.specs.Rows.{choices_of, counted, cycle_bytes, cycle_start, held_row, measuring, opened_numbers, opening_row, placed_row}
 pub use Rattle.pie_excerpt.specs.Rows.{registers_of, setter_field}
 unfoldable pub use Rattle.pie_excerpt.specs.Rows.{queued_row, resume_row}

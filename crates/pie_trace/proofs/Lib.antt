@@ -1,6 +1,5 @@
 mod Names
 pub mod HistoryFacts
-pub mod RunOfSteps
 pub mod StepFacts
 pub mod RunFacts
 pub mod EndFacts

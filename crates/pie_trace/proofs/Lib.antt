@@ -3,7 +3,7 @@ pub mod HistoryFacts
 pub mod StepFacts
 pub mod RunFacts
 pub mod EndFacts
-pub mod ResumedFacts
+mod StartFacts
 pub mod GoingFacts
 pub mod RunBack
 pub mod Examples

@@ -1,59 +1,68 @@
 -- What the files of this folder take from below, in one place.
-pub use Rattle.std.proofs.Common.{Bool, List, [], ap, append_assoc, arith, cond, eq-eqb, false, length, length-append, map, not, refl, subst, sym}
-pub use Rattle.std.proofs.Common.{take, true, ℕ, ◌&&◌, ◌++◌, ◌+◌, ◌-◌, ◌<◌, ◌==◌, ◌^◌, ◌∙◌, ◌∷◌, ◌≡◌, ◌≤◌}
+pub use Rattle.std.proofs.Common.{Bool, List, [], ap, append_assoc, arith, cond, eq-eqb, false, inl, inr, length, length-append, map, not, refl}
+pub use Rattle.std.proofs.Common.{rules, subst, sym, take, true, ℕ, ◌&&◌, ◌++◌, ◌+◌, ◌-◌, ◌<◌, ◌==◌, ◌^◌, ◌∙◌, ◌∷◌, ◌≡◌, ◌≤◌}
+pub use Rattle.std.proofs.KnownBytes.{Appends-nil}
 pub use Rattle.std.proofs.lemmas.Bool.{and_parts, eqb-true}
+pub use Rattle.std.proofs.lemmas.Bool.Decides.{nat_tests}
 pub use Rattle.std.proofs.lemmas.List.{append-nil, length-map, map-append}
 pub use Rattle.std.proofs.lemmas.List.Elements.{All-append, All-cons, All-head, All-map, All-nil, All-tail, filter_map-append}
 pub use Rattle.std.proofs.lemmas.List.Folds.{find-append}
-pub use Rattle.std.specs.List.{cons_option, filter_map, find}
-pub use Rattle.std.specs.Option.{is_some, option_or}
-pub use Rattle.std.specs.Prelude.{All, Err, IfErr, IfOk, IfSome, None, Ok, Option, Result, Some, codes, if◌then◌else◌, min, nat_lt, option_map, ⊤}
-pub use Rattle.std.specs.Prelude.{◌||◌}
-pub use Rattle.csv.specs.Records.{fields_of}
+pub use Rattle.std.proofs.lemmas.List.Sums.{sum_by-append, sum_by_push}
+pub use Rattle.std.specs.List.{cons_option}
+pub use Rattle.std.specs.Option.{option_or}
+pub use Rattle.std.specs.Prelude.{if◌then◌else◌, ◌||◌}
+pub use Rattle.pie_audit.specs.{All, Answer, Appends, AreLegal, AuditAt, AuditorView, Audits, Beginning, BeginsAt, BeginsBy, BegunBy, CanBeMade, Ce}
+pub use Rattle.pie_audit.specs.{Clean, Coming, Command, CoreView, Depart, Differs, Done, DroppedBytes, DroppedEarly, DroppedPackets, Ecn, Ect0, Ect1}
+pub use Rattle.pie_audit.specs.{Empty, Enqueued, Err, Event, EventFits, FaultedBy, FindsAfter, FindsBy, FindsEither, FindsLines, FindsWhole}
+pub use Rattle.pie_audit.specs.declared.auditor.Finding.{Finding}
+pub use Rattle.pie_audit.specs.{Follows, FollowsFrom, GoesOn, Going, HasField, HeardOn, IfErr, IfOk, IfSome, IsFirstWrong, IsFound, IsLegal}
+pub use Rattle.pie_audit.specs.{IsLegalAt, IsToldBy, IsWrite, IsWrong, Left, Line, LinePlace, LinesAt, LinesRead, LinesView, Made, Marked, None}
+pub use Rattle.pie_audit.specs.{NotEct, Note, Ok, OnOk, Opening, Option, Packet, ParamsFit, Result, Row, Setter, Shows, Some, Standing}
+pub use Rattle.pie_audit.specs.Start.{Start}
+pub use Rattle.pie_audit.specs.{TakesRow, TellsHistory, TellsPart, TellsSetter, TextToldBy, Three, ToldBy, TraceFault, Unmakeable, Updated}
+pub use Rattle.pie_audit.specs.{active_after, after_line, codes, coming_after, coming_by, coming_from, counted_with, decision, differs, differs_at}
+pub use Rattle.pie_audit.specs.{event_in, event_row, fault_after, fault_by, fields_of, filter_map, find, finding_after, finding_by, is_active_after}
+pub use Rattle.pie_audit.specs.{is_device, is_resumed, is_same_answer, is_same_ecn, is_same_packet, is_some, judged, lines_after, min, nat_lt}
+pub use Rattle.pie_audit.specs.{next_number, number_of, opening_refusal, option_map, part_rows, records_of, refusal_by_rule, sets_after}
+pub use Rattle.pie_audit.specs.{sets_probability, setter_at, setter_by, setter_told, setter_with, start_after, text_finding, written_rows, ⊤}
+unfoldable pub use Rattle.pie_audit.specs.{TellEach, agrees, event_count, events_of, excerpt_fault, excerpt_lines, finding, first_difference}
+unfoldable pub use Rattle.pie_audit.specs.{history_opening, line_places, opening_of, resumed_of, rows_text, setter_after, version_of, waiting_after}
+unfoldable pub use Rattle.pie_aqm.specs.History.{active_of, arrivals_shown, control_of, delay_noted, departures_of, departures_shown, early_of}
+unfoldable pub use Rattle.pie_aqm.specs.History.{held_of, is_active, noted, noted_after, now_of, params_of, updates_shown}
 pub use Rattle.pie_aqm.specs.Places.{Place, after}
 unfoldable pub use Rattle.pie_aqm.specs.Places.{greatest, last_or, places}
-pub use Rattle.pie_audit.specs.Auditor.{AuditorView, Audits, counted_with}
-pub use Rattle.pie_audit.specs.Begun.{BegunBy, FaultedBy}
-pub use Rattle.pie_audit.specs.Finding.{LinePlace, after_line, differs, differs_at, event_in, finding_by, is_same_answer, is_same_ecn, is_same_packet}
-pub use Rattle.pie_audit.specs.Finding.{number_of}
-unfoldable pub use Rattle.pie_audit.specs.Finding.{agrees, events_of, finding, first_difference, line_places}
-pub use Rattle.pie_audit.specs.Legal.{AreLegal, CanBeMade, IsFirstWrong, IsWrong}
-pub use Rattle.pie_audit.specs.Setters.{is_active_after, sets_after, sets_probability, setter_at, setter_by, setter_with}
-unfoldable pub use Rattle.pie_audit.specs.Setters.{setter_after}
-pub use Rattle.pie_audit.specs.Start.{Start, TellsSetter, setter_told, start_after}
-pub use Rattle.pie_audit.specs.Text.{AuditAt, FindsAfter, FindsBy, FindsEither, FindsLines, FindsWhole, IsFound, TellsPart, fault_after}
-pub use Rattle.pie_audit.specs.Text.{finding_after, judged, lines_after, text_finding}
-unfoldable pub use Rattle.pie_audit.specs.Text.{excerpt_fault, excerpt_lines}
-pub use Rattle.pie_audit.specs.declared.auditor.Finding.{Finding}
-pub use Rattle.pie_audit.specs.declared.auditor.Finding.TheVariants.{Clean, Differs}
-pub use Rattle.pie_book.specs.Core.{CoreView, Shows}
-pub use Rattle.pie_book.specs.Decision.{IsLegal, IsLegalAt, decision, has_bad_size, is_too_soon, refusal_by_rule, refusal_with}
-unfoldable pub use Rattle.pie_book.specs.History.{admitted, departed_count, effective_moment, waiting_after}
+unfoldable pub use Rattle.pie_aqm.specs.Steps.{verdict}
+pub use Rattle.pie_book.specs.Decision.{has_bad_size, is_too_soon, refusal_with}
+pub use Rattle.pie_book.specs.Estimates.{due_after}
+unfoldable pub use Rattle.pie_book.specs.Estimates.{held_after}
+unfoldable pub use Rattle.pie_book.specs.History.{admitted, departed_count, effective_moment}
 unfoldable pub use Rattle.pie_book.specs.Registers.{registers_after}
-pub use Rattle.pie_event.specs.Opening.{opening_refusal}
+pub use Rattle.pie_book.specs.Run.{refused_or}
+unfoldable pub use Rattle.pie_book.specs.Shown.{shown}
+unfoldable pub use Rattle.pie_control.specs.Delay.{delay_of}
+unfoldable pub use Rattle.pie_control.specs.History.{burst_allowance, granted_burst, last_delay, last_moment, probability}
+unfoldable pub use Rattle.pie_control.specs.Next.{decayed, next, raw_step, tuned_step, tuning_divisor}
+unfoldable pub use Rattle.pie_early.specs.Decision.{is_considered, is_picked}
+unfoldable pub use Rattle.pie_early.specs.History.{accumulated}
+pub use Rattle.pie_event.specs.Deed.{handed_in}
 pub use Rattle.pie_event.specs.Setter.{setter_from}
-pub use Rattle.pie_event.specs.declared.command.Answer.{Answer}
-pub use Rattle.pie_event.specs.declared.command.Answer.TheVariants.{Done, DroppedBytes, DroppedEarly, DroppedPackets, Empty, Enqueued, Left, Marked}
-pub use Rattle.pie_event.specs.declared.command.Answer.TheVariants.{Updated}
-pub use Rattle.pie_event.specs.declared.command.Event.{Event}
-pub use Rattle.pie_event.specs.declared.opening.Opening.{Opening}
+pub use Rattle.pie_event.specs.declared.opening.Limits.{Limits}
+pub use Rattle.pie_event.specs.declared.opening.Mode.TheVariants.{Bounded}
+pub use Rattle.pie_event.specs.declared.profile.Profile.TheVariants.{One}
+pub use Rattle.pie_event.specs.declared.refusal.Refusal.{Refusal}
 pub use Rattle.pie_event.specs.declared.registers.Registers.{Registers}
-pub use Rattle.pie_event.specs.declared.setter.Setter.{Setter}
-pub use Rattle.pie_excerpt.specs.Beginning.{Beginning, BeginsWell, GoesOn, is_resumed, resumed_of}
-pub use Rattle.pie_excerpt.specs.Rows.{queued_row, resume_row}
-pub use Rattle.pie_queue.specs.declared.ecn.Ecn.TheVariants.{Ce, Ect0, Ect1, NotEct}
-pub use Rattle.pie_queue.specs.declared.packet.Packet.{Packet}
-pub use Rattle.pie_record.specs.Fault.{is_device}
-pub use Rattle.pie_record.specs.HistoryLines.{Coming, Gives, LinesView, coming_after, coming_from, is_event}
-unfoldable pub use Rattle.pie_record.specs.HistoryLines.{after_opening, event_count, history_opening, history_version}
+pub use Rattle.pie_excerpt.specs.Beginning.{BeginsWell}
+unfoldable pub use Rattle.pie_excerpt.specs.Rows.{queued_row, resume_row}
+pub use Rattle.pie_excerpt.specs.Written.{begun_at, resume_of_excerpt, resume_with}
+pub use Rattle.pie_params.specs.Elements.{usual}
+pub use Rattle.pie_params.specs.Profile.{default_profile}
+pub use Rattle.pie_queue.specs.declared.packet.Waiting.{Waiting}
+unfoldable pub use Rattle.pie_rate.specs.Average.{average, samples}
+unfoldable pub use Rattle.pie_rate.specs.Cycles.{begun, cycles, cycles_from, first_closing, first_cycle, first_opening, first_position}
+pub use Rattle.pie_record.specs.Fault.{closed}
+pub use Rattle.pie_record.specs.HistoryLines.{Gives, is_event}
+unfoldable pub use Rattle.pie_record.specs.HistoryLines.{after_opening, history_version}
 pub use Rattle.pie_record.specs.Laws.{TextsAreReadBack}
-pub use Rattle.pie_record.specs.Opening.{opening_of}
-pub use Rattle.pie_record.specs.ReadBack.{EventFits, TellEach, TellsHistory}
-pub use Rattle.pie_record.specs.Records.{TakesRow, Took}
-pub use Rattle.pie_record.specs.Text.{HasField, Row, records_of, rows_text}
-pub use Rattle.pie_record.specs.Write.{event_row, written_rows}
+pub use Rattle.pie_record.specs.Records.{Took}
+unfoldable pub use Rattle.pie_record.specs.Worked.{worked_text}
 pub use Rattle.pie_record.specs.declared.clock.Clock.{Clock}
-pub use Rattle.pie_record.specs.declared.fault.TraceFault.{TraceFault}
-pub use Rattle.pie_record.specs.declared.history_record.Line.{Line}
-pub use Rattle.pie_record.specs.declared.history_record.Line.TheVariants.{Made, Note, Unmakeable}
-pub use Rattle.pie_record.specs.declared.version.Version.TheVariants.{Three}

@@ -10,3 +10,15 @@ pub mod Laws
 pub mod Following
 pub mod Lines
 pub mod Told
+unfoldable pub use Names.*
+unfoldable pub use Finding.*
+unfoldable pub use Auditor.*
+unfoldable pub use Text.*
+unfoldable pub use Legal.*
+unfoldable pub use Begun.*
+unfoldable pub use Setters.*
+unfoldable pub use Start.*
+unfoldable pub use Laws.*
+unfoldable pub use Following.*
+unfoldable pub use Lines.*
+unfoldable pub use Told.*

@@ -1,18 +1,50 @@
--- What the files of this folder take from below, in one place.
+-- What definitions, code and proofs of this crate take from below, in one place.
+pub use Rattle.std.specs.Fmt.{decimal}
+pub use Rattle.std.specs.Io.KnownBytes.{Appends}
 pub use Rattle.std.specs.List.{filter_map, find, last_or}
-pub use Rattle.std.specs.Prelude.{All, Bool, Err, List, None, Ok, Option, Result, Some, [], codes, false, length, map, min, nat_lt}
-pub use Rattle.std.specs.Prelude.{not, option_map, true, unwrap_or, ℕ, ⊤}
-pub use Rattle.pie_audit.specs.declared.auditor.Finding.{Finding}
+pub use Rattle.std.specs.Option.{is_some}
+pub use Rattle.std.specs.Prelude.{All, Bool, Err, IfErr, IfOk, IfSome, List, None, Ok, OnOk, Option, Result, Some, [], codes, false, length, map, min}
+pub use Rattle.std.specs.Prelude.{nat_lt, not, option_map, take, true, unwrap_or, ℕ, ⊤}
+pub use Rattle.csv.specs.Records.{fields_of}
 pub use Rattle.pie_audit.specs.declared.auditor.Finding.TheVariants.{Clean, Differs}
+pub use Rattle.pie_book.specs.Beside.{held_after_calls}
 pub use Rattle.pie_book.specs.Core.{CoreView, Shows}
+pub use Rattle.pie_book.specs.Decision.{IsLegal, IsLegalAt, answer_by, decision, refusal_by_rule}
+pub use Rattle.pie_book.specs.Estimates.{active_after}
+pub use Rattle.pie_book.specs.Excerpt.{Ends, ExcerptView}
+unfoldable pub use Rattle.pie_book.specs.History.{waiting_after}
+pub use Rattle.pie_book.specs.declared.standing.Standing.{Standing}
 pub use Rattle.pie_event.specs.Opening.{opening_refusal}
+pub use Rattle.pie_event.specs.Ranges.{CommandFits, ParamsFit}
+pub use Rattle.pie_event.specs.declared.command.Answer.{Answer}
+pub use Rattle.pie_event.specs.declared.command.Answer.TheVariants.{Done, DroppedBytes, DroppedEarly, DroppedPackets, Empty, Enqueued, Left, Marked}
+pub use Rattle.pie_event.specs.declared.command.Answer.TheVariants.{Updated}
+pub use Rattle.pie_event.specs.declared.command.Command.{Command}
+pub use Rattle.pie_event.specs.declared.command.Command.TheVariants.{Arrive, Depart, Reset, SetParams, Update}
 pub use Rattle.pie_event.specs.declared.command.Event.{Event}
 pub use Rattle.pie_event.specs.declared.opening.Opening.{Opening}
+pub use Rattle.pie_event.specs.declared.refusal.OpenRefusal.TheVariants.{Memory}
 pub use Rattle.pie_event.specs.declared.setter.Setter.{Setter}
-pub use Rattle.pie_excerpt.specs.Beginning.{Beginning, GoesOn, is_resumed, resumed_of}
-pub use Rattle.pie_record.specs.HistoryLines.{Coming, LinesView, coming_after, event_count, fault_from, history_lines, history_opening, later_fault}
-pub use Rattle.pie_record.specs.HistoryLines.{latest_clock, lines_from}
-pub use Rattle.pie_record.specs.Text.{Row, records_of}
+pub use Rattle.pie_excerpt.specs.Beginning.{Beginning, GoesOn, is_resumed}
+unfoldable pub use Rattle.pie_excerpt.specs.Beginning.{resumed_of}
+pub use Rattle.pie_excerpt.specs.Written.{IsWritten, excerpt_rows, part_rows}
+pub use Rattle.pie_params.specs.Range.{first_bad}
+pub use Rattle.pie_queue.specs.declared.ecn.Ecn.{Ecn}
+pub use Rattle.pie_queue.specs.declared.ecn.Ecn.TheVariants.{Ce, Ect0, Ect1, NotEct}
+pub use Rattle.pie_queue.specs.declared.packet.Packet.{Packet}
+pub use Rattle.pie_record.specs.Fault.{IsOfInput, IsWrite, is_device}
+unfoldable pub use Rattle.pie_record.specs.FirstRecord.{version_of}
+pub use Rattle.pie_record.specs.HistoryLines.{Coming, LinesView, coming_after, coming_from, history_lines, later_fault}
+unfoldable pub use Rattle.pie_record.specs.HistoryLines.{event_count, fault_from, history_opening, latest_clock, lines_from}
+unfoldable pub use Rattle.pie_record.specs.Opening.{opening_of}
+pub use Rattle.pie_record.specs.ReadBack.{EventFits, TellsHistory}
+unfoldable pub use Rattle.pie_record.specs.ReadBack.{TellEach}
+pub use Rattle.pie_record.specs.Records.{TakesRow}
+pub use Rattle.pie_record.specs.Text.{HasField, Row, records_of}
+unfoldable pub use Rattle.pie_record.specs.Text.{rows_text}
+pub use Rattle.pie_record.specs.Write.{event_row, written_rows}
 pub use Rattle.pie_record.specs.declared.fault.TraceFault.{TraceFault}
+pub use Rattle.pie_record.specs.declared.history_reader.Course.TheVariants.{Faulted, Going}
 pub use Rattle.pie_record.specs.declared.history_record.Line.{Line}
 pub use Rattle.pie_record.specs.declared.history_record.Line.TheVariants.{Clock, Made, Note, Unmakeable}
+pub use Rattle.pie_record.specs.declared.version.Version.TheVariants.{Three}

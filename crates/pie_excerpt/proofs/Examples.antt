@@ -1,15 +1,6 @@
 -- The records on worked examples: each theorem computes. The numbers stand in the order of the record's fields.
-use Rattle.pie_excerpt.proofs.Names.{◌≡◌, [], ◌∷◌, ◌++◌, refl, Some, None, codes, Half, Zero, text_of, queued_row, resume_row, Resume}
-use Rattle.std.specs.Prelude.{true}
-use Rattle.std.specs.Fmt.{digits}
-use Rattle.csv.specs.Writing.{fields_text, is_blank}
-use Rattle.pie_queue.specs.declared.ecn.Ecn.TheVariants.{Ect0}
-use Rattle.pie_params.specs.declared.elements.Delay.TheVariants.{Stamp}
-use Rattle.pie_params.specs.declared.elements.Picking.TheVariants.{Random}
-use Rattle.pie_params.specs.declared.elements.Size.TheVariants.{Scaled}
-use Rattle.pie_params.specs.declared.elements.Step.TheVariants.{Uncapped}
-use Rattle.pie_event.specs.declared.profile.Profile.TheVariants.{Two}
-use Rattle.pie_event.specs.declared.opening.Mode.TheVariants.{Rolling}
+use Rattle.pie_excerpt.proofs.Names.{◌≡◌, [], ◌∷◌, ◌++◌, refl, Some, None, codes, Half, Zero, text_of, queued_row, resume_row, Resume, true, digits}
+use Rattle.pie_excerpt.proofs.Names.{fields_text, is_blank, Ect0, Stamp, Random, Scaled, Uncapped, Two, Rolling}
 
 abbrev worked : Resume
 worked = record {

@@ -2,40 +2,46 @@
 pub use Rattle.std.proofs.Common.{Bool, List, [], add-one, ap, append_assoc, arith, drop, false, get_or, if◌then◌else◌, length, map, not, refl, subst}
 pub use Rattle.std.proofs.Common.{suc, sym, take, true, zero, ℕ, ◌++◌, ◌+◌, ◌-◌, ◌<◌, ◌==◌, ◌^◌, ◌∙◌, ◌∷◌, ◌≡◌, ◌≤◌}
 pub use Rattle.std.proofs.KnownBytes.{Appends-nil, Appends-trans, Keeps-refl, append_known-grown}
-pub use Rattle.std.proofs.lemmas.List.{append-nil}
-pub use Rattle.std.specs.Io.KnownBytes.{Appends, append_known}
-pub use Rattle.std.specs.Prelude.{All, Err, IfSome, None, Ok, Option, Result, Some, codes, decimal, nat_lt, slice_get, unwrap_or}
-pub use Rattle.csv.specs.Records.{fields_of}
-unfoldable pub use Rattle.csv.specs.Records.{field_at}
-pub use Rattle.pie_book.specs.Core.{CoreView}
-pub use Rattle.pie_book.specs.Standing.{ResumingView, StandsFor, begun_with, core_of, end_refusal, queue_refusal, resume_refusal, with_packet}
-pub use Rattle.pie_book.specs.declared.standing.Standing.{Standing}
-pub use Rattle.pie_event.specs.Opening.{are_in_range, opening_refusal}
-pub use Rattle.pie_event.specs.declared.opening.Opening.{Opening}
-pub use Rattle.pie_event.specs.declared.resume_refusal.EndRefusal.{EndRefusal}
-pub use Rattle.pie_event.specs.declared.resume_refusal.ResumeRefusal.{ResumeRefusal}
-pub use Rattle.pie_excerpt.specs.Beginning.{Beginning, BeginsWell, GoesOn, QueueAt, begun_by, core_by, draft_of, ended_by, is_resumed, missing}
-pub use Rattle.pie_excerpt.specs.Beginning.{numbers_fault, or_fault, queued_after, queued_by, resumed_by}
-unfoldable pub use Rattle.pie_excerpt.specs.Beginning.{core_from, resumed_of, with_queue}
-pub use Rattle.pie_excerpt.specs.Fits.{ControllerFits, CycleFits, ResumeFits, SetterFits, WaitingFits}
-pub use Rattle.pie_excerpt.specs.Reading.{fields_read, setter_at, setter_of}
-unfoldable pub use Rattle.pie_excerpt.specs.Reading.{control_at, cycle_at, later_at, queued_of, rate_at, resume_of, stats_at}
-pub use Rattle.pie_excerpt.specs.Rows.{choices_of, counted, cycle_bytes, cycle_start, held_row, measuring, opened_numbers, opening_row, placed_row}
-pub use Rattle.pie_excerpt.specs.Rows.{registers_of, setter_field}
-unfoldable pub use Rattle.pie_excerpt.specs.Rows.{queued_row, resume_row}
-pub use Rattle.pie_excerpt.specs.declared.resume.Resume.{Resume}
-pub use Rattle.pie_params.specs.Range.{first_bad}
+pub use Rattle.std.proofs.lemmas.Bool.{eqb-true}
+pub use Rattle.std.proofs.lemmas.Bool.Decides.{nat_tests}
+pub use Rattle.std.proofs.lemmas.List.{append-nil, take_more_set}
+pub use Rattle.std.proofs.lemmas.List.Concat.{flat_map-append}
+pub use Rattle.std.proofs.lemmas.List.Elements.{All-cons, All-head, All-tail}
+unfoldable pub use Rattle.std.specs.Fmt.{digits}
+pub use Rattle.std.specs.Prelude.{decimal, nat_lt, slice_get, unwrap_or, ◌&&◌, ◌||◌}
+pub use Rattle.pie_excerpt.specs.{All, Appends, BeginsWell, ControllerFits, CoreView, CycleFits, Draft, EndRefusal, Err, Event}
+pub use Rattle.pie_excerpt.specs.Beginning.{Beginning}
+pub use Rattle.pie_excerpt.specs.{ExcerptView, Flaw, GoesOn, HasField, IfSome, IsWritten, Later, None, Ok, Opening, Option, Packet, QueueAt}
+pub use Rattle.pie_excerpt.specs.{QueueRefusal, RawCycle, Result, Resume, ResumeFits, ResumeRefusal, ResumingView, Row, SetterFits, Some, Standing}
+pub use Rattle.pie_excerpt.specs.{StandsFor, StatsFit, TraceFault, Waiting, WaitingFits, and_then, append_known, are_plain, are_registers, begun_at}
+pub use Rattle.pie_excerpt.specs.{begun_by, begun_with, checked_opening, choices_of, chosen_row, codes, core_by, core_of, counted, cycle_bytes}
+pub use Rattle.pie_excerpt.specs.{cycle_start, draft_of, ecn_word, end_refusal, ended_by, event_row, excerpt_rows, fault_at, fields_of, fields_read}
+pub use Rattle.pie_excerpt.specs.{first_bad, first_fields, flag, held_row, is_device, is_kind, is_resumed, measuring, missing, most_u128, most_u64}
+pub use Rattle.pie_excerpt.specs.{nat_le, needs_quotes, nine_of, number_at, numbers_fault, onto, opened_numbers, opening_refusal, opening_row}
+pub use Rattle.pie_excerpt.specs.{or_fault, placed_row, queue_refusal, queued_after, queued_by, records_of, registers_of, resume_in, resume_of_excerpt}
+pub use Rattle.pie_excerpt.specs.{resume_refusal, resume_with, resumed_by, rows_setup, setter_at, setter_field, setter_of, text_of, with_packet, ⊤}
+unfoldable pub use Rattle.pie_excerpt.specs.{core_from, field_at, later_at, number, numbers_from, packet_at, params_at, queued_of, queued_row}
+unfoldable pub use Rattle.pie_excerpt.specs.{resume_of, resume_row, resumed_of, rows_text, waiting_after, with_queue}
+unfoldable pub use Rattle.csv.specs.Reading.{strip_bom}
+unfoldable pub use Rattle.csv.specs.Writing.{fields_text, is_blank}
+pub use Rattle.pie_aqm.specs.Held.{Held}
+unfoldable pub use Rattle.pie_aqm.specs.History.{Shows, held_of}
+pub use Rattle.pie_event.specs.Opening.{are_in_range}
+pub use Rattle.pie_event.specs.declared.opening.Limits.{Limits}
+pub use Rattle.pie_event.specs.declared.opening.Mode.TheVariants.{Rolling}
+pub use Rattle.pie_event.specs.declared.profile.Profile.TheVariants.{Two}
+pub use Rattle.pie_params.specs.declared.elements.Decay.{Decay}
 pub use Rattle.pie_params.specs.declared.elements.Decay.TheVariants.{Half, Zero}
-pub use Rattle.pie_queue.specs.declared.packet.Waiting.{Waiting}
-pub use Rattle.pie_record.specs.Fault.{fault_at, is_device}
-pub use Rattle.pie_record.specs.Field.{is_kind, most_u128, most_u64, number_at}
-unfoldable pub use Rattle.pie_record.specs.Field.{packet_at, params_at}
-pub use Rattle.pie_record.specs.Opening.{Checked, checked_opening}
+pub use Rattle.pie_params.specs.declared.elements.Delay.TheVariants.{Stamp}
+pub use Rattle.pie_params.specs.declared.elements.Picking.TheVariants.{Random}
+pub use Rattle.pie_params.specs.declared.elements.Size.TheVariants.{Scaled}
+pub use Rattle.pie_params.specs.declared.elements.Step.TheVariants.{Uncapped}
+pub use Rattle.pie_queue.specs.declared.ecn.Ecn.TheVariants.{Ect0}
+pub use Rattle.pie_record.proofs.Laws.{and_after, back_ecn, back_u32, back_u64, decimal-some, has-all, kind-first, number-back, number-then}
+pub use Rattle.pie_record.proofs.Laws.{ok-same, packet-read, params-back, records_left-written, rows_text-cons, tested, three-back, word-has}
+pub use Rattle.pie_record.specs.Opening.{Checked}
 pub use Rattle.pie_record.specs.Records.{TakesRow, Took}
-pub use Rattle.pie_record.specs.Text.{HasField, Row, records_left, records_of, text_of}
-unfoldable pub use Rattle.pie_record.specs.Text.{rows_text}
-pub use Rattle.pie_record.specs.Words.{ecn_word}
-pub use Rattle.pie_record.specs.Write.{chosen_row, event_row, nine_of}
-pub use Rattle.pie_record.specs.declared.fault.Flaw.{Flaw}
-pub use Rattle.pie_record.specs.declared.fault.TraceFault.{TraceFault}
-pub use Rattle.pie_record.specs.declared.first_record.Draft.{Draft}
+pub use Rattle.pie_record.specs.Text.{records_left}
+pub use Rattle.pie_record.specs.declared.first_record.FirstKind.{FirstKind}
+pub use Rattle.pie_text.proofs.PlainFacts.{decimal_plain, decimal_plain_long, plain_append, text-onto, text-plain}
+pub use Rattle.pie_text.specs.Plain.{ending}

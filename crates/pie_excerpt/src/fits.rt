@@ -1,10 +1,7 @@
 //! The numbers that are written are those that the types of their fields hold. These functions do nothing: their contracts say it of values in
 //! hand.
-ghost use Rattle.std.specs.Prelude.{◌≡◌, ◌<◌, ◌^◌, None};
-ghost use Rattle.pie_params.specs.Range.{first_bad};
-ghost use Rattle.pie_event.specs.Ranges.{StatsFit};
-ghost use Rattle.pie_record.specs.ReadBack.{LimitsFit, NineFit};
-ghost use Rattle.pie_excerpt.specs.Fits.{ControllerFits, CycleFits, ResumeFits, SetterFits, WaitingFits};
+ghost use Rattle.std.specs.Prelude.{◌≡◌, ◌<◌, ◌^◌};
+ghost use Rattle.pie_excerpt.specs.{None, first_bad, StatsFit, LimitsFit, NineFit, ControllerFits, CycleFits, ResumeFits, SetterFits, WaitingFits};
 
 use crate::resume::Resume;
 use pie_aqm::RawController;

@@ -1,18 +1,9 @@
 //! What is written is read back.
-ghost use Rattle.std.specs.Prelude.{◌≡◌, ◌∷◌, ◌++◌, ℕ, All, List, Ok, Option, map, take, true};
-ghost use Rattle.pie_event.specs.Ranges.{CommandFits};
-ghost use Rattle.pie_event.specs.declared.command.Event.{Event};
-ghost use Rattle.pie_event.specs.declared.opening.Opening.{Opening};
-ghost use Rattle.pie_book.specs.History.{waiting_after};
-ghost use Rattle.pie_book.specs.declared.standing.Standing.{Standing};
-ghost use Rattle.pie_queue.specs.declared.packet.Waiting.{Waiting};
-ghost use Rattle.pie_record.specs.Text.{HasField, Row, records_of, rows_text};
-ghost use Rattle.pie_excerpt.specs.Beginning.{Beginning, BeginsWell, GoesOn, is_resumed, resumed_of};
-ghost use Rattle.pie_excerpt.specs.Fits.{ResumeFits, WaitingFits};
-ghost use Rattle.pie_excerpt.specs.Reading.{queued_of, resume_of};
-ghost use Rattle.pie_excerpt.specs.Rows.{queued_row, resume_row};
-ghost use Rattle.pie_excerpt.specs.Written.{IsWritten, begun_at, resume_with};
-ghost use Rattle.pie_excerpt.specs.declared.resume.Resume.{Resume};
+ghost use Rattle.std.specs.Prelude.{◌≡◌, ◌∷◌, ◌++◌};
+ghost use Rattle.pie_excerpt.specs.{ℕ, All, List, Ok, Option, map, take, true, CommandFits, Event, Opening, waiting_after, Standing, Waiting};
+ghost use Rattle.pie_excerpt.specs.{HasField, Row, records_of, rows_text, BeginsWell, GoesOn, is_resumed, resumed_of, ResumeFits};
+ghost use Rattle.pie_excerpt.specs.Beginning.{Beginning};
+ghost use Rattle.pie_excerpt.specs.{WaitingFits, queued_of, resume_of, queued_row, resume_row, IsWritten, begun_at, resume_with, Resume};
 
 use pie_book::packets_that_waited_are_taken;
 use pie_record::openings_are_checked;

@@ -1,7 +1,7 @@
 -- A trace that goes on after a history is answered as the whole from there on.
 use Rattle.pie_trace.proofs.Names.{◌≡◌, ◌-◌, List, [], ◌∷◌, ◌++◌, false, refl, ap, ◌∙◌, arith, nat_lt, le-ltb, Opening, Progress, progress_after}
 use Rattle.pie_trace.proofs.Names.{start, Request, Ask, Fold, progress_at_end, replies, steps_of, Reply, after, let_go, reply}
-use Rattle.pie_trace.specs.Resumed.{going_on}
+use Rattle.pie_trace.specs.History.{going_on}
 
 replies-append : (opening : Opening) (from : Progress) (xs ys : List Request)
     → replies opening from (xs ++ ys) ≡ replies opening from xs ++ replies opening (progress_after opening from (steps_of xs)) ys

@@ -1,10 +1,9 @@
 mod Names
 pub mod HistoryFacts
-pub mod RunOfSteps
 pub mod StepFacts
 pub mod RunFacts
 pub mod EndFacts
-pub mod ResumedFacts
+mod StartFacts
 pub mod GoingFacts
 pub mod RunBack
 pub mod Examples

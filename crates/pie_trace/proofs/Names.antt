@@ -12,11 +12,11 @@ pub use Rattle.pie_trace.specs.{FirstKind, Flaw, Fold, FoldRefusal, Goes, HasFie
 pub use Rattle.pie_trace.specs.{Line, Migrates, Moves, MovesOn, None, Ok, OnOk, One, Opening, Option, Progress, Refusal, Registers, Replies}
 pub use Rattle.pie_trace.specs.Reply.{Reply}
 pub use Rattle.pie_trace.specs.{Request, Result, Rolling, Row, RunsFrom, Show, Shows, Some, Stands, Stats, Tally, TellTheSame, Tells, TellsHistory}
-pub use Rattle.pie_trace.specs.{Three, TraceFault, Two, Version, after, append_known, closed, code_of, coming_after, end_after, end_at, end_left}
-pub use Rattle.pie_trace.specs.{event_count, events_in, fault_after, fault_at, fault_behind, fault_from, fields_of, fold_outcome, history_row}
+pub use Rattle.pie_trace.specs.{Three, TraceFault, Two, Version, after, append_known, closed, code_of, coming_after, end_at, end_left}
+pub use Rattle.pie_trace.specs.{event_count, events_in, fault_at, fault_behind, fault_from, fields_of, fold_outcome, history_row}
 pub use Rattle.pie_trace.specs.{is_device, is_kind, last_events, later_rows, let_go, line_told, lines_from, migrated_text, migrated_version}
 pub use Rattle.pie_trace.specs.{opening_refusal, outcome, partial_of, progress_at_end, queued_row, records_of, refused, refused_count, reply}
-pub use Rattle.pie_trace.specs.{reply_to_command, reply_to_fold, request_in, rows_after, start, stats_after, text_after, text_of, told_by}
+pub use Rattle.pie_trace.specs.{reply_to_command, reply_to_fold, request_in, rows_after, start, stats_after, text_of, told_by}
 unfoldable pub use Rattle.pie_trace.specs.{after_opening, answer_fields, before_fault, end_of, fault_of, first_fault, first_in_two, first_kind}
 unfoldable pub use Rattle.pie_trace.specs.{folded_row, history_events, history_fault, history_opening, history_rows, history_text, history_version}
 unfoldable pub use Rattle.pie_trace.specs.{later_in_two, line_of, lines_told, migrated, opening_of, progress_after, record_fault, refused_row}

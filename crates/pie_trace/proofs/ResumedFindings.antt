@@ -3,17 +3,17 @@ use Rattle.pie_trace.proofs.Names.{◌≡◌, ◌≤◌, ◌+◌, ◌^◌, ℕ, 
 use Rattle.pie_trace.proofs.Names.{nat_lt, Some, None, Result, Ok, Err, if◌then◌else◌, nat_tests, Event, Opening, Shows, IsLegal, progress_after}
 use Rattle.pie_trace.proofs.Names.{TraceFault, Line, Three, TellEach, Row, records_of, rows_text, text_of, Clean, AreLegal, RunEnd, before_fault}
 use Rattle.pie_trace.proofs.Names.{end_left, first_fault, history_rows, replies, requests_of, steps_of, text_left, lines_told}
-use Rattle.std.proofs.lemmas.List.Concat.{flat_map-append}
 use Rattle.pie_event.specs.Ranges.{CommandFits}
 use Rattle.pie_record.specs.declared.history_record.Line.TheVariants.{Made}
 use Rattle.pie_excerpt.specs.Beginning.{Beginning, BeginsWell, GoesOn, or_fault, resumed_of}
 use Rattle.pie_audit.specs.Finding.{events_of}
 use Rattle.pie_audit.specs.Laws.{EventsAreLines}
 use Rattle.pie_audit.specs.Text.{IsFound, TellsPart, excerpt_lines, whole_finding}
-use Rattle.pie_trace.specs.Resumed.{end_resumed, fault_resumed, going_on, progress_resumed, resumed_end, resumed_fault, resumed_text, resumed_within}
-use Rattle.pie_trace.specs.Resumed.{text_resumed, within_most}
+use Rattle.pie_trace.specs.History.{end_in, fault_in, going_on}
+use Rattle.pie_trace.specs.Resumed.{going_by, progress_resumed, resumed_end, resumed_fault, resumed_text, resumed_within, within_most}
 use Rattle.pie_record.specs.declared.fault.TraceFault.TheVariants as fault
-use Rattle.pie_trace.proofs.RunBack.{Held, Opens, Sound, before-few, rows-few, rows-told}
+use Rattle.pie_trace.proofs.EndFacts.{part-opened}
+use Rattle.pie_trace.proofs.RunBack.{Held, Opens, Sound, before-few, rows-few, rows-told, text-begun}
 use Rattle.pie_trace.proofs.RunFindings.{AreRuns, before-all, lines-legal}
 
 -- what is wanted of the crates below
@@ -57,11 +57,8 @@ text-resumed : (most : ℕ) (past : List Event) (rows : List Row) (b : Beginning
     → resumed_text most past rows ≡ rows_text (take b.read rows
     ++ history_rows Three (b.read + 1) (before_fault Three most (b.read + 1) b.left)
     (replies b.opening (going_on past) (requests_of Three (before_fault Three most (b.read + 1) b.left))))
-unfolding resumed_text text_left rows_text
-text-resumed most past rows b e =
-    ap (λ (read : Result Beginning TraceFault). text_resumed most read past rows) e
-    ∙ sym (flat_map-append text_of (take b.read rows) (history_rows Three (b.read + 1) (before_fault Three most (b.read + 1) b.left)
-    (replies b.opening (going_on past) (requests_of Three (before_fault Three most (b.read + 1) b.left)))))
+unfolding resumed_text
+text-resumed most past rows b e = rw (part-opened most rows b e) (text-begun most past rows (going_by b))
 
 -- legal lines are found clean
 told-clean : Below → (text : List ℕ) (opening : Opening) (past : List Event) (lines : List Line) (history : List Event)
@@ -123,11 +120,12 @@ faultless most rows past end sound ended = by (resumed_within most rows) refl so
     events-same : (made end : RunEnd) → Some made ≡ Some end → end.events ≡ made.events
     events-same made end e = let same : made ≡ end = cc in sym (ap (λ (r : RunEnd). r.events) same)
 
-    by : (read : Result Beginning TraceFault) → resumed_within most rows ≡ read → fault_resumed most read ≡ None → Faultless most rows past end
+    by : (read : Result Beginning TraceFault) → resumed_within most rows ≡ read
+        → fault_in most (or_fault read (λ begun. Ok (going_by begun))) ≡ None → Faultless most rows past end
     by (Err why) is e = cc
     by (Ok b) is e =
         let at = within most rows b is in
-        let here : end_resumed (resumed_of rows) past ≡ Some end = ended in
+        let here : end_in past (or_fault (resumed_of rows) (λ begun. Ok (going_by begun))) ≡ Some end = ended in
         record {
           b = b;
           begun = is;

@@ -9,7 +9,7 @@ use Rattle.pie_trace.proofs.Names.{fault_at, before_fault, history_rows, history
 use Rattle.pie_trace.proofs.Names.{opening_of, opening_read, Row, rows_text, text_of, is_kind, request_of, line_of, Begins, TellEach, TellsHistory}
 use Rattle.pie_trace.proofs.Names.{line_told, lines_told, run_lines, first_fields, first_kind, kind_word, version_of, Reply, after, history_row}
 use Rattle.pie_trace.proofs.Names.{reply, reply_to_command, reply_to_fold, code_of}
-use Rattle.std.proofs.lemmas.List.Concat.{flat_map-cons}
+use Rattle.std.proofs.lemmas.List.Concat.{flat_map-append}
 use Rattle.pie_event.specs.Deed.{fits}
 use Rattle.pie_event.specs.Ranges.{AnswerFits, CommandFits, ParamsFit, RegistersFit, StatsFit}
 use Rattle.pie_record.specs.Opening.{Checked, opening_by}
@@ -17,7 +17,8 @@ use Rattle.pie_record.specs.Laws.{AnswersAreReadBack, RequestsAreWrittenAgain, T
 use Rattle.pie_event.specs.declared.refusal.Refusal.TheVariants as refusal
 use Rattle.pie_record.specs.declared.fault.TraceFault.TheVariants as fault
 use Rattle.pie_record.specs.declared.first_record.FirstKind.TheVariants as kinds
-use Rattle.pie_trace.proofs.EndFacts.{history_text-read}
+use Rattle.pie_trace.specs.History.{Begun, going_on, text_in}
+use Rattle.pie_trace.proofs.EndFacts.{first-one, whole-opened}
 use Rattle.pie_trace.proofs.HistoryFacts.{before_fault-later, flawed-record, long-record, requests_of-cons}
 
 -- what pie_book promises of all histories, and pie_record of all records
@@ -319,20 +320,25 @@ opened held row opening = by (first_kind row) refl
 pub sound-start : (held : Held) (opening : Opening) → Sound opening start
 sound-start held opening = record { legal = held.legal_at_first opening; fit = All-nil (λ (e : Event). CommandFits e.command); held = omega arith }
 
-text-rows : (version : Version) (most : ℕ) (opening : Opening) (rows : List Row)
-    → text_left version most opening 2 start rows ≡ rows_text (history_rows version 2 (before_fault version most 2 rows)
-    (replies opening start (requests_of version (before_fault version most 2 rows))))
-unfolding text_left
-text-rows version most opening rows = refl
+-- the records of its beginning, and those of its answers
+pub text-begun : (most : ℕ) (past : List Event) (rows : List Row) (b : Begun)
+    → text_in most past rows (Ok b) ≡ rows_text (take b.read rows ++ history_rows b.version (b.read + 1)
+    (before_fault b.version most (b.read + 1) b.left)
+    (replies b.opening (going_on past) (requests_of b.version (before_fault b.version most (b.read + 1) b.left))))
+unfolding text_left rows_text
+text-begun most past rows b =
+    sym (flat_map-append text_of (take b.read rows) (history_rows b.version (b.read + 1) (before_fault b.version most (b.read + 1) b.left)
+    (replies b.opening (going_on past) (requests_of b.version (before_fault b.version most (b.read + 1) b.left)))))
 
 pub text-whole : (most : ℕ) (row : Row) (rows : List Row) (opening : Opening) → 0 < most → opening_of row ≡ Ok opening
     → history_text most (row ∷ rows) ≡ rows_text (row ∷ history_rows (version_of row) 2 (before_fault (version_of row) most 2 rows)
     (replies opening start (requests_of (version_of row) (before_fault (version_of row) most 2 rows))))
-unfolding rows_text
+unfolding history_text
 text-whole most row rows opening some opens =
-    history_text-read most row rows some ∙ rw opens (rw (text-rows (version_of row) most opening rows)
-    (sym (flat_map-cons text_of row (history_rows (version_of row) 2 (before_fault (version_of row) most 2 rows)
-    (replies opening start (requests_of (version_of row) (before_fault (version_of row) most 2 rows)))))))
+    rw (whole-opened most row rows opening some opens)
+    (text-begun most [] (row ∷ rows) (record { version = version_of row; opening = opening; read = 1; left = rows })
+    ∙ ap (λ (first : List Row). rows_text (first ++ history_rows (version_of row) 2 (before_fault (version_of row) most 2 rows)
+    (replies opening start (requests_of (version_of row) (before_fault (version_of row) most 2 rows))))) (first-one row rows))
 
 run-begun : (held : Held) (most : ℕ) (kind : FirstKind) (rest : Row) (rows : List Row) (opening : Opening) → 0 < most → most ≤ 2 ^ 32
     → opening_of (kind_word kind ∷ rest) ≡ Ok opening

@@ -63,4 +63,6 @@ pub fn resumed_runs_are_clean()
 /// It does nothing: its contract is the law (this project's own).
 pub fn lost_records_are_faults_of_parts()
     ensures { (count : ℕ) (before after : List Row) → excerpt_fault (before ++ lost_row count ∷ after) ≢ None }
-{}
+{
+    beginnings_are_written_again();
+}

@@ -25,9 +25,9 @@ pub mod law;
 pub mod migration;
 pub mod migration_finding;
 pub mod migration_law;
-mod resumed;
 pub mod run;
 mod session;
+mod started;
 
 pub use finding::{lost_records_are_faults_of_parts, resumed_runs_are_clean, runs_are_clean};
 pub use law::{history_texts_are_read_back, resumed_runs_go_on_as_the_whole};

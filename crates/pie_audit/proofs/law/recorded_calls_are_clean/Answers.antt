@@ -1,4 +1,4 @@
-use Rattle.pie_book.specs.Decision.{IsLegalAt}
+use Rattle.pie_audit.proofs.Names.{IsLegalAt}
 use Rattle.pie_audit.proofs.LegalFacts.{at-push}
 use Rattle.pie_audit.proofs.Written.{written-clean}
 use Rattle.pie_audit.proofs.law.recorded_calls_are_clean.Goals as goal

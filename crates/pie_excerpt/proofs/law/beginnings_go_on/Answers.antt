@@ -1,5 +1,5 @@
 use Rattle.pie_excerpt.proofs.GoesFacts.{goes-on, resumes, written_goes_on}
-use Rattle.pie_excerpt.specs.Written.{resume_with}
+use Rattle.pie_excerpt.proofs.Names.{resume_with}
 use Rattle.pie_excerpt.proofs.law.beginnings_go_on.Goals as goal
 
 pub returns-clause-resumes : goal.returns-clause-resumes

@@ -10,7 +10,7 @@ python3 - "$@" <<'PY'
 import os, re, signal, subprocess, sys
 
 bench, tests = sys.argv[1:]
-SLEEPERS = "those_that_sleep_at_a_held_lock_all_wake"
+SLEEPERS = "sleepers"
 # So many calls are enough to tell, and so many yields are those of waiters who first look again a few times.
 ENOUGH, FEW = 10_000, 200
 

@@ -13,26 +13,17 @@ import tempfile
 sys.path.insert(0, f"{os.path.dirname(os.path.abspath(__file__))}/../shared")
 from checks import NAME, ROOT, check, finish, refusing  # noqa: E402
 
-# What each call answers, and what is seen then, where a request was refused, as regular expressions; nothing where it makes none. The numbers are
-# those that crates/pie_library_tests says: of a fold that is refused how many events there still are, of lines that the same comes again, of a text
-# how many bytes of it were not written.
+# What each call answers, and what is seen then, where a request was refused, as regular expressions. The number
+# of a fold is how many events there still are.
 REFUSED = {
     "Book::fold": r"memory, 1000, 0",
-    "Book::apply": None,
-    "Excerpt::with_room": r"memory, 0, 0",
+    "write_excerpt": r"memory, 0, 0",
     "Link::open_with": r"memory, 0, 0",
-    "Link::try_arrive": None,
-    "Link::arrive_all": None,
     "Link::try_fold": r"memory, 3, 0",
     "Link::fold": r"memory, 3, 0",
-    "HistoryLines": r"memory, 1, 0",
-    "audit": r"memory, 0, 0",
-    "run_trace": r"memory, \d{1,3}, 0",
-    "explain": r"memory, \d{1,3}, 0",
 }
-# What the program does behind these calls, and how the line begins that stands behind that where it makes every part.
-LAST = "flushes that fail"
-BEHIND = "a history at a link"
+# What stands behind these calls where the program makes every part.
+BEHIND = "run_trace_flushes"
 # What each of these calls requests at the most at once, in bytes, and what is not enough for it: an event that is handed out takes 64 bytes, however
 # many the tail holds.
 ROOM = {"Book::fold": (64, 63)}
@@ -49,7 +40,7 @@ def calls_of(text):
 
 def is_want(name, told):
     """Whether this is what the call answers that was refused a request."""
-    return REFUSED[name] is not None and re.fullmatch(f"{name}: {REFUSED[name]}\n", told) is not None
+    return re.fullmatch(f"{name}: {REFUSED[name]}\n", told) is not None
 
 
 def run(**environment):
@@ -65,7 +56,7 @@ class Program:
         self.ample = calls_of(output)
         wanted, behind, _ = open(ROOT / "crates/pie_library_tests/stdout").read().partition(f"\n{BEHIND}")
         check((status, errors) == (0, "") and behind and f"{wanted}\n" == output, "with ample memory:", status, errors, output)
-        check(set(self.ample) == {*REFUSED, LAST}, "other calls than here:", set(self.ample) ^ {*REFUSED, LAST})
+        check(set(self.ample) == set(REFUSED), "other calls than here:", set(self.ample) ^ set(REFUSED))
 
     def refuse(self, library, met, name, is_on):
         """Refuses the first request of this call, its second, and so on, and says how many it makes."""
@@ -92,9 +83,9 @@ class Program:
 
     def refuse_each(self, library, met):
         """Refuses each request of each call."""
-        for name, answer in REFUSED.items():
+        for name in REFUSED:
             counts = [self.refuse(library, met, name, is_on) for is_on in (False, True)]
-            check((0 in counts) == (answer is None), name, "makes so many requests:", counts)
+            check(0 not in counts, name, "makes so many requests:", counts)
             print(f"{NAME}: {name}: refused memory at {counts[0]} places, and at {counts[1]} with all after it")
 
     def has_room(self, library, met, name, enough, too_little):

@@ -100,6 +100,14 @@ if [ "$dropped" = 0 ] || [ "$changes" -lt 64 ] || [ "$bursts" != " 8 8 1000 32 "
     echo "$script: a storm in bursts of 32: bursts $bursts, $moments at another moment, $dropped dropped, $(cat "$work/errors")"
     failed=1
 fi
+# The longest bursts: each of two senders makes one call.
+"$program" storm --packets 1024 --burst 1024 > "$work/output" 2> "$work/errors"
+got=$?
+if [ "$got" != 0 ] || [ -s "$work/errors" ] || [ "$(grep -c '^arrive,' "$work/output")" != 2048 ] ||
+    [ "$("$program" audit < "$work/output" | cut -d, -f1)" != clean ]; then
+    echo "$script: a storm in the longest bursts: status $got, $(cat "$work/errors")"
+    failed=1
+fi
 # Twenty storms of eight senders with two thousand packets each, in bursts of 1 to 32: every history is audited clean.
 for seed in $(seq 20); do
     "$program" storm --senders 8 --packets 2000 --burst "$((1 << seed % 6))" --seed "$seed" > "$work/output" 2> "$work/errors"

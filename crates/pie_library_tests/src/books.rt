@@ -1,10 +1,13 @@
-//! Books, folds and excerpts.
+//! Folds and excerpts of a book.
 ghost use Rattle.std.specs.Prelude.{◌≡◌};
 
+use crate::flushes::Sink;
 use crate::seen::{Seen, begin};
-use pie_book::{Book, Command, Excerpt, FoldRefusal, Limits, OpenRefusal, Refusal};
+use pie_book::{Book, Command, Excerpt, FoldRefusal, Limits, OpenRefusal};
+use pie_excerpt::write_excerpt;
 use pie_params::Params;
 use pie_queue::{Ecn, Packet};
+use pie_record::TraceFault;
 use std::alloc::Global;
 
 /// A ring of four packets, and a tail of so many events.
@@ -43,6 +46,17 @@ fn arrive_often(book: &mut Book, count: u64) {
     }
 }
 
+/// A bounded book whose tail so many events fill.
+fn full(alloc: Global, tail: u32) -> Option<Book> {
+    match Book::open(alloc, limits(tail), Params::default_profile(), 0) {
+        Ok(mut book) => {
+            arrive_often(&mut book, u64::from(tail));
+            Some(book)
+        }
+        Err(_) => None,
+    }
+}
+
 /// Whether one event is before the tail, and its packet waited there.
 fn has_one_before(book: &mut Book) -> bool {
     let (arrivals, count) = (
@@ -67,75 +81,41 @@ fn fold_one(alloc: Global, book: &mut Book) -> Seen {
     }
 }
 
-/// A book takes its events and refuses one more for a full tail, without a request for memory: how many there are.
-fn fill(book: &mut Book) -> Seen {
-    arrive_often(book, 8);
-    let is_full = matches!(
-        book.apply(1, Command::Depart { moment: 9 }),
-        Err(Refusal::HistoryFull)
-    );
-    Seen::done(book.count(), u64::from(is_full))
+/// A fold of one event from a full tail of a thousand, which requests room for one.
+pub(crate) fn fold(rt: &impl Print, alloc: Global, name: &str) -> Seen {
+    match full(alloc, 1000) {
+        Some(mut book) => {
+            begin(rt, name);
+            fold_one(alloc, &mut book)
+        }
+        None => Seen::NOTHING,
+    }
 }
 
-/// Whether a book fills an excerpt, and with how many events.
-fn fill_out(book: &Book, excerpt: &mut Excerpt) -> Seen {
+/// Whether a book fills an excerpt, with how many events, where its text is written then.
+fn fill_out(alloc: Global, book: &Book, excerpt: &mut Excerpt) -> Seen {
     let is_filled = book.excerpt(excerpt).is_ok();
-    Seen::done(u64::from(is_filled), excerpt.tail().len() as u64)
+    match write_excerpt(alloc, &mut Sink::new(false), excerpt) {
+        Ok(()) => Seen::done(u64::from(is_filled), excerpt.tail().len() as u64),
+        Err(why) => Seen::refused(matches!(why, TraceFault::Memory), 0),
+    }
 }
 
-/// An excerpt takes its room as it is made, and none as a book fills it.
+/// An excerpt of a book takes its room as it is made, and its text what it needs.
 fn take_out(alloc: Global, book: &Book) -> Seen {
     match Excerpt::with_room(alloc, book.opening()) {
-        Ok(mut excerpt) => fill_out(book, &mut excerpt),
+        Ok(mut excerpt) => fill_out(alloc, book, &mut excerpt),
         Err(why) => Seen::refused(matches!(why, OpenRefusal::Memory), 0),
     }
 }
 
-/// A call at a book.
-#[derive(Clone, Copy)]
-pub(crate) enum BookCall {
-    /// A fold of one event from a full tail of a thousand, which requests room for one.
-    Fold,
-    /// Events until the tail is full.
-    Apply,
-    /// An excerpt of a full tail of eight.
-    Excerpt,
-}
-
-impl BookCall {
-    /// How many events the book's tail holds, and how many come before the call.
-    fn sizes(self) -> (u32, u64) {
-        match self {
-            BookCall::Fold => (1000, 1000),
-            BookCall::Apply => (8, 0),
-            BookCall::Excerpt => (8, 8),
+/// The text of an excerpt of a full tail of eight.
+pub(crate) fn excerpt(rt: &impl Print, alloc: Global, name: &str) -> Seen {
+    match full(alloc, 8) {
+        Some(book) => {
+            begin(rt, name);
+            take_out(alloc, &book)
         }
-    }
-
-    /// Makes it, at a book that had so many events.
-    fn make_after(
-        self,
-        rt: &impl Print,
-        alloc: Global,
-        book: &mut Book,
-        events: u64,
-        name: &str,
-    ) -> Seen {
-        arrive_often(book, events);
-        begin(rt, name);
-        match self {
-            BookCall::Fold => fold_one(alloc, book),
-            BookCall::Apply => fill(book),
-            BookCall::Excerpt => take_out(alloc, book),
-        }
-    }
-
-    /// Makes it, at a bounded book.
-    pub(crate) fn make(self, rt: &impl Print, alloc: Global, name: &str) -> Seen {
-        let (tail, events) = self.sizes();
-        match Book::open(alloc, limits(tail), Params::default_profile(), 0) {
-            Ok(mut book) => self.make_after(rt, alloc, &mut book, events, name),
-            Err(_) => Seen::NOTHING,
-        }
+        None => Seen::NOTHING,
     }
 }

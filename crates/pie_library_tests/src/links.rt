@@ -1,28 +1,106 @@
-//! Links, and the folds at a link.
-ghost use Rattle.std.specs.Prelude.{◌≡◌, IfOk, IfSome};
+//! Links: calls that want memory, and what a caller is answered that lacks numbers at a link that is free, since no clause says that it isn't busy.
+//! Of what the calls promise nothing is needed here but that the caller stays one of the link's.
+ghost use Rattle.std.specs.Prelude.{◌≡◌, IfOk};
 ghost use Rattle.pie_link.specs.Views.{StaysOne};
 
-use crate::at_link;
-use crate::at_link::Waited;
 use crate::books::{arrive, limits, packet};
 use crate::seen::{Seen, begin};
-use pie_book::{
-    Answer, Choices, Command, FoldRefusal, Mode, OpenRefusal, Opening, Profile, Refusal,
-};
+use pie_book::{Answer, Command, Excerpt, FoldRefusal, Limits, OpenRefusal, Opening, Refusal};
 use pie_link::{Arrival, Caller, Link, LinkRefusal, Told, Tried};
-use pie_params::{Elements, Params};
+use pie_params::Params;
 use std::alloc::Global;
 use std::sync::Wait;
 
-/// The number of an arrival's event.
-fn arrival(link: &Link, caller: &mut Caller) -> Seen
+/// How a call is made.
+#[derive(Clone, Copy)]
+pub(crate) enum How {
+    /// By the call that never blocks.
+    Tries,
+    /// By the call that waits for the book.
+    Waits,
+}
+
+/// Whether a command is taken.
+fn asks<R: Wait>(rt: &R, link: &Link, caller: &mut Caller, how: How, command: Command) -> bool
     requires own { caller.old.lock ≡ link.now }
+    ensures stays { StaysOne caller.old caller.new }
 {
-    match at_link::try_ask(link, caller, arrive(10, 1)) {
-        Ok(told) => Seen::done(told.number, 0),
-        Err(_) => Seen::NOTHING,
+    match how {
+        How::Tries => tries(link, caller, command),
+        How::Waits => waits(rt, link, caller, command),
     }
 }
+
+fn tries(link: &Link, caller: &mut Caller, command: Command) -> bool
+    requires own { caller.old.lock ≡ link.now }
+    ensures stays { StaysOne caller.old caller.new }
+{
+    match command {
+        Command::Arrive {
+            moment,
+            packet,
+            word,
+        } => link.try_arrive(caller, moment, packet, word).is_ok(),
+        Command::Depart { moment } => link.try_depart(caller, moment).is_ok(),
+        Command::Update { moment } => link.try_update(caller, moment).is_ok(),
+        Command::Reset { moment } => link.try_reset(caller, moment).is_ok(),
+        Command::SetParams { moment, params } => {
+            link.try_set_params(caller, moment, params).is_ok()
+        }
+    }
+}
+
+fn waits<R: Wait>(rt: &R, link: &Link, caller: &mut Caller, command: Command) -> bool
+    requires own { caller.old.lock ≡ link.now }
+    ensures stays { StaysOne caller.old caller.new }
+{
+    match command {
+        Command::Arrive {
+            moment,
+            packet,
+            word,
+        } => link.arrive(rt, caller, moment, packet, word).is_ok(),
+        Command::Depart { moment } => link.depart(rt, caller, moment).is_ok(),
+        Command::Update { moment } => link.update(rt, caller, moment).is_ok(),
+        Command::Reset { moment } => link.reset(rt, caller, moment).is_ok(),
+        Command::SetParams { moment, params } => {
+            link.set_params(rt, caller, moment, params).is_ok()
+        }
+    }
+}
+
+/// How many events a fold of two hands out, and the number of the last; or whether it was refused for want of memory.
+fn fold_two<R: Wait>(rt: &R, link: &Link, caller: &mut Caller, how: How) -> Result<(u64, u64), bool>
+    requires own { caller.old.lock ≡ link.now }
+    ensures stays { StaysOne caller.old caller.new }
+{
+    match how {
+        How::Tries => match link.try_fold(caller, 2) {
+            Ok(told) => Ok((told.answer.len() as u64, told.number)),
+            Err(why) => Err(matches!(why, Tried::Refused(FoldRefusal::Memory))),
+        },
+        How::Waits => match link.fold(rt, caller, 2) {
+            Ok(told) => Ok((told.answer.len() as u64, told.number)),
+            Err(why) => Err(matches!(why, FoldRefusal::Memory)),
+        },
+    }
+}
+
+/// How many events the book of a link has, as a caller reads it; 0 where the lock is not free.
+fn count<R: Wait>(rt: &R, link: &Link, caller: &mut Caller, how: How) -> u64
+    requires own { caller.old.lock ≡ link.now }
+    ensures stays { StaysOne caller.old caller.new }
+{
+    match how {
+        How::Tries => match link.try_registers(caller) {
+            Ok(told) => told.answer.count,
+            Err(_) => 0,
+        },
+        How::Waits => link.registers(rt, caller).answer.count,
+    }
+}
+
+// ---- calls that want memory
 
 /// Why there is no link.
 fn refused(why: LinkRefusal) -> Seen {
@@ -33,128 +111,15 @@ fn refused(why: LinkRefusal) -> Seen {
     Seen::refused(is_memory, 0)
 }
 
-fn opening() -> Opening {
-    Opening {
-        choices: Choices {
-            mode: Mode::Rolling,
-            profile: Profile::Two,
-            elements: Elements::usual(),
-        },
-        ..Opening::usual(limits(8), Params::default_profile(), 0)
-    }
-}
-
-pub(crate) fn open(rt: &impl Print, alloc: Global, name: &str) -> Seen {
+/// A link that takes an arrival.
+pub(crate) fn open<R: Wait + Print>(rt: &R, alloc: Global, name: &str) -> Seen {
+    let opening = Opening::usual(limits(8), Params::default_profile(), 0);
     begin(rt, name);
-    match Link::open_with(alloc, opening(), 3) {
-        Ok((link, mut caller)) => arrival(&link, &mut caller),
+    match Link::open_with(alloc, opening, 3) {
+        Ok((link, mut caller)) => {
+            Seen::done(u64::from(tries(&link, &mut caller, arrive(10, 1))), 0)
+        }
         Err(why) => refused(why),
-    }
-}
-
-/// Three events of one caller.
-fn three_events(link: &Link, one: &mut Caller)
-    requires own { one.old.lock ≡ link.now }
-    ensures { one.new.lock ≡ link.now }
-{
-    let _ = at_link::try_ask(link, one, arrive(1, 1));
-    let _ = at_link::try_ask(link, one, Command::Depart { moment: 2 });
-    let _ = at_link::try_ask(link, one, Command::Depart { moment: 3 });
-}
-
-/// How many events the book of a link has, as a caller reads it; 0 where the lock is not free.
-fn count(link: &Link, caller: &mut Caller) -> u64
-    requires own { caller.old.lock ≡ link.now }
-    ensures stays { StaysOne caller.old caller.new }
-{
-    match link.try_registers(caller) {
-        Ok(told) => told.answer.count,
-        Err(_) => 0,
-    }
-}
-
-/// Events of two callers, and what one reads, make no request for memory: whether both were made, and how many there are.
-fn two_events(rt: &impl Print, link: &Link, one: &mut Caller, two: &mut Caller, name: &str) -> Seen
-    requires own { (one.old.lock ≡ link.now) × (two.old.lock ≡ link.now) }
-{
-    begin(rt, name);
-    let has_arrived = at_link::try_ask(link, two, arrive(9, 9)).is_ok();
-    let has_left = at_link::try_ask(link, one, Command::Depart { moment: 9 }).is_ok();
-    Seen::done(u64::from(has_arrived && has_left), count(link, two))
-}
-
-/// They, where another caller shares the link.
-fn events_at(rt: &impl Print, link: &Link, one: &mut Caller, name: &str) -> Seen
-    requires own { one.old.lock ≡ link.now }
-{
-    match link.share(one) {
-        Ok(mut two) => two_events(rt, link, one, &mut two, name),
-        Err(_) => Seen::NOTHING,
-    }
-}
-
-/// Bursts make no request for memory: how many answers there are after two of a packet, and after departures.
-fn bursts_at<R: Wait + Print>(
-    rt: &R,
-    link: &Link,
-    caller: &mut Caller,
-    answers: &mut Vec<Waited>,
-    name: &str,
-) -> Seen
-    requires own { caller.old.lock ≡ link.now }
-{
-    let one = Arrival {
-        moment: 1,
-        packet: packet(1),
-        word: 0,
-    };
-    begin(rt, name);
-    let _ = at_link::arrive_all(rt, link, caller, &[one], answers);
-    let _ = link.try_arrive_all(caller, &[one], answers);
-    let arrived = answers.len() as u64;
-    let _ = at_link::depart_all(rt, link, caller, 2, 3, answers);
-    Seen::done(arrived, answers.len() as u64)
-}
-
-/// They, where there is room for their answers.
-fn bursts<R: Wait + Print>(
-    rt: &R,
-    alloc: Global,
-    link: &Link,
-    caller: &mut Caller,
-    name: &str,
-) -> Seen
-    requires own { caller.old.lock ≡ link.now }
-{
-    match Vec::with_capacity(alloc, 7) {
-        Ok(mut answers) => bursts_at(rt, link, caller, &mut answers, name),
-        Err(_) => Seen::NOTHING,
-    }
-}
-
-/// How a fold is asked for.
-#[derive(Clone, Copy)]
-pub(crate) enum How {
-    /// By the call that never blocks.
-    Tries,
-    /// By the call that waits for the book.
-    Waits,
-}
-
-/// How many events a fold of two hands out, and its number; or whether it was refused for want of memory.
-fn fold_two<R: Wait>(rt: &R, link: &Link, caller: &mut Caller, how: How) -> Result<(u64, u64), bool>
-    requires own { caller.old.lock ≡ link.now }
-    ensures stays { StaysOne caller.old caller.new }
-{
-    match how {
-        How::Tries => match at_link::try_fold(link, caller, 2) {
-            Ok(seen) => Ok(seen),
-            Err(why) => Err(matches!(why, Tried::Refused(FoldRefusal::Memory))),
-        },
-        How::Waits => match link.fold(rt, caller, 2) {
-            Ok(told) => Ok((told.answer.len() as u64, told.number)),
-            Err(why) => Err(matches!(why, FoldRefusal::Memory)),
-        },
     }
 }
 
@@ -162,45 +127,141 @@ fn fold_two<R: Wait>(rt: &R, link: &Link, caller: &mut Caller, how: How) -> Resu
 fn fold_at<R: Wait + Print>(rt: &R, link: &Link, caller: &mut Caller, how: How, name: &str) -> Seen
     requires own { caller.old.lock ≡ link.now }
 {
-    three_events(link, caller);
+    let _ = tries(link, caller, arrive(1, 1));
+    let _ = tries(link, caller, Command::Depart { moment: 2 });
+    let _ = tries(link, caller, Command::Depart { moment: 3 });
     begin(rt, name);
     match fold_two(rt, link, caller, how) {
         Ok((many, number)) => Seen::done(many, number),
-        Err(is_memory) => Seen::refused(is_memory, count(link, caller)),
+        Err(is_memory) => Seen::refused(is_memory, count(rt, link, caller, How::Tries)),
     }
 }
 
-/// A call at a link, or some that are made together.
-#[derive(Clone, Copy)]
-pub(crate) enum LinkCall {
-    Events,
-    Bursts,
-    Fold(How),
+pub(crate) fn fold<R: Wait + Print>(rt: &R, alloc: Global, how: How, name: &str) -> Seen {
+    match Link::open(alloc, limits(8), Params::default_profile(), 0, 2) {
+        Ok((link, mut one)) => fold_at(rt, &link, &mut one, how, name),
+        Err(_) => Seen::NOTHING,
+    }
 }
 
-impl LinkCall {
-    fn make_at<R: Wait + Print>(
-        self,
-        rt: &R,
-        alloc: Global,
-        link: &Link,
-        caller: &mut Caller,
-        name: &str,
-    ) -> Seen
-        requires own { caller.old.lock ≡ link.now }
-    {
-        match self {
-            LinkCall::Events => events_at(rt, link, caller, name),
-            LinkCall::Bursts => bursts(rt, alloc, link, caller, name),
-            LinkCall::Fold(how) => fold_at(rt, link, caller, how, name),
-        }
-    }
+// ---- a caller that lacks numbers, of the highest one that there can be
 
-    /// Makes it, at a bounded link with two numbers.
-    pub(crate) fn make<R: Wait + Print>(self, rt: &R, alloc: Global, name: &str) -> Seen {
-        match at_link::open(alloc, limits(8), 2) {
-            Ok((link, mut one)) => self.make_at(rt, alloc, &link, &mut one, name),
-            Err(_) => Seen::NOTHING,
+/// One of each command.
+fn commands() -> [Command; 5] {
+    let moment = 15_000_000;
+    [
+        arrive(10, 1),
+        Command::Depart { moment: 20 },
+        Command::Update { moment },
+        Command::Reset { moment },
+        Command::SetParams {
+            moment,
+            params: Params::default_profile(),
+        },
+    ]
+}
+
+/// How many of them are taken.
+fn taken<R: Wait>(rt: &R, link: &Link, caller: &mut Caller, how: How) -> u64
+    requires own { caller.old.lock ≡ link.now }
+    ensures { StaysOne caller.old caller.new }
+{
+    let mut taken = 0u64;
+    for command in commands() {
+        taken = taken.saturating_add(u64::from(asks(rt, link, caller, how, command)));
+    }
+    taken
+}
+
+/// How many answers there are to a burst of two packets, and to departures until none is left.
+fn burst<R: Wait>(rt: &R, alloc: Global, link: &Link, caller: &mut Caller, how: How) -> u64
+    requires own { caller.old.lock ≡ link.now }
+    ensures stays { StaysOne caller.old caller.new }
+{
+    let one = Arrival {
+        moment: 15_000_000,
+        packet: packet(1),
+        word: 0,
+    };
+    let mut answers: Vec<Result<Told<Answer>, Refusal>> = Vec::new(alloc);
+    let _ = answers.reserve(5);
+    match how {
+        How::Tries => {
+            let _ = link.try_arrive_all(caller, &[one, one], &mut answers);
+        }
+        How::Waits => {
+            let _ = link.arrive_all(rt, caller, &[one, one], &mut answers);
         }
     }
+    let _ = link.depart_all(rt, caller, 15_000_000, 3, &mut answers);
+    answers.len() as u64
+}
+
+/// Whether the statistics and the book's last events are told.
+fn reads<R: Wait>(rt: &R, alloc: Global, link: &Link, caller: &mut Caller, how: How) -> bool
+    requires own { caller.old.lock ≡ link.now }
+    ensures stays { StaysOne caller.old caller.new }
+{
+    let opening = Opening::usual(limits(16), Params::default_profile(), 0);
+    let Ok(mut excerpt) = Excerpt::with_room(alloc, opening) else {
+        return false;
+    };
+    let (waited, is_filled) = match how {
+        How::Tries => match link.try_stats(caller) {
+            Ok(told) => (
+                told.answer.waited,
+                link.try_excerpt(caller, &mut excerpt).is_ok(),
+            ),
+            Err(_) => (0, false),
+        },
+        How::Waits => (
+            link.stats(rt, caller).answer.waited,
+            link.excerpt(rt, caller, &mut excerpt).is_ok(),
+        ),
+    };
+    waited == 10 && is_filled && excerpt.tail().len() == 10
+}
+
+/// Whether ten events are made, read and folded.
+fn is_done<R: Wait>(rt: &R, alloc: Global, link: &Link, caller: &mut Caller, how: How) -> bool
+    requires own { caller.old.lock ≡ link.now }
+    ensures stays { StaysOne caller.old caller.new }
+{
+    let taken = taken(rt, link, caller, how);
+    let answers = burst(rt, alloc, link, caller, how);
+    let count = count(rt, link, caller, how);
+    let is_read = reads(rt, alloc, link, caller, how);
+    let folded = fold_two(rt, link, caller, how);
+    taken == 5 && answers == 5 && count == 10 && is_read && folded == Ok((2, 2))
+}
+
+/// Whether this caller closes the link, with a book that holds the other eight.
+fn closes(link: Link, caller: Caller) -> bool
+    requires own { caller.lock ≡ link }
+{
+    match link.close(caller) {
+        Ok(book) => book.count() == 10 && book.tail_len() == 8,
+        Err(_) => false,
+    }
+}
+
+/// Whether the uppermost of all callers is answered, and closes the link.
+fn shares<R: Wait>(rt: &R, alloc: Global, link: Link, mut caller: Caller, how: How) -> bool
+    requires own { caller.lock ≡ link }
+{
+    match link.share(&mut caller) {
+        Ok(mut upper) => is_done(rt, alloc, &link, &mut upper, how) & closes(link, upper),
+        Err(_) => false,
+    }
+}
+
+fn is_answered_so<R: Wait>(rt: &R, alloc: Global, how: How) -> bool {
+    match Link::open(alloc, limits(16), Params::default_profile(), 0, 65535) {
+        Ok((link, caller)) => shares(rt, alloc, link, caller, how),
+        Err(_) => false,
+    }
+}
+
+pub(crate) fn is_answered<R: Wait>(rt: &R, alloc: Global) -> bool {
+    is_answered_so(rt, alloc, How::Tries) && is_answered_so(rt, alloc, How::Waits)
 }

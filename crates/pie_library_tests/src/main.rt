@@ -1,27 +1,23 @@
-//! `pie_library_tests`: what no clause forces of the libraries and `pie` doesn't show. Its argument names the part; with none it is all of them.
+//! `pie_library_tests`: what no clause forces of the libraries and no script shows of the programs. Its argument names the part; with none it is all
+//! of them.
 //!
-//! `calls` makes calls that can want memory and that the program makes otherwise or not at all, one after another, and says what they answered and
-//! what they left, and of calls that write whether they tell of a flush that fails; `tests/libraries/refused_memory.py` refuses each request for
-//! memory of each call in turn. `rows` makes the events of a history, which is read from standard input, again at a link;
-//! `tests/libraries/link_rows.py` hands it the worked histories. `threads` says of each test of threads whether it holds, and a test's name so of
-//! that test alone.
+//! `calls` makes calls that can want memory, one after another, and says what they answered and what they left; `tests/libraries/refused_memory.py`
+//! refuses each request for memory of each call in turn. `tests` says of each test whether it holds, and `sleepers` so of the one whose system calls
+//! `bench/pie_lock_calls.sh` counts.
 #![tactic(auto)]
 
-mod at_link;
 mod books;
 mod calls;
+mod flushes;
 mod links;
-mod rows;
+mod lock;
 mod seen;
-mod texts;
-mod threads;
-mod wanted;
+mod storms;
+mod words;
 
-use crate::calls::CALLS;
-use crate::seen::{begin, tell};
-use crate::texts::WRITES;
+use crate::flushes::WRITES;
+use crate::seen::say;
 use std::alloc::Global;
-use std::io::Read;
 use std::rt::Clock;
 use std::sync::Wait;
 use std::thread::Threads;
@@ -31,57 +27,65 @@ fn main(rt: HostRuntime) -> io::Result<()> {
     let mut words = env::args(&rt)?;
     let _program = words.next();
     match words.next() {
-        Some(name) => part(&rt, rt.alloc(), rt.stdin(), name.as_str()),
-        None => all(&rt, rt.alloc(), rt.stdin()),
+        Some(name) => part(&rt, rt.alloc(), name.as_str()),
+        None => all(&rt, rt.alloc()),
     }
 }
 
 /// The part that has this name.
-fn part<I: Read + Drop, R: Threads + Wait + Clock + Print + Sync>(
+fn part<R: Threads + Wait + Clock + Print + Sync>(
     rt: &R,
     alloc: Global,
-    input: I,
     name: &str,
 ) -> io::Result<()> {
     match name {
-        "calls" => each_call_and_flush(rt, alloc),
-        "rows" => rows::all(rt, alloc, input),
-        "threads" => threads::each(rt, alloc),
-        _ => threads::named(rt, alloc, name),
+        "calls" => calls::all(rt, alloc),
+        "sleepers" => sleepers(rt, alloc),
+        _ => tests(rt, alloc),
     }
 }
 
 /// Every part.
-fn all<I: Read + Drop, R: Threads + Wait + Clock + Print + Sync>(
-    rt: &R,
-    alloc: Global,
-    input: I,
-) -> io::Result<()> {
-    each_call_and_flush(rt, alloc)?;
-    rows::all(rt, alloc, input)?;
-    threads::each(rt, alloc)
+fn all<R: Threads + Wait + Clock + Print + Sync>(rt: &R, alloc: Global) -> io::Result<()> {
+    calls::all(rt, alloc)?;
+    tests(rt, alloc)
 }
 
-/// Makes each call, and says what was seen; and so of each flush.
-fn each_call_and_flush<R: Wait + Print>(rt: &R, alloc: Global) -> io::Result<()> {
-    each_call(rt, alloc)?;
-    each_flush(rt, alloc)
-}
-
-/// Makes each call, and says what was seen.
-fn each_call<R: Wait + Print>(rt: &R, alloc: Global) -> io::Result<()> {
-    for call in CALLS {
-        let seen = call.make(rt, alloc);
-        tell(rt, call.name(), seen)?;
-    }
-    Ok(())
-}
-
-/// Lets the flush fail of each call that writes.
-fn each_flush(rt: &impl Print, alloc: Global) -> io::Result<()> {
-    begin(rt, "flushes that fail");
+/// Says of each test whether it holds.
+fn tests<R: Threads + Wait + Clock + Print + Sync>(rt: &R, alloc: Global) -> io::Result<()> {
     for writes in WRITES {
-        tell(rt, writes.name(), writes.flushes(alloc))?;
+        say(rt, writes.name(), writes.tells_of_its_flush(alloc))?;
     }
-    Ok(())
+    say(rt, "refusals_in_words", words::refusals_in_words(alloc))?;
+    say(rt, "the_largest_ring", words::the_largest_ring(alloc))?;
+    say(
+        rt,
+        "calls_that_nothing_else_makes",
+        words::calls_that_nothing_else_makes(alloc),
+    )?;
+    say(
+        rt,
+        "a_till_sells_to_passes_that_lack_numbers",
+        lock::sells_to_two(alloc),
+    )?;
+    say(
+        rt,
+        "a_caller_of_65535_is_answered_and_closes",
+        links::is_answered(rt, alloc),
+    )?;
+    say(
+        rt,
+        "folds_and_a_change_take_part",
+        storms::folds_take_part(rt, alloc),
+    )?;
+    sleepers(rt, alloc)
+}
+
+/// Says whether those that sleep at a held lock wake.
+fn sleepers<R: Threads + Wait + Clock + Print + Sync>(rt: &R, alloc: Global) -> io::Result<()> {
+    say(
+        rt,
+        "those_that_sleep_at_a_held_lock_all_wake",
+        lock::all_wake(rt, alloc),
+    )
 }

@@ -47,3 +47,9 @@ pub(crate) fn tell(rt: &impl Print, name: &str, seen: Seen) -> io::Result<()> {
     let Seen { answer, one, other } = seen;
     println!(rt; "{name}: {answer}, {one}, {other}")
 }
+
+/// Says whether a test holds.
+pub(crate) fn say(rt: &impl Print, name: &str, holds: bool) -> io::Result<()> {
+    let word = if holds { "holds" } else { "fails" };
+    println!(rt; "{name}: {word}")
+}

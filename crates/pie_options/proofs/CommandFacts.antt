@@ -1,13 +1,10 @@
 -- How a command of `clap` is put together from arguments and subcommands, one after the other.
-use Rattle.std.proofs.Common.{◌≡◌, ◌∙◌, ◌+◌, ◌<◌, ℕ, List, [], ◌∷◌, IfOk, Result, suc, add-one, drop, drop-cons, get_or, length, Bool, true, false, refl, sym, ap}
-use Rattle.std.specs.Prelude.{◌&&◌, not}
+use Rattle.pie_options.proofs.Names.{◌≡◌, ◌∙◌, ◌+◌, ◌<◌, ℕ, List, [], ◌∷◌, IfOk, Result, suc, add-one, drop, drop-cons, get_or, length, Bool, true}
+use Rattle.pie_options.proofs.Names.{false, refl, ap, ◌&&◌, not, AddsSubcommand, App, Rule, app_of, new_rule, with_subcommand}
+use Rattle.pie_options.proofs.Names.{Subcommand, Run, Audit, Explain, Cut, Migrate, Storm, Params, WantsRules, WantsSubcommands, app_for}
+use Rattle.pie_options.proofs.Names.{with_subcommands}
 use Rattle.std.proofs.Math.Seq.{drop-length}
-use Rattle.clap.specs.Words.{AddsSubcommand, App, Rule, app_of, new_rule, with_rule, with_subcommand}
 use Rattle.clap.specs.declared.builder.command.Command.{Command}
-use Rattle.pie_options.specs.declared.subcommand.Subcommand.{Subcommand}
-use Rattle.pie_options.specs.declared.subcommand.Subcommand.TheVariants.{Run, Audit, Explain, Cut, Migrate, Storm, Params}
-use Rattle.pie_options.specs.Building.{WantsRules, WantsSubcommands}
-use Rattle.pie_options.specs.Words.{app_for, with_rules, with_subcommands}
 
 -- ---- arguments
 

@@ -1,8 +1,6 @@
 -- Which words ask for which subcommand, and what they give its options, worked out.
-use Rattle.std.proofs.Common.{◌≡◌, [], ◌∷◌, None, Some, codes, refl, true}
-use Rattle.clap.specs.Words.{Text}
-use Rattle.clap.proofs.OnLiterals.{clap_on_literals}
-use Rattle.pie_options.specs.Words.{Asks, file_in, files_in, is_joined, options_in, output_in, packets_in, seed_in, senders_in}
+use Rattle.pie_options.proofs.Names.{◌≡◌, [], ◌∷◌, None, Some, codes, refl, true, Text, clap_on_literals, Asks, file_in, files_in, is_joined}
+use Rattle.pie_options.proofs.Names.{options_in, output_in, packets_in, seed_in, senders_in}
 
 -- the subcommands that some words ask for
 asks : (name : Text) → Asks (codes "audit") (name ∷ codes "audit" ∷ codes "a" ∷ codes "-" ∷ [])

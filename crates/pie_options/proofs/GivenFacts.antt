@@ -1,15 +1,11 @@
 -- What a getter of `clap` reads of an option is what the words give it.
-use Rattle.std.proofs.Common.{◌≡◌, ◌∙◌, ◌-◌, ◌^◌, ℕ, List, Bool, true, false, Option, Some, None, arith, codes, refl, sym, ap}
-use Rattle.std.specs.Prelude.{Result, Ok, Err, option_and_then, unwrap_or, if◌then◌else◌}
-use Rattle.std.specs.Option.{option_map_or}
-use Rattle.std.specs.Str.{bytes_eq}
-use Rattle.std.specs.Str.Parse.{ParsesBool, ParsesUnsigned, digits_value, without_leading_plus}
+use Rattle.pie_options.proofs.Names.{◌≡◌, ◌∙◌, ◌-◌, ◌^◌, ℕ, List, Bool, true, false, Option, Some, None, arith, codes, refl, sym, ap, Result, Ok, Err}
+use Rattle.pie_options.proofs.Names.{option_and_then, unwrap_or, if◌then◌else◌, option_map_or, bytes_eq, ParsesBool, ParsesUnsigned, digits_value}
+use Rattle.pie_options.proofs.Names.{without_leading_plus, ReadsOne, number_of}
 use Rattle.std.proofs.lemmas.Slice.Eq.{bytes_eq-Decides}
-use Rattle.clap.specs.Matches.{ReadsOne}
 use Rattle.clap.specs.ValueTests.{accepts}
 use Rattle.clap.specs.declared.builder.value_parser.ValueParser.TheVariants.{Unsigned}
 use Rattle.clap.proofs.ValueTestLemmas.{Accepts-accepts, accepts-Accepts}
-use Rattle.pie_options.specs.Words.{number_of}
 
 -- ---- a number
 

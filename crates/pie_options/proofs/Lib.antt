@@ -1,3 +1,4 @@
+mod Names
 mod CommandFacts
 mod ExamplesWords
 mod GivenFacts

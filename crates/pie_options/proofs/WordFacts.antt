@@ -1,17 +1,12 @@
 -- What `clap` makes of the words that ask for a subcommand.
-use Rattle.std.proofs.Common.{◌≡◌, ◌∙◌, List, [], ◌∷◌, Option, Some, None, true, false, codes, refl, sym, subst, ap}
-use Rattle.std.specs.Prelude.{option_and_then, option_map, unwrap_or, if◌then◌else◌}
-use Rattle.std.specs.Str.{bytes_eq}
+use Rattle.pie_options.proofs.Names.{◌≡◌, ◌∙◌, List, [], Option, Some, None, true, false, codes, refl, sym, subst, ap, option_and_then}
+use Rattle.pie_options.proofs.Names.{option_map, unwrap_or, if◌then◌else◌, bytes_eq, App, HasMatchesOf, Row, Text, found_of, is_simple, rows_of}
+use Rattle.pie_options.proofs.Names.{subcommand_rows_of, takes, subcommand_name_of, clap_on_literals, Subcommand, Run, Audit, Explain, Cut, Migrate}
+use Rattle.pie_options.proofs.Names.{Storm, Params, AskFor, Asks, file_in, files_in, is_joined, options_in, output_in, pie_app, subcommand_in}
 use Rattle.std.specs.Box.{box_value}
-use Rattle.clap.specs.Words.{App, HasMatchesOf, Row, Text, found_of, is_simple, rows_of, subcommand_rows_of, takes}
-use Rattle.clap.specs.Matches.{subcommand_name_of}
 use Rattle.clap.specs.declared.parser.matches.ArgMatches.{ArgMatches}
 use Rattle.clap.specs.declared.parser.matches.ArgMatches.TheViews.{out-ArgMatches, out-SubCommand}
-use Rattle.clap.proofs.OnLiterals.{clap_on_literals}
-use Rattle.pie_options.specs.declared.subcommand.Subcommand.{Subcommand}
-use Rattle.pie_options.specs.declared.subcommand.Subcommand.TheVariants.{Run, Audit, Explain, Cut, Migrate, Storm, Params}
 use Rattle.pie_options.specs.Subcommands.{word_of}
-use Rattle.pie_options.specs.Words.{AskFor, Asks, file_in, files_in, is_joined, options_in, output_in, pie_app, subcommand_in}
 
 -- ---- they are taken, whatever the program's own name is, ask for their subcommand and name no file
 

@@ -1,5 +1,5 @@
 -- What `clap` knows of an argument that a table has as data.
-use Rattle.std.specs.Prelude.{ℕ, Some, List, map}
+use Rattle.std.specs.Prelude.{Some}
 use Rattle.clap.specs.Words.{Rule, Text, new_rule}
 use Rattle.clap.specs.declared.builder.action.ArgAction.TheVariants.{Append}
 use Rattle.pie_options.specs.declared.argument.Argument.{Argument}

@@ -1,8 +1,4 @@
 //! The words of `pie audit`: what it takes, and what `--help` says of it.
-ghost use Rattle.std.specs.Prelude.{◌≡◌, map};
-ghost use Rattle.pie_options.specs.Arguments.{rule_for};
-ghost use Rattle.pie_options.specs.declared.subcommand.Subcommand.{Subcommand};
-ghost use Rattle.pie_options.specs.Words.{rules_for};
 
 use crate::argument::{Argument, PROGRESS, Takes};
 
@@ -51,7 +47,7 @@ A verdict that was changed is found, and the line is differs,1:
   printf 'open,0,4,16,100\\narrive,1,10,7,1500,ect0,0\\ndepart,2,25\\n' | pie run | sed s/enqueue/mark/ | pie audit";
 
 /// What it takes.
-const ARGUMENTS: &[Argument] = &[
+pub(crate) const ARGUMENTS: &[Argument] = &[
     Argument {
         name: "joined",
         takes: Takes::Nothing,
@@ -64,10 +60,3 @@ const ARGUMENTS: &[Argument] = &[
         help: "The files to audit; -: standard input",
     },
 ];
-
-/// What it takes, as a subcommand of `pie`.
-pub(crate) fn arguments() -> &'static [Argument]
-    ensures { map rule_for result.now ≡ rules_for Subcommand.Audit }
-{
-    ARGUMENTS
-}

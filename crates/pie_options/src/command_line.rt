@@ -108,13 +108,13 @@ fn arguments_of(subcommand: Subcommand) -> &'static [Argument]
     ensures { map rule_for result.now ≡ rules_for subcommand }
 {
     match subcommand {
-        Subcommand::Run => run::arguments(),
-        Subcommand::Audit => audit::arguments(),
-        Subcommand::Explain => explain::arguments(),
-        Subcommand::Cut => cut::arguments(),
-        Subcommand::Migrate => migrate::arguments(),
-        Subcommand::Storm => storm::arguments(),
-        Subcommand::Params => params::arguments(),
+        Subcommand::Run => run::ARGUMENTS,
+        Subcommand::Audit => audit::ARGUMENTS,
+        Subcommand::Explain => explain::ARGUMENTS,
+        Subcommand::Cut => cut::ARGUMENTS,
+        Subcommand::Migrate => migrate::ARGUMENTS,
+        Subcommand::Storm => storm::ARGUMENTS,
+        Subcommand::Params => params::ARGUMENTS,
     }
 }
 

@@ -1,8 +1,4 @@
 //! The words of `pie cut`: what it takes, and what `--help` says of it.
-ghost use Rattle.std.specs.Prelude.{◌≡◌, map};
-ghost use Rattle.pie_options.specs.Arguments.{rule_for};
-ghost use Rattle.pie_options.specs.declared.subcommand.Subcommand.{Subcommand};
-ghost use Rattle.pie_options.specs.Words.{rules_for};
 
 use crate::argument::{Argument, FILE, FORCE, OUTPUT, PROGRESS, Takes};
 
@@ -46,7 +42,7 @@ Files of a million events each, day.0000 and so on, and their audit:
   pie audit day.*";
 
 /// What it takes.
-const ARGUMENTS: &[Argument] = &[
+pub(crate) const ARGUMENTS: &[Argument] = &[
     Argument {
         name: "from",
         takes: Takes::Value("MOMENT"),
@@ -82,10 +78,3 @@ const ARGUMENTS: &[Argument] = &[
     FORCE,
     FILE,
 ];
-
-/// What it takes, as a subcommand of `pie`.
-pub(crate) fn arguments() -> &'static [Argument]
-    ensures { map rule_for result.now ≡ rules_for Subcommand.Cut }
-{
-    ARGUMENTS
-}

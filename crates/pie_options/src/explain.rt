@@ -1,8 +1,4 @@
 //! The words of `pie explain`: what it takes, and what `--help` says of it.
-ghost use Rattle.std.specs.Prelude.{◌≡◌, map};
-ghost use Rattle.pie_options.specs.Arguments.{rule_for};
-ghost use Rattle.pie_options.specs.declared.subcommand.Subcommand.{Subcommand};
-ghost use Rattle.pie_options.specs.Words.{rules_for};
 
 use crate::argument::{Argument, FILE, FORCE, OUTPUT, PROGRESS, Takes};
 
@@ -71,7 +67,7 @@ writes why the last packet of that trace was dropped:
     probability 90.3954 % (903954174169), set by event 9; last update at 1.001002 ms (1001002 ns); burst allowance 0.000000 ms (0 ns)";
 
 /// What it takes.
-const ARGUMENTS: &[Argument] = &[
+pub(crate) const ARGUMENTS: &[Argument] = &[
     Argument {
         name: "event",
         takes: Takes::Number(1, u64::MAX),
@@ -142,10 +138,3 @@ const ARGUMENTS: &[Argument] = &[
     FORCE,
     FILE,
 ];
-
-/// What it takes, as a subcommand of `pie`.
-pub(crate) fn arguments() -> &'static [Argument]
-    ensures { map rule_for result.now ≡ rules_for Subcommand.Explain }
-{
-    ARGUMENTS
-}

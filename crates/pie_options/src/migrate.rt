@@ -1,8 +1,4 @@
 //! The words of `pie migrate`: what it takes, and what `--help` says of it.
-ghost use Rattle.std.specs.Prelude.{◌≡◌, map};
-ghost use Rattle.pie_options.specs.Arguments.{rule_for};
-ghost use Rattle.pie_options.specs.declared.subcommand.Subcommand.{Subcommand};
-ghost use Rattle.pie_options.specs.Words.{rules_for};
 
 use crate::argument::{Argument, FILE, FORCE, OUTPUT, PROGRESS};
 
@@ -31,11 +27,4 @@ writes
   shown,1,10,1,1500,0,0,0,150000000,0,0,0,1";
 
 /// What it takes.
-const ARGUMENTS: &[Argument] = &[PROGRESS, OUTPUT, FORCE, FILE];
-
-/// What it takes, as a subcommand of `pie`.
-pub(crate) fn arguments() -> &'static [Argument]
-    ensures { map rule_for result.now ≡ rules_for Subcommand.Migrate }
-{
-    ARGUMENTS
-}
+pub(crate) const ARGUMENTS: &[Argument] = &[PROGRESS, OUTPUT, FORCE, FILE];

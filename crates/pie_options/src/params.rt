@@ -1,8 +1,4 @@
 //! The words of `pie params`: what it takes, and what `--help` says of it.
-ghost use Rattle.std.specs.Prelude.{◌≡◌, map};
-ghost use Rattle.pie_options.specs.Arguments.{rule_for};
-ghost use Rattle.pie_options.specs.declared.subcommand.Subcommand.{Subcommand};
-ghost use Rattle.pie_options.specs.Words.{rules_for};
 
 use crate::argument::{Argument, Takes};
 
@@ -39,7 +35,7 @@ writes, in one line,
   20000000,15000000,150000000,125,1250,1024,2500000,100000000000,16384";
 
 /// What it takes.
-const ARGUMENTS: &[Argument] = &[
+pub(crate) const ARGUMENTS: &[Argument] = &[
     Argument {
         name: "rate",
         takes: Takes::Value("RATE"),
@@ -106,10 +102,3 @@ const ARGUMENTS: &[Argument] = &[
         help: "Decay at delays of 0, or below half the target; zero by default",
     },
 ];
-
-/// What it takes, as a subcommand of `pie`.
-pub(crate) fn arguments() -> &'static [Argument]
-    ensures { map rule_for result.now ≡ rules_for Subcommand.Params }
-{
-    ARGUMENTS
-}

@@ -1,8 +1,4 @@
 //! The words of `pie run`: what it takes, and what `--help` says of it.
-ghost use Rattle.std.specs.Prelude.{◌≡◌, map};
-ghost use Rattle.pie_options.specs.Arguments.{rule_for};
-ghost use Rattle.pie_options.specs.declared.subcommand.Subcommand.{Subcommand};
-ghost use Rattle.pie_options.specs.Words.{rules_for};
 
 use crate::argument::{Argument, FILE, FORCE, OUTPUT, PROGRESS, Takes};
 
@@ -96,7 +92,7 @@ ends with
   arrive,2,1001003,6,500,not,0,early";
 
 /// What it takes.
-const ARGUMENTS: &[Argument] = &[
+pub(crate) const ARGUMENTS: &[Argument] = &[
     Argument {
         name: "count",
         takes: Takes::Nothing,
@@ -107,10 +103,3 @@ const ARGUMENTS: &[Argument] = &[
     FORCE,
     FILE,
 ];
-
-/// What it takes, as a subcommand of `pie`.
-pub(crate) fn arguments() -> &'static [Argument]
-    ensures { map rule_for result.now ≡ rules_for Subcommand.Run }
-{
-    ARGUMENTS
-}

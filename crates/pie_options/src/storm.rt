@@ -1,8 +1,4 @@
 //! The words of `pie storm`: what it takes, and what `--help` says of it.
-ghost use Rattle.std.specs.Prelude.{◌≡◌, map};
-ghost use Rattle.pie_options.specs.Arguments.{rule_for};
-ghost use Rattle.pie_options.specs.declared.subcommand.Subcommand.{Subcommand};
-ghost use Rattle.pie_options.specs.Words.{rules_for};
 
 use crate::argument::{Argument, Takes};
 
@@ -34,7 +30,7 @@ Example: three senders with ten packets each, and the audit of what was recorded
   pie storm --senders 3 --packets 10 | pie audit";
 
 /// What it takes.
-const ARGUMENTS: &[Argument] = &[
+pub(crate) const ARGUMENTS: &[Argument] = &[
     Argument {
         name: "senders",
         takes: Takes::Number(2, 8),
@@ -106,10 +102,3 @@ const ARGUMENTS: &[Argument] = &[
         help: "Say on standard error how many events and changes of caller there were",
     },
 ];
-
-/// What it takes, as a subcommand of `pie`.
-pub(crate) fn arguments() -> &'static [Argument]
-    ensures { map rule_for result.now ≡ rules_for Subcommand.Storm }
-{
-    ARGUMENTS
-}

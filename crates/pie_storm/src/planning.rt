@@ -238,7 +238,7 @@ fn folds_of(alloc: Global, senders: u64, packets: u64, folds: u64) -> Result<Vec
 /// # Errors
 ///
 /// `Memory` where there was none for the lists.
-pub fn storm_plan(alloc: Global, numbers: StormNumbers) -> Result<Plan, Memory>
+pub(crate) fn storm_plan(alloc: Global, numbers: StormNumbers) -> Result<Plan, Memory>
     requires { HasStormRange numbers }
     ensures { IfOk result (IsStormPlan numbers) }
 {

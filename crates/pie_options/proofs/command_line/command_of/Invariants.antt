@@ -1,8 +1,4 @@
-use Rattle.std.proofs.Common.{drop, map}
-use Rattle.clap.specs.Words.{new_app}
-use Rattle.pie_options.specs.Arguments.{rule_for}
-use Rattle.pie_options.specs.Building.{WantsRules}
-use Rattle.pie_options.specs.Words.{with_rules}
+use Rattle.pie_options.proofs.Names.{drop, map, new_app, rule_for, WantsRules, with_rules}
 use Rattle.pie_options.proofs.command_line.command_of.Given as goal
 
 -- with the arguments that are left it is the command with all

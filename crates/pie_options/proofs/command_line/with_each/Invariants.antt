@@ -1,6 +1,4 @@
-use Rattle.std.proofs.Common.{drop}
-use Rattle.pie_options.specs.Building.{WantsSubcommands}
-use Rattle.pie_options.specs.Words.{pie_alone, with_subcommands}
+use Rattle.pie_options.proofs.Names.{drop, WantsSubcommands, pie_alone, with_subcommands}
 use Rattle.pie_options.proofs.command_line.with_each.Given as goal
 
 -- with the subcommands that are left it is `pie` with all

@@ -1,6 +1,4 @@
-use Rattle.std.proofs.Common.{◌∙◌, codes}
-use Rattle.clap.specs.Words.{found_of}
-use Rattle.clap.proofs.WalkLemmas.{first_value-rows}
+use Rattle.pie_options.proofs.Names.{◌∙◌, codes, found_of, first_value-rows}
 use Rattle.pie_options.proofs.given.file.Goals as goal
 
 pub returns : goal.returns

@@ -1,9 +1,4 @@
-use Rattle.std.proofs.Common.{◌∙◌, ℕ, List, Option, codes, false, ap}
-use Rattle.std.specs.Option.{option_map_or}
-use Rattle.std.specs.Str.{bytes_eq}
-use Rattle.std.specs.Str.Parse.{ParsesBool}
-use Rattle.clap.specs.Words.{found_of, one_text}
-use Rattle.clap.proofs.WalkLemmas.{one_text-rows}
+use Rattle.pie_options.proofs.Names.{◌∙◌, ℕ, List, Option, codes, false, ap, option_map_or, bytes_eq, ParsesBool, found_of, one_text, one_text-rows}
 use Rattle.pie_options.proofs.GivenFacts.{flag-given}
 use Rattle.pie_options.proofs.given.flag.Goals as goal
 

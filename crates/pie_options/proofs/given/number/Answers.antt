@@ -1,9 +1,5 @@
-use Rattle.std.proofs.Common.{◌∙◌, ℕ, List, Option, ap}
-use Rattle.std.specs.Prelude.{option_and_then}
-use Rattle.std.specs.Str.Parse.{ExplainsUnsignedError, HasUnsignedDigitsIfOk, ParsesUnsigned}
-use Rattle.clap.specs.Words.{found_of, one_text}
-use Rattle.clap.proofs.WalkLemmas.{one_text-rows}
-use Rattle.pie_options.specs.Words.{number_of}
+use Rattle.pie_options.proofs.Names.{◌∙◌, ℕ, List, Option, ap, option_and_then, ExplainsUnsignedError, HasUnsignedDigitsIfOk, ParsesUnsigned}
+use Rattle.pie_options.proofs.Names.{found_of, one_text, one_text-rows, number_of}
 use Rattle.pie_options.proofs.GivenFacts.{number-given}
 use Rattle.pie_options.proofs.given.number.Goals as goal
 

@@ -1,7 +1,4 @@
-use Rattle.std.proofs.Common.{◌∙◌, ap, codes}
-use Rattle.clap.specs.Words.{found_of}
-use Rattle.clap.proofs.WalkLemmas.{first_value-rows}
-use Rattle.pie_options.specs.Words.{file_made}
+use Rattle.pie_options.proofs.Names.{◌∙◌, ap, codes, found_of, first_value-rows, file_made}
 use Rattle.pie_options.proofs.given.output.Goals as goal
 
 pub returns : goal.returns

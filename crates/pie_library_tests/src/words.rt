@@ -1,15 +1,13 @@
 //! What no clause says and no program shows: texts, that there is memory for the largest ring, and calls that nothing else makes.
 
-use pie_book::{
-    Book, Choices, EndRefusal, FoldRefusal, Limits, Mode, OpenRefusal, Opening, Profile,
-    QueueRefusal, Refusal, ResumeRefusal,
-};
+use crate::books::limits;
+use crate::flushes::HISTORY;
+use pie_book::{Book, EndRefusal, FoldRefusal, OpenRefusal, QueueRefusal, Refusal, ResumeRefusal};
 use pie_fixed::{Accu, Gain, Prob};
 use pie_lock::{LockRefusal, OneNumber};
-use pie_params::{BadParam, Elements, Field, Params, RawParams};
+use pie_params::{BadParam, Field, Params};
 use pie_queue::{ByteQueue, Ecn, Memory};
-use pie_record::TraceFault;
-use pie_trace::write_history;
+use pie_record::{HistoryLines, Line, TraceFault};
 use std::alloc::Global;
 use std::fmt::Display;
 
@@ -101,71 +99,9 @@ pub(crate) fn the_largest_ring(alloc: Global) -> bool {
     }
 }
 
-fn limits() -> Limits {
-    Limits {
-        packets: 4,
-        tail: 16,
-        events: 100,
-    }
-}
-
-/// Whether this is the history without an event of a book that was opened so.
-fn is_history(alloc: Global, mode: Mode, profile: Profile, params: RawParams, want: &[u8]) -> bool {
-    let Ok(params) = Params::check(params) else {
-        return false;
-    };
-    let opening = Opening {
-        moment: 0,
-        limits: limits(),
-        params,
-        choices: Choices {
-            mode,
-            profile,
-            elements: Elements::usual(),
-        },
-    };
-    let mut out = Vec::new(alloc);
-    match write_history(alloc, &mut out, &opening, &[]) {
-        Ok(()) => out.as_slice() == want,
-        Err(_) => false,
-    }
-}
-
-/// The history of each kind of opening.
-const OPENINGS: [(Mode, Profile, &[u8]); 4] = [
-    (Mode::Bounded, Profile::One, b"open,0,4,16,100\n"),
-    (Mode::Rolling, Profile::One, b"rolling,0,4,16,100\n"),
-    (Mode::Bounded, Profile::Two, b"open2,2,bounded,0,4,16,100\n"),
-    (Mode::Rolling, Profile::Two, b"open2,2,rolling,0,4,16,100\n"),
-];
-
-/// Whether each opening with the default parameters is written: a writing that gives up for some openings meets its contract.
-fn are_openings_written(alloc: Global) -> bool {
-    let params = Params::default_profile().raw();
-    let mut are_written = true;
-    for (mode, profile, want) in OPENINGS {
-        are_written &= is_history(alloc, mode, profile, params, want);
-    }
-    are_written
-}
-
-/// Whether an opening with other parameters has all nine.
-fn are_params_written(alloc: Global) -> bool {
-    let params = RawParams {
-        target: 2,
-        ..Params::default_profile().raw()
-    };
-    let want = b"rolling,0,4,16,100,2,15000000,150000000,125,1250,1024,262144,100000000000,16384\n";
-    is_history(alloc, Mode::Rolling, Profile::One, params, want)
-}
-
-pub(crate) fn openings_of_each_kind(alloc: Global) -> bool {
-    are_openings_written(alloc) && are_params_written(alloc)
-}
-
 /// Whether a new book shows that it has no event, and when it was opened.
 fn shows_its_opening(alloc: Global) -> bool {
-    match Book::open(alloc, limits(), Params::default_profile(), 3) {
+    match Book::open(alloc, limits(16), Params::default_profile(), 3) {
         Ok(mut book) => {
             let checkpoint = book.checkpoint();
             book.event(0).is_none() && book.opening().moment == 3 && checkpoint == book.registers()
@@ -195,9 +131,19 @@ fn are_gains_bounded() -> bool {
     }
 }
 
+/// Whether a history's opening and its first event are read.
+fn is_history_read(alloc: Global) -> bool {
+    match HistoryLines::open(alloc, HISTORY) {
+        Ok((mut lines, opening)) => {
+            opening.limits.packets == 4 && matches!(lines.next_line(), Ok(Some(Line::Made(_))))
+        }
+        Err(_) => false,
+    }
+}
+
 pub(crate) fn calls_that_nothing_else_makes(alloc: Global) -> bool {
     let is_shown = shows_its_opening(alloc);
     let is_added = accumulated() == Some(100_000_000_000);
     let are_read = are_defaults_read() && Ecn::Ect0.bits() == 0b10;
-    is_shown && is_added && are_gains_bounded() && are_read
+    is_shown && is_added && are_gains_bounded() && are_read && is_history_read(alloc)
 }

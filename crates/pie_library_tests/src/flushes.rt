@@ -1,0 +1,160 @@
+//! Calls that write, of texts that are whole and of others: where a writer's flush fails, each answers so. No clause says that a writer is flushed,
+//! and the program's needs no flush.
+
+use pie_audit::{Finding, write_finding};
+use pie_book::{Answer, Command, Event, Opening};
+use pie_explain::{Choice, ExplainFault, Form, Which, explain};
+use pie_params::{Elements, Params};
+use pie_trace::{TraceFault, migrate, run_trace, run_trace_within, write_history};
+use pie_tuning::{opening_for, write_opening};
+use std::alloc::Global;
+use std::io;
+use std::io::{ErrorKind, Write};
+
+/// A writer that takes all, and whose flush fails or not.
+#[derive(Drop)]
+pub(crate) struct Sink {
+    flush_fails: bool,
+}
+
+impl Sink {
+    pub(crate) fn new(flush_fails: bool) -> Sink {
+        Sink { flush_fails }
+    }
+}
+
+impl Write for Sink {
+    fn write(&mut self, buf: &[u8]) -> io::Result<usize> {
+        Ok(buf.len())
+    }
+
+    fn flush(&mut self) -> io::Result<()> {
+        if self.flush_fails {
+            Err(io::Error::from(ErrorKind::BrokenPipe))
+        } else {
+            Ok(())
+        }
+    }
+}
+
+/// A trace, a history, and a text that is neither.
+const TRACE: &[u8] = b"open,0,4,16,100\narrive,1,10,7,1500,ect0,0\ndepart,2,25\n";
+
+pub(crate) const HISTORY: &[u8] =
+    b"open,0,4,16,100\narrive,1,10,7,1500,ect0,0,enqueue\ndepart,2,25,left,7,1500,ect0\n";
+
+const FAULT: &[u8] = b"open,0,4,16,100\ndep\n";
+
+/// A rolling book with the default parameters and the usual elements, whose ring and tail hold four.
+fn opening() -> Opening {
+    opening_for(4, Elements::usual(), Params::default_profile())
+}
+
+/// A call that writes.
+#[derive(Clone, Copy)]
+pub(crate) enum Writes {
+    Run,
+    RunWithin,
+    Migrate,
+    Explain,
+    Finding,
+    Opening,
+    History,
+}
+
+/// All of them.
+pub(crate) const WRITES: [Writes; 7] = [
+    Writes::Run,
+    Writes::RunWithin,
+    Writes::Migrate,
+    Writes::Explain,
+    Writes::Finding,
+    Writes::Opening,
+    Writes::History,
+];
+
+fn run(alloc: Global, text: &[u8], writer: &mut Sink) -> bool {
+    matches!(run_trace(alloc, text, writer), Err(TraceFault::Write))
+}
+
+/// A run that reads one record at the most, and so meets a text that is too long.
+fn run_within(alloc: Global, text: &[u8], writer: &mut Sink) -> bool {
+    matches!(
+        run_trace_within(alloc, text, writer, 1),
+        Err(TraceFault::Write)
+    )
+}
+
+fn migrated(alloc: Global, text: &[u8], writer: &mut Sink) -> bool {
+    matches!(migrate(alloc, text, writer), Err(TraceFault::Write))
+}
+
+fn explained(alloc: Global, text: &[u8], writer: &mut Sink) -> bool {
+    let answer = explain(alloc, text, writer, Choice::of(Which::All), Form::Csv);
+    matches!(answer, Err(ExplainFault::Trace(TraceFault::Write)))
+}
+
+fn found(writer: &mut Sink) -> bool {
+    let answer = write_finding(Finding::Clean { events: 3 }, writer);
+    matches!(answer, Err(TraceFault::Write))
+}
+
+fn opened(writer: &mut Sink) -> bool {
+    write_opening(&opening(), writer).is_err()
+}
+
+fn written(alloc: Global, writer: &mut Sink) -> bool {
+    let event = Event {
+        caller: 2,
+        command: Command::Depart { moment: 1 },
+        answer: Answer::Empty,
+    };
+    event.fits()
+        && matches!(
+            write_history(alloc, writer, &opening(), &[event]),
+            Err(TraceFault::Write)
+        )
+}
+
+impl Writes {
+    /// How it is printed.
+    pub(crate) fn name(self) -> &'static str {
+        match self {
+            Writes::Run => "run_trace_flushes",
+            Writes::RunWithin => "run_trace_within_flushes",
+            Writes::Migrate => "migrate_flushes",
+            Writes::Explain => "explain_flushes",
+            Writes::Finding => "write_finding_flushes",
+            Writes::Opening => "write_opening_flushes",
+            Writes::History => "write_history_flushes",
+        }
+    }
+
+    /// Whether it answers that the writer failed.
+    fn fails(self, alloc: Global, text: &[u8], writer: &mut Sink) -> bool {
+        match self {
+            Writes::Run => run(alloc, text, writer),
+            Writes::RunWithin => run_within(alloc, text, writer),
+            Writes::Migrate => migrated(alloc, text, writer),
+            Writes::Explain => explained(alloc, text, writer),
+            Writes::Finding => found(writer),
+            Writes::Opening => opened(writer),
+            Writes::History => written(alloc, writer),
+        }
+    }
+
+    /// Whether it answers so where the flush fails, and else not.
+    fn tells(self, alloc: Global, text: &[u8]) -> bool {
+        let fails = self.fails(alloc, text, &mut Sink::new(true));
+        fails && !self.fails(alloc, text, &mut Sink::new(false))
+    }
+
+    /// The same of a trace or a history, and of a text that is neither.
+    pub(crate) fn tells_of_its_flush(self, alloc: Global) -> bool {
+        let whole = match self {
+            Writes::Run | Writes::RunWithin => TRACE,
+            _ => HISTORY,
+        };
+        self.tells(alloc, whole) && self.tells(alloc, FAULT)
+    }
+}

@@ -1,0 +1,111 @@
+//! The lock, over the states that pie_lock has for tests. What its calls answer is proved but for this: that a pass which lacks numbers takes and
+//! closes a lock that is free, that there is memory, and that those who sleep at a lock that is held are woken: with a missed wake a test doesn't end.
+ghost use Rattle.std.specs.Prelude.{◌≡◌, Some, IfSome};
+
+use pie_lock::example::{Till, try_sell};
+use pie_lock::{Counter, CounterEntry, Pass, RuledLock, no_entries, one_entry};
+use std::alloc::Global;
+use std::sync::Wait;
+use std::thread;
+use std::thread::{Threads, sleep};
+use std::time::{Clock, Duration};
+
+/// The sales of a till that is sold from by a pass and another that it shares, and then closes by the first of them.
+fn sales(lock: RuledLock<Till>, mut pass: Pass<Till>) -> Option<u64>
+    requires own { pass.lock ≡ lock }
+{
+    let other = lock.share(&mut pass).ok()?;
+    let _other = try_sell(&lock, other).ok()?;
+    let pass = try_sell(&lock, pass).ok()?;
+    match lock.close(pass) {
+        Ok(till) => Some(till.sales),
+        Err(_) => None,
+    }
+}
+
+/// Whether both sell, at a lock with the most numbers.
+pub(crate) fn sells_to_two(alloc: Global) -> bool {
+    let till = Till {
+        opened_with: 50,
+        sales: 0,
+    };
+    match RuledLock::new(alloc, till, 65535) {
+        Ok((lock, pass)) => sales(lock, pass) == Some(2),
+        Err(_) => false,
+    }
+}
+
+/// How long each thread holds the lock, in milliseconds: long enough for those who wait to spin, to yield and to sleep.
+const LONG: u64 = 200;
+
+/// A thread at the lock.
+#[derive(Drop)]
+struct AtLock<'a> {
+    lock: &'a RuledLock<Counter>,
+    pass: Pass<Counter>,
+    ghost own: { pass.lock ≡ lock.now },
+}
+
+/// Takes the lock, has the state for long, and makes one call; the number is that of the calls.
+fn take_and_add<R: Wait + Clock>(rt: &R, one: AtLock) -> u64 {
+    let AtLock { lock, pass } = one;
+    let caller = pass.first();
+    let mut held = lock.take(rt, pass);
+    sleep(rt, Duration::from_millis(LONG));
+    if held.state().add(1) {
+        drop(lock.put(held, one_entry(&CounterEntry { caller, amount: 1 })));
+    } else {
+        drop(lock.put(held, no_entries()));
+    }
+    1
+}
+
+/// Three that have a pass each. (Without memory there are fewer, and the test fails.)
+fn three<'a>(
+    alloc: Global,
+    lock: &'a RuledLock<Counter>,
+    pass: &mut Pass<Counter>,
+) -> Vec<AtLock<'a>>
+    requires own { pass.old.lock ≡ lock.now }
+    ensures { pass.new.lock ≡ lock.now }
+{
+    let mut all = Vec::new(alloc);
+    for _ in 0..3 {
+        if let Ok(pass) = lock.share(pass) {
+            let _ = all.push(AtLock { lock, pass });
+        }
+    }
+    all
+}
+
+/// Three threads, of which two sleep while the first has the state, and one still while the second has it.
+fn three_take<R: Threads + Wait + Clock + Sync>(
+    rt: &R,
+    alloc: Global,
+    lock: &RuledLock<Counter>,
+    pass: &mut Pass<Counter>,
+) -> bool
+    requires own { pass.old.lock ≡ lock.now }
+    ensures { pass.new.lock ≡ lock.now }
+{
+    let all = three(alloc, lock, pass);
+    thread::map_vec(rt, all, &|one: AtLock| { take_and_add(rt, one) }).is_ok()
+}
+
+/// Whether a lock that closes has counted three.
+fn has_three(lock: RuledLock<Counter>, pass: Pass<Counter>) -> bool
+    requires own { pass.lock ≡ lock }
+{
+    match lock.close(pass) {
+        Ok(counter) => counter.count() == 3 && counter.total() == 3,
+        Err(_) => false,
+    }
+}
+
+/// Whether all three have been there.
+pub(crate) fn all_wake<R: Threads + Wait + Clock + Sync>(rt: &R, alloc: Global) -> bool {
+    match RuledLock::new(alloc, Counter::new(), 4) {
+        Ok((lock, mut pass)) => { three_take(rt, alloc, &lock, &mut pass) & has_three(lock, pass) }
+        Err(_) => false,
+    }
+}

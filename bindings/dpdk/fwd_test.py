@@ -330,8 +330,9 @@ def flows():
         packets = b"".join(struct.pack("<IIII", 0, 0, size, size) + frame(size) for size in sizes)
         Path(work, "capture").write_bytes(struct.pack("<IHHiIII", 0xA1B2C3D4, 2, 4, 0, 0, 65535, 1) + packets)
         ports = [f"--vdev=net_pcap0,rx_pcap={work}/capture,infinite_rx=1", "--vdev=net_ring0"]
-        words = ["--rate", "20mbit", "--receive", "30mbit", "--for", "2s", "--history", f"{work}/history", "--flows", f"{work}/flows", "--limit", "90p"]
-        status, printed, errors = run(ports, *words, "--rotate", "64kb", "--flight", f"{work}/flight", "--flight-wait", "5ms", "--ecn")
+        words = ["--rate", "20mbit", "--receive", "30mbit", "--for", "2s", "--history", f"{work}/history", "--flows", f"{work}/flows"]
+        words += ["--limit", "90p", "--rotate", "64kb", "--flight", f"{work}/flight", "--flight-wait", "5ms", "--ecn"]
+        status, printed, errors = run(ports, *words)
         assert status == 0, (status, printed, errors)
         events_of(told(printed))
         header, *rows = [line.split(",") for line in Path(work, "flows").read_text().splitlines()]

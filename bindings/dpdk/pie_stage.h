@@ -21,8 +21,8 @@
  * Packets are Ethernet frames, and a packet's size is its pkt_len, without the frame check sequence. One whose size is outside 1 to 65535
  * bytes, as segmentation offload makes them, is dropped (`oversized`). Marks are set in the outermost IP header, behind up to four VLAN tags.
  *
- * All calls but create, free and those for history and records may be made by any number of threads at once; they take one spin lock, and nothing that
- * waits or takes memory stands under it. An enqueue gives it up after each 32 packets; a dequeue holds it for all that it takes. A dequeue with
+ * All calls but create, free and those for history and records may be made by any number of threads at once; they take one spin lock, and nothing
+ * that waits or takes memory stands under it. An enqueue gives it up after each 32 packets; a dequeue holds it for all that it takes. A dequeue with
  * nothing to take, and an update that is not due, take no lock.
  *
  * A flight recorder (pie_flight.h) keeps the last `flight` arrivals, departures and updates. pie_stage_flight writes them, from any lcore while the
@@ -178,10 +178,10 @@ size_t pie_stage_history(struct pie_stage *stage, unsigned char *text, size_t ro
  * for 256 of the packets that wait at once; for more only while packets come as quickly as they are copied. */
 bool pie_stage_history_cut(struct pie_stage *stage);
 
-/* Writes the header row, or the record of the next period that is over: as `pie explain --every --csv --wall` writes them of the history. Answers how
- * many bytes it has, 0 where there is none now or `every` is 0. `is_over`: no other thread calls the stage any more, and the last period is over too.
- * `room` is at least PIE_RESUME_ROOM. One thread at a time; it holds up no other call but once, for the header. Eight periods wait for who writes; where
- * it came too late, a line `lost,<count>` stands for so many. */
+/* Writes the header row, or the record of the next period that is over: as `pie explain --every --csv --wall` writes them of the history. Answers
+ * how many bytes it has, 0 where there is none now or `every` is 0. `is_over`: no other thread calls the stage any more, and the last period is over
+ * too. `room` is at least PIE_RESUME_ROOM. One thread at a time; it holds up no other call but once, for the header. Eight periods wait for who
+ * writes; where it came too late, a line `lost,<count>` stands for so many. */
 size_t pie_stage_record(struct pie_stage *stage, bool is_over, unsigned char *text, size_t room);
 
 /* Nanoseconds in so many cycles of the TSC, by the clock of the stage. It rounds down, and is exact to 10^-13. */

@@ -8,8 +8,8 @@
  *   Packets a second from one null port to another in bursts of 32: forwarding alone, by rte_pie, by the stage without marks, by the stage, by the
  *   stage with the flight recorder, by a link in place of that stage (linked.h), by the stage with the records of its periods, each of 10 ms, and by
  *   the stage with its whole history, in turn. What the flight recorder holds after its last run goes to FILE.
- *   The last lcore writes the history, or the records, to /dev/null. Where one more is left it receives, enqueues, dequeues and sends; of several the main lcore
- *   dequeues and sends, and the others receive and enqueue. 512 packets wait all the time where one lcore does it all. Each line is `name
+ *   The last lcore writes the history, or the records, to /dev/null. Where one more is left it receives, enqueues, dequeues and sends; of several the
+ *   main lcore dequeues and sends, and the others receive and enqueue. 512 packets wait all the time where one lcore does it all. Each line is `name
  *   value unit`, for bench/pie_dpdk.sh; with `lost`, the share of the recorded stage's events that its history lacks.
  */
 #include "linked.h"

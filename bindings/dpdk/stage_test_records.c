@@ -67,7 +67,7 @@ static FILE *next_part(struct pie_stage *stage, FILE *history, struct told *told
 }
 
 /* A queue that fills and drains, whose events are summed up in periods of `every` ns, while parameters change, the clock stands still, goes back and
- * jumps, and the history, of events > 0, is cut. For `silent` rounds nobody writes the records. Files: NAME-every.records, and the history in parts. */
+ * jumps, and the history, where there is one, is cut. For `silent` rounds nobody writes the records. Files: those of the name, the history in parts. */
 static void sum_up(const char *kind, uint64_t every, uint64_t profile, uint32_t events, int silent) {
     struct pie_stage_params params;
     struct told told = {0};

@@ -1,12 +1,12 @@
 #!/usr/bin/env bash
 # Packets a second from one null port of DPDK to another, in bursts of 32: forwarding alone, through DPDK's rte_pie (which makes no marks),
-# through the stage of bindings/dpdk without marks and with, through the stage with its flight recorder of the last 16384 events, and through the
-# stage with its whole history, written to /dev/null by one more lcore; all but the first behind the same lock and ring. Once one lcore receives,
-# enqueues, dequeues and sends; once as many as the processors allow receive and enqueue, and one dequeues and sends. Prints the greatest and the
-# median of the runs, which take turns, as the table of docs/PERFORMANCE.md. It needs libdpdk (bindings/dpdk/install.sh) and the library, which
-# bindings/c/library.py builds.
+# through the stage of bindings/dpdk without marks and with, through the stage with its flight recorder of the last 16384 events, through a link in
+# its place (bindings/dpdk/linked.h), and through the stage with the records of its periods, and with its whole history, both written to /dev/null by
+# one more lcore; all but the first and the link behind the same lock and ring. Once one lcore receives, enqueues, dequeues and sends; once as many as
+# the processors allow receive and enqueue, and one dequeues and sends. Prints the greatest and the median of the runs, which take turns, as the table
+# of docs/PERFORMANCE.md. It needs libdpdk (bindings/dpdk/install.sh) and the libraries, which bindings/c/library.py builds.
 #
-# usage: bench/pie_dpdk.sh [SECONDS [RUNS [PRIORITY]]]      SECONDS of each run, 1 where none is given; RUNS of each kind, 9: some 115 seconds in
+# usage: bench/pie_dpdk.sh [SECONDS [RUNS [PRIORITY]]]      SECONDS of each run, 1 where none is given; RUNS of each kind, 9: some 150 seconds in
 # all. With a PRIORITY (50, say) each run has its processors for itself, by the system's real-time policy (chrt): take runs of 0.02 seconds then,
 # since nothing else runs meanwhile.
 set -eu
@@ -56,11 +56,15 @@ row("with rte_pie", rate("rte_pie"))
 row("with the stage, without marks", rate("dropping"))
 row("with the stage", rate("stage"))
 row("with the stage and its flight recorder", rate("flight"))
+row("with a link in their place", rate("link"))
+row("with the stage and its records of periods", rate("summed"))
 row("with the stage and its whole history", rate("recorded"))
 row("the stage without marks, to rte_pie", ratio("dropping", "rte_pie"))
 row("the stage, to rte_pie", ratio("stage", "rte_pie"))
 row("the stage and its flight recorder, to rte_pie", ratio("flight", "rte_pie"))
 row("the stage and its flight recorder, to the stage", ratio("flight", "stage"))
+row("a link, to the stage and its flight recorder", ratio("link", "flight"))
+row("the stage and its records of periods, to the stage", ratio("summed", "stage"))
 row("the stage and its whole history, to the stage", ratio("recorded", "stage"))
 row("events told as lost, since the text came too late", lambda side: f"{min(side['lost']):.1f} % ({statistics.median(side['lost']):.1f} %)")
 END2

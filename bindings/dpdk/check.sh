@@ -41,7 +41,26 @@ audited() {
     return 1
 }
 
-step build make -s -j2
+# The records of periods that a stage wrote are those of its history, whose parts after the first begin with what they resume from; or a line says how
+# many are missing, and these alone are. NAME.records has its periods' length in its name.
+summed() {
+    local base=${1%.records} every part=0
+    every=$(grep -oE '[0-9]{4,}' <<< "${base##*/}" | head -1)
+    {
+        cat "$base.history"
+        while [ -e "$base-$((++part)).history" ]; do
+            grep -vE '^(resume|queued),' "$base-$part.history"
+        done
+    } > "$work/joined"
+    ! grep -q '^lost,' "$work/joined" || return 0
+    "$pie" explain --every "${every}ns" --csv --wall "$work/joined" > "$work/explained"
+    awk -F, 'NR == FNR { line[NR] = $0; next } $1 == "lost" { at += $2; next } $0 != line[++at] { exit 1 } END { if (at != NR - FNR) exit 1 }' \
+        "$work/explained" "$1" && return
+    echo "bindings/dpdk/check.sh: the records $1 are not those of its history"
+    return 1
+}
+
+step build make -s -j2 all out/stage_measure
 step build-address make -s -j2 SANITIZE=address out/address/stage_test out/address/pie-fwd
 step build-thread make -s SANITIZE=thread out/thread/stage_test
 mkdir "$work/plain" "$work/address" "$work/thread"
@@ -53,6 +72,11 @@ step null timeout 60 out/stage_measure "${eal[@]}" --lcores "(0-1)@$cpus" --vdev
 for history in "$work"/*/*.history; do
     step audit audited "$history"
 done
+count=0
+for records in "$work"/*/*.records; do
+    [ ! -e "${records%.records}.history" ] || { step summed summed "$records"; count=$((count + 1)); }
+done
+[ $count -ge 9 ] || { echo "bindings/dpdk/check.sh: records of $count stages alone"; exit 1; }
 [ "$(grep -L '^lost,' "$work"/plain/*.history | wc -l)" -ge 100 ] || { echo "bindings/dpdk/check.sh: gaps in histories that have none"; exit 1; }
 step address timeout 60 out/address/pie-fwd "${eal[@]}" --vdev=net_null0 --vdev=net_ring0 --lcores "(0-2)@$cpus" -- \
     --total-num-mbufs=8192 --rate 50mbit --for 1s --history /dev/null

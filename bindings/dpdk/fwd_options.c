@@ -32,6 +32,9 @@ static const char more_help[] =
     "  --history FILE        every decision: some 120 bytes a packet\n"
     "  --rotate 64mb         the history in segments of this size, FILE.1, FILE.2 and so on, each of which stands alone\n"
     "  --segments 8          keep the last of them, and remove those before (all are kept)\n"
+    "  --flows FILE          whose packets come: a flow's number stands in the upper 32 bits of each tag, and FILE tells its addresses and ports\n"
+    "  --records FILE        sums of each period as it ends, as pie explain --every --csv --wall writes them of the history\n"
+    "  --every 1s            how long such a period lasts\n"
     "  --receive 120mbit     receive no more than this from port 0: for a port without end, as a null port is\n"
     "  --total-num-mbufs 8192\n"
     "                        mbufs in the pool, 1024 to 2^24; at most half of them wait\n"
@@ -62,12 +65,14 @@ static const char *fault_of(const struct fwd_options *options, uint64_t flight) 
         return "--flight-events";
     if (options->rotate != 0 && options->rotate < LEAST_SEGMENT)
         return "--rotate";
+    if (options->records != NULL && options->stage.every == 0)
+        return "--every";
     // a queue that takes all mbufs leaves the card none to receive with, and then the card drops, and not PIE
     return options->stage.opening.packets * options->queues > options->mbufs / 2 ? "--limit" : NULL;
 }
 
 int fwd_read_options(int count, char **words, struct fwd_options *options) {
-    uint64_t flight = PIE_STAGE_FLIGHT;
+    uint64_t flight = PIE_STAGE_FLIGHT, every = 1000000000;
     const struct option own[] = {
         {"--for", option_time, &options->lasts},         {"--receive", option_rate, &options->received},
         {"--rotate", option_size, &options->rotate},     {"--segments", option_number, &options->segments},
@@ -75,7 +80,8 @@ int fwd_read_options(int count, char **words, struct fwd_options *options) {
         {"--flight-events", option_number, &flight},     {"--total-num-mbufs", option_packets, &options->mbufs},
         {"--history", option_text, &options->history},   {"--metrics", option_text, &options->metrics},
         {"--json", option_text, &options->json},         {"--one-way", NULL, &options->is_one_way},
-        {"--queues", option_number, &options->queues},
+        {"--queues", option_number, &options->queues},   {"--flows", option_text, &options->flows},
+        {"--records", option_text, &options->records},   {"--every", option_time, &every},
     };
     const struct command command = {"pie-fwd", {help, more_help}, own, sizeof own / sizeof own[0], MOST_QUEUED};
     struct control control;
@@ -95,6 +101,7 @@ int fwd_read_options(int count, char **words, struct fwd_options *options) {
         .flight = (uint32_t)flight,
         .flight_wait = wait,
         .events = options->history != NULL ? EVENTS : 0,
+        .every = options->records != NULL ? every : 0,
     };
     const char *fault = fault_of(options, flight);
     if (fault != NULL)

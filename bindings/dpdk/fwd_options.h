@@ -19,6 +19,8 @@ struct fwd_options {
     uint64_t rotate;       /* bytes of a segment of the history, 0: it is one text */
     uint64_t segments;     /* that are kept, 0: all */
     const char *flight;    /* where the flight recorder's text goes, never NULL */
+    const char *flows;     /* the file that tells flows, or NULL */
+    const char *records;   /* of the records of periods, or NULL */
 };
 
 enum { FWD_READ, FWD_HELP, FWD_WRONG };

@@ -42,11 +42,10 @@ struct pie_stage_stats fwd_sum(uint32_t queues, const struct pie_stage_stats *st
         sum.updates += one->updates;
         sum.changes += one->changes;
         sum.lost += one->lost;
+        sum.lost_periods += one->lost_periods;
     }
     return sum;
 }
-
-_Static_assert(METRICS_WAITS == PIE_STAGE_WAITS && METRICS_PROBS == PIE_STAGE_PROBS, "the sorts that are counted are those that are written");
 
 static unsigned __int128 wide(uint64_t high, uint64_t low) {
     return (unsigned __int128)high << 64 | low;

@@ -1,16 +1,19 @@
 #!/usr/bin/env python3
 """Runs pie-fwd between a null port and a ring, several at once: what it refuses, its end by an interrupt, its files, its telemetry, by which
-parameters are set, and its history, at full speed and by a device that is full, in segments, and of the last events alone; no mbuf is lost. With --real-time it runs nothing else than one that holds
-its target in real time, at raised priority, for which a processor has to be free.
+parameters are set, its history, at full speed and by a device that is full, in segments, and of the last events alone, its records of periods beside
+that history, and flows of a capture; no mbuf is lost. With --real-time it runs nothing else than one that holds its target in real time, at raised
+priority, for which a processor has to be free.
 
 usage: bindings/dpdk/fwd_test.py PIE_FWD PIE [--real-time]"""
 import contextlib
+import ipaddress
 import json
 import os
 import re
 import shutil
 import signal
 import socket
+import struct
 import subprocess
 import sys
 import tempfile
@@ -57,6 +60,9 @@ def refused():
         (RING, ["--limit", "1000"], "--limit 1000: a unit has to say of what it is"),
         (RING, ["--flight-events", "16777217"], "--flight-events: out of its range"),
         (RING, ["--history", "/dev/null", "--rotate", "1kb"], "--rotate: out of its range"),
+        (RING, ["--records", "/nowhere/records"], "the file of --records: No such file"),
+        (RING, ["--records", "/dev/null", "--every", "0s"], "--every: out of its range"),
+        (RING, ["--flows", "/nowhere/flows"], "the file of --flows: No such file"),
         (RING, ["--flight-wait", "5"], "--flight-wait 5: refused: no number with a unit"),
         (RING[:1], [], "there are 1 ports"),
     ):
@@ -151,6 +157,21 @@ def tells_time(path, since):
     assert len(re.findall(rb"^clock,", Path(path).read_bytes(), re.M)) == 1
 
 
+def holds_records(records, history, every):
+    """The records are those of the history, or a line tells how many periods are missing, and these alone are."""
+    done = subprocess.run([PIE, "explain", "--every", every, "--csv", "--wall", history], stdout=subprocess.PIPE, text=True, check=True)
+    wanted = iter(done.stdout.splitlines())
+    found = Path(records).read_text().splitlines()
+    assert len(found) > 3, found
+    for line in found:
+        if line.startswith("lost,"):
+            assert all(next(wanted, None) for _ in range(int(line[5:])))
+        else:
+            other = next(wanted, None)
+            assert line == other, (line, other)
+    assert next(wanted, None) is None
+
+
 def events_of(numbers):
     words = ("packets queued", "dropped early", "for want of bytes", "of room", "left", "updates", "changes of parameters")
     return sum(numbers[word] for word in words)
@@ -185,7 +206,7 @@ def telemetry():
     """What it tells of the stage while that runs, and new parameters, which are in force from then on and stand in the history."""
     with tempfile.TemporaryDirectory() as work:
         path = f"{work}/history"
-        words = ("--rate", "20mbit", "--receive", "24mbit", "--history", path)
+        words = ("--rate", "20mbit", "--receive", "24mbit", "--history", path, "--records", f"{work}/records", "--every", "100ms")
         with with_telemetry(*words, stderr=subprocess.DEVNULL) as (process, one):
             assert ask(one, "/pie/list") == ["pie-fwd"]
             before = ask(one, "/pie/params,0")
@@ -207,6 +228,7 @@ def telemetry():
         text = Path(path).read_text()
         assert re.findall(r"^params,.*$", text, re.M)[0].split(",")[3:] == [*map(str, wanted.values()), "done"]
         assert audited(path)[1] == events_of(told(printed))
+        holds_records(f"{work}/records", path, "100ms")
     return "telemetry"
 
 
@@ -250,7 +272,7 @@ def queues():
     """Two queues, of which packets without an IP header take the first: lines, metrics, JSON, histories and flight recorders of each."""
     with tempfile.TemporaryDirectory() as work:
         words = ["--rate", "20mbit", "--receive", "24mbit", "--queues", "2", "--limit", "400p", "--history", f"{work}/history", "--flight", f"{work}/flight",
-                 "--metrics", f"{work}/pie.prom", "--json", f"{work}/json"]
+                 "--metrics", f"{work}/pie.prom", "--json", f"{work}/json", "--records", f"{work}/records", "--every", "150ms", "--profile", "2"]
         with with_telemetry(*words, stderr=subprocess.PIPE) as (process, one):
             lines = [process.stdout.readline() for _ in range(4)]
             assert ask(one, "/pie/list") == ["pie-fwd", "pie-fwd-1"]
@@ -277,7 +299,55 @@ def queues():
         ends = [audited(f"{work}/history{it}")[1] for it in ("", "-1")]
         assert sum(ends) == events_of(told(printed)) and ends[1] > 0, (ends, printed)
         assert all(audited(f"{work}/flight{it}")[1] <= end for it, end in zip(("", "-1"), ends))
+        for it in ("", "-1"):
+            holds_records(f"{work}/records{it}", f"{work}/history{it}", "150ms")
     return "queues"
+
+
+FLOOD = ("udp", "192.0.2.66", 9, "198.51.100.1", 53)
+FLOWS = {1000: FLOOD, 1001: ("tcp", "192.0.2.1", 40000, "198.51.100.1", 443), 1002: ("tcp", "192.0.2.2", 40001, "198.51.100.1", 443),
+         1003: ("tcp", "2001:db8::1", 40002, "2001:db8::2", 443), 1004: ("tcp", "192.0.2.3", 40003, "198.51.100.1", 443)}  # by the frame's size
+
+
+def frame(size):
+    """A frame of this flow; the last has a VLAN tag."""
+    protocol, source, source_port, destination, destination_port = FLOWS[size]
+    one, other = ipaddress.ip_address(source).packed, ipaddress.ip_address(destination).packed
+    number = {"tcp": 6, "udp": 17}[protocol]
+    if len(one) == 4:
+        kind, head = 0x0800, struct.pack(">BBHHHBBH", 0x45, 2, size - 14, 0, 0, 64, number, 0) + one + other
+    else:
+        kind, head = 0x86DD, struct.pack(">IHBB", 6 << 28 | 2 << 20, size - 54, number, 64) + one + other
+    tag = struct.pack(">HH", 0x8100, 7) if size == max(FLOWS) else b""
+    return (bytes(12) + tag + struct.pack(">H", kind) + head + struct.pack(">HH", source_port, destination_port)).ljust(size, b"x")
+
+
+def flows():
+    """A capture of four TCP connections beside a UDP flood, received without end: the flow with the most bytes is the flood, by its addresses, and
+    each packet has its flow in its tag."""
+    with tempfile.TemporaryDirectory() as work:
+        sizes = [*FLOWS, *[1000] * 7]
+        packets = b"".join(struct.pack("<IIII", 0, 0, size, size) + frame(size) for size in sizes)
+        Path(work, "capture").write_bytes(struct.pack("<IHHiIII", 0xA1B2C3D4, 2, 4, 0, 0, 65535, 1) + packets)
+        ports = [f"--vdev=net_pcap0,rx_pcap={work}/capture,infinite_rx=1", "--vdev=net_ring0"]
+        words = ["--rate", "20mbit", "--receive", "30mbit", "--for", "2s", "--history", f"{work}/history", "--flows", f"{work}/flows"]
+        words += ["--limit", "90p", "--rotate", "64kb", "--flight", f"{work}/flight", "--flight-wait", "5ms", "--ecn"]
+        status, printed, errors = run(ports, *words)
+        assert status == 0, (status, printed, errors)
+        events_of(told(printed))
+        header, *rows = [line.split(",") for line in Path(work, "flows").read_text().splitlines()]
+        assert header[0] == "flow" and len(rows) == len(FLOWS), rows
+        numbers = {tuple(row[1:]): int(row[0], 16) for row in rows}
+        parts = sorted(Path(work).glob("history.*"), key=lambda it: int(it.suffix[1:]))
+        assert len(parts) > 2, parts
+        for path in [*parts, Path(work, "flight")]:
+            audited(str(path))
+            found = re.findall(r"^(?:arrive,\d+,\d+|depart,\d+,\d+,left|queued),(\d+),(\d+),", path.read_text(), re.M)
+            assert len(found) > 100 and all(int(tag) >> 32 == numbers[tuple(map(str, FLOWS[int(size)]))] for tag, size in found), path
+        done = subprocess.run([PIE, "explain", "--summary", "--flows", "10", "--csv", parts[1]], stdout=subprocess.PIPE, text=True, check=True)
+        first = dict(zip(*(line.split(",") for line in done.stdout.splitlines()[:2])))
+        assert int(first["flow"], 16) == numbers[tuple(map(str, FLOOD))], done.stdout
+    return "flows"
 
 
 def device_full():
@@ -285,6 +355,8 @@ def device_full():
     status, printed, errors = run(PACED, "--total-num-mbufs=2048", "--receive", "20mbit", "--for", "1s", "--history", "/dev/full")
     assert status == 1 and errors.count("--history /dev/full: No space left on device") == 1, (status, errors)
     told(printed)
+    status, _, errors = run(PACED, "--receive", "20mbit", "--for", "1s", "--records", "/dev/full")
+    assert status == 1 and errors.count("--records /dev/full: No space left on device") == 1, (status, errors)
     process = subprocess.Popen(command(PACED, "--total-num-mbufs=2048", "--receive", "20mbit"), stdout=subprocess.PIPE, text=True)
     process.stdout.close()
     assert process.wait(timeout=30) == 0
@@ -384,7 +456,7 @@ def main():
     if shutil.which("promtool") is None:
         print("NOT RUN: bindings/dpdk/fwd_test.py: no promtool here, so nothing else than this script read the metrics (bindings/dpdk/install.sh)")
     with ThreadPoolExecutor(max_workers=3) as pool:
-        print("; ".join(pool.map(lambda it: it(), (full_speed, flight, interrupt, paced, segments, telemetry, queues, device_full, refused))))
+        print("; ".join(pool.map(lambda it: it(), (full_speed, flight, interrupt, paced, segments, telemetry, queues, flows, device_full, refused))))
 
 
 main()

@@ -1,9 +1,11 @@
 /* pie-fwd: forwards between two ports through a stage that is shaped to a rate. See `pie-fwd -- --help`. */
 #include "fwd_flight.h"
+#include "fwd_flows.h"
 #include "fwd_history.h"
 #include "fwd_options.h"
 #include "fwd_pace.h"
 #include "fwd_queues.h"
+#include "fwd_records.h"
 #include "fwd_report.h"
 #include "metrics.h"
 #include "pie_stage.h"
@@ -34,6 +36,8 @@ static struct {
     struct rte_mempool *pool;
     struct fwd_queues queues;
     struct fwd_history histories[FWD_QUEUES];
+    struct fwd_records records[FWD_QUEUES];
+    struct fwd_flows flows;
     uint16_t receivers; /* lcores that receive, and queues of port 0 */
     uint64_t unsent;    /* packets that a port did not take */
     int is_stopped;
@@ -168,11 +172,20 @@ static bool open_all(void) {
     forward.pool = rte_pktmbuf_pool_create("pie-fwd", (unsigned int)forward.options.mbufs, 128, 0, RTE_MBUF_DEFAULT_BUF_SIZE, SOCKET_ID_ANY);
     if (forward.pool == NULL)
         return fail("the pool of mbufs", rte_errno);
+    if (!fwd_flows_open(&forward.flows, forward.options.flows))
+        return fail("the file of --flows", errno);
+    if (forward.options.flows != NULL) {
+        forward.options.stage.flow = fwd_flow_of;
+        forward.options.stage.flow_user = &forward.flows;
+    }
     if (!fwd_queues_create(&forward.queues, (uint32_t)forward.options.queues, "pie-fwd", &forward.options.stage))
         return fail("the stage", rte_errno);
-    for (uint32_t i = 0; i < forward.queues.count; i++)
+    for (uint32_t i = 0; i < forward.queues.count; i++) {
         if (!fwd_history_open(&forward.histories[i], forward.options.history, i, forward.options.rotate, forward.options.segments))
             return fail("the file of --history", errno);
+        if (!fwd_records_open(&forward.records[i], forward.options.records, i))
+            return fail("the file of --records", errno);
+    }
     return open_port(IN, forward.receivers) && open_port(OUT, 1);
 }
 
@@ -205,30 +218,34 @@ static void read_all(struct pie_stage_stats *stats) {
         pie_stage_read(forward.queues.stages[i], &stats[i]);
 }
 
-/* Writes some of each history; whether there was anything. */
-static bool write_histories(void) {
+/* Writes the records of periods that are over, the flows that are new, and some of each history; whether there was anything of a history. */
+static bool write_texts(void) {
     bool is_any = false;
-    for (uint32_t i = 0; i < forward.queues.count; i++)
+    for (uint32_t i = 0; i < forward.queues.count; i++) {
+        fwd_records_write(&forward.records[i], forward.queues.stages[i], false);
         is_any |= fwd_history_write(&forward.histories[i], forward.queues.stages[i]);
+    }
+    write_flows(&forward.flows.flows);
     return is_any;
 }
 
-/* A line a second, the history, and the flight recorder's text, until the end. */
+/* A line a second, histories, records of periods and flows, and the flight recorder's text, until the end. */
 static void report(void) {
     char port[RTE_ETH_NAME_MAX_LEN];
     struct pie_stage_stats before[FWD_QUEUES] = {0}, after[FWD_QUEUES];
     uint64_t hz = rte_get_tsc_hz(), start = rte_rdtsc(), told = start, written[FWD_QUEUES];
-    bool is_told_of_file = false, is_quick = forward.options.history != NULL || forward.options.stage.flight_wait != 0;
+    const struct fwd_options *options = &forward.options;
+    bool is_told_of_file = false, is_quick = options->history != NULL || options->records != NULL || options->stage.flight_wait != 0;
     rte_eth_dev_get_name_by_port(OUT, port);
     for (uint32_t i = 0; i < FWD_QUEUES; i++)
         written[i] = start - hz;
     for (;;) {
         uint64_t now = rte_rdtsc();
-        bool is_over = is_stopped() || (forward.options.lasts != 0 && (double)(now - start) / (double)hz * 1e9 >= (double)forward.options.lasts);
+        bool is_over = is_stopped() || (options->lasts != 0 && (double)(now - start) / (double)hz * 1e9 >= (double)options->lasts);
         if (now - told >= hz || is_over) {
             read_all(after);
             fwd_print_lines(forward.queues.count, before, after, (double)(now - told) / (double)hz);
-            if (!fwd_write_files(&forward.options, port, after) && !is_told_of_file) {
+            if (!fwd_write_files(options, port, after) && !is_told_of_file) {
                 fprintf(stderr, "pie-fwd: the file of --metrics or --json: %s\n", strerror(errno));
                 is_told_of_file = true;
             }
@@ -239,7 +256,7 @@ static void report(void) {
         // (who reads the lines may go: then it is over too)
         if (is_over || ferror(stdout) != 0)
             return;
-        if (!write_histories())
+        if (!write_texts())
             nanosleep(&(struct timespec){.tv_nsec = is_quick ? 1000000 : 10000000}, NULL);
     }
 }
@@ -257,8 +274,12 @@ static bool close_all(void) {
     uint16_t port;
     struct pie_stage_stats all[FWD_QUEUES];
     bool is_written = true;
-    for (uint32_t i = 0; i < FWD_QUEUES; i++)
-        is_written &= fwd_history_close(&forward.histories[i], i < forward.queues.count ? forward.queues.stages[i] : NULL);
+    for (uint32_t i = 0; i < FWD_QUEUES; i++) {
+        struct pie_stage *stage = i < forward.queues.count ? forward.queues.stages[i] : NULL;
+        is_written &= fwd_history_close(&forward.histories[i], stage);
+        is_written &= fwd_records_close(&forward.records[i], stage);
+    }
+    is_written &= fwd_flows_close(&forward.flows);
     if (!remove_metrics()) {
         fprintf(stderr, "pie-fwd: --metrics %s: %s\n", forward.options.metrics, strerror(errno));
         is_written = false;
@@ -279,9 +300,9 @@ static bool close_all(void) {
     rte_mempool_free(forward.pool);
     printf("pie-fwd: %" PRIu64 " packets queued, %" PRIu64 " marked, %" PRIu64 " dropped early, %" PRIu64 " for want of bytes, %" PRIu64
            " of room; %" PRIu64 " left, %" PRIu64 " not taken by a port; %" PRIu64 " updates; %" PRIu64
-           " changes of parameters; %" PRIu64 " events lost to the history; %u mbufs missing\n",
+           " changes of parameters; %" PRIu64 " events lost to the history, %" PRIu64 " periods to the records; %u mbufs missing\n",
            stats.queued, stats.marked, stats.early, stats.bytes, stats.full, stats.departed, forward.unsent, stats.updates,
-           stats.changes, stats.lost, missing);
+           stats.changes, stats.lost, stats.lost_periods, missing);
     return is_written && missing == 0;
 }
 

@@ -21,8 +21,8 @@
  * Packets are Ethernet frames, and a packet's size is its pkt_len, without the frame check sequence. One whose size is outside 1 to 65535
  * bytes, as segmentation offload makes them, is dropped (`oversized`). Marks are set in the outermost IP header, behind up to four VLAN tags.
  *
- * All calls but create, free and those for the history may be made by any number of threads at once; they take one spin lock, and nothing that
- * waits or takes memory stands under it. An enqueue gives it up after each 32 packets; a dequeue holds it for all that it takes. A dequeue with
+ * All calls but create, free and those for history and records may be made by any number of threads at once; they take one spin lock, and nothing
+ * that waits or takes memory stands under it. An enqueue gives it up after each 32 packets; a dequeue holds it for all that it takes. A dequeue with
  * nothing to take, and an update that is not due, take no lock.
  *
  * A flight recorder (pie_flight.h) keeps the last `flight` arrivals, departures and updates. pie_stage_flight writes them, from any lcore while the
@@ -36,13 +36,20 @@
  *   while ((size = pie_stage_history(stage, text, sizeof text)) != 0)            // on one lcore, again and again
  *       fwrite(text, 1, size, file);
  *
- * A packet's tag is its number, in the order of arrivals, and the caller is the lcore (65535 of a thread that is none). Each text begins with the
- * time of day (CLOCK_REALTIME) beside the stage's clock, by which `pie explain --wall` tells when its events were.
+ * A packet's tag is its number, in the order of arrivals, and the caller is the lcore (65535 of a thread that is none). With `flow` the tag has the
+ * lower 32 bits of that number, and above them the number of the packet's flow (docs/FORMATS.md). Each text begins with the time of day
+ * (CLOCK_REALTIME) beside the stage's clock, by which `pie explain --wall` tells when its events were.
+ *
+ * With `every` above 0 it sums up its events, also where none of them is kept, in the records of periods:
+ *
+ *   while ((size = pie_stage_record(stage, false, text, sizeof text)) != 0)      // on one lcore, again and again
+ *       fwrite(text, 1, size, file);
  */
 #ifndef PIE_STAGE_H
 #define PIE_STAGE_H
 
 #include "pie_flight.h"
+#include "pie_sorts.h"
 
 #include <stdbool.h>
 #include <stddef.h>
@@ -55,24 +62,11 @@ extern "C" {
 struct rte_mbuf;
 struct pie_stage;
 
+/* The number of a packet's flow. */
+typedef uint32_t (*pie_stage_flow)(void *user, const struct rte_mbuf *mbuf);
+
 #define PIE_STAGE_MAX_EVENTS (1u << 24) /* the most events of the flight recorder */
 #define PIE_STAGE_FLIGHT (1u << 14)     /* those of the flight recorder by default */
-
-#define PIE_STAGE_WAITS 13 /* how many sorts of waits are counted .. */
-#define PIE_STAGE_PROBS 13 /* .. and of probabilities */
-
-/* The longest wait of each sort but the last, which has no bound: 250 us, 500 us and so on to 512 ms, in nanoseconds. */
-static inline uint64_t pie_stage_wait_bound(uint32_t sort) {
-    return UINT64_C(250000) << sort;
-}
-
-/* The greatest probability of each sort but the last, in units of 10^-12: 0.0001, 0.0002, 0.0005, 0.001 and so on to 0.5. */
-static inline uint64_t pie_stage_prob_bound(uint32_t sort) {
-    uint64_t bound = sort % 3 == 0 ? 100000000 : sort % 3 == 1 ? 200000000 : 500000000;
-    for (; sort >= 3; sort -= 3)
-        bound *= 10;
-    return bound;
-}
 
 struct pie_stage_params {
     struct pie_opening opening; /* of the controller, by the stage's clock, which begins at 0; its `packets` are what the queue has room for */
@@ -83,6 +77,10 @@ struct pie_stage_params {
     uint64_t flight_wait;       /* a packet that waited longer than so many nanoseconds asks for the flight recorder's text; 0: none does */
     uint32_t events;            /* how many events at the least may wait for who writes the whole history, up to 2^24, each of some 50 bytes, in the
                                    flight recorder's memory; 0: nobody does */
+    pie_stage_flow flow;        /* asked by the lcore that enqueues, before it takes the lock, for each packet of a stage that keeps events; NULL:
+                                   tags tell no flows */
+    void *flow_user;
+    uint64_t every;             /* how long a period lasts whose events are summed up, 1 to 2^60 - 1 ns; 0: none are */
 };
 
 /* What a stage counted since it was made, and what it holds now. Each packet that was enqueued is counted once as queued (of these some are
@@ -105,16 +103,17 @@ struct pie_stage_stats {
     uint64_t waited;         /* nanoseconds that they waited, all together: the low 64 bits */
     uint64_t waited_high;    /* .. and the high 64 bits */
     uint64_t longest;        /* nanoseconds that the longest of these waits took */
-    uint64_t waits[PIE_STAGE_WAITS]; /* packets by their waits: those of a sort waited no longer than its bound, and longer than that before it */
+    uint64_t waits[PIE_WAIT_SORTS]; /* packets by the sorts of their waits (pie_sorts.h) */
     uint64_t updates;        /* updates made */
     uint64_t late;           /* of these, updates made more than t_update after they were due */
-    uint64_t probs[PIE_STAGE_PROBS]; /* updates by the probability after them: those of a sort had no more than its bound */
+    uint64_t probs[PIE_PROB_SORTS]; /* updates by the sorts of the probability after them */
     uint64_t probs_sum;      /* these probabilities, all together: the low 64 bits */
     uint64_t probs_high;     /* .. and the high 64 bits */
     uint64_t changes;        /* changes of the parameters */
     uint64_t earlier;        /* calls with packets whose `now` was earlier than one before it */
     uint64_t most;           /* packets, the most that the queue held */
     uint64_t lost;           /* events that the history lacks, since it was not written as fast as they came */
+    uint64_t lost_periods;   /* periods whose records are missing, since they were not written as fast as they ended */
 
     uint64_t waiting;        /* packets in the queue */
     uint64_t waiting_bytes;  /* their bytes */
@@ -178,6 +177,12 @@ size_t pie_stage_history(struct pie_stage *stage, unsigned char *text, size_t ro
  * false, and cuts nothing, where `events` is 0, nothing was written yet, or the text before the last cut is not yet whole. The lock is held
  * for 256 of the packets that wait at once; for more only while packets come as quickly as they are copied. */
 bool pie_stage_history_cut(struct pie_stage *stage);
+
+/* Writes the header row, or the record of the next period that is over: as `pie explain --every --csv --wall` writes them of the history. Answers
+ * how many bytes it has, 0 where there is none now or `every` is 0. `is_over`: no other thread calls the stage any more, and the last period is over
+ * too. `room` is at least PIE_RESUME_ROOM. One thread at a time; it holds up no other call but once, for the header. Eight periods wait for who
+ * writes; where it came too late, a line `lost,<count>` stands for so many. */
+size_t pie_stage_record(struct pie_stage *stage, bool is_over, unsigned char *text, size_t room);
 
 /* Nanoseconds in so many cycles of the TSC, by the clock of the stage. It rounds down, and is exact to 10^-13. */
 uint64_t pie_stage_nanoseconds(const struct pie_stage *stage, uint64_t cycles);

@@ -6,11 +6,13 @@
  *   10 per cent of the target, 15 ms, where the history is not whole, or an mbuf is lost.
  * usage: stage_measure [EAL options] --vdev=net_null0 --vdev=net_null1 -- rate [SECONDS [RUNS [FILE]]]
  *   Packets a second from one null port to another in bursts of 32: forwarding alone, by rte_pie, by the stage without marks, by the stage, by the
- *   stage with the flight recorder, and by the stage with its whole history, in turn. What the flight recorder holds after its last run goes to FILE.
- *   The last lcore writes the history, to /dev/null. Where one more is left it receives, enqueues, dequeues and sends; of several the main lcore
- *   dequeues and sends, and the others receive and enqueue. 512 packets wait all the time where one lcore does it all. Each line is `name
+ *   stage with the flight recorder, by a link in place of that stage (linked.h), by the stage with the records of its periods, each of 10 ms, and by
+ *   the stage with its whole history, in turn. What the flight recorder holds after its last run goes to FILE.
+ *   The last lcore writes the history, or the records, to /dev/null. Where one more is left it receives, enqueues, dequeues and sends; of several the
+ *   main lcore dequeues and sends, and the others receive and enqueue. 512 packets wait all the time where one lcore does it all. Each line is `name
  *   value unit`, for bench/pie_dpdk.sh; with `lost`, the share of the recorded stage's events that its history lacks.
  */
+#include "linked.h"
 #include "peer.h"
 #include "pie_stage.h"
 
@@ -30,6 +32,7 @@
 #define MBUFS 16383u
 #define BURST 32
 #define EVENTS (1u << 17) /* that wait for the history */
+#define EVERY 10000000    /* ns of a period */
 #define STANDING 512
 #define ROOM 1024u
 
@@ -40,17 +43,22 @@ static void die(const char *what) {
     exit(1);
 }
 
-enum which { ALONE, PEER, DROPPING, STAGE, LAST, RECORDED };
-static const char *const names[] = {"alone", "rte_pie", "dropping", "stage", "flight", "recorded"};
+enum which { ALONE, PEER, LINK, DROPPING, STAGE, LAST, SUMMED, RECORDED };
+static const char *const names[] = {"alone", "rte_pie", "link", "dropping", "stage", "flight", "summed", "recorded"};
 
 static struct peer peer;
+static struct linked linked;
 static struct pie_stage *stage;
 
 static uint32_t enqueue(enum which which, struct rte_mbuf **mbufs, uint32_t count) {
+    if (which == LINK)
+        return linked_enqueue(&linked, mbufs, count, rte_rdtsc());
     return which == PEER ? peer_enqueue(&peer, mbufs, count, rte_rdtsc()) : pie_stage_enqueue(stage, mbufs, count, rte_rdtsc());
 }
 
 static uint32_t dequeue(enum which which, struct rte_mbuf **mbufs, uint32_t count) {
+    if (which == LINK)
+        return linked_dequeue(&linked, mbufs, count, rte_rdtsc());
     return which == PEER ? peer_dequeue(&peer, mbufs, count, rte_rdtsc()) : pie_stage_dequeue(stage, mbufs, count, rte_rdtsc());
 }
 
@@ -61,12 +69,21 @@ static void expect_all_back(void) {
     }
 }
 
+static unsigned char text[65536];
+
 /* Writes what the history has now; answers whether there was anything. */
 static bool write_history(FILE *file) {
-    static unsigned char text[65536];
     size_t size = pie_stage_history(stage, text, sizeof text);
     if (fwrite(text, 1, size, file) != size)
         die("the history");
+    return size != 0;
+}
+
+/* Writes the next record of a period that is over; answers whether there was one. */
+static bool write_record(FILE *file) {
+    size_t size = pie_stage_record(stage, false, text, sizeof text);
+    if (fwrite(text, 1, size, file) != size)
+        die("the records");
     return size != 0;
 }
 
@@ -222,7 +239,7 @@ static int work(void *argument) {
     FILE *nowhere = argument;
     while (!__atomic_load_n(&is_over, __ATOMIC_RELAXED)) {
         if (number == forwarders()) {
-            if (measured != RECORDED || !write_history(nowhere))
+            if ((measured != RECORDED || !write_history(nowhere)) && (measured != SUMMED || !write_record(nowhere)))
                 rte_pause();
             continue;
         }
@@ -295,10 +312,13 @@ static double run_rate(enum which which, double seconds, FILE *nowhere, const ch
     params.ecn = which != DROPPING;
     params.flight = which == LAST ? PIE_STAGE_FLIGHT : 0;
     params.events = which == RECORDED ? EVENTS : 0;
+    params.every = which == SUMMED ? EVERY : 0;
     measured = which;
     if (which == PEER && !peer_open(&peer, ROOM))
         die("rte_pie");
-    if (which > PEER && (stage = pie_stage_create("stage", &params, SOCKET_ID_ANY)) == NULL)
+    if (which == LINK && !linked_open(&linked, &params.opening))
+        die("the link");
+    if (which > LINK && (stage = pie_stage_create("stage", &params, SOCKET_ID_ANY)) == NULL)
         die("stage");
     __atomic_store_n(&is_over, 0, __ATOMIC_SEQ_CST);
     rte_eal_mp_remote_launch(work, nowhere, SKIP_MAIN);
@@ -313,7 +333,9 @@ static double run_rate(enum which which, double seconds, FILE *nowhere, const ch
         tell_lost();
     if (which == LAST && flight != NULL)
         write_flight(flight);
-    if (which > PEER)
+    if (which == LINK)
+        linked_close(&linked);
+    if (which > LINK)
         pie_stage_free(stage);
     expect_all_back();
     return (double)packets / took;

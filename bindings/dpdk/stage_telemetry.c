@@ -34,7 +34,7 @@ struct number {
 static const struct number numbers[] = {
     STATS(queued),   STATS(marked),         STATS(early),  STATS(bytes),   STATS(full),   STATS(dropped_bytes), STATS(oversized), STATS(refused),
     STATS(no_ip),    STATS(shared),         STATS(departed), STATS(departed_bytes), STATS(waited), STATS(waited_high), STATS(longest),
-    STATS(updates),  STATS(late),           STATS(changes), STATS(earlier), STATS(most),  STATS(lost),          STATS(waiting),
+    STATS(updates),  STATS(late),           STATS(changes), STATS(earlier), STATS(most),  STATS(lost),          STATS(lost_periods), STATS(waiting),
     STATS(waiting_bytes), STATS(prob),      STATS(delay),  STATS(burst),   STATS(target),
 };
 
@@ -158,8 +158,8 @@ static int show_stats(const char *command, const char *words, struct rte_tel_dat
         rte_tel_data_start_dict(data);
         rte_tel_data_add_dict_string(data, "name", shown.stages[place].name);
         tell(data, numbers, RTE_DIM(numbers), &stats);
-        tell_sorts(data, "waits", stats.waits, PIE_STAGE_WAITS);
-        tell_sorts(data, "probs", stats.probs, PIE_STAGE_PROBS);
+        tell_sorts(data, "waits", stats.waits, PIE_WAIT_SORTS);
+        tell_sorts(data, "probs", stats.probs, PIE_PROB_SORTS);
     }
     rte_spinlock_unlock(&shown.lock);
     return place >= 0 && *rest == '\0' ? 0 : -EINVAL;

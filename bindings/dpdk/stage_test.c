@@ -7,7 +7,6 @@
 #include "stage_test.h"
 
 #include "fwd_pace.h"
-#include "metrics.h"
 #include "stage_packet.h"
 #include "stage_words.h"
 
@@ -439,7 +438,7 @@ static void test_waits(void) {
     struct pie_stage *stage = stage_of(&params);
     uint64_t hz = rte_get_tsc_hz(), now = rte_rdtsc(), found = 0;
     for (int i = 0; i < 3000; i++) {
-        uint64_t near = (uint64_t)((double)pie_stage_wait_bound((uint32_t)i % PIE_STAGE_WAITS) / 1e9 * (double)hz);
+        uint64_t near = (uint64_t)((double)pie_wait_bound((uint32_t)i % PIE_WAIT_SORTS) / 1e9 * (double)hz);
         struct rte_mbuf *mbuf = plain(100, 0);
         EXPECT(pie_stage_enqueue(stage, &mbuf, 1, now) == 1);
         now += i < 13 ? 0 : near + (uint64_t)(i % 7) * 2 - 6;
@@ -448,15 +447,15 @@ static void test_waits(void) {
         pie_stage_read(stage, &after);
         uint64_t wait = after.waited - before.waited;
         uint32_t sort = 0;
-        while (sort + 1 < PIE_STAGE_WAITS && wait > pie_stage_wait_bound(sort))
+        while (sort + 1 < PIE_WAIT_SORTS && wait > pie_wait_bound(sort))
             sort++;
         before.waits[sort]++;
         EXPECT(memcmp(before.waits, after.waits, sizeof after.waits) == 0);
         before.waited = after.waited;
     }
-    for (uint32_t sort = 0; sort < PIE_STAGE_WAITS; sort++)
+    for (uint32_t sort = 0; sort < PIE_WAIT_SORTS; sort++)
         found += before.waits[sort] != 0;
-    EXPECT(found == PIE_STAGE_WAITS);
+    EXPECT(found == PIE_WAIT_SORTS);
     pie_stage_free(stage);
     expect_all_back();
     printf("stage_test: waits by their sorts\n");
@@ -516,18 +515,16 @@ static void test_params(uint32_t events, uint32_t flight) {
     printf("stage_test: new parameters%s%s\n", events != 0 ? ", recorded" : "", flight != 0 ? ", with a flight recorder" : "");
 }
 
-/* The sorts of waits and probabilities are those of the metrics, and each update is in the first whose bound it doesn't exceed. */
+/* Each update is in the first sort of probabilities whose bound it doesn't exceed. */
 static void test_sorts(void) {
     struct pie_stage_params params;
     struct pie_stage_stats stats;
     struct rte_mbuf *mbufs[32], *out[32];
-    for (uint32_t sort = 0; sort + 1 < PIE_STAGE_WAITS; sort++)
-        EXPECT(pie_stage_wait_bound(sort) == metrics_wait_bound(sort) && pie_stage_prob_bound(sort) == metrics_prob_bound(sort));
-    EXPECT(pie_stage_prob_bound(0) == 100000000 && pie_stage_prob_bound(4) == 2000000000 && pie_stage_prob_bound(11) == PIE_ONE / 2);
+    EXPECT(pie_prob_bound(0) == 100000000 && pie_prob_bound(4) == 2000000000 && pie_prob_bound(11) == PIE_ONE / 2);
     unrecorded(&params);
     params.opening.params.max_burst = 0;
     struct pie_stage *stage = stage_of(&params);
-    uint64_t hz = rte_get_tsc_hz(), now = rte_rdtsc(), sum = 0, sorts[PIE_STAGE_PROBS] = {0}, bytes = 0;
+    uint64_t hz = rte_get_tsc_hz(), now = rte_rdtsc(), sum = 0, sorts[PIE_PROB_SORTS] = {0}, bytes = 0;
     for (int round = 0; round < 3000; round++, now += hz / 500) {
         for (int i = 0; i < 32; i++, bytes += 1000)
             mbufs[i] = plain(1000, PIE_NOT_ECT);
@@ -535,13 +532,13 @@ static void test_sorts(void) {
         rte_pktmbuf_free_bulk(out, pie_stage_dequeue(stage, out, round < 2000 ? 25 : 32, now));
         pie_stage_read(stage, &stats);
         uint64_t before = 0;
-        for (uint32_t sort = 0; sort < PIE_STAGE_PROBS; sort++)
+        for (uint32_t sort = 0; sort < PIE_PROB_SORTS; sort++)
             before += sorts[sort];
         if (stats.updates == before)
             continue;
         EXPECT(stats.updates == before + 1);
         uint32_t sort = 0;
-        while (sort + 1 < PIE_STAGE_PROBS && stats.prob > pie_stage_prob_bound(sort))
+        while (sort + 1 < PIE_PROB_SORTS && stats.prob > pie_prob_bound(sort))
             sort++;
         sorts[sort]++;
         sum += stats.prob;
@@ -610,13 +607,16 @@ int main(int count, char **words) {
         test_cut();
         test_pace();
         test_queues();
-        test_threads(4000, 0, 0);
-        test_threads(4000, 0, 2000);
+        test_records();
+        test_flows();
+        test_threads(4000, 0, 0, 0);
+        test_threads(4000, 0, 2000, 0);
     }
     test_cut_beside(10);
-    test_threads(1500, 1 << 14, 0);
-    test_threads(1500, 0, 4000);
-    test_threads(1500, 1 << 14, 4000);
+    test_threads(1500, 1 << 14, 0, 0);
+    test_threads(1500, 0, 4000, 0);
+    test_threads(1500, 0, 0, 500000);
+    test_threads(1500, 1 << 14, 4000, 1000000);
     rte_mempool_free(pool);
     rte_eal_cleanup();
     return 0;

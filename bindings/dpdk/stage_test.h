@@ -1,5 +1,6 @@
 /* What the parts of the stage's test share: stage_test.c begins, stage_test_frames.c makes frames and tries marks in them, stage_test_texts.c takes
- * histories and the flight recorder's texts out, stage_test_queues.c has several queues, and stage_test_threads.c many threads at once. */
+ * histories and the flight recorder's texts out, stage_test_records.c has records of periods and flows, stage_test_queues.c several queues, and
+ * stage_test_threads.c many threads at once. */
 #ifndef STAGE_TEST_H
 #define STAGE_TEST_H
 
@@ -45,6 +46,9 @@ struct told {
 /* Takes out what the history has now, or to its end, into a file. */
 void take_history(struct pie_stage *stage, FILE *file, struct told *told);
 
+/* A file NAME.ENDING in the folder; a history's ending is `history`. */
+FILE *open_text(const char *name, const char *ending);
+
 FILE *open_history(const char *name);
 
 /* What a stage counted is so many events. */
@@ -65,6 +69,22 @@ struct resumed expect_flight(struct pie_stage *stage, const char *name, uint64_t
 /* Each decision of a recorded stage stands in its history, or is told as lost. */
 void expect_told(struct pie_stage *stage, const struct told *told);
 
+/* What records of periods tell. */
+struct summed {
+    uint64_t records, gaps, lost;     /* records; lines that tell a gap, and the periods that these tell */
+    uint64_t arrivals, left, updates; /* of all records together .. */
+    int places[3];                    /* .. and where they stand in each */
+};
+
+/* Takes out the records that there are now, or to the last, into a file. */
+void take_records(struct pie_stage *stage, bool is_over, FILE *file, struct summed *summed);
+
+/* The records tell what the stage counted, or that some are missing. */
+void expect_summed(struct pie_stage *stage, const struct summed *summed);
+
+void test_records(void);
+void test_flows(void);
+
 /* The queues of pie-fwd: classes, and equal shares. */
 void test_queues(void);
 
@@ -76,7 +96,8 @@ void test_shared(void);
  * ends. */
 void test_cut_beside(int cuts);
 
-/* With `events` above 0 one more thread writes the history, and with `flight` one writes what the flight recorder holds. */
-void test_threads(uint32_t rounds, uint32_t events, uint32_t flight);
+/* With `events` above 0 one more thread writes the history, with `flight` one writes what the flight recorder holds, and with `every` one the records
+ * of periods. */
+void test_threads(uint32_t rounds, uint32_t events, uint32_t flight, uint64_t every);
 
 #endif

@@ -32,12 +32,16 @@ void take_history(struct pie_stage *stage, FILE *file, struct told *told) {
     }
 }
 
-FILE *open_history(const char *name) {
+FILE *open_text(const char *name, const char *ending) {
     char path[4096];
-    snprintf(path, sizeof path, "%s/%s.history", folder, name);
+    snprintf(path, sizeof path, "%s/%s.%s", folder, name, ending);
     FILE *file = fopen(path, "w");
     EXPECT(file != NULL);
     return file;
+}
+
+FILE *open_history(const char *name) {
+    return open_text(name, "history");
 }
 
 uint64_t events_of(const struct pie_stage_stats *stats) {

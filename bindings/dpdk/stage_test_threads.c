@@ -142,6 +142,12 @@ struct writer {
     struct told told;
 };
 
+struct record_writer {
+    struct pie_stage *stage;
+    FILE *file;
+    struct summed summed;
+};
+
 /* Writes the flight recorder's text again and again, while the others go on; each is of later events. */
 static void *write_flights(void *argument) {
     char name[64];
@@ -169,10 +175,18 @@ static void *write_history(void *argument) {
     return NULL;
 }
 
-void test_threads(uint32_t rounds, uint32_t events, uint32_t flight) {
+static void *write_records(void *argument) {
+    struct record_writer *writer = argument;
+    while (!__atomic_load_n(&are_done, __ATOMIC_SEQ_CST))
+        take_records(writer->stage, false, writer->file, &writer->summed);
+    return NULL;
+}
+
+void test_threads(uint32_t rounds, uint32_t events, uint32_t flight, uint64_t every) {
     struct pie_stage_params params;
     struct pie_stage_stats stats;
-    pthread_t taker, updater, recorder, flights;
+    pthread_t taker, updater, recorder, flights, summer;
+    char name[64];
     unrecorded(&params);
     params.opening.packets = 60;
     params.hands_back = true;
@@ -182,11 +196,15 @@ void test_threads(uint32_t rounds, uint32_t events, uint32_t flight) {
     params.opening.params.dq_threshold = 1024;
     params.events = events;
     params.flight = flight;
+    params.every = every;
+    snprintf(name, sizeof name, "threads-%" PRIu64, every);
     struct pie_stage *stage = stage_of(&params);
-    struct writer writer = {.stage = stage, .file = events != 0 ? open_history("threads") : NULL};
+    struct writer writer = {.stage = stage, .file = events != 0 ? open_history(name) : NULL};
+    struct record_writer records = {.stage = stage, .file = every != 0 ? open_text(name, "records") : NULL};
     are_done = 0;
     EXPECT(events == 0 || pthread_create(&recorder, NULL, write_history, &writer) == 0);
     EXPECT(flight == 0 || pthread_create(&flights, NULL, write_flights, stage) == 0);
+    EXPECT(every == 0 || pthread_create(&summer, NULL, write_records, &records) == 0);
     for (uint32_t i = 0; i < SENDERS; i++) {
         senders[i] = (struct sender){.stage = stage, .number = i, .rounds = rounds, .count = OWNED};
         for (uint32_t k = 0; k < OWNED; k++) {
@@ -207,6 +225,12 @@ void test_threads(uint32_t rounds, uint32_t events, uint32_t flight) {
         EXPECT(fclose(writer.file) == 0);
         expect_told(stage, &writer.told);
     }
+    if (every != 0) {
+        EXPECT(pthread_join(summer, NULL) == 0);
+        take_records(stage, true, records.file, &records.summed);
+        EXPECT(fclose(records.file) == 0);
+        expect_summed(stage, &records.summed);
+    }
     if (flight != 0) {
         EXPECT(pthread_join(flights, NULL) == 0);
         expect_flight(stage, "flight-threads", RTE_MAX(flight, events));
@@ -221,6 +245,6 @@ void test_threads(uint32_t rounds, uint32_t events, uint32_t flight) {
     EXPECT(stats.early + stats.full + stats.bytes == handed_back && stats.refused == 0);
     pie_stage_free(stage);
     expect_all_back();
-    printf("stage_test: threads%s%s (%" PRIu64 " queued, %" PRIu64 " dropped)\n", events != 0 ? ", recorded" : "",
-           flight != 0 ? ", with a flight recorder" : "", stats.queued, handed_back);
+    printf("stage_test: threads%s%s%s (%" PRIu64 " queued, %" PRIu64 " dropped)\n", events != 0 ? ", recorded" : "",
+           flight != 0 ? ", with a flight recorder" : "", every != 0 ? ", with records of periods" : "", stats.queued, handed_back);
 }

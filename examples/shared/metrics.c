@@ -44,21 +44,6 @@ static const struct family gauges[] = {
     {"queue_bytes", "Bytes in the queue.", AT(bytes), 1},
 };
 
-/* The sort of a wait: the first whose bound it doesn't exceed. Each bound is twice the one before. */
-static uint32_t sort_of_wait(uint64_t wait) {
-    uint64_t bounds = (wait - (wait != 0)) / metrics_wait_bound(0);
-    uint32_t sort = bounds == 0 ? 0 : 64 - (uint32_t)__builtin_clzll(bounds);
-    return sort < METRICS_WAITS ? sort : METRICS_WAITS - 1;
-}
-
-/* .. and of a probability. */
-static uint32_t sort_of_prob(uint64_t prob) {
-    uint32_t sort = 0;
-    while (sort + 1 < METRICS_PROBS && prob > metrics_prob_bound(sort))
-        sort++;
-    return sort;
-}
-
 void count_event(struct metrics *metrics, const struct pie_event *event, uint64_t waited) {
     if (event->answer > 100)
         return;
@@ -74,11 +59,11 @@ void count_event(struct metrics *metrics, const struct pie_event *event, uint64_
         metrics->departed++;
         metrics->departed_bytes += event->size;
         metrics->waited += waited;
-        metrics->waits[sort_of_wait(waited)]++;
+        metrics->waits[pie_wait_sort(waited)]++;
     } else if (event->kind == PIE_EVENT_UPDATE) {
         metrics->updates++;
         metrics->probs_sum += event->prob;
-        metrics->probs[sort_of_prob(event->prob)]++;
+        metrics->probs[pie_prob_sort(event->prob)]++;
     }
 }
 
@@ -157,11 +142,11 @@ static void write_text(FILE *file, const struct metrics_queue *queues, size_t co
     write_families(file, "counter", counters, sizeof counters / sizeof counters[0], queues, count);
     write_head(file, "wait_seconds", "histogram", "Time that packets waited which left.");
     for (size_t i = 0; i < count; i++)
-        write_histogram(file, "wait_seconds", &queues[i], queues[i].metrics->waits, METRICS_WAITS, metrics_wait_bound, queues[i].metrics->waited,
+        write_histogram(file, "wait_seconds", &queues[i], queues[i].metrics->waits, PIE_WAIT_SORTS, pie_wait_bound, queues[i].metrics->waited,
                         1000000000);
     write_head(file, "updated_probability_ratio", "histogram", "Probability after each update.");
     for (size_t i = 0; i < count; i++)
-        write_histogram(file, "updated_probability_ratio", &queues[i], queues[i].metrics->probs, METRICS_PROBS, metrics_prob_bound,
+        write_histogram(file, "updated_probability_ratio", &queues[i], queues[i].metrics->probs, PIE_PROB_SORTS, pie_prob_bound,
                         queues[i].metrics->probs_sum, PIE_ONE);
     write_families(file, "gauge", gauges, sizeof gauges / sizeof gauges[0], queues, count);
 }

@@ -3,28 +3,13 @@
 #ifndef SHARED_METRICS_H
 #define SHARED_METRICS_H
 
+#include "../../bindings/dpdk/pie_sorts.h"
 #include "pie.h"
 
 #include <stdatomic.h>
 #include <stdbool.h>
 #include <stddef.h>
 #include <stdint.h>
-
-#define METRICS_WAITS 13 /* sorts of waits that are counted .. */
-#define METRICS_PROBS 13 /* .. and of probabilities; the last of each has no bound */
-
-/* The longest wait of a sort: 250 us, 500 us and so on to 512 ms, in nanoseconds. */
-static inline uint64_t metrics_wait_bound(uint32_t sort) {
-    return UINT64_C(250000) << sort;
-}
-
-/* The greatest probability of a sort, in units of 10^-12: 0.0001, 0.0002, 0.0005, 0.001 and so on to 0.5. */
-static inline uint64_t metrics_prob_bound(uint32_t sort) {
-    uint64_t bound = sort % 3 == 0 ? 100000000 : sort % 3 == 1 ? 200000000 : 500000000;
-    for (; sort >= 3; sort -= 3)
-        bound *= 10;
-    return bound;
-}
 
 /* A queue: what was counted since it was opened, which never falls, and what it holds now. */
 struct metrics {
@@ -38,9 +23,9 @@ struct metrics {
     uint64_t departed, departed_bytes;
     uint64_t updates, late;          /* and of these, later than by a whole period */
     uint64_t lost;                   /* events that the history lacks */
-    uint64_t waits[METRICS_WAITS];   /* packets that departed, by their waits .. */
+    uint64_t waits[PIE_WAIT_SORTS];  /* packets that departed, by the sorts of their waits .. */
     unsigned __int128 waited;        /* .. and these together, in nanoseconds: 64 bits would wrap in days */
-    uint64_t probs[METRICS_PROBS];   /* updates, by the probability after them .. */
+    uint64_t probs[PIE_PROB_SORTS];  /* updates, by those of the probability after them .. */
     unsigned __int128 probs_sum;     /* .. and these together, in 10^-12 */
     uint64_t prob, delay, target, burst; /* the probability in 10^-12, and nanoseconds */
     uint64_t packets, bytes;         /* in the queue */

@@ -1,0 +1,24 @@
+/* Whose the packets are that come, told in a file for all queues (examples/shared/flow.h). */
+#ifndef FWD_FLOWS_H
+#define FWD_FLOWS_H
+
+#include "flow.h"
+
+#include <rte_mbuf.h>
+#include <rte_spinlock.h>
+
+struct fwd_flows {
+    rte_spinlock_t lock; /* of the lcores that receive: one of them notes at once */
+    struct flows flows;
+};
+
+/* Opens the file, NULL for none; false where that fails, with errno. */
+bool fwd_flows_open(struct fwd_flows *flows, const char *path);
+
+/* A packet's flow, for a stage: its number, which the file tells from then on; 0 of one without an IP header. `user` is the struct fwd_flows. */
+uint32_t fwd_flow_of(void *user, const struct rte_mbuf *mbuf);
+
+/* Writes the rest, and closes the file; false where not all could be written. */
+bool fwd_flows_close(struct fwd_flows *flows);
+
+#endif

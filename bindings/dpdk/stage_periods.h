@@ -1,0 +1,53 @@
+/* The periods of a stage: who decides sums up the one under way, and hands those that are over to the one thread that writes their records. Neither
+ * waits for the other. */
+#ifndef STAGE_PERIODS_H
+#define STAGE_PERIODS_H
+
+#include "pie.h"
+
+#include <rte_memory.h>
+#include <stdbool.h>
+
+#define STAGE_PERIODS 8 /* that are over and wait to be written, at the most */
+
+struct stage_periods {
+    struct pie_period current;
+    uint64_t handed; /* the number of the last one that is over: it was handed to the writer, or lost */
+    uint64_t over;   /* how many were handed to the writer */
+    uint64_t written __rte_cache_aligned; /* how many of those the writer has written .. */
+    uint64_t number;                      /* .. and the number of the last, with those that were lost before it */
+    bool is_begun;                        /* the text has its header row */
+    struct pie_period ended[STAGE_PERIODS];
+};
+
+/* The current period is over. Answers false where it is lost, since too many wait to be written. */
+__attribute__((noinline)) static bool stage_periods_end(struct stage_periods *periods) {
+    periods->handed = periods->current.begun;
+    if (periods->over - __atomic_load_n(&periods->written, __ATOMIC_ACQUIRE) == STAGE_PERIODS)
+        return false;
+    periods->ended[periods->over % STAGE_PERIODS] = periods->current;
+    __atomic_store_n(&periods->over, periods->over + 1, __ATOMIC_RELEASE);
+    return true;
+}
+
+/* Before an event: whether it ends the current period, which is not yet over. */
+static inline bool stage_periods_is_over(const struct stage_periods *periods, uint64_t moment) {
+    return moment >= periods->current.end && periods->current.begun != periods->handed;
+}
+
+/* By the writer: the next record, or a line that tells how many are missing before it. Answers the bytes, 0 where there is none. */
+static inline size_t stage_periods_write(struct stage_periods *periods, unsigned char *text, size_t room) {
+    const struct pie_period *next = &periods->ended[periods->written % STAGE_PERIODS];
+    if (periods->written == __atomic_load_n(&periods->over, __ATOMIC_ACQUIRE))
+        return 0;
+    uint64_t missing = next->begun - periods->number - 1;
+    periods->number += missing;
+    if (missing != 0)
+        return pie_write_lost(missing, text, room);
+    periods->number++;
+    size_t size = pie_write_period(next, text, room);
+    __atomic_store_n(&periods->written, periods->written + 1, __ATOMIC_RELEASE);
+    return size;
+}
+
+#endif

@@ -30,15 +30,15 @@ module _ (c : After-of_verdict) where
       (omega arith)
 
   left : c.keep_arrived.new.self ≡ with_arrival state (arrived (held_in state) arrival c.args.moment)
-  left = c.keep_arrived.ensures ∙ kept-later state _ _ _ c.args.moment _ _ c.reach.ensures c.raw_with-held.ensures.held c.arrive_with_place.ensures.after
+  left = c.keep_arrived.ensures ∙ kept-later state _ _ _ c.args.moment _ _ c.reach.ensures c.raw_with-held.ensures.held c.arrive_with_place-verdict.ensures.after
       (ap with_ecn c.in-Some.ensures.value)
 
-  decided : c.arrive_with_place.result ≡ verdict (held_in state) arrival
-  decided = verdict-later state _ _ _ c.args.moment _ _ c.reach.ensures c.raw_with-held.ensures.held c.arrive_with_place.ensures.verdict
+  decided : c.arrive_with_place-verdict.result.0 ≡ verdict (held_in state) arrival
+  decided = verdict-later state _ _ _ c.args.moment _ _ c.reach.ensures c.raw_with-held.ensures.held c.arrive_with_place-verdict.ensures.verdict
       (ap with_ecn c.in-Some.ensures.value)
 
 pub keep_arrived-requires : goal.keep_arrived-requires
-keep_arrived-requires c = moment-later c.reach.new.self _ _ _ c.raw_with-held.ensures.held c.arrive_with_place.ensures.after
+keep_arrived-requires c = moment-later c.reach.new.self _ _ _ c.raw_with-held.ensures.held c.arrive_with_place-verdict.ensures.after
 
 pub returns-then-moment-gt-MAX_NANOS-clause-arrives : goal.returns-then-moment-gt-MAX_NANOS-clause-arrives
 unfolding arrival_refusal
@@ -76,5 +76,5 @@ returns-clause-arrives c = let a = c.args in record {
 
 pub returns-clause-place : goal.returns-clause-place
 returns-clause-place c = λ _ packets.
-    place-later (state c) _ _ _ c.args.moment packets _ _ c.reach.ensures c.raw_with-held.ensures.held c.arrive_with_place.ensures.place
+    place-later (state c) _ _ _ c.args.moment packets _ _ c.reach.ensures c.raw_with-held.ensures.held c.arrive_with_place-verdict.ensures.place
     (ap (with_ecn c) c.in-Some.ensures.value)

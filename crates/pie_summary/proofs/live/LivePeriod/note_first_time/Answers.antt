@@ -1,4 +1,3 @@
-use Rattle.std.proofs.Common.{arith}
 use Rattle.pie_summary.proofs.LiveFacts.{time-kept, time-noted}
 use Rattle.pie_summary.proofs.live.LivePeriod.note_first_time.Goals as goal
 use Rattle.pie_summary.proofs.live.LivePeriod.note_first_time.Goals.{then-self-ne1-via-then-self-ne1, then-self-ne1-via-else-self-ne1+then-self-ne0}

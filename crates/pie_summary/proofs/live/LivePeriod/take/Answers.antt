@@ -1,12 +1,10 @@
 use Rattle.std.proofs.Common.{ℕ, List, ◌≡◌, ◌∷◌, [], ◌++◌, ◌∙◌, ap, sym}
 use Rattle.std.specs.List.{filter_map}
-use Rattle.std.specs.Prelude.{Option, Some, min, length, slice_index}
+use Rattle.std.specs.Prelude.{Option, Some}
 use Rattle.pie_explanation.specs.declared.explanation.Explained.{Explained}
-use Rattle.pie_record.specs.declared.clock.Clock.{Clock}
 use Rattle.pie_summary.specs.declared.live.LivePeriod.{LivePeriod}
-use Rattle.pie_summary.specs.declared.meter.Meter.{Meter}
 use Rattle.pie_summary.specs.declared.noted.Noted.{Noted}
-use Rattle.pie_summary.specs.Live.{Awaits, awaiting, clock_of, length_of, meter_of}
+use Rattle.pie_summary.specs.Live.{Awaits, awaiting, length_of}
 use Rattle.pie_summary.specs.Period.{period_at, since}
 use Rattle.pie_summary.specs.Sums.{time_at}
 use Rattle.pie_summary.proofs.LiveFacts.{clock-same, holds-taken, meter-timed, meter-times}

@@ -1,7 +1,7 @@
-/* Events a second of one to four threads at one controller, in bursts: at a link (include/pie_link.h); at a
- * spin lock around the recorded calls of pie.h, each of whose events a flight recorder keeps; and at the same lock around the plain calls, whose
- * events are put into the recorder in bulk, as a data plane does. Each thread lets a burst of packets arrive, and as many depart, and between two
- * bursts spends on each packet the time of making it; none is more than a burst ahead of another, so that they meet. An event is a packet that
+/* Events a second of one to four threads at one controller, in bursts: at a link (include/pie_link.h); at a spin lock around the recorded calls of
+ * pie.h, each of whose events a flight recorder keeps; and at the same lock around the plain calls, whose events are put into the recorder in bulk,
+ * as a data plane does. Each thread lets a burst of packets arrive, and as many depart, and between two bursts spends on each packet the time of
+ * making it; none is more than a burst ahead of another, so that they meet. A burst of one is the call for one event. An event is a packet that
  * arrived or departed. Each line is `kind threads burst events/s changes`, once a run, for bench/pie_link_c.sh: the last is how often a burst
  * follows on another thread's, of all bursts; at the link of those whose events its log still holds.
  *
@@ -223,8 +223,9 @@ static void two_turns(struct worker *worker, int threads) {
     update(worker, moment);
     make(worker, moment);
     if (worker->kind == LINK) {
-        uint32_t code = pie_link_arrive_all(&worker->port, worker->burst_of, worker->burst);
-        if (code != PIE_DONE)
+        uint32_t code = worker->burst == 1 ? pie_link_arrive(&worker->port, worker->burst_of)
+                                           : pie_link_arrive_all(&worker->port, worker->burst_of, worker->burst);
+        if (code > 100)
             die("a burst of arrivals", code);
     } else {
         take(worker);
@@ -235,7 +236,10 @@ static void two_turns(struct worker *worker, int threads) {
     if (worker->kind == LINK) {
         for (uint32_t i = 0; i < worker->burst; i++)
             worker->burst_of[i].moment = moment; /* (a departure reads no more, but that its kind is not an update) */
-        pie_link_depart_all(&worker->port, UINT64_MAX, worker->burst_of, worker->burst, &made);
+        if (worker->burst == 1)
+            made = pie_link_depart(&worker->port, worker->burst_of) == PIE_DONE;
+        else
+            pie_link_depart_all(&worker->port, UINT64_MAX, worker->burst_of, worker->burst, &made);
     } else {
         take(worker);
         made = worker->kind == RECORDED ? depart_recorded(worker, moment) : depart_bulk(worker, moment);

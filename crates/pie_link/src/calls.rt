@@ -39,12 +39,8 @@ impl Link {
         ensures answered { TriesToAnswer self.now caller.old (Arrive moment packet word) result caller.new }
         ensures stays { StaysOne caller.old caller.new }
     {
-        let command = Command::Arrive {
-            moment,
-            packet,
-            word,
-        };
-        replace_with(&mut caller.pass, (self, &command), turn::try_apply)
+        let asked = (self, moment, packet, word);
+        replace_with(&mut caller.pass, asked, turn::try_arrive)
     }
 
     /// The link asks for the next packet (see `Command::Depart`). It never blocks.
@@ -62,8 +58,7 @@ impl Link {
         ensures answered { TriesToAnswer self.now caller.old (Depart moment) result caller.new }
         ensures stays { StaysOne caller.old caller.new }
     {
-        let asked = (self, &Command::Depart { moment });
-        replace_with(&mut caller.pass, asked, turn::try_apply)
+        replace_with(&mut caller.pass, (self, moment), turn::try_depart)
     }
 
     /// The probability is to be computed anew (see `Command::Update`). It never blocks.

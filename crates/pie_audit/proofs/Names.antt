@@ -11,9 +11,9 @@ pub use Rattle.std.proofs.lemmas.List.Sums.{sum_by-append, sum_by_push}
 pub use Rattle.std.specs.List.{cons_option}
 pub use Rattle.std.specs.Option.{option_or}
 pub use Rattle.std.specs.Prelude.{if◌then◌else◌, ◌||◌}
-pub use Rattle.pie_audit.specs.{All, Answer, Appends, AreLegal, AuditAt, AuditorView, Audits, Beginning, BeginsAt, BeginsBy, BegunBy, CanBeMade, Ce}
+pub use Rattle.pie_audit.specs.{All, Answer, Appends, AreLegal, AuditorView, Audits, AuditsOn, Beginning, BeginsAt, BeginsBy, BegunBy, CanBeMade, Ce}
 pub use Rattle.pie_audit.specs.{Clean, Coming, Command, CoreView, Depart, Differs, Done, DroppedBytes, DroppedEarly, DroppedPackets, Ecn, Ect0, Ect1}
-pub use Rattle.pie_audit.specs.{Empty, Enqueued, Err, Event, EventFits, FaultedBy, FindsAfter, FindsBy, FindsEither, FindsLines, FindsWhole}
+pub use Rattle.pie_audit.specs.{Empty, Enqueued, Err, Event, EventFits, FaultedBy, FindsAfter, FindsBy, FindsEither, FindsWhole}
 pub use Rattle.pie_audit.specs.declared.auditor.Finding.{Finding}
 pub use Rattle.pie_audit.specs.{Follows, FollowsFrom, GoesOn, Going, HasField, HeardOn, IfErr, IfOk, IfSome, IsFirstWrong, IsFound, IsLegal}
 pub use Rattle.pie_audit.specs.{IsLegalAt, IsToldBy, IsWrite, IsWrong, Left, Line, LinePlace, LinesAt, LinesRead, LinesView, Made, Marked, None}
@@ -27,23 +27,17 @@ pub use Rattle.pie_audit.specs.{next_number, number_of, opening_refusal, option_
 pub use Rattle.pie_audit.specs.{sets_probability, setter_at, setter_by, setter_told, setter_with, start_after, text_finding, written_rows, ⊤}
 unfoldable pub use Rattle.pie_audit.specs.{TellEach, agrees, event_count, events_of, excerpt_fault, excerpt_lines, finding, first_difference}
 unfoldable pub use Rattle.pie_audit.specs.{history_opening, line_places, opening_of, resumed_of, rows_text, setter_after, version_of, waiting_after}
-unfoldable pub use Rattle.pie_aqm.specs.History.{active_of, arrivals_shown, control_of, delay_noted, departures_of, departures_shown, early_of}
-unfoldable pub use Rattle.pie_aqm.specs.History.{held_of, is_active, noted, noted_after, now_of, params_of, updates_shown}
+unfoldable pub use Rattle.pie_aqm.specs.History.{is_active}
 pub use Rattle.pie_aqm.specs.Places.{Place, after}
-unfoldable pub use Rattle.pie_aqm.specs.Places.{greatest, last_or, places}
-unfoldable pub use Rattle.pie_aqm.specs.Steps.{verdict}
+unfoldable pub use Rattle.pie_aqm.specs.Places.{last_or, places}
 pub use Rattle.pie_book.specs.Decision.{has_bad_size, is_too_soon, refusal_with}
 pub use Rattle.pie_book.specs.Estimates.{due_after}
-unfoldable pub use Rattle.pie_book.specs.Estimates.{held_after}
-unfoldable pub use Rattle.pie_book.specs.History.{admitted, departed_count, effective_moment}
+unfoldable pub use Rattle.pie_book.specs.History.{effective_moment}
 unfoldable pub use Rattle.pie_book.specs.Registers.{registers_after}
 pub use Rattle.pie_book.specs.Run.{refused_or}
 unfoldable pub use Rattle.pie_book.specs.Shown.{shown}
-unfoldable pub use Rattle.pie_control.specs.Delay.{delay_of}
-unfoldable pub use Rattle.pie_control.specs.History.{burst_allowance, granted_burst, last_delay, last_moment, probability}
-unfoldable pub use Rattle.pie_control.specs.Next.{decayed, next, raw_step, tuned_step, tuning_divisor}
-unfoldable pub use Rattle.pie_early.specs.Decision.{is_considered, is_picked}
-unfoldable pub use Rattle.pie_early.specs.History.{accumulated}
+unfoldable pub use Rattle.pie_control.specs.History.{last_moment, probability}
+unfoldable pub use Rattle.pie_control.specs.Next.{next}
 pub use Rattle.pie_event.specs.Deed.{handed_in}
 pub use Rattle.pie_event.specs.Setter.{setter_from}
 pub use Rattle.pie_event.specs.declared.opening.Limits.{Limits}
@@ -57,12 +51,10 @@ pub use Rattle.pie_excerpt.specs.Written.{begun_at, resume_of_excerpt, resume_wi
 pub use Rattle.pie_params.specs.Elements.{usual}
 pub use Rattle.pie_params.specs.Profile.{default_profile}
 pub use Rattle.pie_queue.specs.declared.packet.Waiting.{Waiting}
-unfoldable pub use Rattle.pie_rate.specs.Average.{average, samples}
-unfoldable pub use Rattle.pie_rate.specs.Cycles.{begun, cycles, cycles_from, first_closing, first_cycle, first_opening, first_position}
+unfoldable pub use Rattle.pie_rate.specs.Cycles.{begun}
 pub use Rattle.pie_record.specs.Fault.{closed}
 pub use Rattle.pie_record.specs.HistoryLines.{Gives, is_event}
 unfoldable pub use Rattle.pie_record.specs.HistoryLines.{after_opening, history_version}
 pub use Rattle.pie_record.specs.Laws.{TextsAreReadBack}
 pub use Rattle.pie_record.specs.Records.{Took}
-unfoldable pub use Rattle.pie_record.specs.Worked.{worked_text}
 pub use Rattle.pie_record.specs.declared.clock.Clock.{Clock}

@@ -10,6 +10,7 @@ pub mod Laws
 pub mod Following
 pub mod Lines
 pub mod Told
+pub mod Worked
 unfoldable pub use Names.*
 unfoldable pub use Finding.*
 unfoldable pub use Auditor.*
@@ -22,3 +23,4 @@ unfoldable pub use Laws.*
 unfoldable pub use Following.*
 unfoldable pub use Lines.*
 unfoldable pub use Told.*
+unfoldable pub use Worked.*

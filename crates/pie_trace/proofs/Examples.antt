@@ -1,62 +1,27 @@
 -- The definitions of traces, runs and migrations on worked texts: each theorem computes.
 use Rattle.std.specs.Prelude.{⊤, ℕ, ◌≡◌, List, [], ◌∷◌, ◌++◌, false, Some, None, Ok, Err, true, codes, map, refl, ◌^◌}
-use Rattle.std.specs.Fmt.{digits}
-use Rattle.csv.specs.Machine.{next_record}
-use Rattle.csv.specs.Reading.{records_from, strip_bom}
-use Rattle.csv.specs.Records.{field_at}
-use Rattle.csv.specs.Writing.{fields_text, is_blank}
 use Rattle.pie_params.specs.Profile.{default_profile}
 use Rattle.pie_record.specs.declared.trace_record.Request.TheVariants.{Clock}
-use Rattle.pie_record.specs.Number.{number}
-use Rattle.pie_record.specs.FirstRecord.{draft_at, first_kind, limits_at, profile_of, version_of, version_one_fields, version_two_fields, which_of}
-use Rattle.pie_record.specs.FirstRecord.{chosen_at, elements_at, version_three_fields}
-use Rattle.pie_record.specs.Field.{packet_at, ecn_of, params_at}
-use Rattle.pie_record.specs.Command.{arrival_at, change_at, command_at, command_kind}
-use Rattle.pie_record.specs.Clock.{clock_at, clock_in}
 use Rattle.pie_record.specs.TraceRecord.{command_request, fold_request, request_of}
-use Rattle.pie_record.specs.Answer.{answer_fields, folded_row, refused_row, shown_row, tallied_row}
+use Rattle.pie_record.specs.Answer.{folded_row, refused_row, shown_row, tallied_row}
 use Rattle.pie_trace.specs.History.{before_fault, fault_of, first_fault, record_fault, end_of, history_rows, history_text, replies, requests_of}
 use Rattle.pie_trace.specs.History.{steps_of, text_left}
-use Rattle.pie_record.specs.Opening.{opening_of}
-use Rattle.pie_record.specs.Text.{Row, records_of, rows_text}
-use Rattle.pie_rate.specs.Cycles.{cycles, begun, first_position, first_opening, first_closing, first_cycle, cycles_from}
-use Rattle.pie_rate.specs.Average.{average, samples}
-use Rattle.pie_control.specs.Delay.{delay_of}
-use Rattle.pie_control.specs.History.{probability, last_delay, last_moment, granted_burst, burst_allowance}
-use Rattle.pie_control.specs.Next.{raw_step, tuning_divisor, tuned_step, decayed, next}
-use Rattle.pie_early.specs.Decision.{is_considered, is_picked}
-use Rattle.pie_early.specs.History.{accumulated}
-use Rattle.pie_aqm.specs.History.{active_of, arrivals_shown, control_of, delay_noted, departures_of, departures_shown, early_of, held_of, is_active}
-use Rattle.pie_aqm.specs.History.{noted, noted_after, now_of, params_of, updates_shown}
-use Rattle.pie_aqm.specs.Places.{places, greatest, last_or}
-use Rattle.pie_aqm.specs.Steps.{verdict}
-use Rattle.pie_book.specs.Estimates.{held_after}
-use Rattle.pie_book.specs.History.{effective_moment, admitted, departed_count, waiting_after}
-use Rattle.pie_book.specs.Shown.{shown}
+use Rattle.pie_record.specs.Text.{Row, records_of}
+use Rattle.pie_rate.specs.Average.{average}
 use Rattle.pie_book.specs.Registers.{registers_after}
 use Rattle.pie_book.specs.Statistics.{largest_queue, largest_delay, waited, no_stats, stats_after}
 use Rattle.pie_book.specs.Run.{progress_after}
-use Rattle.pie_record.specs.HistoryRecord.{answer_at, departure_at, event_line, line_of, note_line, numbers_at, registers_at, shown_line, update_at}
-use Rattle.pie_record.specs.HistoryRecord.{verdict_of}
-use Rattle.pie_record.specs.HistoryLines.{after_opening, fault_from, history_opening, history_version, lines_from, told_by, event_count}
 use Rattle.pie_trace.specs.Migrate.{first_in_two, history_events, history_fault, later_in_two, migrated, migrated_text, told_rows}
 use Rattle.pie_record.specs.declared.fault.Flaw.TheVariants as flaw
 use Rattle.pie_record.specs.declared.fault.TraceFault.TheVariants as fault
 use Rattle.pie_record.specs.declared.version.Version.TheVariants as version
+use Rattle.pie_audit.specs.Worked.{worked_history}
 
 -- all that a theorem on a worked trace computes with
 unfoldable worked : Type 0
-unfolding accumulated active_of admitted after_opening answer_at answer_fields arrival_at arrivals_shown average before_fault begun burst_allowance
-    change_at chosen_at clock_at clock_in command_at command_kind command_request control_of cycles cycles_from decayed delay_noted delay_of
-    departed_count departure_at departures_of departures_shown digits draft_at early_of ecn_of effective_moment elements_at end_of event_count
-    event_line fault_from fault_of field_at fields_text first_closing first_cycle first_fault first_in_two first_kind first_opening
-    first_position fold_request folded_row granted_burst greatest held_after held_of history_events history_fault history_opening history_rows
-    history_text history_version is_active is_blank is_considered is_picked largest_delay largest_queue last_delay last_moment last_or
-    later_in_two limits_at line_of lines_from migrated next next_record note_line noted noted_after now_of number numbers_at opening_of
-    packet_at params_at params_of places probability profile_of progress_after raw_step record_fault records_from refused_row registers_after
-    registers_at replies request_of requests_of rows_text samples shown shown_line shown_row stats_after steps_of strip_bom tallied_row
-    text_left told_by told_rows tuned_step tuning_divisor update_at updates_shown verdict verdict_of version_of version_one_fields
-    version_three_fields version_two_fields waited waiting_after which_of
+unfolding worked_history before_fault command_request end_of fault_of first_fault first_in_two fold_request folded_row history_events history_fault
+    history_rows history_text largest_delay largest_queue later_in_two migrated progress_after record_fault refused_row registers_after replies
+    request_of requests_of shown_row stats_after steps_of tallied_row text_left told_rows waited
 worked = ⊤
 
 abbrev open_row : Row

@@ -1,11 +1,12 @@
 -- A record of lost events is a fault of every text that goes on from the middle of a history.
 use Rattle.pie_trace.proofs.Names.{◌≡◌, ◌≢◌, ◌+◌, ◌^◌, ℕ, List, [], ◌∷◌, ◌++◌, drop, map, take, true, refl, sym, ap, ◌∙◌, Option, Some, None, Result, Ok}
-use Rattle.pie_trace.proofs.Names.{Err, field_at, TraceFault, Three, fault_from, Row, queued_row}
+use Rattle.pie_trace.proofs.Names.{Err, field_at, TraceFault, Three, fault_from, Row}
 use Rattle.std.proofs.lemmas.List.{take-append-drop}
 use Rattle.pie_queue.specs.declared.packet.Waiting.{Waiting}
 use Rattle.pie_text.specs.Lost.{lost_row}
 use Rattle.pie_text.proofs.LostFacts.{lost-later}
 use Rattle.pie_excerpt.specs.Beginning.{Beginning, BeginsWell, is_resumed, resumed_of}
+use Rattle.pie_excerpt.specs.Rows.{queued_row}
 use Rattle.pie_audit.specs.Text.{excerpt_fault, fault_after}
 
 -- these records have it among them

@@ -92,7 +92,7 @@ resumed-clean law most rows opening past b few goes fit e =
     let told : TellEach Three more (lines_told asked given) = rows-told Three law.held most b.opening (b.read + 1) (going_on past) b.left few opens
     sound in
     let within = at.few in
-    let count = before-few Three most (b.read + 1) b.left (omega (arith, within)) in
+    let count = before-few Three most b.opening (b.read + 1) b.left (omega (arith, within)) in
     let fewer = rows-few Three (b.read + 1) good given in
     let tells : TellsPart (rows_text (take b.read rows ++ more)) opening past (lines_told asked given) =
     law.behind rows more b opening past (lines_told asked given) at.begun goes told (omega (arith, count, fewer, few)) in

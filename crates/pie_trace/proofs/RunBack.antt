@@ -16,10 +16,10 @@ use Rattle.pie_record.specs.Opening.{Checked, opening_by}
 use Rattle.pie_record.specs.Laws.{AnswersAreReadBack, RequestsAreWrittenAgain, TextsAreReadBack}
 use Rattle.pie_event.specs.declared.refusal.Refusal.TheVariants as refusal
 use Rattle.pie_record.specs.declared.fault.TraceFault.TheVariants as fault
-use Rattle.pie_record.specs.declared.first_record.FirstKind.TheVariants as kinds
 use Rattle.pie_trace.specs.History.{Begun, going_on, text_in}
 use Rattle.pie_trace.proofs.EndFacts.{first-one, whole-opened}
 use Rattle.pie_trace.proofs.HistoryFacts.{before_fault-later, flawed-record, long-record, requests_of-cons}
+use Rattle.pie_trace.proofs.MigrateFirst.{first-word}
 
 -- what pie_book promises of all histories, and pie_record of all records
 pub record Held : Type 0 where
@@ -195,11 +195,6 @@ abbrev pub RowsTold : Version → Opening → ℕ → Progress → List Row → 
 RowsTold version opening number progress rows requests = TellEach version (history_rows version number rows (replies opening progress requests))
     (lines_told requests (replies opening progress requests))
 
-told-none : (version : Version) (opening : Opening) (number : ℕ) (progress : Progress)
-    → RowsTold version opening number progress [] (requests_of version [])
-unfolding requests_of replies history_rows lines_told TellEach
-told-none version opening number progress = tt
-
 told-one : (version : Version) (opening : Opening) (number : ℕ) (progress : Progress) (row : Row) (rows : List Row) (request : Request)
     (requests : List Request)
     → line_of version (history_row version number row (reply opening progress request)) ≡ Ok (line_told request (reply opening progress request))
@@ -207,6 +202,10 @@ told-one : (version : Version) (opening : Opening) (number : ℕ) (progress : Pr
     → RowsTold version opening number progress (row ∷ rows) (request ∷ requests)
 unfolding replies history_rows lines_told TellEach
 told-one version opening number progress row rows request requests here later = (here, later)
+
+told-none : (version : Version) (opening : Opening) (number : ℕ) (progress : Progress) → RowsTold version opening number progress [] []
+unfolding replies history_rows lines_told TellEach
+told-none version opening number progress = tt
 
 pub before-none : (version : Version) (most number : ℕ) → before_fault version most number [] ≡ []
 unfolding before_fault
@@ -218,52 +217,48 @@ pub before-here : (version : Version) (most number : ℕ) (row : Row) (rows : Li
 unfolding before_fault
 before-here version most number row rows why e = rw e refl
 
+-- what holds of no records, and of a record that asks something and others of which it holds, holds of all up to the first that has a fault
+pub each-good : (version : Version) (most : ℕ) (opening : Opening) (P : ℕ → Progress → List Row → List Request → Type 0)
+    → ((number : ℕ) (progress : Progress) → P number progress [] [])
+    → ((number : ℕ) (progress : Progress) (row : Row) (rows : List Row) (request : Request) (requests : List Request) → number ≤ most
+    → request_of version row ≡ Ok request → P (number + 1) (after opening progress request) rows requests
+    → P number progress (row ∷ rows) (request ∷ requests))
+    → (number : ℕ) (progress : Progress) (rows : List Row)
+    → P number progress (before_fault version most number rows) (requests_of version (before_fault version most number rows))
+unfolding requests_of
+each-good version most opening P none one number progress [] = rw (before-none version most number) (none number progress)
+each-good version most opening P none one number progress (row ∷ rows) =
+    by (record_fault version most number row) refl (λ request. each-good version most opening P none one (number + 1) (after opening progress request) rows)
+  where
+    rest : List Row
+    rest = before_fault version most (number + 1) rows
+
+    by : (o : Option TraceFault) → record_fault version most number row ≡ o
+        → ((request : Request) → P (number + 1) (after opening progress request) rest (requests_of version rest))
+        → P number progress (before_fault version most number (row ∷ rows)) (requests_of version (before_fault version most number (row ∷ rows)))
+    by (Some why) e later = rw (before-here version most number row rows why e) (none number progress)
+    by None e later =
+        let g = good version most number row e in
+        rw (before_fault-later version most number row rows e, requests_of-cons version row rest g.request g.reads)
+        (one number progress row rest g.request (requests_of version rest) g.within g.reads (later g.request))
+
 pub rows-told : (version : Version) (held : Held) (most : ℕ) (opening : Opening) (number : ℕ) (progress : Progress) (rows : List Row) → most ≤ 2 ^ 32
     → Opens opening → Sound opening progress
     → RowsTold version opening number progress (before_fault version most number rows) (requests_of version (before_fault version most number rows))
-rows-told version held most opening number progress [] few opens sound =
-    subst (λ (l : List Row). RowsTold version opening number progress l (requests_of version l)) (sym (before-none version most number))
-    (told-none version opening number progress)
-rows-told version held most opening number progress (row ∷ rows) few opens sound =
-    by (record_fault version most number row) refl (λ request reads. rows-told version held most opening (number + 1)
-    (after opening progress request) rows
-    few opens (after-sound version held opening progress row request reads sound))
-  where
-    by : (o : Option TraceFault) → record_fault version most number row ≡ o
-        → ((request : Request) → request_of version row ≡ Ok request → RowsTold version opening (number + 1) (after opening progress request)
-        (before_fault version most (number + 1) rows) (requests_of version (before_fault version most (number + 1) rows)))
-        → RowsTold version opening number progress (before_fault version most number (row ∷ rows)) (requests_of version
-        (before_fault version most number (row ∷ rows)))
-    by (Some why) e later =
-        subst (λ (l : List Row). RowsTold version opening number progress l (requests_of version l)) (sym
-        (before-here version most number row rows why e))
-        (told-none version opening number progress)
-    by None e later =
-        let g = good version most number row e in
-        let within = g.within in
-        let rest = before_fault version most (number + 1) rows in
-        subst (λ (l : List Row). RowsTold version opening number progress l (requests_of version l)) (sym
-        (before_fault-later version most number row rows e))
-        (subst (λ (asked : List Request). RowsTold version opening number progress (row ∷ before_fault version most (number + 1) rows) asked)
-        (sym (requests_of-cons version row (before_fault version most (number + 1) rows) g.request g.reads))
-        (told-one version opening number progress row (before_fault version most (number + 1) rows) g.request
-        (requests_of version (before_fault version most (number + 1) rows))
-        (record-told version held number row g.request opening progress (omega arith) opens sound g.reads) (later g.request g.reads)))
+rows-told version held most opening number progress rows few opens =
+    each-good version most opening (λ number progress rows requests. Sound opening progress → RowsTold version opening number progress rows requests)
+    (λ number progress sound. told-none version opening number progress)
+    (λ number progress row rows request requests within reads later sound. told-one version opening number progress row rows request requests
+    (record-told version held number row request opening progress (omega (arith, within, few)) opens sound reads)
+    (later (after-sound version held opening progress row request reads sound))) number progress rows
 
 -- how many there are
-pub before-few : (version : Version) (most number : ℕ) (rows : List Row) → number ≤ most + 1
+pub before-few : (version : Version) (most : ℕ) (opening : Opening) (number : ℕ) (rows : List Row) → number ≤ most + 1
     → number + length (before_fault version most number rows) ≤ most + 1
-before-few version most number [] within = rw (before-none version most number) (omega arith)
-before-few version most number (row ∷ rows) within = by (record_fault version most number row) refl (λ w. before-few version most (number + 1) rows w)
-  where
-    by : (o : Option TraceFault) → record_fault version most number row ≡ o
-        → (number + 1 ≤ most + 1 → number + 1 + length (before_fault version most (number + 1) rows) ≤ most + 1)
-        → number + length (before_fault version most number (row ∷ rows)) ≤ most + 1
-    by (Some why) e later = rw (before-here version most number row rows why e) (omega arith)
-    by None e later =
-        let g = (good version most number row e).within in
-        let more = later (omega arith) in
-        rw (before_fault-later version most number row rows e) (omega arith)
+before-few version most opening number rows =
+    each-good version most opening (λ number progress rows requests. number ≤ most + 1 → number + length rows ≤ most + 1)
+    (λ number progress within. omega (arith, within))
+    (λ number progress row rows request requests here reads later within. let more = later (omega (arith, here)) in omega (arith, more)) number start rows
 
 pub rows-few : (version : Version) (number : ℕ) (rows : List Row) (given : List Reply) → length (history_rows version number rows given) ≤ length rows
 unfolding history_rows
@@ -278,27 +273,8 @@ pub record Opened (row : Row) (opening : Opening) : Type 0 where
   pub accepted : opening_refusal opening.limits opening.moment ≡ None
   pub in_range : first_bad opening.params ≡ None
 
-word-of : Held → (row : Row) (kind : FirstKind) (word : List ℕ) → word ≡ kind_word kind → is_kind row word ≡ true → Begins row
-word-of held row kind word same e = record {
-  kind = kind;
-  rest = drop 1 row;
-  is = held.again.kind row word e ∙ ap (λ (f : List ℕ). f ∷ drop 1 row) same;
-}
-
-begins : Held → (row : Row) (kind : FirstKind) → first_kind row ≡ Some kind → Begins row
-unfolding first_kind
-begins held row kind = by (is_kind row (codes "open")) (is_kind row (codes "rolling")) (is_kind row (codes "open2"))
-    (is_kind row (codes "open3")) refl refl refl refl
-  where
-    by : (a b c d : Bool) → is_kind row (codes "open") ≡ a → is_kind row (codes "rolling") ≡ b → is_kind row (codes "open2") ≡ c
-        → is_kind row (codes "open3") ≡ d
-        → (if a then Some kinds.Open else if b then Some kinds.Rolling else if c then Some kinds.Open2 else if d then Some kinds.Open3 else None)
-        ≡ Some kind → Begins row
-    by true b c d p q r s e = word-of held row kinds.Open (codes "open") refl p
-    by false true c d p q r s e = word-of held row kinds.Rolling (codes "rolling") refl q
-    by false false true d p q r s e = word-of held row kinds.Open2 (codes "open2") refl r
-    by false false false true p q r s e = word-of held row kinds.Open3 (codes "open3") refl s
-    by false false false false p q r s e = cc
+begins : (row : Row) (kind : FirstKind) → first_kind row ≡ Some kind → Begins row
+begins row kind is = let word = first-word row kind is in record { kind = kind; rest = word.rest; is = word.is }
 
 pub opened : Held → (row : Row) (opening : Opening) → opening_of row ≡ Ok opening → Opened row opening
 unfolding opening_of
@@ -309,7 +285,7 @@ opened held row opening = by (first_kind row) refl
     read kind is (Err what) e = cc
     read kind is (Ok draft) e =
         let c = held.opens kind draft opening e in
-        subst (λ (o : Opening). Opened row o) c.same (record { begins = begins held row kind is; accepted = c.accepted; in_range = c.in_range })
+        subst (λ (o : Opening). Opened row o) c.same (record { begins = begins row kind is; accepted = c.accepted; in_range = c.in_range })
 
     by : (o : Option FirstKind) → first_kind row ≡ o → opening_by o row ≡ Ok opening → Opened row opening
     by None is e = cc
@@ -353,7 +329,7 @@ run-begun held most kind rest rows opening some few opens =
     let given : List Reply = replies opening start asked in
     let told : TellEach version (history_rows version 2 (before_fault version most 2 rows) given) (lines_told asked given) =
     rows-told version held most opening 2 start rows few fit (sound-start held opening) in
-    let count = before-few version most 2 rows (omega arith) in
+    let count = before-few version most opening 2 rows (omega arith) in
     let fewer = rows-few version 2 (before_fault version most 2 rows) given in
     subst (λ (text : List ℕ). TellsHistory text opening (lines_told asked given)) (sym (text-whole most first rows opening some opens))
     (held.texts.history kind rest (history_rows version 2 (before_fault version most 2 rows) given) opening (lines_told asked given) opens

@@ -96,10 +96,10 @@ fn three_take<R: Threads + Wait + Clock + Sync>(
 fn has_three(lock: RuledLock<Counter>, pass: Pass<Counter>) -> bool
     requires own { pass.lock ≡ lock }
 {
-    match lock.close(pass) {
-        Ok(counter) => counter.count() == 3 && counter.total() == 3,
-        Err(_) => false,
-    }
+    let Ok(counter) = lock.close(pass) else {
+        return false;
+    };
+    counter.count() == 3 && counter.total() == 3
 }
 
 /// Whether all three have been there.

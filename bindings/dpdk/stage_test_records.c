@@ -25,7 +25,7 @@ static uint64_t field_of(const char *row, int place) {
 }
 
 void take_records(struct pie_stage *stage, bool is_over, FILE *file, struct summed *summed) {
-    static const char *const fields[] = {"arrivals", "left", "updates"};
+    static const char *const fields[] = {"arrivals", "left", "updates", "turned_off"};
     char row[PIE_RESUME_ROOM + 1];
     size_t size;
     while ((size = pie_stage_record(stage, is_over, (unsigned char *)row, PIE_RESUME_ROOM)) != 0) {
@@ -35,13 +35,14 @@ void take_records(struct pie_stage *stage, bool is_over, FILE *file, struct summ
             summed->gaps++;
             summed->lost += field_of(row, 1);
         } else if (summed->places[0] == 0) {
-            for (int i = 0; i < 3; i++)
+            for (int i = 0; i < 4; i++)
                 summed->places[i] = place_of(row, fields[i]);
         } else {
             summed->records++;
             summed->arrivals += field_of(row, summed->places[0]);
             summed->left += field_of(row, summed->places[1]);
             summed->updates += field_of(row, summed->places[2]);
+            summed->turned_off += field_of(row, summed->places[3]);
         }
     }
 }
@@ -110,7 +111,7 @@ static void sum_up(const char *kind, uint64_t every, uint64_t profile, uint32_t 
         EXPECT(fclose(history) == 0 && told.gaps == 0);
     }
     expect_summed(stage, &summed);
-    EXPECT((summed.lost != 0) == (silent != 0) && summed.records >= 40);
+    EXPECT((summed.lost != 0) == (silent != 0) && summed.records >= 40 && (summed.turned_off != 0) == (profile == PIE_ON_AND_OFF));
     pie_stage_free(stage);
     expect_all_back();
 }

@@ -83,7 +83,7 @@ void take_records(struct pie_stage *stage, bool is_over, FILE *file, struct summ
 void expect_summed(struct pie_stage *stage, const struct summed *summed);
 
 void test_records(void);
-void test_flows(void);
+void test_flows(uint32_t events, uint32_t flight);
 
 /* The queues of pie-fwd: classes, and equal shares. */
 void test_queues(void);

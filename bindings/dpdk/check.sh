@@ -76,7 +76,7 @@ count=0
 for records in "$work"/*/*.records; do
     [ ! -e "${records%.records}.history" ] || { step summed summed "$records"; count=$((count + 1)); }
 done
-[ $count -ge 9 ] || { echo "bindings/dpdk/check.sh: records of $count stages alone"; exit 1; }
+[ $count -ge 11 ] || { echo "bindings/dpdk/check.sh: records of $count stages alone"; exit 1; }
 [ "$(grep -L '^lost,' "$work"/plain/*.history | wc -l)" -ge 100 ] || { echo "bindings/dpdk/check.sh: gaps in histories that have none"; exit 1; }
 step address timeout 60 out/address/pie-fwd "${eal[@]}" --vdev=net_null0 --vdev=net_ring0 --lcores "(0-2)@$cpus" -- \
     --total-num-mbufs=8192 --rate 50mbit --for 1s --history /dev/null

@@ -608,7 +608,8 @@ int main(int count, char **words) {
         test_pace();
         test_queues();
         test_records();
-        test_flows();
+        test_flows(1 << 14, 0);
+        test_flows(0, 50);
         test_threads(4000, 0, 0, 0);
         test_threads(4000, 0, 2000, 0);
     }

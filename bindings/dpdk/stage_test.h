@@ -71,9 +71,9 @@ void expect_told(struct pie_stage *stage, const struct told *told);
 
 /* What records of periods tell. */
 struct summed {
-    uint64_t records, gaps, lost;     /* records; lines that tell a gap, and the periods that these tell */
-    uint64_t arrivals, left, updates; /* of all records together .. */
-    int places[3];                    /* .. and where they stand in each */
+    uint64_t records, gaps, lost;                 /* records; lines that tell a gap, and the periods that these tell */
+    uint64_t arrivals, left, updates, turned_off; /* of all records together .. */
+    int places[4];                                /* .. and where they stand in each */
 };
 
 /* Takes out the records that there are now, or to the last, into a file. */
@@ -83,7 +83,7 @@ void take_records(struct pie_stage *stage, bool is_over, FILE *file, struct summ
 void expect_summed(struct pie_stage *stage, const struct summed *summed);
 
 void test_records(void);
-void test_flows(void);
+void test_flows(uint32_t events, uint32_t flight);
 
 /* The queues of pie-fwd: classes, and equal shares. */
 void test_queues(void);

@@ -25,7 +25,7 @@ static uint64_t field_of(const char *row, int place) {
 }
 
 void take_records(struct pie_stage *stage, bool is_over, FILE *file, struct summed *summed) {
-    static const char *const fields[] = {"arrivals", "left", "updates"};
+    static const char *const fields[] = {"arrivals", "left", "updates", "turned_off"};
     char row[PIE_RESUME_ROOM + 1];
     size_t size;
     while ((size = pie_stage_record(stage, is_over, (unsigned char *)row, PIE_RESUME_ROOM)) != 0) {
@@ -35,13 +35,14 @@ void take_records(struct pie_stage *stage, bool is_over, FILE *file, struct summ
             summed->gaps++;
             summed->lost += field_of(row, 1);
         } else if (summed->places[0] == 0) {
-            for (int i = 0; i < 3; i++)
+            for (int i = 0; i < 4; i++)
                 summed->places[i] = place_of(row, fields[i]);
         } else {
             summed->records++;
             summed->arrivals += field_of(row, summed->places[0]);
             summed->left += field_of(row, summed->places[1]);
             summed->updates += field_of(row, summed->places[2]);
+            summed->turned_off += field_of(row, summed->places[3]);
         }
     }
 }
@@ -110,7 +111,32 @@ static void sum_up(const char *kind, uint64_t every, uint64_t profile, uint32_t 
         EXPECT(fclose(history) == 0 && told.gaps == 0);
     }
     expect_summed(stage, &summed);
-    EXPECT((summed.lost != 0) == (silent != 0) && summed.records >= 40);
+    EXPECT((summed.lost != 0) == (silent != 0) && summed.records >= 40 && (summed.turned_off != 0) == (profile == PIE_ON_AND_OFF));
+    pie_stage_free(stage);
+    expect_all_back();
+}
+
+/* Events less than a nanosecond apart, so that some are at the very end of a period: they are the next one's. */
+static void sum_up_closely(void) {
+    struct pie_stage_params params;
+    struct told told = {0};
+    struct summed summed = {0};
+    unrecorded(&params);
+    params.events = 1 << 16;
+    params.every = 1000;
+    struct pie_stage *stage = stage_of(&params);
+    FILE *records = open_text("records-1000-close", "records"), *history = open_history("records-1000-close");
+    uint64_t start = rte_rdtsc();
+    for (uint64_t now = start; now < start + rte_get_tsc_hz() / 100000; now++) {
+        struct rte_mbuf *mbuf = plain(100, PIE_NOT_ECT);
+        EXPECT(pie_stage_enqueue(stage, &mbuf, 1, now) == 1 && pie_stage_dequeue(stage, &mbuf, 1, now) == 1);
+        rte_pktmbuf_free(mbuf);
+        take_records(stage, false, records, &summed);
+    }
+    take_records(stage, true, records, &summed);
+    take_history(stage, history, &told);
+    EXPECT(fclose(records) == 0 && fclose(history) == 0 && told.gaps == 0 && summed.lost == 0 && summed.records >= 10);
+    expect_summed(stage, &summed);
     pie_stage_free(stage);
     expect_all_back();
 }
@@ -133,6 +159,7 @@ void test_records(void) {
     sum_up("off", 5000000, PIE_ON_AND_OFF, 1 << 14, 0);
     sum_up("silent", 3000000, PIE_ALWAYS_ON, 1 << 14, 200);
     sum_up("alone", 7000000, PIE_ALWAYS_ON, 0, 0);
+    sum_up_closely();
     printf("stage_test: records of periods\n");
 }
 
@@ -165,13 +192,14 @@ static uint64_t expect_flows(const char *name) {
     return lines;
 }
 
-/* Flows in the tags of a history that is cut, and of the flight recorder's texts, of a queue that is full at times. */
-void test_flows(void) {
+/* Flows in the tags of a history that is cut, with `events`, and of the flight recorder's texts, of a queue that is full at times. */
+void test_flows(uint32_t events, uint32_t flight) {
     struct pie_stage_params params;
     struct told told = {0};
     struct rte_mbuf *mbufs[40], *out[32];
     char name[64];
-    uint64_t now = rte_rdtsc(), lines = 0;
+    uint64_t now = rte_rdtsc();
+    asked = 0;
     unrecorded(&params);
     params.opening.packets = 90;
     params.flow = flow_of;
@@ -180,27 +208,29 @@ void test_flows(void) {
     mbufs[0] = plain(100, 0);
     EXPECT(pie_stage_enqueue(stage, mbufs, 1, now) == 1 && asked == 0); // (a stage that keeps no events asks for no flow)
     pie_stage_free(stage);
-    params.events = 1 << 14;
-    params.flight = 1000;
+    params.events = events;
+    params.flight = flight;
     stage = stage_of(&params);
-    FILE *file = open_history("flows-0");
+    FILE *file = events != 0 ? open_history("flows-0") : NULL;
     for (int round = 1; round <= 300; round++, now += rte_get_tsc_hz() / 5000) {
         for (int i = 0; i < 40; i++)
-            mbufs[i] = plain((uint16_t)(100 + round % 7 * 100 + i), i % 3 == 0 ? PIE_ECT0 : PIE_NOT_ECT);
+            mbufs[i] = i == 5 ? alloc() : plain((uint16_t)(100 + round % 7 * 100 + i), i % 3 == 0 ? PIE_ECT0 : PIE_NOT_ECT); // (one is of no size)
         pie_stage_enqueue(stage, mbufs, 40, now);
         rte_pktmbuf_free_bulk(out, pie_stage_dequeue(stage, out, (uint32_t)(10 + round % 23), now));
-        if (round % 50 == 0) {
+        if (flight != 0 && round % 50 == 0) {
             snprintf(name, sizeof name, "flows-flight-%d", round);
-            expect_flight(stage, name, 16384);
-            lines += expect_flows(name);
+            EXPECT(expect_flight(stage, name, flight).queued > 10 && expect_flows(name) >= flight);
         }
-        if (round % 100 == 0)
+        if (events != 0 && round % 100 == 0)
             file = next_part(stage, file, &told, "flows", round);
     }
-    take_history(stage, file, &told);
-    EXPECT(fclose(file) == 0 && told.gaps == 0 && asked == 300 * 40);
-    EXPECT(lines > 5000 && expect_flows("flows-0") > 3000 && expect_flows("flows-100") > 3000 && expect_flows("flows-200") > 3000);
+    EXPECT(asked == 300 * 40);
+    if (events != 0) {
+        take_history(stage, file, &told);
+        EXPECT(fclose(file) == 0 && told.gaps == 0);
+        EXPECT(expect_flows("flows-0") > 3000 && expect_flows("flows-100") > 3000 && expect_flows("flows-200") > 3000);
+    }
     pie_stage_free(stage);
     expect_all_back();
-    printf("stage_test: flows\n");
+    printf("stage_test: flows%s\n", flight != 0 ? ", with a flight recorder" : "");
 }

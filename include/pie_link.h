@@ -25,7 +25,7 @@
  * - Each packet is a name here, `tag`: the link has the order in which packets leave, and the caller has the packets.
  *
  * A call with `try` in its name never waits: it answers PIE_BUSY where another port has the turn, and its event is as it was. None but
- * pie_link_open and pie_link_share takes memory; where there is none, nothing is done, and nothing is lost. */
+ * pie_link_open, pie_link_share and pie_link_open_excerpt takes memory; where there is none, nothing is done, and nothing is lost. */
 #ifndef PIE_LINK_H
 #define PIE_LINK_H
 
@@ -65,12 +65,13 @@ enum {
     PIE_FULL = 105,       /* the event log of a link that lets none go (PIE_BOUNDED) is full: fold some */
     PIE_TOO_MANY = 106,   /* a fold where the log holds no event */
     PIE_BUSY = 121,       /* nothing was done: another port has the turn */
-    PIE_CLOSED = 122,     /* nothing was done: the port is closed */
+    PIE_CLOSED = 122,     /* nothing was done: the port, or the excerpt, is closed */
     PIE_NO_MEMORY = 123,  /* nothing was done: there was no memory */
     PIE_NO_CALLERS = 124, /* a link for no callers */
     PIE_ONE_NUMBER = 125, /* a port with one number has none to share */
     PIE_APART = 126,      /* two ports of whose numbers neither's follow on the other's */
-    PIE_OPEN = 127        /* a port that is to be opened is open */
+    PIE_OPEN = 127,       /* a port, or an excerpt, that is to be opened is open */
+    PIE_TOO_SMALL = 129   /* an excerpt with less room than those of the link may need */
 };
 
 /* Opens a link for so many callers, with an empty queue, and the port with all their numbers, 0 to callers - 1. Refused, in this order: an open
@@ -151,6 +152,33 @@ struct pie_totals {
 uint32_t pie_link_try_registers(struct pie_port *port, struct pie_registers *registers);
 uint32_t pie_link_try_stats(struct pie_port *port, struct pie_totals *totals);
 
+/* ---- Excerpts: the last events with what they stand on, as a text for `pie audit`, `pie explain` and `pie cut`, while the link works on. */
+
+/* An excerpt, in memory of its own, for one thread at a time: as a port it is moved, and never copied. Zeros are a closed one. */
+struct pie_excerpt {
+    void *at; /* not the caller's to look at */
+};
+
+#define PIE_EXCERPT_CLOSED {0}
+
+/* Takes memory for the excerpts of every link with this opening: 24 bytes for each of its `packets`, and 128 for each of `packets` or of `tail`,
+ * whichever is more. It is an excerpt of no events then. Refused, in this order: an open excerpt (PIE_OPEN), what pie_open refuses of the opening,
+ * PIE_NO_MEMORY. Then it stays as it was. */
+uint32_t pie_link_open_excerpt(const struct pie_opening *opening, struct pie_excerpt *excerpt);
+
+/* Copies what the link still has of its events into the excerpt, those of the log at least, with what they stand on; its text begins anew. The
+ * history stays as it was, and the turn is held for no longer than the copying takes. Refused, in this order: PIE_CLOSED of either, PIE_BUSY,
+ * PIE_TOO_SMALL. Then the excerpt stays as it was. */
+uint32_t pie_link_try_excerpt(struct pie_port *port, struct pie_excerpt *excerpt);
+
+/* Writes the next record of the excerpt's text, the first one after it was filled, into the first `room` bytes of `out`, and answers how many bytes
+ * it has: 0 behind the last, and of a closed excerpt. Where it has more than `room` bytes the answer is 0 too, and it is still the next;
+ * PIE_RESUME_ROOM bytes are enough for each. `out` is never NULL, and no 0 byte is put behind the record. It takes no turn. */
+size_t pie_link_write_excerpt(struct pie_excerpt *excerpt, unsigned char *out, size_t room);
+
+/* Gives the excerpt's memory back. PIE_CLOSED where it is closed. */
+uint32_t pie_link_close_excerpt(struct pie_excerpt *excerpt);
+
 /* ---- Bursts: several events of one port, one after another in one turn, with nothing of another port between. They are read and written where they
  * lie (`events` isn't NULL, also for none), so no call copies them or takes memory. Each is told as its own call is, also that it was refused, which
  * changes nothing; those that weren't asked stay as they were. An event of kind PIE_EVENT_UPDATE is an update at its moment, and rides in either
@@ -170,19 +198,21 @@ uint32_t pie_link_try_depart_all(struct pie_port *port, uint64_t bytes, struct p
  * nothing says that a call that waits is ever served. */
 
 #ifdef __cplusplus
-#define PIE_LINK_WORD std::atomic<uint32_t>
+#define PIE_LINK_WORD(bits) std::atomic<uint##bits##_t>
 #define PIE_LINK_LOAD(word) (word).load()
 #define PIE_LINK_ADD(word, number) (word).fetch_add(number)
+#define PIE_LINK_SWAP(word, seen, next) (word).compare_exchange_weak(seen, next)
 #else
-#define PIE_LINK_WORD _Atomic uint32_t
+#define PIE_LINK_WORD(bits) _Atomic uint##bits##_t
 #define PIE_LINK_LOAD(word) atomic_load(&(word))
 #define PIE_LINK_ADD(word, number) atomic_fetch_add(&(word), number)
+#define PIE_LINK_SWAP(word, seen, next) atomic_compare_exchange_weak(&(word), &(seen), next)
 #endif
 
 /* How many threads of the program sleep, and a word that changes where one is to be woken. */
 struct pie_link_sleepers {
-    PIE_LINK_WORD count;
-    PIE_LINK_WORD turns;
+    PIE_LINK_WORD(32) count;
+    PIE_LINK_WORD(32) turns;
 };
 
 __attribute__((weak)) struct pie_link_sleepers pie_link_asleep;
@@ -281,12 +311,54 @@ static inline uint32_t pie_link_stats(struct pie_port *port, struct pie_totals *
     PIE_LINK_WAITING(pie_link_try_stats(port, totals));
 }
 
+static inline uint32_t pie_link_excerpt(struct pie_port *port, struct pie_excerpt *excerpt) {
+    PIE_LINK_WAITING(pie_link_try_excerpt(port, excerpt));
+}
+
 static inline uint32_t pie_link_arrive_all(struct pie_port *port, struct pie_event *events, size_t count) {
     PIE_LINK_WAITING(pie_link_try_arrive_all(port, events, count));
 }
 
 static inline uint32_t pie_link_depart_all(struct pie_port *port, uint64_t bytes, struct pie_event *events, size_t count, size_t *made) {
     PIE_LINK_WAITING(pie_link_try_depart_all(port, bytes, events, count, made));
+}
+
+/* ---- A hint: what a data plane may look at without a turn. It is no reading: it may be old, and lacks what was not told. It tells whether a call is
+ * worth its turn, and no more. */
+
+/* How many packets wait, and when the next update is due, in one word that the ports of a link share. Zeros before anything is told. */
+struct pie_link_hint {
+    PIE_LINK_WORD(64) word; /* the packets, in 22 bits with a sign, and above them the moment in units of 2^18 ns */
+};
+
+/* Tells a hint the events that a call of any port was answered; `t_update` is the parameter in force. */
+static inline void pie_link_tell(struct pie_link_hint *hint, const struct pie_event *events, size_t count, uint64_t t_update) {
+    uint64_t packets = 0, due = 0, seen;
+    for (; count != 0; count--, events++) {
+        if (events->kind == PIE_EVENT_ARRIVE)
+            packets += events->answer == PIE_ENQUEUE || events->answer == PIE_MARK;
+        if (events->answer == PIE_DONE && events->kind == PIE_EVENT_DEPART)
+            packets--;
+        if (events->answer == PIE_DONE && events->kind == PIE_EVENT_UPDATE)
+            due = (events->moment + t_update + (1 << 18) - 1) >> 18;
+    }
+    if (packets != 0)
+        PIE_LINK_ADD(hint->word, packets);
+    if (due != 0)
+        for (seen = PIE_LINK_LOAD(hint->word); !PIE_LINK_SWAP(hint->word, seen, (due << 22) + (uint64_t)((int64_t)(seen << 42) >> 42));)
+            ;
+}
+
+/* So many packets wait. */
+static inline uint64_t pie_link_waiting(const struct pie_link_hint *hint) {
+    int64_t packets = (int64_t)(PIE_LINK_LOAD(hint->word) << 42) >> 42;
+    return packets < 0 ? 0 : (uint64_t)packets; /* (a departure may be told before its arrival) */
+}
+
+/* The moment from which an update is due, late by less than 2^18 ns. */
+static inline uint64_t pie_link_due(const struct pie_link_hint *hint) {
+    uint64_t word = PIE_LINK_LOAD(hint->word);
+    return (word - (uint64_t)((int64_t)(word << 42) >> 42)) >> 22 << 18;
 }
 
 /* A code of a call at a port in words, for a log. */
@@ -296,12 +368,13 @@ static inline const char *pie_link_text(uint32_t code) {
     case PIE_FULL: return "the event log is full";
     case PIE_TOO_MANY: return "the log holds no event";
     case PIE_BUSY: return "another port has the turn";
-    case PIE_CLOSED: return "the port is closed";
+    case PIE_CLOSED: return "the port or the excerpt is closed";
     case PIE_NO_MEMORY: return "out of memory";
     case PIE_NO_CALLERS: return "a link for no callers";
     case PIE_ONE_NUMBER: return "the port has one number alone";
     case PIE_APART: return "the numbers of the two ports are apart";
-    case PIE_OPEN: return "the port is open";
+    case PIE_OPEN: return "the port or the excerpt is open";
+    case PIE_TOO_SMALL: return "the excerpt has too little room for the link";
     default: return pie_text(code);
     }
 }
@@ -309,63 +382,63 @@ static inline const char *pie_link_text(uint32_t code) {
 #ifdef __cplusplus
 }
 
-/* A port that closes itself: it is moved, and never copied. Each call answers as the one in C that it is named after. */
-class pie_link_port {
+/* What closes itself: it is moved, and never copied. */
+template <typename Raw, uint32_t (*Close)(Raw *)> class pie_link_owned {
 public:
-    pie_link_port() noexcept : port() {}
-    pie_link_port(pie_link_port &&other) noexcept : port(other.port) { other.port.at = nullptr; }
-    pie_link_port &operator=(pie_link_port &&other) noexcept {
-        if (this != &other) {
-            pie_link_close(&port);
-            port = other.port;
-            other.port.at = nullptr;
-        }
+    pie_link_owned() noexcept : raw() {}
+    pie_link_owned(pie_link_owned &&other) noexcept : raw(other.raw) { other.raw.at = nullptr; }
+    pie_link_owned &operator=(pie_link_owned &&other) noexcept {
+        Raw taken = other.raw;
+        other.raw.at = nullptr;
+        Close(&raw);
+        raw = taken;
         return *this;
     }
-    pie_link_port(const pie_link_port &) = delete;
-    pie_link_port &operator=(const pie_link_port &) = delete;
-    ~pie_link_port() { pie_link_close(&port); }
+    ~pie_link_owned() { Close(&raw); }
 
-    bool is_open() const noexcept { return port.at != nullptr; }
-    uint32_t open(const pie_opening &opening, uint16_t callers) noexcept { return pie_link_open(&opening, callers, &port); }
-    uint32_t share(pie_link_port &added) noexcept { return this != &added ? pie_link_share(&port, &added.port) : with_itself(PIE_OPEN); }
-    uint32_t gather(pie_link_port &other) noexcept { return this != &other ? pie_link_gather(&port, &other.port) : with_itself(PIE_APART); }
-    uint32_t close() noexcept { return pie_link_close(&port); }
+    bool is_open() const noexcept { return raw.at != nullptr; }
+    uint32_t close() noexcept { return Close(&raw); }
 
-    uint32_t try_arrive(pie_event &event) noexcept { return pie_link_try_arrive(&port, &event); }
-    uint32_t try_depart(pie_event &event) noexcept { return pie_link_try_depart(&port, &event); }
-    uint32_t try_update(pie_event &event) noexcept { return pie_link_try_update(&port, &event); }
-    uint32_t try_reset(pie_event &event) noexcept { return pie_link_try_reset(&port, &event); }
-    uint32_t try_set_params(const pie_params &params, pie_event &event) noexcept { return pie_link_try_set_params(&port, &params, &event); }
-    uint32_t try_arrive_all(pie_event *events, size_t count) noexcept { return pie_link_try_arrive_all(&port, events, count); }
-    uint32_t try_depart_all(uint64_t bytes, pie_event *events, size_t count, size_t &made) noexcept {
-        return pie_link_try_depart_all(&port, bytes, events, count, &made);
-    }
-    uint32_t try_fold(pie_event *events, size_t room, size_t &folded, pie_params &params) noexcept {
-        return pie_link_try_fold(&port, events, room, &folded, &params);
-    }
-    uint32_t try_registers(pie_registers &registers) noexcept { return pie_link_try_registers(&port, &registers); }
-    uint32_t try_stats(pie_totals &totals) noexcept { return pie_link_try_stats(&port, &totals); }
+protected:
+    Raw raw;
+};
 
-    uint32_t arrive(pie_event &event) noexcept { return pie_link_arrive(&port, &event); }
-    uint32_t depart(pie_event &event) noexcept { return pie_link_depart(&port, &event); }
-    uint32_t update(pie_event &event) noexcept { return pie_link_update(&port, &event); }
-    uint32_t reset(pie_event &event) noexcept { return pie_link_reset(&port, &event); }
-    uint32_t set_params(const pie_params &params, pie_event &event) noexcept { return pie_link_set_params(&port, &params, &event); }
-    uint32_t arrive_all(pie_event *events, size_t count) noexcept { return pie_link_arrive_all(&port, events, count); }
-    uint32_t depart_all(uint64_t bytes, pie_event *events, size_t count, size_t &made) noexcept {
-        return pie_link_depart_all(&port, bytes, events, count, &made);
-    }
-    uint32_t fold(pie_event *events, size_t room, size_t &folded, pie_params &params) noexcept {
-        return pie_link_fold(&port, events, room, &folded, &params);
-    }
-    uint32_t registers(pie_registers &registers) noexcept { return pie_link_registers(&port, &registers); }
-    uint32_t stats(pie_totals &totals) noexcept { return pie_link_stats(&port, &totals); }
+/* An excerpt, and a port. Each call answers as the one in C that it is named after. */
+class pie_owned_excerpt : public pie_link_owned<pie_excerpt, pie_link_close_excerpt> {
+public:
+    uint32_t open(const pie_opening &opening) noexcept { return pie_link_open_excerpt(&opening, &raw); }
+    size_t write(unsigned char *out, size_t room) noexcept { return pie_link_write_excerpt(&raw, out, room); }
+
+private:
+    friend class pie_link_port;
+};
+
+class pie_link_port : public pie_link_owned<pie_port, pie_link_close> {
+public:
+    uint32_t open(const pie_opening &opening, uint16_t callers) noexcept { return pie_link_open(&opening, callers, &raw); }
+    uint32_t share(pie_link_port &added) noexcept { return this != &added ? pie_link_share(&raw, &added.raw) : with_itself(PIE_OPEN); }
+    uint32_t gather(pie_link_port &other) noexcept { return this != &other ? pie_link_gather(&raw, &other.raw) : with_itself(PIE_APART); }
+
+    /* a call, and beside it the one that never waits: `try_arrive` and `arrive` */
+#define PIE_LINK_BOTH(name, taken, handed)                                    \
+    uint32_t try_##name taken noexcept { return pie_link_try_##name handed; } \
+    uint32_t name taken noexcept { return pie_link_##name handed; }
+
+    PIE_LINK_BOTH(arrive, (pie_event &event), (&raw, &event))
+    PIE_LINK_BOTH(depart, (pie_event &event), (&raw, &event))
+    PIE_LINK_BOTH(update, (pie_event &event), (&raw, &event))
+    PIE_LINK_BOTH(reset, (pie_event &event), (&raw, &event))
+    PIE_LINK_BOTH(set_params, (const pie_params &params, pie_event &event), (&raw, &params, &event))
+    PIE_LINK_BOTH(arrive_all, (pie_event *events, size_t count), (&raw, events, count))
+    PIE_LINK_BOTH(depart_all, (uint64_t bytes, pie_event *events, size_t count, size_t &made), (&raw, bytes, events, count, &made))
+    PIE_LINK_BOTH(fold, (pie_event *events, size_t room, size_t &folded, pie_params &params), (&raw, events, room, &folded, &params))
+    PIE_LINK_BOTH(registers, (pie_registers &registers), (&raw, &registers))
+    PIE_LINK_BOTH(stats, (pie_totals &totals), (&raw, &totals))
+    PIE_LINK_BOTH(excerpt, (pie_owned_excerpt &excerpt), (&raw, &excerpt.raw))
+#undef PIE_LINK_BOTH
 
 private:
     uint32_t with_itself(uint32_t code) const noexcept { return is_open() ? code : uint32_t(PIE_CLOSED); }
-
-    pie_port port;
 };
 #endif
 

@@ -1,6 +1,7 @@
 /* A crowd at one link: so many threads make calls of all kinds for some seconds, one of them is cancelled between two calls halfway, and one more
- * folds, and writes the text of all that it is handed. Each thread sums up what it was answered, in its order; `read` sums up the same from the
- * text, so that each caller's calls stand there once and in its order. bindings/c/threads.sh builds and runs it, and has the text audited.
+ * folds, and writes the text of all that it is handed, and takes excerpts meanwhile, SUMS.1 and so on. Each thread sums up what it was answered, in
+ * its order; `read` sums up the same from the text, so that each caller's calls stand there once and in its order, and the events of each excerpt
+ * in their place. bindings/c/threads.sh builds and runs it, and has the texts audited.
  *     crowd run THREADS SECONDS SUMS > text
  *     crowd read THREADS SUMS < text */
 #include "pie_link.h"
@@ -18,7 +19,7 @@
         } \
     } while (0)
 
-enum { MOST = 64 };
+enum { MOST = 64, EXCERPTS = 20 };
 
 /* What a caller was answered: how many calls, and a sum in which their order counts. */
 struct sum {
@@ -153,11 +154,25 @@ static int fold(void) {
     return code == PIE_TOO_MANY;
 }
 
+/* Takes an excerpt, and writes its text into SUMS.NUMBER. */
+static void take(struct pie_excerpt *excerpt, const char *sums, int number) {
+    unsigned char record[PIE_RESUME_ROOM];
+    char name[4096];
+    size_t count;
+    FILE *file;
+    CHECK(pie_link_excerpt(&workers[0].port, excerpt) == PIE_DONE);
+    CHECK(snprintf(name, sizeof name, "%s.%d", sums, number) < (int)sizeof name && (file = fopen(name, "w")) != NULL);
+    while ((count = pie_link_write_excerpt(excerpt, record, sizeof record)) != 0)
+        CHECK(fwrite(record, 1, count, file) == count);
+    CHECK(fclose(file) == 0);
+}
+
 static void run(int threads, double seconds, const char *sums) {
     unsigned char record[PIE_RECORD_ROOM];
     unsigned long long before[MOST];
     uint64_t half = (uint64_t)(seconds * 5e8), busy = 0;
-    int is_cancelled = 0, i;
+    int is_cancelled = 0, taken = 0, i;
+    struct pie_excerpt excerpt = PIE_EXCERPT_CLOSED;
     FILE *file = fopen(sums, "w");
     pie_default_opening(&opening, 1000000000);
     opening.mode = PIE_BOUNDED; /* no event goes but by a fold */
@@ -165,6 +180,7 @@ static void run(int threads, double seconds, const char *sums) {
     opening.packets = 1000;
     opening.params.max_burst = 0;
     CHECK(file != NULL && pie_link_open(&opening, (uint16_t)(threads + 1), &workers[0].port) == PIE_DONE);
+    CHECK(pie_link_open_excerpt(&opening, &excerpt) == PIE_DONE);
     CHECK(fwrite(record, 1, pie_write_opening(&opening, record, sizeof record), stdout) > 0);
     start = now();
     for (i = threads; i > 0; i--)
@@ -174,6 +190,8 @@ static void run(int threads, double seconds, const char *sums) {
         CHECK(pthread_create(&workers[i].id, NULL, work, &workers[i]) == 0);
     while (at_work != 0) {
         int is_empty = fold();
+        if (taken < EXCERPTS && now() > half / EXCERPTS * 2 * (uint64_t)taken)
+            take(&excerpt, sums, ++taken);
         if (!is_cancelled && now() > half) {
             void *answer;
             is_cancelled = 1;
@@ -197,8 +215,45 @@ static void run(int threads, double seconds, const char *sums) {
         fprintf(file, "%llu %llu\n", (unsigned long long)workers[i].sum.count, (unsigned long long)workers[i].sum.order);
         CHECK(pie_link_close(&workers[i].port) == PIE_DONE);
     }
+    CHECK(taken == EXCERPTS && pie_link_close_excerpt(&excerpt) == PIE_DONE);
     CHECK(pie_link_close(&workers[0].port) == PIE_DONE && fclose(file) == 0 && fflush(stdout) == 0);
     fprintf(stderr, "%llu calls without waiting found it busy\n", (unsigned long long)busy);
+}
+
+/* What an event's record comes to, at its number in the history. */
+static uint64_t sum_record(uint64_t number, const char *line) {
+    for (; *line != 0; line++)
+        number = (number ^ (unsigned char)*line) * UINT64_C(0x100000001b3);
+    return number;
+}
+
+/* Sums of the records of all events up to each. */
+static uint64_t *sums_so_far, room_so_far = 1 << 20;
+
+static void add_record(uint64_t number, const char *line) {
+    if (sums_so_far == NULL || number == room_so_far)
+        CHECK((sums_so_far = (uint64_t *)realloc(sums_so_far, (room_so_far *= 2) * sizeof *sums_so_far)) != NULL);
+    sums_so_far[number] = number == 0 ? 0 : sums_so_far[number - 1] + sum_record(number, line);
+}
+
+/* Whether the events of an excerpt are those of the text, from the number on that its first record tells. */
+static void read_excerpt(const char *sums, int number, uint64_t events) {
+    enum { COUNT = 29 }; /* the place of the number of events in a record that resumes */
+    char line[2 * PIE_RESUME_ROOM], name[4096], *at = line;
+    uint64_t before, last, sum = 0;
+    FILE *file;
+    int i;
+    CHECK(snprintf(name, sizeof name, "%s.%d", sums, number) < (int)sizeof name && (file = fopen(name, "r")) != NULL);
+    CHECK(fgets(line, sizeof line, file) != NULL && strncmp(line, "resume,", 7) == 0);
+    for (i = 0; i < COUNT; i++)
+        CHECK((at = strchr(at, ',')) != NULL && *++at != 0);
+    before = last = strtoull(at, NULL, 10);
+    while (fgets(line, sizeof line, file) != NULL)
+        if (strncmp(line, "queued,", 7) != 0) {
+            last++;
+            sum += sum_record(last, line);
+        }
+    CHECK(last > before && last <= events && sum == sums_so_far[last] - sums_so_far[before] && fclose(file) == 0);
 }
 
 /* The kind, the caller and the moment with which each record begins. */
@@ -211,9 +266,11 @@ static void read_text(int threads, const char *sums) {
     int before = 0, i;
     FILE *file;
     CHECK(fgets(line, sizeof line, stdin) != NULL && strncmp(line, "open3,", 6) == 0);
+    add_record(0, line);
     while (fgets(line, sizeof line, stdin) != NULL) {
         char *at = strchr(line, ',');
         CHECK(at != NULL);
+        add_record(events + 1, line);
         *at = 0;
         for (i = 0; i < 5 && strcmp(line, kinds[i]) != 0; i++)
             ;
@@ -231,6 +288,8 @@ static void read_text(int threads, const char *sums) {
         CHECK(count > 0 && found[i].count == count && found[i].order == order);
     }
     fclose(file);
+    for (i = 1; i <= EXCERPTS; i++)
+        read_excerpt(sums, i, events);
     printf("%llu events of %d callers, each one's once and in its order; %llu times the next event was another's\n", (unsigned long long)events,
            threads, (unsigned long long)changes);
 }

@@ -1,6 +1,6 @@
-/* Calls at the ports of a link, as C11 and C++11: what each answers and leaves, by one thread; bursts, by one and by five; then sixteen threads that
- * count what they asked, four of which are cancelled between two calls; then each request for memory refused in turn. bindings/c/threads.sh builds
- * and runs it. */
+/* Calls at the ports of a link, as C11 and C++11: what each answers and leaves, by one thread; bursts, by one and by five; excerpts; then sixteen
+ * threads that count what they asked, four of which are cancelled between two calls; then each request for memory refused in turn.
+ * bindings/c/threads.sh builds and runs it. */
 #include "pie_link.h"
 
 #include <pthread.h>
@@ -91,7 +91,8 @@ static void calls(void) {
     /* closed */
     CHECK(pie_link_try_arrive(&port, &event) == PIE_CLOSED && memcmp(&event, &before, sizeof event) == 0);
     CHECK(pie_link_close(&port) == PIE_CLOSED && pie_link_share(&port, &other) == PIE_CLOSED && pie_link_gather(&port, &other) == PIE_CLOSED);
-    CHECK(pie_link_registers(&port, &registers) == PIE_CLOSED && registers.count == 9 && pie_link_stats(&port, &totals) == PIE_CLOSED && totals.count == 9);
+    CHECK(pie_link_registers(&port, &registers) == PIE_CLOSED && registers.count == 9);
+    CHECK(pie_link_stats(&port, &totals) == PIE_CLOSED && totals.count == 9);
     CHECK(pie_link_fold(&port, &event, 1, &folded, &params) == PIE_CLOSED && folded == 0 && memcmp(&event, &before, sizeof event) == 0);
     /* opening */
     CHECK(pie_link_open(&opening, 0, &port) == PIE_NO_CALLERS);
@@ -220,6 +221,7 @@ static void bursts(void) {
 }
 
 enum { SENDERS = 4, BURST = 16, BURSTS = 500 };
+static struct pie_link_hint hint;
 
 /* Sends bursts one after another: one that finds another port's turn is as it was. */
 static void *send_bursts(void *of) {
@@ -234,6 +236,7 @@ static void *send_bursts(void *of) {
         while ((code = pie_link_try_arrive_all(port, events, BURST)) == PIE_BUSY)
             CHECK(memcmp(events, before, sizeof events) == 0);
         CHECK(code == PIE_DONE);
+        pie_link_tell(&hint, events, BURST, 15000000);
         for (i = 0; i < BURST; i++)
             CHECK(events[i].kind == PIE_EVENT_ARRIVE && events[i].answer < 100);
     }
@@ -246,6 +249,7 @@ static void bursts_of_several(void) {
     pthread_t ids[SENDERS];
     struct pie_opening opening;
     struct pie_event events[BURST], before[BURST], event;
+    struct pie_registers registers;
     struct pie_params params;
     size_t made;
     uint64_t left = 0;
@@ -265,9 +269,16 @@ static void bursts_of_several(void) {
         CHECK(code == PIE_DONE ? made > 0 && made <= 2 + (events[made - 1].answer == PIE_NONE) : code == PIE_BUSY && made == 0);
         CHECK(memcmp(events + made, before + made, (BURST - made) * sizeof *events) == 0);
         left += code == PIE_DONE;
+        pie_link_tell(&hint, events, made, 15000000);
     }
     for (i = 0; i < SENDERS; i++)
         CHECK(pthread_join(ids[i], NULL) == 0);
+    CHECK(pie_link_registers(&ports[0], &registers) == PIE_DONE && registers.packets == pie_link_waiting(&hint) && pie_link_due(&hint) == 0);
+    event = event_at(20000000, 0);
+    event.kind = PIE_EVENT_UPDATE;
+    CHECK(pie_link_update(&ports[0], &event) == PIE_DONE);
+    pie_link_tell(&hint, &event, 1, 15000000);
+    CHECK(registers.packets == pie_link_waiting(&hint) && pie_link_due(&hint) >= 35000000 && pie_link_due(&hint) < 35000000 + (1 << 18));
     /* each sender's packets once and in its order, with nothing of another within a burst */
     while ((code = fold_one(&ports[0], &event, &params)) == PIE_DONE) {
         CHECK(caller == 0 || event.caller == caller);
@@ -280,6 +291,87 @@ static void bursts_of_several(void) {
     for (i = 1; i <= SENDERS; i++)
         CHECK(next[i] == BURSTS * BURST && pie_link_close(&ports[i]) == PIE_DONE);
     CHECK(pie_link_close(&ports[0]) == PIE_DONE);
+}
+
+/* Whether the next record of an excerpt is this text. */
+static int is_next(struct pie_excerpt *excerpt, const unsigned char *text, size_t count) {
+    unsigned char record[PIE_RESUME_ROOM];
+    return pie_link_write_excerpt(excerpt, record, sizeof record) == count && memcmp(record, text, count) == 0;
+}
+
+/* The text of an excerpt of a link that was told these events: they wait in the order of their arrival, and nothing is missing from some event on. */
+static void read_excerpt(struct pie_excerpt *excerpt, const struct pie_event *events, size_t count, size_t least) {
+    unsigned char record[PIE_RESUME_ROOM + 1];
+    char *at = (char *)record;
+    size_t written = pie_link_write_excerpt(excerpt, record, PIE_RESUME_ROOM), before, left = 0, i;
+    CHECK(written != 0 && record[written - 1] == '\n' && memcmp(record, "resume,", 7) == 0);
+    record[written] = 0;
+    for (i = 0; i < 29; i++) /* the place of the number of events */
+        CHECK((at = strchr(at, ',')) != NULL && *++at != 0);
+    before = strtoull(at, NULL, 10);
+    CHECK(before + least <= count);
+    for (i = 0; i < before; i++)
+        left += events[i].kind == PIE_EVENT_DEPART && events[i].answer == PIE_DONE;
+    for (i = 0; i < before; i++)
+        if (events[i].kind == PIE_EVENT_ARRIVE && (left == 0 || left-- == 0)) {
+            written = pie_write_queued(events[i].tag, events[i].size, events[i].ecn, events[i].moment, record, sizeof record);
+            CHECK(written != 0 && is_next(excerpt, record, written));
+        }
+    for (; i < count; i++) {
+        written = pie_write_event(&events[i], record, sizeof record);
+        CHECK(written != 0 && is_next(excerpt, record, written));
+    }
+    CHECK(pie_link_write_excerpt(excerpt, record, PIE_RESUME_ROOM) == 0 && pie_link_write_excerpt(excerpt, record, PIE_RESUME_ROOM) == 0);
+}
+
+static void excerpts(void) {
+    enum { EVENTS = 34 };
+    struct pie_port port = PIE_PORT_CLOSED;
+    struct pie_excerpt excerpt = PIE_EXCERPT_CLOSED, small = PIE_EXCERPT_CLOSED;
+    struct pie_opening opening, larger;
+    struct pie_state state;
+    struct pie_stats stats;
+    struct pie_event events[EVENTS];
+    unsigned char text[PIE_RESUME_ROOM], record[PIE_RESUME_ROOM];
+    size_t count, i;
+    pie_default_opening(&opening, 100000000);
+    opening.packets = 8;
+    opening.tail = 4;
+    memset(&stats, 0, sizeof stats);
+    memset(record, 7, sizeof record);
+    /* closed */
+    CHECK(pie_link_try_excerpt(&port, &excerpt) == PIE_CLOSED && pie_link_write_excerpt(&excerpt, record, sizeof record) == 0 && record[0] == 7);
+    CHECK(pie_link_close_excerpt(&excerpt) == PIE_CLOSED && excerpt.at == NULL);
+    CHECK(pie_link_open(&opening, 2, &port) == PIE_DONE && pie_link_excerpt(&port, &excerpt) == PIE_CLOSED && excerpt.at == NULL);
+    /* opening: of no events is what a controller is opened with */
+    larger = opening;
+    larger.profile = 3;
+    CHECK(pie_link_open_excerpt(&larger, &excerpt) == PIE_BAD_PROFILE && excerpt.at == NULL);
+    CHECK(pie_link_open_excerpt(&opening, &excerpt) == PIE_DONE && excerpt.at != NULL && pie_link_open_excerpt(&larger, &excerpt) == PIE_OPEN);
+    CHECK(pie_open(&state, &opening) == PIE_DONE);
+    count = pie_write_resume(&opening, &state, &stats, 0, PIE_UNKNOWN, 0, 0, text, sizeof text);
+    CHECK(count > 0 && pie_link_write_excerpt(&excerpt, record, count - 1) == 0 && record[0] == 7 && record[count - 1] == 7);
+    CHECK(is_next(&excerpt, text, count) && pie_link_write_excerpt(&excerpt, record, sizeof record) == 0);
+    /* what an empty link has is the same, and its text begins anew each time */
+    for (i = 0; i < 3; i++)
+        CHECK(pie_link_excerpt(&port, &excerpt) == PIE_DONE && is_next(&excerpt, text, count));
+    /* events: from some event on all are there, at least those of the log, whatever was left unread of the last text */
+    for (i = 0; i < EVENTS; i++) {
+        events[i] = event_at(10 * (i + 1), i);
+        CHECK(i % 5 < 3 ? pie_link_arrive(&port, &events[i]) == PIE_ENQUEUE : pie_link_depart(&port, &events[i]) == PIE_DONE);
+        CHECK(pie_link_excerpt(&port, &excerpt) == PIE_DONE);
+        if (i % 3 == 0)
+            read_excerpt(&excerpt, events, i + 1, i < 4 ? i + 1 : 4);
+        else
+            CHECK(pie_link_write_excerpt(&excerpt, record, sizeof record) > 0);
+    }
+    /* too little room: the excerpt stays, with its place */
+    larger = opening;
+    larger.tail = larger.packets = 2;
+    CHECK(pie_link_open_excerpt(&larger, &small) == PIE_DONE && pie_link_try_excerpt(&port, &small) == PIE_TOO_SMALL);
+    CHECK(pie_link_write_excerpt(&small, record, sizeof record) > 0 && pie_link_excerpt(&port, &small) == PIE_TOO_SMALL);
+    CHECK(pie_link_write_excerpt(&small, record, sizeof record) == 0 && pie_link_close_excerpt(&small) == PIE_DONE && small.at == NULL);
+    CHECK(pie_link_close(&port) == PIE_DONE && pie_link_close_excerpt(&excerpt) == PIE_DONE && pie_link_close_excerpt(&excerpt) == PIE_CLOSED);
 }
 
 enum { THREADS = 16, TIMES = 2000 };
@@ -371,9 +463,11 @@ void *__wrap_realloc(void *at, size_t bytes) {
 
 static void memory(void) {
     struct pie_port port = PIE_PORT_CLOSED, other = PIE_PORT_CLOSED;
+    struct pie_excerpt excerpt = PIE_EXCERPT_CLOSED;
     struct pie_opening opening;
     struct pie_event event = event_at(0, 1);
     struct pie_params params;
+    unsigned char record[PIE_RESUME_ROOM];
     uint32_t code;
     size_t folded;
     long number, requests = 0;
@@ -386,7 +480,13 @@ static void memory(void) {
     for (number = 0; REFUSING(number, pie_link_share(&port, &other)) != PIE_DONE; number++)
         CHECK(code == PIE_NO_MEMORY && was_refused && other.at == NULL); /* the number stays: it is shared the next time */
     requests += number;
+    for (number = 0; REFUSING(number, pie_link_open_excerpt(&opening, &excerpt)) != PIE_DONE; number++)
+        CHECK(code == PIE_NO_MEMORY && was_refused && excerpt.at == NULL);
+    CHECK(number > 2);
     CHECK(REFUSING(0, pie_link_arrive(&other, &event)) == PIE_ENQUEUE && !was_refused && event.caller == 1);
+    CHECK(REFUSING(0, pie_link_excerpt(&port, &excerpt)) == PIE_DONE && !was_refused);
+    CHECK(REFUSING(0, (uint32_t)pie_link_write_excerpt(&excerpt, record, sizeof record)) > 0 && !was_refused);
+    CHECK(REFUSING(0, pie_link_close_excerpt(&excerpt)) == PIE_DONE && !was_refused);
     CHECK(REFUSING(0, pie_link_depart(&port, &event)) == PIE_DONE && !was_refused);
     CHECK(REFUSING(0, pie_link_fold(&port, &event, 1, &folded, &params)) == PIE_DONE && !was_refused && folded == 1);
     CHECK(event.kind == PIE_EVENT_ARRIVE && requests > 4);
@@ -397,6 +497,7 @@ int main(void) {
     calls();
     bursts();
     bursts_of_several();
+    excerpts();
     threads();
     memory();
     return 0;

@@ -1,5 +1,5 @@
-// The class of include/pie_link.h, as C++11 and C++17: a port is moved and never copied, and closes itself; each member function answers as the
-// call in C that it is named after; and threads each have one. bindings/c/threads.sh builds and runs it.
+// The classes of include/pie_link.h, as C++11 and C++17: a port and an excerpt are moved and never copied, and close themselves; each member function
+// answers as the call in C that it is named after; and threads each have a port. bindings/c/threads.sh builds and runs it.
 #include "pie_link.h"
 
 #include <cstdio>
@@ -20,6 +20,8 @@
 static_assert(!std::is_copy_constructible<pie_link_port>::value && !std::is_copy_assignable<pie_link_port>::value, "a port is not copied");
 static_assert(std::is_nothrow_move_constructible<pie_link_port>::value && std::is_nothrow_move_assignable<pie_link_port>::value, "it is moved");
 static_assert(sizeof(pie_link_port) == sizeof(pie_port), "it is a port, and no more");
+static_assert(!std::is_copy_constructible<pie_owned_excerpt>::value && !std::is_copy_assignable<pie_owned_excerpt>::value, "nor is an excerpt");
+static_assert(std::is_nothrow_move_assignable<pie_owned_excerpt>::value && sizeof(pie_owned_excerpt) == sizeof(pie_excerpt), "it is one");
 
 static pie_event event_at(uint64_t moment, uint64_t tag) {
     pie_event event = {};
@@ -79,6 +81,23 @@ static void calls() {
     CHECK(other.close() == PIE_DONE && !other.is_open());
 }
 
+static void excerpts() {
+    pie_link_port port;
+    pie_owned_excerpt excerpt;
+    pie_event event = event_at(10, 7);
+    pie_opening opening = opening_of(8);
+    unsigned char record[PIE_RESUME_ROOM];
+    opening.packets = 8;
+    CHECK(port.try_excerpt(excerpt) == PIE_CLOSED && !excerpt.is_open() && excerpt.close() == PIE_CLOSED && excerpt.write(record, 1) == 0);
+    CHECK(port.open(opening, 1) == PIE_DONE && excerpt.open(opening) == PIE_DONE && excerpt.open(opening) == PIE_OPEN && excerpt.is_open());
+    CHECK(port.arrive(event) == PIE_ENQUEUE && port.excerpt(excerpt) == PIE_DONE && port.try_excerpt(excerpt) == PIE_DONE);
+    pie_owned_excerpt moved(std::move(excerpt));
+    CHECK(!excerpt.is_open() && moved.is_open() && moved.write(record, sizeof record) > 0 && record[0] == 'r');
+    excerpt = std::move(moved);
+    CHECK(!moved.is_open() && excerpt.write(record, sizeof record) > 0 && record[0] == 'a' && excerpt.write(record, sizeof record) == 0);
+    CHECK(excerpt.close() == PIE_DONE && !excerpt.is_open() && port.excerpt(excerpt) == PIE_CLOSED);
+}
+
 // Each thread has a port, which ends with it; what all folds hand out has each thread's packets once and in its order.
 static void threads() {
     enum { THREADS = 4, PACKETS = 20000 };
@@ -115,6 +134,7 @@ static void threads() {
 
 int main() {
     calls();
+    excerpts();
     threads();
     return 0;
 }

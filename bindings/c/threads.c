@@ -1,16 +1,16 @@
-/* Four threads at one controller: two senders, the link that sends what waits, and a writer of the history, which `pie audit` decides again.
+/* Two senders, the link that sends what waits, and a reader that takes an excerpt of the last events each second while they work: excerpt.1 to
+ * excerpt.3, for `pie audit` and `pie explain`.
  *     bindings/c/library.py
  *     cc -Iinclude -o threads bindings/c/threads.c crates/pie_link_c/out/libpie_link_c.a crates/pie_c/out/libpie_c.a -pthread
- *     ./threads > history && pie audit < history */
+ *     ./threads && pie audit excerpt.1 excerpt.2 excerpt.3 */
 #include "pie_link.h"
-#include "pie_text.h"
-
 #include <pthread.h>
 #include <stdio.h>
+#include <threads.h>
 
-enum { PACKETS = 20000 };
-static struct pie_port ports[4]; /* of the writer, of the link, of each sender: one thread each */
-static atomic_int working = 3;   /* threads that make events */
+static struct pie_port ports[4]; /* of the reader, of the link, of each sender: one thread each */
+static atomic_int over;
+static const struct timespec tick = {0, 100000}, second = {1, 0};
 
 static uint64_t now(void) {
     struct timespec time;
@@ -19,61 +19,42 @@ static uint64_t now(void) {
 }
 
 static void *send(void *of) {
-    uint64_t word = 0x9e3779b97f4a7c15 * (uint64_t)((struct pie_port *)of - ports);
-    for (uint64_t tag = 1; tag <= PACKETS; tag++) {
-        struct pie_event event = {.moment = now(), .tag = tag, .size = 1000, .ecn = PIE_ECT0, .word = word};
-        while (pie_link_arrive(of, &event) == PIE_FULL) /* until the writer has made room */
-            sched_yield();
+    for (uint64_t tag = 1, word = (uint64_t)now(); !over; tag++, thrd_sleep(&tick, NULL)) {
+        struct pie_event event = {.moment = now(), .tag = tag, .size = 1000, .ecn = tag % 2 ? PIE_ECT0 : PIE_NOT_ECT, .word = word};
+        pie_link_arrive(of, &event);                               /* PIE_ENQUEUE and PIE_MARK: it waits now */
         word ^= word << 13, word ^= word >> 7, word ^= word << 17; /* (use a better one) */
     }
-    working--;
     return NULL;
 }
 
 static void *transmit(void *of) {
-    for (uint32_t code = PIE_NONE; working > 1 || code != PIE_NONE;) {
+    for (; !over; thrd_sleep(&tick, NULL)) {
         struct pie_event event = {.moment = now()};
-        pie_link_update(of, &event);        /* PIE_TOO_SOON, most of the time */
-        code = pie_link_depart(of, &event); /* event.tag is the packet that leaves; or none waits, or the log is full */
-        if (code != PIE_DONE)
-            sched_yield();
+        pie_link_update(of, &event); /* PIE_TOO_SOON, most of the time */
+        pie_link_depart(of, &event); /* event.tag is the packet that leaves; or PIE_NONE */
     }
-    working--;
     return NULL;
 }
 
-/* Writes what the log holds: PIE_TOO_MANY at its end. */
-static uint32_t fold(void) {
-    static struct pie_history text;
-    struct pie_event events[PIE_LINK_MOST];
-    struct pie_params params;
-    unsigned char record[PIE_RECORD_ROOM];
-    uint32_t code;
-    for (size_t count; (code = pie_link_fold(&ports[0], events, PIE_LINK_MOST, &count, &params)) == PIE_DONE;)
-        for (size_t i = 0; i < count; i++)
-            fwrite(record, 1, pie_text_event(&text, &events[i], &params, record, sizeof record), stdout);
-    return code;
-}
-
 int main(void) {
+    struct pie_excerpt excerpt = PIE_EXCERPT_CLOSED;
     struct pie_opening opening;
-    unsigned char record[PIE_RECORD_ROOM];
-    pthread_t threads[3];
-    pie_default_opening(&opening, 100000000);
-    opening.mode = PIE_BOUNDED; /* no event goes but by a fold */
-    opening.moment = now();
-    fwrite(record, 1, pie_write_opening(&opening, record, sizeof record), stdout);
-    if (pie_link_open(&opening, 4, &ports[0]) != PIE_DONE)
-        return 1;
-    for (int i = 3; i > 0; i--)
-        if (pie_link_share(&ports[0], &ports[i]) != PIE_DONE || pthread_create(&threads[i - 1], NULL, i == 1 ? transmit : send, &ports[i]) != 0)
-            return 1;
-    while (working != 0 && fold() == PIE_TOO_MANY)
-        sched_yield();
-    for (int i = 0; i < 3; i++)
-        pthread_join(threads[i], NULL);
-    uint32_t code = fold();
-    for (int i = 0; i < 4; i++)
-        pie_link_close(&ports[i]);
-    return code == PIE_TOO_MANY ? 0 : 1;
+    pthread_t threads[4];
+    pie_default_opening(&opening, 10000000);
+    opening.moment = now(), opening.packets = 1000;
+    int failed = pie_link_open(&opening, 4, &ports[0]) != PIE_DONE || pie_link_open_excerpt(&opening, &excerpt) != PIE_DONE;
+    for (int i = 3; i > 0 && !failed; i--) /* each shared port has the highest number that is left */
+        failed = pie_link_share(&ports[0], &ports[i]) != PIE_DONE || pthread_create(&threads[i], NULL, i == 1 ? transmit : send, &ports[i]);
+    for (char name[] = "excerpt.1"; name[8] <= '3' && !failed; name[8]++) {
+        unsigned char record[PIE_RESUME_ROOM];
+        thrd_sleep(&second, NULL);
+        FILE *file = pie_link_excerpt(&ports[0], &excerpt) == PIE_DONE ? fopen(name, "w") : NULL;
+        for (size_t count; file && (count = pie_link_write_excerpt(&excerpt, record, sizeof record)) != 0;)
+            fwrite(record, 1, count, file);
+        failed = !file || fclose(file) != 0;
+    }
+    over = 1;
+    for (int i = 1; i < 4 && !failed; i++)
+        failed = pthread_join(threads[i], NULL) != 0 || pie_link_close(&ports[i]) != PIE_DONE;
+    return failed || pie_link_close(&ports[0]) != PIE_DONE || pie_link_close_excerpt(&excerpt) != PIE_DONE;
 }

@@ -29,7 +29,7 @@ ECN = {"NotEct": "PIE_NOT_ECT", "Ect1": "PIE_ECT1", "Ect0": "PIE_ECT0", "Ce": "P
 REFUSALS = {"Moment": "PIE_BAD_MOMENT", "Size": "PIE_BAD_SIZE", "TooSoon": "PIE_TOO_SOON", "Params": "PIE_BAD_PARAMS",
             "State": "PIE_BAD_STATE", "Queue": "PIE_BAD_QUEUE", "Arrived": "PIE_BAD_ARRIVED", "NotWaited": "PIE_NOT_WAITED", "Limits": "PIE_BAD_LIMITS"}
 LINK_REFUSALS = {"Busy": "PIE_BUSY", "TooSoon": "PIE_TOO_SOON", "Exhausted": "PIE_EXHAUSTED", "Full": "PIE_FULL", "NoEvent": "PIE_TOO_MANY",
-                 "NoMemory": "PIE_NO_MEMORY", "NoCallers": "PIE_NO_CALLERS", "OneNumber": "PIE_ONE_NUMBER"}
+                 "NoMemory": "PIE_NO_MEMORY", "NoCallers": "PIE_NO_CALLERS", "OneNumber": "PIE_ONE_NUMBER", "TooSmall": "PIE_TOO_SMALL"}
 VERDICTS = {"Enqueue": "PIE_ENQUEUE", "Mark": "PIE_MARK", "Early": "PIE_EARLY", "Bytes": "PIE_BYTES", "Packets": "PIE_PACKETS"}
 PROFILES = {"One": "PIE_ALWAYS_ON", "Two": "PIE_ON_AND_OFF"}
 MODES = {"Bounded": "PIE_BOUNDED", "Rolling": "PIE_ROLLING"}
@@ -280,17 +280,19 @@ def compare_numbers(header, source):
 
 
 def compare_link(root):
-    """include/pie_link.h, beside crates/pie_link_c: its calls with their parameters, its codes, the words for them, and the port, of which C sees a pointer."""
+    """include/pie_link.h, beside crates/pie_link_c: its calls with their parameters, its codes, the words for them, and port and excerpt, of which C
+    sees a pointer."""
     header = Header((root / "include/pie_link.h").read_text())
-    names = {**TYPES, "PiePort": "pie_port", "PieRegisters": "pie_registers", "PieTotals": "pie_totals"}
+    names = {**TYPES, "PiePort": "pie_port", "PieExcerpt": "pie_excerpt", "PieRegisters": "pie_registers", "PieTotals": "pie_totals"}
     source = Rust(read_source(root / "crates/pie_link_c/src", "*.rt"), names, r'pub extern "C" ')
     # (a `Global` takes no bytes: C hands nothing over)
     calls = {name: (result, [it for it in given if it[0] != "Global"]) for name, (result, given) in source.functions.items()}
     given = {name: (result, [(kind, {"added": "new"}.get(field, field)) for kind, field in it]) for name, (result, it) in header.functions.items()}
     yield from same("include/pie_link.h: calls", given, calls, "in crates/pie_link_c/src")
-    if not re.search(r"pub struct PiePort \{\s*at: \*mut u8,\s*alloc: Global,\s*///.*?\s*pub ghost", source.text):
-        yield "crates/pie_link_c/src: a port is not a pointer alone"
-    yield from same("include/pie_link.h: a port", header.structs.get("pie_port"), [("&mut void", "at")], "here")
+    for handle in ("PiePort", "PieExcerpt"):
+        if not re.search(rf"pub struct {handle} \{{\s*at: \*mut u8,\s*alloc: Global,\s*///.*?\s*pub ghost", source.text):
+            yield f"crates/pie_link_c/src: a {names[handle]} is not a pointer alone"
+        yield from same(f"include/pie_link.h: a {names[handle]}", header.structs.get(names[handle]), [("&mut void", "at")], "here")
     for name in ("pie_registers", "pie_totals"):
         yield from same(f"include/pie_link.h: struct {name}", header.structs.get(name), source.structs.get(name), "in crates/pie_link_c/src")
     most = re.findall(r"const MOST: usize = (\d+);", source.text)
@@ -302,18 +304,29 @@ def compare_link(root):
     tries = {name[13:] for name in calls if name.startswith("pie_link_try_")}
     waits = set(re.findall(r"static inline uint32_t pie_link_(\w+)\(struct pie_port", header.text))
     yield from same("include/pie_link.h: the calls that wait", sorted(waits), sorted(tries), "of those that don't")
-    members = re.search(r"class pie_link_port \{(.*?)\n\};", header.text, re.S)
-    handed = re.findall(r"uint32_t (\w+)\([^)]*\) noexcept \{\s*return (?:this [^?]*\? )?pie_link_(\w+)\(", members[1] if members else "")
-    yield from same("include/pie_link.h: what a member of pie_link_port calls", [it for it in handed if it[0] != it[1]], [], "here")
-    yield from same("include/pie_link.h: the members of pie_link_port", sorted(it[0] for it in handed),
-                    sorted([name[9:] for name in calls] + [*waits]), "of the calls")
+    yield from compare_classes(header.text, calls, waits)
     yield from compare_rust_link(root, header)
+
+
+def compare_classes(text, calls, waits):
+    """The classes of include/pie_link.h: each member calls the function that it is named after, and each function has one."""
+    both = re.search(r"uint32_t try_##name taken noexcept \{ return pie_link_try_##name handed; \} \\\n"
+                     r"\s*uint32_t name taken noexcept \{ return pie_link_##name handed; \}\n", text)
+    found = []
+    for body in re.findall(r"^class pie_\w+ : public .*?\{(.*?)\n\};", text, re.M | re.S):
+        found += re.findall(r"(?:uint32_t|size_t) (\w+)\([^)]*\) noexcept \{\s*return (?:this [^?]*\? )?pie_link_(\w+)\(", body)
+        found += [(it, it) for name in re.findall(r"PIE_LINK_BOTH\((\w+), \(", body) for it in ("try_" + name, name) if both]
+    found += [("close", name) for name in re.findall(r" : public pie_link_owned<pie_\w+, pie_link_(close\w*)>", text)]
+    wrong = [it for it in found if it[0] not in (it[1], it[1].removesuffix("_excerpt"))]
+    yield from same("include/pie_link.h: what the members of its classes call", wrong, [], "here")
+    yield from same("include/pie_link.h: the members of its classes", sorted(it[1] for it in found),
+                    sorted([name[9:] for name in calls] + [*waits]), "of the calls")
 
 
 def compare_rust_link(root, header):
     """The declarations in Rust of the calls of include/pie_link.h, the codes of its refusals and the orders in which they are told."""
     text = read_source(root / "bindings/rust/src", "link*.rs")
-    rust = Rust(text, {**RUST_TYPES, "RawPort": "pie_port", "Registers": "pie_registers", "Totals": "pie_totals"}, r"(?<!pub )")
+    rust = Rust(text, {**RUST_TYPES, "RawPort": "pie_port", "RawExcerpt": "pie_excerpt", "Registers": "pie_registers", "Totals": "pie_totals"}, r"(?<!pub )")
     for name in ("pie_registers", "pie_totals"):
         yield from same(f"bindings/rust: {name}", rust.structs.get(name), header.structs.get(name), "in include/pie_link.h")
     yield from same("bindings/rust: calls of a link", rust.functions, header.functions, "in include/pie_link.h")

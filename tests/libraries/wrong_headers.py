@@ -92,7 +92,7 @@ EDITS = [
     ("Rust: two refusals of a link exchanged", CRATE + "link_refusal.rs", "105 => LinkRefusal::Full", "106 => LinkRefusal::Full",
      "106 => LinkRefusal::NoEvent", "105 => LinkRefusal::NoEvent"),
     ("Rust: callers of 32 bits", CRATE + "link_library.rs", "callers: u16", "callers: u32"),
-    ("C++: a reset that departs", "include/pie_link.h", "{ return pie_link_reset(&port", "{ return pie_link_depart(&port"),
+    ("C++: calls that wait and don't", "include/pie_link.h", "{ return pie_link_##name handed; }", "{ return pie_link_try_##name handed; }"),
     ("Rust: documentation with another range", CRATE + "params.rs", "1 to 65535 bytes (1024;", "1 to 65536 bytes (1024;"),
 ]
 

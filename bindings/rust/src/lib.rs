@@ -47,6 +47,8 @@ mod library;
 #[cfg(feature = "link")]
 mod link;
 #[cfg(feature = "link")]
+mod link_excerpt;
+#[cfg(feature = "link")]
 mod link_library;
 #[cfg(feature = "link")]
 mod link_readings;
@@ -68,6 +70,8 @@ pub use flight::DumpFault;
 pub use flight::{Flight, FlightRefusal};
 #[cfg(feature = "link")]
 pub use link::{Folded, Folds, Link, LinkUpdated, Port};
+#[cfg(feature = "link")]
+pub use link_excerpt::Excerpt;
 #[cfg(feature = "link")]
 pub use link_readings::{Registers, Totals};
 #[cfg(feature = "link")]

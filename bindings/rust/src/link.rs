@@ -222,6 +222,11 @@ impl Link {
 }
 
 impl Port {
+    /// The port as the library holds it.
+    pub(crate) fn raw(&mut self) -> &mut RawPort {
+        &mut self.raw
+    }
+
     /// A port with the highest number of this one.
     ///
     /// # Errors

@@ -20,8 +20,20 @@ impl RawPort {
     pub(crate) const CLOSED: RawPort = RawPort { at: null_mut() };
 }
 
+/// An excerpt as the library holds it: as a port.
+#[repr(C)]
+#[derive(Debug)]
+pub(crate) struct RawExcerpt {
+    at: *mut c_void,
+}
+
+impl RawExcerpt {
+    /// A closed excerpt.
+    pub(crate) const CLOSED: RawExcerpt = RawExcerpt { at: null_mut() };
+}
+
 // SAFETY, of each call of these: the declarations are the library's, the references live for the call, `events` has as many events as are told, and
-// none overlaps another. A port is handed in by a reference that nobody else has, and memory is ordered where it goes to another thread, as safe
+// none overlaps another. A port or an excerpt is handed in by a reference that nobody else has, and memory is ordered where it goes to another thread, as safe
 // Rust has it.
 unsafe extern "C" {
     pub(crate) fn pie_link_open(opening: &RawOpening, callers: u16, port: &mut RawPort) -> u32;
@@ -38,4 +50,8 @@ unsafe extern "C" {
     pub(crate) fn pie_link_try_fold(port: &mut RawPort, events: *mut RawEvent, count: usize, folded: &mut usize, params: &mut Params) -> u32;
     pub(crate) fn pie_link_try_registers(port: &mut RawPort, registers: &mut Registers) -> u32;
     pub(crate) fn pie_link_try_stats(port: &mut RawPort, totals: &mut Totals) -> u32;
+    pub(crate) fn pie_link_open_excerpt(opening: &RawOpening, excerpt: &mut RawExcerpt) -> u32;
+    pub(crate) fn pie_link_try_excerpt(port: &mut RawPort, excerpt: &mut RawExcerpt) -> u32;
+    pub(crate) fn pie_link_write_excerpt(excerpt: &mut RawExcerpt, out: *mut u8, room: usize) -> usize;
+    pub(crate) fn pie_link_close_excerpt(excerpt: &mut RawExcerpt) -> u32;
 }

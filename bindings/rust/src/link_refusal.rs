@@ -25,6 +25,8 @@ pub enum LinkRefusal {
     NoCallers,
     /// A port that has one caller's number has none to share.
     OneNumber,
+    /// An excerpt with less room than those of the link may need.
+    TooSmall,
     /// What the calls of a [`State`](crate::State) refuse too.
     Refused(Refusal),
 }
@@ -40,6 +42,7 @@ impl fmt::Display for LinkRefusal {
             LinkRefusal::NoMemory => "out of memory",
             LinkRefusal::NoCallers => "a link for no callers",
             LinkRefusal::OneNumber => "the port has one number alone",
+            LinkRefusal::TooSmall => "the excerpt has too little room for the link",
             LinkRefusal::Refused(why) => return why.fmt(f),
         })
     }
@@ -58,6 +61,7 @@ pub(crate) fn link_refusal(code: u32) -> LinkRefusal {
         123 => LinkRefusal::NoMemory,
         124 => LinkRefusal::NoCallers,
         125 => LinkRefusal::OneNumber,
+        129 => LinkRefusal::TooSmall,
         _ => LinkRefusal::Refused(refusal(u64::from(code), 0)),
     }
 }

@@ -5,7 +5,7 @@ use std::sync::{Barrier, mpsc};
 use std::thread;
 
 use juniperbowls::{
-    Ecn, Event, Folded, Link, LinkRefusal, LinkUpdated, MAX_MOMENT, Mode, Opening, Packet, Parameter, Params, Port, Refusal, Verdict,
+    Ecn, Event, Excerpt, Folded, Link, LinkRefusal, LinkUpdated, MAX_MOMENT, Mode, Opening, Packet, Parameter, Params, Port, Refusal, Verdict,
 };
 
 const PACKET: Packet = Packet { tag: 7, size: 1000, ecn: Ecn::Ect0 };
@@ -113,6 +113,35 @@ fn bursts() {
     assert_eq!(port.depart_all(u64::MAX, &mut events[2..]), 2);
     assert_eq!((events[2].departed(), events[3].departed()), (Ok(Some(Packet { tag: 30, ..PACKET })), Ok(None)));
     assert_eq!(folded(&mut port).len(), 5);
+}
+
+/// The text of an excerpt, once: its records in their order.
+fn text(excerpt: &mut Excerpt) -> Vec<String> {
+    let mut bytes = Vec::new();
+    excerpt.write(&mut bytes).unwrap();
+    String::from_utf8(bytes).unwrap().lines().map(str::to_string).collect()
+}
+
+#[test]
+fn excerpts() {
+    let opening = Opening { packets: 4, ..opening(4) };
+    let mut port = Link::open(&opening, 1).unwrap();
+    let mut excerpt = Excerpt::with_room(&opening).unwrap();
+    let none = text(&mut excerpt);
+    assert!(none.len() == 1 && none[0].starts_with("resume,"));
+    assert_eq!(text(&mut excerpt), [""; 0]);
+    port.arrive(PACKET, 9, 10).unwrap();
+    port.depart(20).unwrap();
+    port.excerpt(&mut excerpt).unwrap();
+    let records = [none[0].as_str(), "arrive,0,10,7,1000,ect0,9,enqueue", "depart,0,20,left,7,1000,ect0"];
+    assert_eq!(text(&mut excerpt), records);
+    let mut small = Excerpt::with_room(&Opening { packets: 3, tail: 3, ..opening }).unwrap();
+    assert_eq!(port.try_excerpt(&mut small), Err(LinkRefusal::TooSmall));
+    assert_eq!(text(&mut small).len(), 1);
+    let bad = Opening { tail: 0, ..opening };
+    assert_eq!(Excerpt::with_room(&bad).unwrap_err(), LinkRefusal::Refused(Refusal::Limits));
+    let elsewhere = thread::spawn(move || text(&mut excerpt)).join().unwrap();
+    assert_eq!(elsewhere, [""; 0]);
 }
 
 #[test]

@@ -4,3 +4,4 @@ pub mod Packets
 pub mod Opening
 pub mod Events
 pub mod Stats
+pub mod Writing

@@ -9,8 +9,10 @@ pub mod opening;
 pub mod packet;
 pub mod params;
 pub mod stats;
+pub mod writing;
 
 pub use event::PieEvent;
 pub use opening::PieOpening;
 pub use params::PieParams;
 pub use stats::PieStats;
+pub use writing::write_text;

@@ -1,5 +1,6 @@
 -- One event more of a burst is told.
-use Rattle.std.proofs.Common.{◌≡◌, ◌+◌, ◌<◌, ℕ, zero, suc, Bool, Option, List, [], ◌∷◌, ◌++◌, refl, ap, sym, ◌∙◌, subst, length, drop, map, add-one, arith, get_or, length-append, length-drop}
+use Rattle.std.proofs.Common.{◌≡◌, ◌+◌, ◌<◌, ℕ, zero, suc, Bool, Option, List, [], ◌∷◌, ◌++◌, refl, ap, sym, ◌∙◌, subst, length, drop, map, add-one}
+use Rattle.std.proofs.Common.{arith, get_or, length-append, length-drop}
 use Rattle.std.proofs.Math.ListN.{set}
 use Rattle.std.proofs.lemmas.List.{drop_more, length-map}
 use Rattle.pie_event.specs.declared.command.Command.{Command}
@@ -55,7 +56,8 @@ zeros = record {
 }
 
 -- a burst took one reply more: the event at its place was told it
-pub took : (asked : Asked) (caller number : ℕ) (events now next : List PieEvent) (place done : ℕ) (replies : List Reply) (reply : Reply) (d : PieEvent)
+pub took : (asked : Asked) (caller number : ℕ) (events now next : List PieEvent) (place done : ℕ) (replies : List Reply) (reply : Reply)
+    (d : PieEvent)
     → Took asked caller number events now done replies → done ≡ place → place < length now
     → next ≡ set now place (told_event asked number (get_or now place d) reply)
     → Took asked caller number events next (place + 1) (replies ++ reply ∷ [])

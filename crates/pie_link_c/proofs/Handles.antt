@@ -1,8 +1,10 @@
--- The machine values of a handle, and what it owns where it is closed and where it is open. Assumes `Logic`.
+-- The machine values of a handle of any type, and what it owns where it is closed and where it is open. Assumes `Logic`.
 use Rattle.std.proofs.Common.{◌≡◌, ℕ, List, [], ◌∷◌, ◌++◌, refl, subst}
 use seplogic.Ra.Ura.{Ura}
 use mir.Raw.{raw as bare}
 use mir.Val.{Val, vstruct, of_list}
+use mir.Syntax.{Sym}
+use base.Fml.{Fml, fsep}
 use base.Fraction.{full_share}
 use base.Logic.{never, fst∗, snd∗, ent, via, guard, guard_i}
 use types.Logic.{Logic, sem}
@@ -14,8 +16,7 @@ use contract.Monad.{fact_use}
 use denote.RawPtr.{lies_at, Ptr, block_ptr, null_ptr, ptr_val, in_a_block, Testable}
 use denote.Steps.{nothing}
 use denote.Param.{layout}
-use denote.Struct.Struct.{within}
-use denote.Struct.Owning.{shape, to}
+use denote.Struct.Struct.{Shape, Struct, within}
 use Rattle.core.proofs.alloc.Calls.{handle_tells}
 use Rattle.core.proofs.cell.Inside.{Good}
 use Rattle.std.specs.contracts.alloc.Global as heap
@@ -27,50 +28,52 @@ use Rattle.std.specs.declared.option.Option.TheVariants.{None, Some}
 use Rattle.std_alloc.specs.Box.Ownership.{box_owns}
 use Rattle.std.proofs.GlobalToken.{dealloc_token-Testable}
 use Rattle.pie_link_c.specs.Owned.{owns_if}
-use Rattle.pie_link_c.specs.contracts.port.Port as port
-use Rattle.pie_link_c.specs.contracts.handle.PiePort as handle
 use Rattle.pie_link_c.proofs.Values.{both, al}
-
-abbrev pub R : RattleType
-R = port.the_row
 
 abbrev pub Z : RattleType
 Z = heap.the_row
 
-abbrev pub Handle : RattleType
-Handle = handle.the_row
+module _ (R : RattleType) where
+  module _ {M : Type 1} {𝓤 : Ura M} (𝓛 : Logic 𝓤) (a : Global) (p : Ptr) (x : R.Denot) where
+    tested : ent 𝓤 (sem 𝓛 (box_owns (ghosts.dealloc_token a) R p x)) (guard 𝓤 (Testable p) (sem 𝓛 (box_owns (ghosts.dealloc_token a) R p x)))
+    tested = fact_use 𝓤 (Testable p)
+        (via 𝓤 _ (snd∗ 𝓤 (sem 𝓛 (lies_at R full_share p x)) (sem 𝓛 (ghosts.dealloc_token a (bare (lone R.mir)) p)))
+        (dealloc_token-Testable 𝓛 a (bare (lone R.mir)) p)) (guard_i 𝓤 (Testable p) (sem 𝓛 (box_owns (ghosts.dealloc_token a) R p x)))
 
-module _ {M : Type 1} {𝓤 : Ura M} (𝓛 : Logic 𝓤) (a : Global) (p : Ptr) (x : R.Denot) where
-  tested : ent 𝓤 (sem 𝓛 (box_owns (ghosts.dealloc_token a) R p x)) (guard 𝓤 (Testable p) (sem 𝓛 (box_owns (ghosts.dealloc_token a) R p x)))
-  tested = fact_use 𝓤 (Testable p)
-      (via 𝓤 _ (snd∗ 𝓤 (sem 𝓛 (lies_at R full_share p x)) (sem 𝓛 (ghosts.dealloc_token a (bare (lone R.mir)) p)))
-      (dealloc_token-Testable 𝓛 a (bare (lone R.mir)) p)) (guard_i 𝓤 (Testable p) (sem 𝓛 (box_owns (ghosts.dealloc_token a) R p x)))
+  -- what a handle of this name owns: its two fields, and the rest
+  abbrev shape : Sym → Shape
+  shape name = record { name = name; args = []; types = []; fields = RawPtr ∷ Z ∷ [] }
 
-module _ {M : Type 1} {𝓤 : Ura M} {𝓛 : Logic 𝓤} {K : Type 0} {Γ : List (Item 𝓤)} {G : Goal 𝓤 𝓛.H} where
-  pub handle_out : K → (d : Handle.Denot) (vs : List Val)
-      → ((h : Val) → vs ≡ vstruct (of_list (ptr_val d.at ∷ h ∷ [])) ∷ [] → Good (layout Z) h
-      → Seq K 𝓛 (‵ (owns_if d.alloc d.at d.port) ∷ ‵ (Z.own_val d.alloc (h ∷ [])) ∷ Γ) G)
-      → Seq K 𝓛 (‵ (Handle.own_val d vs) ∷ Γ) G
-  handle_out t d vs k =
-      fsplit t $ fpick t (λ vss. fsplit t $ feq_l t (λ ev. fsplit t $ feq_l t (λ ep. fsplit t $
-      handle_tells (al R Z heap_laws.the_row_laws ghosts) t d.alloc vss.1.0 (λ h ea fits. move t (1 ∷ []) $ drop t $ move t (1 ∷ []) $
-      k h (subst (λ (ws : List Val). vs ≡ vstruct (of_list (ptr_val d.at ∷ (ws ++ []))) ∷ []) ea
-      (subst (λ (ps : List Val). vs ≡ vstruct (of_list (ps ++ (vss.1.0 ++ []))) ∷ []) ep ev)) fits))))
+  abbrev owned : Sym → Ptr → Global → Fml → List Val → Fml
+  owned name p a rest vs = fsep ((Struct (shape name)).own_val (p, (a, tt)) vs) rest
 
-  pub handle_in : K → (d : Handle.Denot) (h : Val)
-      → Step K 𝓛 (‵ (Handle.own_val d (both (ptr_val d.at) h ∷ [])) ∷ Γ) G (‵ (owns_if d.alloc d.at d.port) ∷ ‵ (Z.own_val d.alloc (h ∷ [])) ∷ Γ) G
-  handle_in t d h = step (λ s. let v : Val = both (ptr_val d.at) h in
-      nothing t $ move t (2 ∷ 0 ∷ []) $ fjoin t $ feq_i t (List Val) (ptr_val d.at ∷ []) (ptr_val d.at ∷ []) refl $ fjoin t $ feq_i t (List Val) (v ∷ []) (v ∷ []) refl $ fjoin t $
-      fpack t (Valss (RawPtr ∷ Z ∷ [])) (within (shape handle.the_type) (to handle.the_type d) (v ∷ [])) (ptr_val d.at ∷ [], (h ∷ [], tt)) $ fjoin t $ s)
+  module _ {M : Type 1} {𝓤 : Ura M} {𝓛 : Logic 𝓤} {K : Type 0} {Γ : List (Item 𝓤)} {G : Goal 𝓤 𝓛.H} where
+    pub handle_out : K → (name : Sym) (p : Ptr) (a : Global) (rest : Fml) (vs : List Val)
+        → ((h : Val) → vs ≡ vstruct (of_list (ptr_val p ∷ h ∷ [])) ∷ [] → Good (layout Z) h
+        → Seq K 𝓛 (‵ rest ∷ ‵ (Z.own_val a (h ∷ [])) ∷ Γ) G)
+        → Seq K 𝓛 (‵ (owned name p a rest vs) ∷ Γ) G
+    handle_out t name p a rest vs k =
+        fsplit t $ fpick t (λ vss. fsplit t $ feq_l t (λ ev. fsplit t $ feq_l t (λ ep. fsplit t $
+        handle_tells (al R Z heap_laws.the_row_laws ghosts) t a vss.1.0 (λ h ea fits. move t (1 ∷ []) $ drop t $ move t (1 ∷ []) $
+        k h (subst (λ (ws : List Val). vs ≡ vstruct (of_list (ptr_val p ∷ (ws ++ []))) ∷ []) ea
+        (subst (λ (ps : List Val). vs ≡ vstruct (of_list (ps ++ (vss.1.0 ++ []))) ∷ []) ep ev)) fits))))
 
-  -- a handle is closed and its pointer null, or it is open and its pointer a box of its port, which may be compared with null
-  pub closed_or_open : K → (a : Global) (p : Ptr) (o : Option R.Denot)
-      → (o ≡ None → p ≡ null_ptr → Seq K 𝓛 Γ G)
-      → ((b c : ℕ) (x : R.Denot) → o ≡ Some x → p ≡ block_ptr b c → Testable (block_ptr b c)
-      → Seq K 𝓛 (‵ (box_owns (ghosts.dealloc_token a) R (block_ptr b c) x) ∷ Γ) G)
-      → Seq K 𝓛 (‵ (owns_if a p o) ∷ Γ) G
-  closed_or_open t a p None shut opened = feq_l t (λ e. shut refl e)
-  closed_or_open t a p (Some x) shut opened =
-      in_a_block t p (λ q. box_owns (ghosts.dealloc_token a) R q x) (fst∗ 𝓤 (never 𝓤) (sem 𝓛 (ghosts.dealloc_token a (bare (lone R.mir)) null_ptr))) (λ b c e.
-      use1 𝓛 (given (Testable (block_ptr b c)) (‵ (box_owns (ghosts.dealloc_token a) R (block_ptr b c) x))) (tested 𝓛 a (block_ptr b c) x) $
-      learn t (λ may. opened b c x refl e may))
+    pub handle_in : K → (name : Sym) (p : Ptr) (a : Global) (rest : Fml) (h : Val)
+        → Step K 𝓛 (‵ (owned name p a rest (both (ptr_val p) h ∷ [])) ∷ Γ) G (‵ rest ∷ ‵ (Z.own_val a (h ∷ [])) ∷ Γ) G
+    handle_in t name p a rest h = step (λ s. let v : Val = both (ptr_val p) h in
+        nothing t $ move t (2 ∷ 0 ∷ []) $ fjoin t $ feq_i t (List Val) (ptr_val p ∷ []) (ptr_val p ∷ []) refl $ fjoin t $
+        feq_i t (List Val) (v ∷ []) (v ∷ []) refl $ fjoin t $
+        fpack t (Valss (RawPtr ∷ Z ∷ [])) (within (shape name) (p, (a, tt)) (v ∷ [])) (ptr_val p ∷ [], (h ∷ [], tt)) $ fjoin t $ s)
+
+    -- a handle is closed and its pointer null, or it is open and its pointer a box, which may be compared with null
+    pub closed_or_open : K → (a : Global) (p : Ptr) (o : Option R.Denot)
+        → (o ≡ None → p ≡ null_ptr → Seq K 𝓛 Γ G)
+        → ((b c : ℕ) (x : R.Denot) → o ≡ Some x → p ≡ block_ptr b c → Testable (block_ptr b c)
+        → Seq K 𝓛 (‵ (box_owns (ghosts.dealloc_token a) R (block_ptr b c) x) ∷ Γ) G)
+        → Seq K 𝓛 (‵ (owns_if R a p o) ∷ Γ) G
+    closed_or_open t a p None shut opened = feq_l t (λ e. shut refl e)
+    closed_or_open t a p (Some x) shut opened =
+        in_a_block t p (λ q. box_owns (ghosts.dealloc_token a) R q x) (fst∗ 𝓤 (never 𝓤) (sem 𝓛 (ghosts.dealloc_token a (bare (lone R.mir)) null_ptr)))
+        (λ b c e.
+        use1 𝓛 (given (Testable (block_ptr b c)) (‵ (box_owns (ghosts.dealloc_token a) R (block_ptr b c) x))) (tested 𝓛 a (block_ptr b c) x) $
+        learn t (λ may. opened b c x refl e may))

@@ -1,5 +1,6 @@
 pub mod Values
 pub mod Handles
 pub mod Gathers
+pub mod Texts
 pub mod Bursting
 pub mod Written

@@ -120,7 +120,7 @@ abbrev pub AreOfOneLink : Option CallerView → Option CallerView → Type 0
 AreOfOneLink (Some port) (Some other) = other.lock ≡ port.lock
 AreOfOneLink _ _ = Unit {0}
 
--- what closing a port answers
-abbrev pub close_code : Option CallerView → ℕ
-close_code (Some caller) = 0
+-- what closing a port, or an excerpt, answers
+abbrev pub close_code : {A : Type 0} → Option A → ℕ
+close_code (Some held) = 0
 close_code None = 122

@@ -38,6 +38,9 @@ pub(crate) const APART: u32 = 126;
 /// Refused: a port that is to be opened is open.
 pub(crate) const OPEN: u32 = 127;
 
+/// Refused: an excerpt with less room than those of the link may need.
+pub(crate) const TOO_SMALL: u32 = 129;
+
 /// The number of an answer.
 #[inline(always)]
 pub(crate) fn of_answer(answer: &Answer) -> u32

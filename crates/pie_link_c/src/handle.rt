@@ -1,7 +1,7 @@
 //! A port as C holds it.
 ghost use Rattle.std.specs.Prelude.{◌≡◌, Option, Some, None, MatchOption};
 ghost use Rattle.pie_link.specs.Views.{CallerView};
-ghost use Rattle.pie_link_c.specs.Owned.{owns_if, maybe_coded};
+ghost use Rattle.pie_link_c.specs.Owned.{maybe_port, owns_port_if};
 
 use crate::loose::Loose;
 use crate::port::Port;
@@ -16,11 +16,11 @@ pub struct PiePort {
     at: *mut u8,
     alloc: Global,
     /// The caller that it has, where it is open.
-    pub ghost port: { Option CallerView } by { maybe_coded },
+    pub ghost port: { Option CallerView } by { maybe_port },
 }
 
 impl Model for PiePort {
-    ghost also_owns = { λ p. owns_if p.alloc p.at p.port };
+    ghost also_owns = { λ p. owns_port_if p.alloc p.at p.port };
 }
 
 impl PiePort {

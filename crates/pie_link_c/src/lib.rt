@@ -7,7 +7,8 @@
 //!
 //! Each call's clause is pie_link's of the caller: an open port has, as contracts see it, the entries that its caller has been shown and its
 //! numbers. No call waits. `pie_link_open` promises the headline: whenever the link's lock is free there is one history behind all its ports.
-//! What a call writes into its caller's event is pinned field by field (`specs/Events.antt`).
+//! What a call writes into its caller's event is pinned field by field (`specs/Events.antt`), and an excerpt's text record by record
+//! (`specs/Excerpts.antt`).
 #![tactic(auto)]
 
 mod asked;
@@ -15,6 +16,9 @@ mod burst;
 mod burst_calls;
 mod calls;
 mod code;
+mod excerpt_calls;
+mod excerpt_handle;
+mod excerpt_text;
 mod filling;
 mod folding;
 mod handle;

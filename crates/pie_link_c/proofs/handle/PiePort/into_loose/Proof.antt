@@ -28,7 +28,10 @@ use Rattle.std.specs.contracts.impls.GlobalAllocator.TheImpl.{ghosts}
 use Rattle.std_alloc.proofs.ResultValues.{and_tt}
 use Rattle.std.proofs.raw_atomic.Walks.{proved_at, leaves}
 use Rattle.pie_link_c.proofs.Values.{both, Loose, loose_good, loose_in}
-use Rattle.pie_link_c.proofs.Handles.{R, Z, Handle, handle_out, closed_or_open}
+use Rattle.pie_link_c.specs.contracts.port.Port.{the_row as R}
+use Rattle.pie_link_c.specs.contracts.handle.PiePort.{the_row as Handle, struct}
+use Rattle.pie_link_c.specs.Owned.{owns_port_if}
+use Rattle.pie_link_c.proofs.Handles.{Z, handle_out, closed_or_open}
 use Rattle.pie_link_c.specs.contracts.handle.PiePort.into_loose.{ended, clauses}
 use Rattle.pie_link_c.specs.contracts.handle.PiePort.into_loose.Key.{name as #self}
 use Rattle.pie_link_c.proofs.handle.PiePort.into_loose.Statement.{statement}
@@ -46,13 +49,14 @@ into_loose_spec 𝓤 𝓛 𝓜 𝓡 wired =
     let runs : (w : Val) → z.0.4.0 ≡ w ∷ [] → ent 𝓤 (Run (w ∷ [])) (Run (z.0.4.0 ++ [])) =
     λ w e. subst (λ (us : List Val). ent 𝓤 (Run (w ∷ [])) (Run us)) (sym (λ i. e i ++ [])) (id⊢ 𝓤 (Run (w ∷ []))) in
     qed 𝓛 ((‵ ftrue ⊛ ‵ (fsep (Handle.own_val d z.0.4.0) ftrue)) ∷ raw (emp 𝓤) ∷ []) ∵ split ! $ drop ! $ fsplit ! $
-    handle_out ! d z.0.4.0 (λ h ws fits.
-    closed_or_open ! a d.at d.port
+    handle_out R ! struct.name d.at a (owns_port_if a d.at d.port) z.0.4.0 (λ h ws fits.
+    closed_or_open R ! a d.at d.port
     (λ is_none is_null.
     let w : Val = both (ptr_val null_ptr) h in
     let e : z.0.4.0 ≡ w ∷ [] = subst (λ (p : Ptr). z.0.4.0 ≡ both (ptr_val p) h ∷ []) is_null ws in
     suffices ! (Run (w ∷ [])) (runs w e) $
-    enter ! 𝓣.C 𝓣.Λ fn (w ∷ []) Post $ alloc_all ! (λ l. pass_all ! refl ((and_tt (has_ty (layout Z) h) fits.0, ((Ptr-Good null_ptr).1, (fits.1, tt))), tt) $ let Ev = env fn.locals l in
+    enter ! 𝓣.C 𝓣.Λ fn (w ∷ []) Post $
+    alloc_all ! (λ l. pass_all ! refl ((and_tt (has_ty (layout Z) h) fits.0, ((Ptr-Good null_ptr).1, (fits.1, tt))), tt) $ let Ev = env fn.locals l in
     sets ! (of_opd ! (get_in ! (fld ! refl (stop !)) (sub ! 0 refl (whole !)))) refl (Ptr-Good null_ptr) $
     sets ! (of_opd ! (get_in ! (fld ! refl (stop !)) (sub ! 1 refl (whole !)))) refl fits $
     sets ! (bin ! (get ! refl) (lit ! tt) tt) refl (tt, tt) $ first ! $ branches ! (get ! refl)
@@ -72,7 +76,8 @@ into_loose_spec 𝓤 𝓛 𝓜 𝓡 wired =
     enter ! 𝓣.C 𝓣.Λ fn (w ∷ []) Post $ alloc_all ! (λ l. pass_all ! refl (typed, tt) $ let Ev = env fn.locals l in
     sets ! (of_opd ! (get_in ! (fld ! refl (stop !)) (sub ! 0 refl (whole !)))) refl (tt, tt) $
     sets ! (of_opd ! (get_in ! (fld ! refl (stop !)) (sub ! 1 refl (whole !)))) refl fits $
-    sets ! (bin ! (get ! refl) (lit ! tt) (tests_null (block_ptr b o) may)) refl (tt, tt) $ first ! $ branches ! (get ! refl) (λ wrong. absurd wrong) (λ _.
+    sets ! (bin ! (get ! refl) (lit ! tt) (tests_null (block_ptr b o) may)) refl (tt, tt) $ first ! $
+    branches ! (get ! refl) (λ wrong. absurd wrong) (λ _.
     sets ! (of_opd ! (get ! refl)) refl (tt, tt) $
     sets ! (agg ! (and_then ! (get ! refl) (and_then ! (get ! refl) (no_more !)))) refl typed $
     sets_last ! (agg ! (and_then ! (lit ! tt) (and_then ! (get ! refl) (no_more !)))) refl good $

@@ -23,7 +23,10 @@ use Rattle.std.specs.contracts.impls.GlobalAllocator.TheImpl.{ghosts}
 use Rattle.std_alloc.proofs.ResultValues.{and_tt}
 use Rattle.std.proofs.raw_atomic.Walks.{proved_at, leaves}
 use Rattle.pie_link_c.proofs.Values.{both, al}
-use Rattle.pie_link_c.proofs.Handles.{R, Z, Handle, handle_in}
+use Rattle.pie_link_c.specs.contracts.port.Port.{the_row as R}
+use Rattle.pie_link_c.specs.contracts.handle.PiePort.{the_row as Handle, struct}
+use Rattle.pie_link_c.specs.Owned.{owns_port_if}
+use Rattle.pie_link_c.proofs.Handles.{Z, handle_in}
 use Rattle.core.proofs.alloc.Calls.{handle_tells}
 use Rattle.pie_link_c.specs.contracts.handle.PiePort.none.{ended, clauses}
 use Rattle.pie_link_c.specs.contracts.handle.PiePort.none.Key.{name as #self}
@@ -47,7 +50,8 @@ none_spec 𝓤 𝓛 𝓜 𝓡 wired =
     let made : Handle.Denot = record { at = null_ptr; alloc = a; port = None } in
     suffices ! (Run (h ∷ [])) (subst (λ (us : List Val). ent 𝓤 (Run (h ∷ [])) (Run us)) (sym (λ i. ws i ++ [])) (id⊢ 𝓤 (Run (h ∷ [])))) $
     enter ! 𝓣.C 𝓣.Λ fn (h ∷ []) Post $ alloc_all ! (λ l. pass_all ! refl (fits, tt) $
-    sets ! (agg ! (and_then ! (lit ! tt) (and_then ! (get ! refl) (no_more !)))) refl (and_tt (has_ty (layout Z) h) fits.0, ((Ptr-Good null_ptr).1, (fits.1, tt))) $
-    feq_i ! Ptr null_ptr null_ptr refl $ handle_in ! made h $
+    sets ! (agg ! (and_then ! (lit ! tt) (and_then ! (get ! refl) (no_more !)))) refl
+    (and_tt (has_ty (layout Z) h) fits.0, ((Ptr-Good null_ptr).1, (fits.1, tt))) $
+    feq_i ! Ptr null_ptr null_ptr refl $ handle_in R ! struct.name null_ptr a (owns_port_if a null_ptr None) h $
     use0 𝓛 (raw (fact 𝓤 (None-is made))) (fact_i 𝓤 (None-is made) (emp 𝓤) refl) $ nothing ! $ nothing ! $ fjoin ! $ nothing ! $
     returns ! (look_at ! 0 refl) $ free_all ! refl $ keep ! (0 ∷ 1 ∷ 3 ∷ 2 ∷ []) $ by ! (leaves 𝓛 En hs c z w made (tt, tt) (tt, tt)))))

@@ -21,7 +21,10 @@ use Rattle.std.proofs.alloc.Global.TheLaws as heap_laws
 use Rattle.std.specs.contracts.impls.GlobalAllocator.TheImpl.{ghosts}
 use Rattle.std.proofs.raw_atomic.Walks.{proved_at, leaves}
 use Rattle.pie_link_c.proofs.Values.{both, Loose, loose_good, loose_out}
-use Rattle.pie_link_c.proofs.Handles.{R, Z, Handle, handle_in}
+use Rattle.pie_link_c.specs.contracts.port.Port.{the_row as R}
+use Rattle.pie_link_c.specs.contracts.handle.PiePort.{the_row as Handle, struct}
+use Rattle.pie_link_c.specs.Owned.{owns_port_if}
+use Rattle.pie_link_c.proofs.Handles.{Z, handle_in}
 use Rattle.pie_link_c.specs.contracts.handle.PiePort.of_loose.{ended, clauses}
 use Rattle.pie_link_c.specs.contracts.handle.PiePort.of_loose.Key.{name as #self}
 use Rattle.pie_link_c.proofs.handle.PiePort.of_loose.Statement.{statement}
@@ -45,6 +48,7 @@ of_loose_spec 𝓤 𝓛 𝓜 𝓡 wired =
     sets ! (of_opd ! (get_in ! (fld ! refl (stop !)) (sub ! 1 refl (whole !)))) refl fits $
     sets ! (of_opd ! (get ! refl)) refl (tt, tt) $
     sets ! (agg ! (and_then ! (get ! refl) (and_then ! (get ! refl) (no_more !)))) refl typed $
-    handle_in ! made h $
-    use0 𝓛 (raw (fact 𝓤 (Some d.value ≡ Some d.value))) (fact_i 𝓤 (Some d.value ≡ Some d.value) (emp 𝓤) refl) $ nothing ! $ nothing ! $ fjoin ! $ nothing ! $
+    handle_in R ! struct.name (block_ptr b o) a (owns_port_if a (block_ptr b o) (Some d.value)) h $
+    use0 𝓛 (raw (fact 𝓤 (Some d.value ≡ Some d.value))) (fact_i 𝓤 (Some d.value ≡ Some d.value) (emp 𝓤) refl) $ nothing ! $ nothing ! $ fjoin ! $
+    nothing ! $
     returns ! (look_at ! 0 refl) $ free_all ! refl $ keep ! (0 ∷ 1 ∷ 3 ∷ 2 ∷ []) $ by ! (leaves 𝓛 En hs c z w made (tt, tt) (tt, tt)))))

@@ -17,7 +17,8 @@ returns-clause-tried c =
     elim c.match-try_answer_all.branch [
       | in-Ok w ↦
           (let said = w.in-Ok.ensures.answered c.args.burst [] (refl, begun Depart c.args.burst.caller events c.args.burst.done c.requires.fresh) in
-          subst (λ (r : Departing). IsTriedAll Depart c.args.budget has_left_or_updated c.args.self.now events r.done code r.events.now after) (sym w.result-is)
+          subst (λ (r : Departing). IsTriedAll Depart c.args.budget has_left_or_updated c.args.self.now events r.done code r.events.now after)
+          (sym w.result-is)
           (inl (answered Depart c.args.budget has_left_or_updated c.deref.result.now c.args.self.now c.self.inside.caller after events w.in-Ok.after.events.now
           c.args.burst.caller w.in-Ok.after.caller w.in-Ok.after.done code said.0 same lock said.2 w.in-Ok.ensures.stays said.1.1 c.requires.caller
           w.code-is)))

@@ -1,4 +1,4 @@
-use Rattle.std.proofs.Common.{◌≡◌, ◌≤◌, ◌-◌, ℕ, List, [], length, min, vec_capacity, vec_len, sym, ap, ◌∙◌, subst, arith}
+use Rattle.std.proofs.Common.{◌≡◌, ◌≤◌, ◌-◌, ℕ, List, [], length, min, vec_capacity, vec_len, sym, ap, ◌∙◌, subst}
 use Rattle.pie_event.specs.declared.command.Event.{Event}
 use Rattle.pie_link.specs.Folds.{TriesToFoldInto}
 use Rattle.pie_link.specs.Views.{CallerView, LinkView, StaysOne}

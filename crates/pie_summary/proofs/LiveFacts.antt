@@ -14,7 +14,7 @@ use Rattle.std.proofs.lemmas.List.Sums.{sum_by_push}
 use Rattle.std.proofs.lemmas.Nat.{div-mul-add}
 use Rattle.pie_aqm.specs.Places.{Place, greatest, places}
 use Rattle.pie_summary.proofs.SumsFacts.{place_of, places-push}
-use Rattle.pie_explanation.specs.declared.explanation.Explained.{Explained}
+use Rattle.pie_explain.specs.declared.explanation.Explained.{Explained}
 use Rattle.pie_summary.specs.declared.live.LivePeriod.{LivePeriod}
 use Rattle.pie_summary.specs.declared.series.Series.{Series}
 use Rattle.pie_summary.specs.declared.spans.Peak.{Peak}
@@ -30,7 +30,7 @@ use Rattle.pie_summary.specs.Ranges.{end_within, first_up_to, ranges_of}
 use Rattle.pie_summary.specs.Summary.{said_of}
 use Rattle.pie_summary.specs.Sums.{sums_of, waits_of}
 use Rattle.pie_summary.specs.Words.{wait_99}
-use Rattle.pie_explanation.specs.declared.form.Form.TheVariants.{Csv, CsvByWall}
+use Rattle.pie_explain.specs.declared.form.Form.TheVariants.{Csv, CsvByWall}
 use Rattle.pie_summary.specs.declared.meter.Meter.{Meter}
 use Rattle.pie_summary.specs.Period.{last_events, last_period, period_at, since}
 use Rattle.pie_summary.specs.Series.{held_or, series_of}

@@ -3,17 +3,17 @@ use Rattle.std.specs.Prelude.{ℕ, ◌≡◌, ◌≤◌, ◌<◌, ◌+◌, ◌-�
 use Rattle.std.specs.Prelude.{Bool, true, false, not, ◌&&◌, nat_le, nat_lt, min, max, slice_index, codes, List, [], ◌∷◌, ◌++◌, Option, Some, None, count_by, if◌then◌else◌}
 use Rattle.std.specs.Fmt.{decimal}
 use Rattle.pie_aqm.specs.Places.{Place, places}
-use Rattle.pie_explanation.specs.Words.{joined}
+use Rattle.pie_explain.specs.Words.{joined}
 use Rattle.pie_units.specs.Utc.{utc_text}
 use Rattle.pie_summary.specs.Record.{count_fields, number_fields}
-use Rattle.pie_explanation.specs.declared.explanation.Explained.{Explained}
-use Rattle.pie_explanation.specs.declared.form.Form.{Form}
-use Rattle.pie_explanation.specs.declared.form.Form.TheVariants.{Csv, CsvByWall}
+use Rattle.pie_explain.specs.declared.explanation.Explained.{Explained}
+use Rattle.pie_explain.specs.declared.form.Form.{Form}
+use Rattle.pie_explain.specs.declared.form.Form.TheVariants.{Csv, CsvByWall}
 use Rattle.pie_summary.specs.declared.live.LivePeriod.{LivePeriod}
 use Rattle.pie_summary.specs.declared.meter.Meter.{Meter}
 use Rattle.pie_summary.specs.declared.noted.Met.{Met}
 use Rattle.pie_summary.specs.declared.noted.Noted.{Noted}
-use Rattle.pie_explanation.specs.Choice.{time_of}
+use Rattle.pie_explain.specs.Choice.{time_of}
 use Rattle.pie_summary.specs.declared.series.Series.{Series}
 use Rattle.pie_summary.specs.declared.spans.Peak.{Peak}
 use Rattle.pie_summary.specs.declared.spans.Bounds.{Bounds}

@@ -1,6 +1,6 @@
 //! A period that is summed up as it goes, in memory that its owner has.
 ghost use Rattle.std.specs.Prelude.{◌≡◌, ◌<◌, ◌++◌, ◌∷◌, [], List, not, if◌then◌else◌};
-ghost use Rattle.pie_explanation.specs.declared.explanation.Explained.{Explained};
+ghost use Rattle.pie_explain.specs.declared.explanation.Explained.{Explained};
 ghost use Rattle.pie_summary.specs.Live.{Awaits, Holds, IsSet, form_in, is_within, length_of, noted_of, number_in, starts};
 ghost use Rattle.pie_summary.specs.Period.{last_events};
 ghost use Rattle.pie_summary.specs.Summary.{header, said_of};

@@ -1,6 +1,6 @@
 //! The numbers of a period that is summed up as it goes: those parts of `Sums` that are written in a record, in memory that its owner has.
 ghost use Rattle.std.specs.Prelude.{◌≡◌, ◌+◌, ◌-◌, ◌^◌, ◌<◌, ◌++◌, ◌∷◌, [], List, length, min, slice_index, slice_set};
-ghost use Rattle.pie_explanation.specs.declared.explanation.Explained.{Explained};
+ghost use Rattle.pie_explain.specs.declared.explanation.Explained.{Explained};
 ghost use Rattle.pie_summary.specs.Live.{counted_some, meter_of, noted_of};
 
 use crate::noted::Noted;

@@ -1,6 +1,6 @@
 //! What a meter takes of an event.
 ghost use Rattle.std.specs.Prelude.{◌≡◌, ℕ, Some, None};
-ghost use Rattle.pie_explanation.specs.declared.explanation.Explained.{Explained};
+ghost use Rattle.pie_explain.specs.declared.explanation.Explained.{Explained};
 ghost use Rattle.pie_queue.specs.declared.packet.Packet.{Packet};
 ghost use Rattle.pie_event.specs.declared.command.Answer.TheVariants.{Done, Empty, Left, Updated};
 ghost use Rattle.pie_event.specs.declared.verdict.Verdict.{Verdict};
@@ -9,7 +9,7 @@ ghost use Rattle.pie_summary.specs.Live.{Meets, bare_noted, noted_of};
 ghost use Rattle.pie_summary.specs.Sums.{above_by, answer_place, cause_of, delay_by, excess_by, size_in};
 
 use crate::sums::turned_at;
-use pie_explanation::time_of;
+use pie_explain::time_of;
 use pie_record::Clock;
 
 /// What a meter takes of an event; what its kind has none of is none or 0.

@@ -1,6 +1,6 @@
 use Rattle.std.proofs.Common.{ℕ, List, ◌∙◌, ap, sym}
 use Rattle.std.specs.Prelude.{Option, Some}
-use Rattle.pie_explanation.specs.declared.explanation.Explained.{Explained}
+use Rattle.pie_explain.specs.declared.explanation.Explained.{Explained}
 use Rattle.pie_summary.specs.declared.noted.Noted.{Noted}
 use Rattle.pie_summary.specs.Live.{Awaits, length_of, meter_of}
 use Rattle.pie_summary.specs.Period.{period_at, since}

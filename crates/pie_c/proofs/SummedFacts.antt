@@ -9,7 +9,7 @@ use Rattle.pie_event.specs.declared.verdict.Verdict.{Verdict}
 use Rattle.pie_event.specs.declared.verdict.Verdict.TheVariants.{Enqueued, Marked, DroppedEarly, DroppedBytes, DroppedPackets}
 use Rattle.pie_event.specs.Verdict.{answer_of}
 use Rattle.pie_record.specs.declared.clock.Clock.{Clock}
-use Rattle.pie_explanation.specs.declared.explanation.Explained.{Explained}
+use Rattle.pie_explain.specs.declared.explanation.Explained.{Explained}
 use Rattle.pie_summary.specs.declared.live.LivePeriod.{LivePeriod}
 use Rattle.pie_summary.specs.declared.noted.Met.{Met}
 use Rattle.pie_summary.specs.declared.noted.Noted.{Noted}

@@ -3,7 +3,7 @@ use Rattle.std.specs.Prelude.{ℕ, ◌≡◌, ◌==◌, ◌||◌, nat_lt, List, 
 use Rattle.pie_event.specs.declared.cause.Cause.{Cause}
 use Rattle.pie_event.specs.declared.command.Event.{Event}
 use Rattle.pie_record.specs.declared.clock.Clock.{Clock}
-use Rattle.pie_explanation.specs.declared.explanation.Explained.{Explained}
+use Rattle.pie_explain.specs.declared.explanation.Explained.{Explained}
 use Rattle.pie_summary.specs.declared.live.LivePeriod.{LivePeriod}
 use Rattle.pie_summary.specs.Live.{Holds, IsSet}
 use Rattle.pie_abi.specs.Choices.{last_moment}

@@ -3,7 +3,7 @@ ghost use Rattle.std.specs.Prelude.{◌≡◌, ◌==◌, [], List, if◌then◌e
 ghost use Rattle.pie_c.specs.Calls.{moment_refusal};
 ghost use Rattle.pie_abi.specs.Writing.{after_writing, count_written};
 ghost use Rattle.pie_c.specs.Summed.{every_refusal};
-ghost use Rattle.pie_explanation.specs.declared.explanation.Explained.{Explained};
+ghost use Rattle.pie_explain.specs.declared.explanation.Explained.{Explained};
 ghost use Rattle.pie_summary.specs.declared.live.LivePeriod.{LivePeriod};
 ghost use Rattle.pie_summary.specs.Live.{Holds, form_in, length_of};
 ghost use Rattle.pie_summary.specs.Period.{last_events};

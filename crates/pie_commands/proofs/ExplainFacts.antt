@@ -2,8 +2,8 @@
 use Rattle.std.proofs.Common.{◌≡◌, ℕ, List, Option, Some, None, inl, inr, refl}
 use Rattle.std.specs.Prelude.{IfSome}
 use Rattle.clap.specs.Words.{Row}
-use Rattle.pie_explanation.specs.declared.explanation.Explained.{Explained}
-use Rattle.pie_explanation.specs.declared.choice.Choice.{Choice}
+use Rattle.pie_explain.specs.declared.explanation.Explained.{Explained}
+use Rattle.pie_explain.specs.declared.choice.Choice.{Choice}
 use Rattle.pie_commands.specs.declared.end.End.TheVariants.{Unable, Failed}
 use Rattle.pie_commands.specs.Choice.{choice_of, tale_of}
 use Rattle.pie_commands.specs.ExplainEnds.{EndsExplain, explain_ends}

@@ -2,20 +2,20 @@
 use Rattle.std.specs.Prelude.{ℕ, ◌==◌, ◌&&◌, ◌||◌, Bool, true, false, not, List, Option, Some, None, Result, Ok, Err, codes, if◌then◌else◌, is_some, nat_le}
 use Rattle.clap.specs.Words.{Row, Text, one_of}
 use Rattle.pie_options.specs.Words.{flag_given, number_given}
-use Rattle.pie_explanation.specs.declared.choice.Choice.{Choice}
-use Rattle.pie_explanation.specs.declared.form.Form.{Form}
-use Rattle.pie_explanation.specs.declared.form.Form.TheVariants.{Text as Words, Csv, TextByWall, CsvByWall}
-use Rattle.pie_explanation.specs.declared.explanation.Explained.{Explained}
+use Rattle.pie_explain.specs.declared.choice.Choice.{Choice}
+use Rattle.pie_explain.specs.declared.form.Form.{Form}
+use Rattle.pie_explain.specs.declared.form.Form.TheVariants.{Text as Words, Csv, TextByWall, CsvByWall}
+use Rattle.pie_explain.specs.declared.explanation.Explained.{Explained}
 use Rattle.pie_units.specs.declared.moment.Moment.{Moment}
 use Rattle.pie_units.specs.declared.moment.MomentFault.{MomentFault}
-use Rattle.pie_explanation.specs.declared.which.Which.{Which}
-use Rattle.pie_explanation.specs.declared.which.Which.TheVariants.{Number, Tag, Lost, Marked, All}
+use Rattle.pie_explain.specs.declared.which.Which.{Which}
+use Rattle.pie_explain.specs.declared.which.Which.TheVariants.{Number, Tag, Lost, Marked, All}
 use Rattle.pie_units.specs.Moment.{moment_in}
 use Rattle.pie_units.specs.When.{when_in}
 use Rattle.pie_units.specs.declared.when.When.{When}
 use Rattle.pie_units.specs.declared.when.When.TheVariants as when
 use Rattle.pie_units.specs.declared.when.WhenFault.{WhenFault}
-use Rattle.pie_explanation.specs.Output.{pages}
+use Rattle.pie_explain.specs.Output.{pages}
 use Rattle.pie_summary.specs.ByFlow.{flows_whole}
 use Rattle.pie_summary.specs.Summary.{summary_of}
 use Rattle.pie_commands.specs.declared.explain.Tale.{Tale}

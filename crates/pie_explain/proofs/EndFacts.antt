@@ -7,8 +7,8 @@ use Rattle.pie_audit.specs.declared.auditor.Finding.TheVariants.{Clean, Differs}
 use Rattle.pie_audit.specs.declared.following.Follower.{Follower}
 use Rattle.pie_audit.specs.Text.{judged}
 use Rattle.pie_audit.specs.Finding.{finding, finding_by}
-use Rattle.pie_explanation.specs.declared.which.Which.{Which}
-use Rattle.pie_explanation.specs.declared.which.Which.TheVariants.{Number, Tag, Lost, Marked, All}
+use Rattle.pie_explain.specs.declared.which.Which.{Which}
+use Rattle.pie_explain.specs.declared.which.Which.TheVariants.{Number, Tag, Lost, Marked, All}
 use Rattle.pie_explain.specs.Answer.{HasExplained, IsAsAudited, IsSaid, answer_since, none_picked}
 use Rattle.pie_explain.specs.declared.fault.ExplainFault.TheVariants as fault
 

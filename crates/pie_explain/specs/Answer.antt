@@ -9,8 +9,8 @@ use Rattle.pie_audit.specs.Following.{Follows}
 use Rattle.pie_audit.specs.Finding.{finding as finding_of}
 use Rattle.pie_explain.specs.declared.fault.ExplainFault.{ExplainFault}
 use Rattle.pie_explain.specs.declared.fault.ExplainFault.TheVariants.{Trace, Differs, Earlier, NoEvent, NoTag, NoneWithin}
-use Rattle.pie_explanation.specs.declared.which.Which.{Which}
-use Rattle.pie_explanation.specs.declared.which.Which.TheVariants.{Number, Tag, Lost, Marked, All}
+use Rattle.pie_explain.specs.declared.which.Which.{Which}
+use Rattle.pie_explain.specs.declared.which.Which.TheVariants.{Number, Tag, Lost, Marked, All}
 use Rattle.pie_explain.specs.Since.{explanations_since}
 use Rattle.pie_audit.specs.declared.auditor.Finding.TheVariants as finding
 

@@ -1,3 +1,10 @@
+pub mod Which
+pub mod Choice
+pub mod Explanation
+pub mod Record
+pub mod Words
+pub mod Report
+pub mod Output
 pub mod Names
 pub mod Explanations
 pub mod Since

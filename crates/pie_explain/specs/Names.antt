@@ -10,13 +10,13 @@ pub use Rattle.pie_audit.specs.declared.auditor.Finding.{Finding}
 pub use Rattle.pie_event.specs.declared.command.Event.{Event}
 pub use Rattle.pie_event.specs.declared.opening.Opening.{Opening}
 pub use Rattle.pie_event.specs.declared.setter.Setter.{Setter}
-pub use Rattle.pie_explanation.specs.Choice.{is_whole, picks}
-pub use Rattle.pie_explanation.specs.Explanation.{moment_of, with_after}
-unfoldable pub use Rattle.pie_explanation.specs.Explanation.{explanation}
-pub use Rattle.pie_explanation.specs.Report.{Grows}
-pub use Rattle.pie_explanation.specs.declared.choice.Choice.{Choice}
-pub use Rattle.pie_explanation.specs.declared.explanation.Explained.{Explained}
-pub use Rattle.pie_explanation.specs.declared.explanation.Explanation.{Explanation}
+pub use Rattle.pie_explain.specs.Choice.{is_whole, picks}
+pub use Rattle.pie_explain.specs.Explanation.{moment_of, with_after}
+unfoldable pub use Rattle.pie_explain.specs.Explanation.{explanation}
+pub use Rattle.pie_explain.specs.Report.{Grows}
+pub use Rattle.pie_explain.specs.declared.choice.Choice.{Choice}
+pub use Rattle.pie_explain.specs.declared.explanation.Explained.{Explained}
+pub use Rattle.pie_explain.specs.declared.explanation.Explanation.{Explanation}
 pub use Rattle.pie_record.specs.HistoryLines.{event_count, is_event, latest_clock}
 pub use Rattle.pie_record.specs.declared.fault.TraceFault.{TraceFault}
 pub use Rattle.pie_record.specs.declared.history_record.Line.{Line}

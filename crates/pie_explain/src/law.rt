@@ -1,7 +1,8 @@
 //! How the explanations of an excerpt are those of the whole history.
 ghost use Rattle.std.specs.Prelude.{◌≡◌, ◌++◌, map};
-ghost use Rattle.pie_explain.specs.{List, Option, length, true, false, Event, Opening, Line, Made, Choice, TraceFault, Start, from_opening};
+ghost use Rattle.pie_explain.specs.{List, Option, length, true, false, Event, Opening, Line, Made, TraceFault, Start, from_opening};
 ghost use Rattle.pie_explain.specs.{IsAsAudited, answer_since, explanations, as_told, explanations_since};
+ghost use Rattle.pie_explain.specs.Names.{Choice};
 ghost use Rattle.pie_audit.specs.Text.{judged};
 
 /// The law of excerpts. A whole history gives all explanations (`whole`). A text that goes on after some events of a history, and tells what set the probability before it, gives exactly the

@@ -12,7 +12,7 @@ use Rattle.std.proofs.lemmas.List.Folds.{list_any-append}
 use Rattle.std.proofs.lemmas.List.Sums.{fold_push}
 use Rattle.std.proofs.lemmas.Map.Keys.{IsDistinct-push}
 use Rattle.indexmap.specs.IndexMap.{insert_entry}
-use Rattle.pie_explanation.specs.declared.explanation.Explained.{Explained}
+use Rattle.pie_explain.specs.declared.explanation.Explained.{Explained}
 use Rattle.pie_summary.specs.declared.flow.Flow.{Flow}
 use Rattle.pie_summary.specs.declared.flow_sums.FlowSums.{FlowSums}
 use Rattle.pie_summary.specs.FlowSums.{added_up, flow_in, flow_sums, is_of, is_this, together}

@@ -19,9 +19,9 @@ use Rattle.pie_event.specs.declared.command.Answer.TheVariants.{Enqueued, Marked
 use Rattle.pie_event.specs.declared.command.Answer.TheVariants.{Done}
 use Rattle.pie_record.specs.Clock.{unix_at}
 use Rattle.pie_summary.proofs.SumsFacts.{place_of, places-push}
-use Rattle.pie_explanation.specs.Choice.{time_of}
-use Rattle.pie_explanation.specs.Words.{joined}
-use Rattle.pie_explanation.specs.declared.explanation.Explained.{Explained}
+use Rattle.pie_explain.specs.Choice.{time_of}
+use Rattle.pie_explain.specs.Words.{joined}
+use Rattle.pie_explain.specs.declared.explanation.Explained.{Explained}
 use Rattle.pie_summary.specs.declared.live.LivePeriod.{LivePeriod}
 use Rattle.pie_summary.specs.declared.series.Series.{Series}
 use Rattle.pie_summary.specs.declared.spans.Peak.{Peak}
@@ -35,7 +35,7 @@ use Rattle.pie_summary.specs.Ranges.{end_within, first_up_to, ranges_of}
 use Rattle.pie_summary.specs.Summary.{said_of}
 use Rattle.pie_summary.specs.Sums.{answer_of, answer_place, moment_at, sums_of, time_at, wait_in, waits_of, where_left}
 use Rattle.pie_summary.specs.Words.{wait_99}
-use Rattle.pie_explanation.specs.declared.form.Form.TheVariants.{Csv, CsvByWall}
+use Rattle.pie_explain.specs.declared.form.Form.TheVariants.{Csv, CsvByWall}
 use Rattle.pie_summary.specs.declared.meter.Meter.{Meter}
 use Rattle.pie_summary.specs.Period.{last_events, last_period, period_at, since}
 use Rattle.pie_summary.specs.Series.{held_or, series_of}

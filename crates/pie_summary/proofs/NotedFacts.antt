@@ -8,7 +8,7 @@ use Rattle.pie_event.specs.declared.command.Answer.TheVariants.{Done}
 use Rattle.pie_event.specs.declared.verdict.Verdict.{Verdict}
 use Rattle.pie_event.specs.declared.verdict.Verdict.TheVariants as verdicts
 use Rattle.pie_event.specs.Verdict.{answer_of}
-use Rattle.pie_explanation.specs.declared.explanation.Explained.{Explained}
+use Rattle.pie_explain.specs.declared.explanation.Explained.{Explained}
 use Rattle.pie_summary.specs.declared.noted.Met.{Met}
 use Rattle.pie_summary.specs.declared.noted.Noted.{Noted}
 use Rattle.pie_summary.specs.Live.{Meets, bare_noted, noted_of}

@@ -5,7 +5,7 @@ use Rattle.std.specs.List.{cons_option, filter_map, sum}
 use Rattle.std.proofs.lemmas.List.{map_push}
 use Rattle.std.proofs.lemmas.List.Elements.{filter_map-append}
 use Rattle.std.proofs.lemmas.List.Sums.{sum_by_push}
-use Rattle.pie_explanation.specs.declared.explanation.Explained.{Explained}
+use Rattle.pie_explain.specs.declared.explanation.Explained.{Explained}
 use Rattle.pie_summary.specs.declared.series.Series.{Series}
 use Rattle.pie_aqm.specs.Places.{last_or}
 pub use Rattle.pie_aqm.proofs.Places.{last_or-push, place_of, places-push}

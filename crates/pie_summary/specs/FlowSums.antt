@@ -6,7 +6,7 @@ use Rattle.pie_event.specs.declared.command.Command.{Command}
 use Rattle.pie_event.specs.declared.command.Command.TheVariants.{Arrive}
 use Rattle.pie_event.specs.declared.command.Answer.{Answer}
 use Rattle.pie_event.specs.declared.command.Answer.TheVariants.{Left}
-use Rattle.pie_explanation.specs.declared.explanation.Explained.{Explained}
+use Rattle.pie_explain.specs.declared.explanation.Explained.{Explained}
 use Rattle.pie_summary.specs.declared.flow_sums.FlowSums.{FlowSums}
 use Rattle.pie_summary.specs.Counts.{kept}
 use Rattle.pie_summary.specs.Sums.{answer_of, carried_in, size_in, wait_in}

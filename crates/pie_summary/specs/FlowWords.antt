@@ -1,9 +1,9 @@
 -- Sums by flow in words, and as CSV records.
 use Rattle.std.specs.Prelude.{ℕ, ◌-◌, ◌/◌, nat_lt, max, Bool, true, false, List, [], ◌∷◌, ◌++◌, length, replicate, codes, if◌then◌else◌}
 use Rattle.std.specs.Fmt.{decimal, digits}
-use Rattle.pie_explanation.specs.declared.form.Form.{Form}
-use Rattle.pie_explanation.specs.declared.form.Form.TheVariants.{Text, Csv, TextByWall, CsvByWall}
-use Rattle.pie_explanation.specs.Words.{joined, millis, share}
+use Rattle.pie_explain.specs.declared.form.Form.{Form}
+use Rattle.pie_explain.specs.declared.form.Form.TheVariants.{Text, Csv, TextByWall, CsvByWall}
+use Rattle.pie_explain.specs.Words.{joined, millis, share}
 use Rattle.pie_summary.specs.declared.flow.Flow.{Flow}
 use Rattle.pie_summary.specs.declared.flow_sums.FlowSums.{FlowSums}
 use Rattle.pie_summary.specs.declared.flow_words.Name.{Name}

@@ -5,12 +5,12 @@ use Rattle.std.specs.Fmt.{decimal}
 use Rattle.std.specs.List.{filter_map, sum}
 use Rattle.pie_aqm.specs.Places.{Place, greatest, last_or, places}
 use Rattle.pie_record.specs.declared.clock.Clock.{Clock}
-use Rattle.pie_explanation.specs.Words.{joined}
+use Rattle.pie_explain.specs.Words.{joined}
 use Rattle.pie_units.specs.Utc.{utc_text}
 use Rattle.pie_summary.specs.Record.{count_fields, number_fields}
-use Rattle.pie_explanation.specs.declared.explanation.Explained.{Explained}
-use Rattle.pie_explanation.specs.declared.form.Form.{Form}
-use Rattle.pie_explanation.specs.declared.form.Form.TheVariants.{Csv, CsvByWall}
+use Rattle.pie_explain.specs.declared.explanation.Explained.{Explained}
+use Rattle.pie_explain.specs.declared.form.Form.{Form}
+use Rattle.pie_explain.specs.declared.form.Form.TheVariants.{Csv, CsvByWall}
 use Rattle.pie_summary.specs.declared.live.LivePeriod.{LivePeriod}
 use Rattle.pie_summary.specs.declared.meter.Meter.{Meter}
 use Rattle.pie_summary.specs.declared.noted.Met.{Met}

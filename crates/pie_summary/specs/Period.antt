@@ -2,7 +2,7 @@
 use Rattle.std.specs.Prelude.{ℕ, ◌/◌, ◌==◌, max, Bool, false, not, List, [], map, Option, Some, None}
 use Rattle.std.specs.List.{after_last}
 use Rattle.pie_aqm.specs.Places.{last_or}
-use Rattle.pie_explanation.specs.declared.explanation.Explained.{Explained}
+use Rattle.pie_explain.specs.declared.explanation.Explained.{Explained}
 
 -- the number of the period in which a moment lies, counted from moment 0, where each lasts so many nanoseconds, 1 at least; 0 where no length
 -- is wanted

@@ -2,7 +2,7 @@
 use Rattle.std.specs.Prelude.{ℕ, ◌==◌, if◌then◌else◌, Bool, true, false, List, [], ◌∷◌, ◌++◌, map, slice_index, take, codes}
 use Rattle.std.specs.Fmt.{decimal}
 use Rattle.pie_event.specs.CauseName.{cause_names, word_of_cause}
-use Rattle.pie_explanation.specs.Words.{joined}
+use Rattle.pie_explain.specs.Words.{joined}
 use Rattle.pie_units.specs.Utc.{utc_text}
 use Rattle.pie_summary.specs.declared.series.Series.{Series}
 use Rattle.pie_summary.specs.declared.sums.Sums.{Sums}

@@ -2,13 +2,13 @@
 use Rattle.std.specs.Prelude.{ℕ, ◌≡◌, Bool, true, false, ◌&&◌, ◌||◌, List, [], ◌∷◌, ◌++◌, Option, None, codes}
 use Rattle.std.specs.List.{flat_map}
 use Rattle.pie_aqm.specs.Places.{Place, places}
-use Rattle.pie_explanation.specs.declared.form.Form.{Form}
-use Rattle.pie_explanation.specs.declared.form.Form.TheVariants.{Text, Csv, TextByWall, CsvByWall}
-use Rattle.pie_explanation.specs.declared.explanation.Explained.{Explained}
-use Rattle.pie_explanation.specs.declared.which.Which.TheVariants.{Lost, Marked}
-use Rattle.pie_explanation.specs.Record.{line_of}
-use Rattle.pie_explanation.specs.Which.{chooses}
-use Rattle.pie_explanation.specs.Words.{words_by}
+use Rattle.pie_explain.specs.declared.form.Form.{Form}
+use Rattle.pie_explain.specs.declared.form.Form.TheVariants.{Text, Csv, TextByWall, CsvByWall}
+use Rattle.pie_explain.specs.declared.explanation.Explained.{Explained}
+use Rattle.pie_explain.specs.declared.which.Which.TheVariants.{Lost, Marked}
+use Rattle.pie_explain.specs.Record.{line_of}
+use Rattle.pie_explain.specs.Which.{chooses}
+use Rattle.pie_explain.specs.Words.{words_by}
 use Rattle.pie_record.specs.declared.clock.Clock.{Clock}
 use Rattle.pie_summary.specs.declared.period.Period.{Period}
 use Rattle.pie_summary.specs.declared.summary.Summary.{Summary}

@@ -3,7 +3,7 @@ use Rattle.std.specs.Prelude.{ℕ, ◌-◌, ◌/◌, ◌^◌, ◌==◌, ◌||◌
 use Rattle.std.specs.Prelude.{if◌then◌else◌}
 use Rattle.std.specs.Fmt.{decimal}
 use Rattle.pie_event.specs.CauseName.{cause_names, place_of_cause, word_of_cause}
-use Rattle.pie_explanation.specs.Words.{joined, millis, per_cent, share}
+use Rattle.pie_explain.specs.Words.{joined, millis, per_cent, share}
 use Rattle.pie_event.specs.declared.cause_name.CauseName.{CauseName}
 use Rattle.pie_units.specs.Utc.{utc_text}
 use Rattle.pie_summary.specs.declared.series.Series.{Series}

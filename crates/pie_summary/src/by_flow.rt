@@ -1,6 +1,6 @@
 //! Sums of the explained events by flow.
 ghost use Rattle.std.specs.Prelude.{◌≡◌, ◌++◌, OnOk};
-ghost use Rattle.pie_explanation.specs.declared.explanation.Explained.{Explained};
+ghost use Rattle.pie_explain.specs.declared.explanation.Explained.{Explained};
 ghost use Rattle.pie_summary.specs.ByFlow.{ended_by_flow, flow_header};
 ghost use Rattle.pie_summary.specs.FlowWords.{flows_said};
 ghost use Rattle.pie_summary.specs.Period.{begins};
@@ -9,7 +9,7 @@ use crate::flow::Flow;
 use crate::flow_period::FlowPeriod;
 use crate::flow_words::{NAMES, Span, push_flows};
 use crate::period::{begins, period_of};
-use pie_explanation::{Explained, Form, Report};
+use pie_explain::{Explained, Form, Report};
 use pie_page::Page;
 use std::alloc::AllocError;
 

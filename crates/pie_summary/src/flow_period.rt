@@ -1,6 +1,6 @@
 //! The period that is being summed up by flow.
 ghost use Rattle.std.specs.Prelude.{◌≡◌, ◌++◌, ◌∷◌, [], ℕ, List, None, OnOk, Option, Some};
-ghost use Rattle.pie_explanation.specs.declared.explanation.Explained.{Explained};
+ghost use Rattle.pie_explain.specs.declared.explanation.Explained.{Explained};
 ghost use Rattle.pie_summary.specs.ByFlow.{span_of};
 ghost use Rattle.pie_summary.specs.Flows.{HasFlows};
 ghost use Rattle.pie_summary.specs.Period.{last_events, last_period, period_at, since};
@@ -9,7 +9,7 @@ use crate::flow::FlowTable;
 use crate::flow_words::Span;
 use crate::period::{begins, period_of};
 use crate::series::Series;
-use pie_explanation::{Explained, time_of};
+use pie_explain::{Explained, time_of};
 use std::alloc::{AllocError, Global};
 
 /// The flows of the last events, as far back as they are in the same period.

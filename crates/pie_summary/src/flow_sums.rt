@@ -1,13 +1,13 @@
 //! The numbers of a flow.
 ghost use Rattle.std.specs.Prelude.{◌≡◌, ◌*◌, ◌/◌, ◌++◌, ◌∷◌, ◌==◌, [], List, if◌then◌else◌, is_some};
-ghost use Rattle.pie_explanation.specs.declared.explanation.Explained.{Explained};
+ghost use Rattle.pie_explain.specs.declared.explanation.Explained.{Explained};
 ghost use Rattle.pie_summary.specs.Counts.{kept};
 ghost use Rattle.pie_summary.specs.FlowSums.{added_up, flow_by, flow_left, flow_sums, numbers_of, together};
 ghost use Rattle.pie_summary.specs.Sums.{answer_place};
 
 use crate::sums::{answer_place, carried_by, size_by, where_left};
 use pie_book::{Answer, Command};
-use pie_explanation::Explained;
+use pie_explain::Explained;
 
 /// The numbers of a flow, or of several, each over all events that were shown: 2^64 - 1 where a number would be above it.
 #[derive(Clone, Copy, Debug)]

@@ -8,7 +8,7 @@ use crate::flow_sums::FlowSums;
 use crate::record::{push_last, push_numbers};
 use crate::series::Series;
 use crate::words::{push_head, push_times};
-use pie_explanation::{Form, Millis, Share};
+use pie_explain::{Form, Millis, Share};
 use std::alloc::{AllocError, Global};
 use std::fmt;
 use std::fmt::Display;

@@ -1,7 +1,7 @@
 //! A period that is summed up as it goes, in memory that its owner has.
 ghost use Rattle.std.specs.Prelude.{◌≡◌, ◌<◌, ◌++◌, ◌∷◌, [], List, length, min, not, slice_index, if◌then◌else◌};
 ghost use Rattle.std.specs.List.{filter_map};
-ghost use Rattle.pie_explanation.specs.declared.explanation.Explained.{Explained};
+ghost use Rattle.pie_explain.specs.declared.explanation.Explained.{Explained};
 ghost use Rattle.pie_summary.specs.Live.{Awaits, Holds, IsSet, clock_of, form_in, is_within, length_of, noted_of, number_in, starts, timed_by};
 ghost use Rattle.pie_summary.specs.Sums.{time_at};
 ghost use Rattle.pie_summary.specs.Period.{last_events};

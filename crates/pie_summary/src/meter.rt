@@ -2,7 +2,7 @@
 ghost use Rattle.std.specs.Prelude.{◌≡◌, ◌+◌, ◌-◌, ◌^◌, ◌<◌, ◌++◌, ◌∷◌, [], ℕ, List, Option, Some, length, min, nat_lt, slice_index, slice_set, unwrap_or, if◌then◌else◌};
 ghost use Rattle.std.specs.List.{cons_option};
 ghost use Rattle.pie_aqm.specs.Places.{greatest};
-ghost use Rattle.pie_explanation.specs.declared.explanation.Explained.{Explained};
+ghost use Rattle.pie_explain.specs.declared.explanation.Explained.{Explained};
 ghost use Rattle.pie_summary.specs.Counts.{kept};
 ghost use Rattle.pie_summary.specs.Live.{awaiting, counted_some, meter_of, noted_of};
 ghost use Rattle.pie_summary.specs.Sums.{excess_within};

@@ -1,6 +1,6 @@
 //! What a meter takes of an event.
 ghost use Rattle.std.specs.Prelude.{◌≡◌, ℕ, Some, None};
-ghost use Rattle.pie_explanation.specs.declared.explanation.Explained.{Explained};
+ghost use Rattle.pie_explain.specs.declared.explanation.Explained.{Explained};
 ghost use Rattle.pie_queue.specs.declared.packet.Packet.{Packet};
 ghost use Rattle.pie_event.specs.declared.command.Answer.TheVariants.{Done, Empty, Left, Updated};
 ghost use Rattle.pie_event.specs.declared.verdict.Verdict.{Verdict};

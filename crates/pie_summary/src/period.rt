@@ -1,12 +1,12 @@
 //! The period that is being summed up.
 ghost use Rattle.std.specs.Prelude.{◌≡◌, ◌++◌, ◌∷◌, [], ℕ, List, IfOk, Option, None, Some};
-ghost use Rattle.pie_explanation.specs.declared.explanation.Explained.{Explained};
+ghost use Rattle.pie_explain.specs.declared.explanation.Explained.{Explained};
 ghost use Rattle.pie_summary.specs.Period.{begins, last_events, last_period, period_of, since};
 ghost use Rattle.pie_summary.specs.Sums.{sums_of, waits_of};
 
 use crate::ranges::Ranges;
 use crate::sums::{Sums, where_left};
-use pie_explanation::Explained;
+use pie_explain::Explained;
 use std::alloc::{AllocError, Global};
 
 /// The number of the period in which a moment lies, counted from moment 0, where each lasts `every` nanoseconds, 1 at least; 0 where

@@ -8,7 +8,7 @@ use crate::ranges::Ranges;
 use crate::record::{NAMES, push_record};
 use crate::sums::Sums;
 use crate::words::{push_words, wait_99};
-use pie_explanation::{Explained, Form, Report, Which};
+use pie_explain::{Explained, Form, Report, Which};
 use pie_page::Page;
 use pie_record::Clock;
 use std::alloc::AllocError;
@@ -102,7 +102,7 @@ fn push_noted(page: &mut Page, summary: &Summary, told: &Explained) -> Result<()
     ensures { OnOk result (page.new ≡ page.old ++ noted summary.now told.now) }
 {
     if summary.packets && is_lost_or_marked(told) {
-        pie_explanation::push_words(page, clock_for(summary.form, told.told.clock), told)
+        pie_explain::push_words(page, clock_for(summary.form, told.told.clock), told)
     } else {
         Ok(())
     }

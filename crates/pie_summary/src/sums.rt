@@ -1,12 +1,12 @@
 //! The numbers of a summary.
 ghost use Rattle.std.specs.Prelude.{◌≡◌, ◌+◌, ◌-◌, ◌^◌, ◌<◌, ◌++◌, ◌∷◌, [], List, length, min, slice_index, slice_set};
-ghost use Rattle.pie_explanation.specs.declared.explanation.Explained.{Explained};
+ghost use Rattle.pie_explain.specs.declared.explanation.Explained.{Explained};
 ghost use Rattle.pie_summary.specs.Sums.{above_by, answer_place, carried_by, cause_place, delay_by, excess_by, excess_within, size_by, time_where};
 ghost use Rattle.pie_summary.specs.Sums.{turned_at, where_left};
 
 use crate::series::{Series, held_or};
 use pie_book::{Answer, Cause, Command};
-use pie_explanation::{Explained, time_of};
+use pie_explain::{Explained, time_of};
 
 /// The numbers of a summary, each over all events that it was shown.
 #[derive(Clone, Copy, Debug)]

@@ -8,7 +8,7 @@ use crate::ranges::Ranges;
 use crate::series::Series;
 use crate::sums::Sums;
 use pie_aqm::CauseName;
-use pie_explanation::{Millis, PerCent, Share};
+use pie_explain::{Millis, PerCent, Share};
 use pie_units::Utc;
 use std::alloc::AllocError;
 

@@ -1,8 +1,8 @@
 use Rattle.std.proofs.Common.{ℕ, List, Option, sym, subst}
 use Rattle.std.specs.Prelude.{IfSome}
 use Rattle.clap.specs.Words.{found_of, rows_of}
-use Rattle.pie_explanation.specs.declared.choice.Choice.{Choice}
-use Rattle.pie_explanation.specs.declared.explanation.Explained.{Explained}
+use Rattle.pie_explain.specs.declared.choice.Choice.{Choice}
+use Rattle.pie_explain.specs.declared.explanation.Explained.{Explained}
 use Rattle.pie_commands.specs.Choice.{choice_of, told_by}
 use Rattle.pie_commands.specs.ExplainEnds.{explain_ends}
 use Rattle.pie_commands.proofs.ExplainFacts.{EndsExplain-unchosen}

@@ -1,5 +1,5 @@
 use Rattle.std.proofs.Common.{List, ◌∙◌, ap, sym, subst}
-use Rattle.pie_explanation.specs.declared.explanation.Explained.{Explained}
+use Rattle.pie_explain.specs.declared.explanation.Explained.{Explained}
 use Rattle.pie_summary.specs.ByFlow.{span_of}
 use Rattle.pie_summary.specs.Flows.{HasFlows}
 use Rattle.pie_summary.proofs.PeriodFacts.{since-begun, since-same}

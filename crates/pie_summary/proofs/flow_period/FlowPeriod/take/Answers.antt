@@ -1,6 +1,6 @@
 use Rattle.std.proofs.Common.{◌≡◌, ℕ, List, ◌∙◌, ap, Some, sym, subst}
 use Rattle.std.specs.Prelude.{OnOk}
-use Rattle.pie_explanation.specs.declared.explanation.Explained.{Explained}
+use Rattle.pie_explain.specs.declared.explanation.Explained.{Explained}
 use Rattle.pie_summary.specs.ByFlow.{span_of}
 use Rattle.pie_summary.specs.Flows.{HasFlows}
 use Rattle.pie_summary.specs.Period.{period_at, since}

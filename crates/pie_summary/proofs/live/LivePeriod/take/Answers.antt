@@ -1,7 +1,7 @@
 use Rattle.std.proofs.Common.{ℕ, List, ◌≡◌, ◌∷◌, [], ◌++◌, ◌∙◌, ap, sym}
 use Rattle.std.specs.List.{filter_map}
 use Rattle.std.specs.Prelude.{Option, Some}
-use Rattle.pie_explanation.specs.declared.explanation.Explained.{Explained}
+use Rattle.pie_explain.specs.declared.explanation.Explained.{Explained}
 use Rattle.pie_summary.specs.declared.live.LivePeriod.{LivePeriod}
 use Rattle.pie_summary.specs.declared.noted.Noted.{Noted}
 use Rattle.pie_summary.specs.Live.{Awaits, awaiting, length_of}

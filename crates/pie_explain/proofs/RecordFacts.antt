@@ -1,0 +1,77 @@
+-- A record is put together from three texts.
+use Rattle.std.proofs.Common.{◌≡◌, ℕ, List, [], ◌∷◌, ◌++◌, refl, sym, ap, ◌∙◌, append_assoc, codes}
+use Rattle.std.specs.Prelude.{Result, Ok, Err, OnOk}
+use Rattle.pie_explain.specs.declared.explanation.Explained.{Explained}
+use Rattle.pie_explain.specs.Record.{active_field, head_fields, held_fields, line_of, met_fields, more_fields, most_fields, onto, packet_fields}
+use Rattle.pie_explain.specs.Record.{record_of}
+use Rattle.pie_explain.specs.Which.{packet_of}
+
+-- fields before the last, which stands at the end of the line
+line-onto : (fields : List (List ℕ)) (last : List ℕ) → line_of (fields ++ last ∷ []) ≡ onto fields (last ++ codes "\n")
+line-onto [] last = refl
+line-onto (f ∷ []) last = append_assoc f (codes ",") (last ++ codes "\n")
+line-onto (f ∷ (g ∷ fs)) last =
+    ap (λ (l : List ℕ). f ++ codes "," ++ l) (line-onto (g ∷ fs) last) ∙ append_assoc f (codes ",") (onto (g ∷ fs) (last ++ codes "\n"))
+
+-- fields before a text are those before its front, and then its rest
+pub onto-append : (fields : List (List ℕ)) (front rest : List ℕ) → onto fields front ++ rest ≡ onto fields (front ++ rest)
+onto-append [] front rest = refl
+onto-append (f ∷ fs) front rest = append_assoc f (44 ∷ onto fs front) rest ∙ ap (λ (l : List ℕ). f ++ (44 ∷ l)) (onto-append fs front rest)
+
+-- a record's fields up to the numbers after the event
+abbrev pub front_of : Explained → List (List ℕ)
+front_of all = head_fields all.told ++ packet_fields (packet_of all.told.event) ++ met_fields all.told ++ more_fields all.told
+
+pub record-is : (all : Explained) (old : List ℕ)
+    → ((old ++ onto (front_of all) []) ++ onto (held_fields all.after all.delay) []) ++ (active_field all.after.active ++ codes "\n")
+    ≡ old ++ line_of (record_of all)
+record-is all old =
+    let held : List (List ℕ) = held_fields all.after all.delay in
+    let last : List ℕ = active_field all.after.active ++ codes "\n" in
+    append_assoc (old ++ onto (front_of all) []) (onto held []) last ∙ append_assoc old (onto (front_of all) []) (onto held [] ++ last)
+    ∙ ap (λ (l : List ℕ). old ++ l)
+    (ap (λ (l : List ℕ). onto (front_of all) [] ++ l) (onto-append held [] last) ∙ onto-append (front_of all) [] (onto held last)
+    ∙ sym (line-onto (front_of all ++ held) (active_field all.after.active)))
+
+-- where the three were written, the record was
+pub record-written : {A E : Type 0} (result : Result A E) (all : Explained) (old with_front with_held new : List ℕ)
+    → with_front ≡ old ++ onto (front_of all) []
+    → with_held ≡ with_front ++ onto (held_fields all.after all.delay) []
+    → OnOk result (new ≡ with_held ++ (active_field all.after.active ++ codes "\n"))
+    → OnOk result (new ≡ old ++ line_of (record_of all))
+record-written (Err why) all old with_front with_held new front-is held-is is = tt
+record-written (Ok done) all old with_front with_held new front-is held-is is =
+    let last : List ℕ = active_field all.after.active ++ codes "\n" in
+    is ∙ ap (λ (l : List ℕ). l ++ last) (held-is ∙ ap (λ (l : List ℕ). l ++ onto (held_fields all.after all.delay) []) front-is) ∙ record-is all old
+
+-- where its first fields were written, and those after the event
+pub most-written : {A E : Type 0} (result : Result A E) (all : Explained) (old with_front new : List ℕ)
+    → with_front ≡ old ++ onto (front_of all) []
+    → OnOk result (new ≡ with_front ++ onto (held_fields all.after all.delay) [])
+    → OnOk result (new ≡ old ++ onto (most_fields all) [])
+most-written (Err why) all old with_front new front-is is = tt
+most-written (Ok done) all old with_front new front-is is =
+    let held : List ℕ = onto (held_fields all.after all.delay) [] in
+    is ∙ ap (λ (l : List ℕ). l ++ held) front-is ∙ append_assoc old (onto (front_of all) []) held
+    ∙ ap (λ (l : List ℕ). old ++ l) (onto-append (front_of all) [] held)
+
+-- .. and then the last of them and the time of day
+pub wall-written : {A E : Type 0} (result : Result A E) (all : Explained) (wall old with_most with_active with_wall new : List ℕ)
+    → with_most ≡ old ++ onto (most_fields all) []
+    → with_active ≡ with_most ++ (active_field all.after.active ++ codes ",")
+    → with_wall ≡ with_active ++ wall
+    → OnOk result (new ≡ with_wall ++ codes "\n")
+    → OnOk result (new ≡ old ++ line_of (record_of all ++ wall ∷ []))
+wall-written (Err why) all wall old with_most with_active with_wall new most-is active-is wall-is is = tt
+wall-written (Ok done) all wall old with_most with_active with_wall new most-is active-is wall-is is =
+    let most : List ℕ = onto (most_fields all) [] in
+    let active : List ℕ = active_field all.after.active in
+    let rest : List ℕ = active ++ (44 ∷ (wall ++ codes "\n")) in
+    is ∙ ap (λ (l : List ℕ). l ++ codes "\n") (wall-is ∙ ap (λ (l : List ℕ). l ++ wall) (active-is
+    ∙ ap (λ (l : List ℕ). l ++ (active ++ codes ",")) most-is))
+    ∙ flat old most active wall
+    ∙ ap (λ (l : List ℕ). old ++ l) (onto-append (most_fields all) [] rest ∙ sym (line-onto (most_fields all ++ active ∷ []) wall))
+  where
+    flat : (old most active wall : List ℕ) → (((old ++ most) ++ (active ++ codes ",")) ++ wall) ++ codes "\n"
+        ≡ old ++ (most ++ (active ++ (44 ∷ (wall ++ codes "\n"))))
+    flat old most active wall = simp append_assoc

@@ -1,0 +1,40 @@
+-- Which events of a history are explained: those that are chosen, with an effective moment that is wanted.
+use Rattle.std.specs.Prelude.{ℕ, Bool, true, false, not, ◌&&◌, ◌||◌, Option, Some, None, nat_le, is_some}
+use Rattle.pie_event.specs.declared.command.Event.{Event}
+use Rattle.pie_record.specs.declared.clock.Clock.{Clock}
+use Rattle.pie_record.specs.Clock.{unix_at}
+use Rattle.pie_explain.specs.declared.choice.Choice.{Choice}
+use Rattle.pie_units.specs.declared.when.When.{When}
+use Rattle.pie_units.specs.declared.when.When.TheVariants.{Moment, Unix}
+use Rattle.pie_explain.specs.Which.{chooses}
+
+-- the time of day at a moment, where a record tells it
+abbrev pub time_of : Option Clock → ℕ → Option ℕ
+time_of None moment = None
+time_of (Some clock) moment = Some (unix_at clock moment)
+
+-- a moment with this time of day is not before the first that is wanted, if there is one
+abbrev pub is_from : Option When → ℕ → Option ℕ → Bool
+is_from None moment time = true
+is_from (Some (Moment first)) moment time = nat_le first moment
+is_from (Some (Unix first)) moment (Some time) = nat_le first time
+is_from (Some (Unix first)) moment None = false
+
+-- .. and not after the last
+abbrev pub is_to : Option When → ℕ → Option ℕ → Bool
+is_to None moment time = true
+is_to (Some (Moment last)) moment time = nat_le moment last
+is_to (Some (Unix last)) moment (Some time) = nat_le time last
+is_to (Some (Unix last)) moment None = false
+
+-- it is wanted
+abbrev pub is_within : Choice → ℕ → Option ℕ → Bool
+is_within choice moment time = is_from choice.from moment time && is_to choice.to moment time
+
+-- the event with this number and this effective moment is explained, where this is the last record before it that tells the time of day
+abbrev pub picks : Choice → ℕ → ℕ → Option Clock → Event → Bool
+picks choice number moment clock event = chooses choice.which number event && is_within choice moment (time_of clock moment)
+
+-- every moment is wanted
+abbrev pub is_whole : Choice → Bool
+is_whole choice = not (is_some choice.from || is_some choice.to)

@@ -1,0 +1,163 @@
+-- The CSV record of an explanation.
+use Rattle.std.specs.Prelude.{ℕ, Bool, true, false, List, [], ◌∷◌, ◌++◌, Option, Some, None, codes}
+use Rattle.std.specs.Fmt.{decimal}
+use Rattle.pie_queue.specs.declared.packet.Packet.{Packet}
+use Rattle.pie_event.specs.declared.cause.Cause.{Cause}
+use Rattle.pie_event.specs.CauseName.{name_of, word_of_cause}
+use Rattle.pie_event.specs.declared.command.Command.{Command}
+use Rattle.pie_event.specs.declared.command.Command.TheVariants.{Arrive, Depart, Update, Reset, SetParams}
+use Rattle.pie_event.specs.declared.command.Answer.{Answer}
+use Rattle.pie_event.specs.declared.command.Answer.TheVariants.{Enqueued, Marked, DroppedEarly, DroppedBytes, DroppedPackets, Empty, Left, Updated}
+use Rattle.pie_event.specs.declared.command.Answer.TheVariants.{Done}
+use Rattle.pie_event.specs.declared.registers.Registers.{Registers}
+use Rattle.pie_event.specs.Deed.{handed_in}
+use Rattle.pie_record.specs.declared.words.Kind.TheVariants as kind
+use Rattle.pie_record.specs.declared.words.Said.TheVariants as said
+use Rattle.pie_record.specs.Words.{ecn_word, word_of_kind, word_said}
+use Rattle.pie_units.specs.Utc.{utc_text}
+use Rattle.pie_explain.specs.declared.explanation.Explained.{Explained}
+use Rattle.pie_explain.specs.declared.explanation.Explanation.{Explanation}
+use Rattle.pie_event.specs.Setter.{setter_number}
+use Rattle.pie_explain.specs.Which.{packet_of}
+
+-- ---- words
+
+-- the kind of a command, as in a history
+abbrev pub kind_word : Command → List ℕ
+kind_word (Arrive moment packet word) = word_of_kind kind.Arrive
+kind_word (Depart moment) = word_of_kind kind.Depart
+kind_word (Update moment) = word_of_kind kind.Update
+kind_word (Reset moment) = word_of_kind kind.Reset
+kind_word (SetParams moment params) = word_of_kind kind.Params
+
+-- the word of an answer, as in a history; an update's, which a history has no word for, is this record's own
+abbrev pub verdict_word : Answer → List ℕ
+verdict_word Enqueued = word_said said.Enqueue
+verdict_word Marked = word_said said.Mark
+verdict_word DroppedEarly = word_said said.Early
+verdict_word DroppedBytes = word_said said.Bytes
+verdict_word DroppedPackets = word_said said.Packets
+verdict_word Empty = word_said said.Empty
+verdict_word (Left packet) = word_said said.Left
+verdict_word (Updated delay prob burst) = codes "updated"
+verdict_word Done = word_said said.Done
+
+-- the word of what decided an arrival; none for another event
+abbrev pub cause_word : Option Cause → List ℕ
+cause_word None = []
+cause_word (Some cause) = word_of_cause (name_of cause)
+
+-- ---- the record
+
+-- the tag and the size of the packet that an event is about, empty where there is none
+abbrev pub tag_field : Option Packet → List ℕ
+tag_field None = []
+tag_field (Some packet) = decimal packet.tag
+
+abbrev pub size_field : Option Packet → List ℕ
+size_field None = []
+size_field (Some packet) = decimal packet.size
+
+-- the ECN field of that packet, as in a history
+abbrev pub ecn_field : Option Packet → List ℕ
+ecn_field None = []
+ecn_field (Some packet) = ecn_word packet.ecn
+
+-- a number, empty where there is none
+abbrev pub number_field : Option ℕ → List ℕ
+number_field None = []
+number_field (Some n) = decimal n
+
+-- the random word of an arrival
+abbrev pub word_of : Command → Option ℕ
+word_of (Arrive moment packet word) = Some word
+word_of (Depart moment) = None
+word_of (Update moment) = None
+word_of (Reset moment) = None
+word_of (SetParams moment params) = None
+
+-- how long the packet had waited that left
+abbrev pub wait_where : Answer → ℕ → Option ℕ
+wait_where (Left packet) waited = Some waited
+wait_where _ waited = None
+
+-- whether the controller is active
+abbrev pub active_field : Bool → List ℕ
+active_field true = codes "1"
+active_field false = codes "0"
+
+-- the event and when it was
+abbrev pub head_fields : Explanation → List (List ℕ)
+head_fields told =
+    decimal told.number ∷ kind_word told.event.command ∷ decimal told.event.caller ∷ decimal (handed_in told.event.command) ∷ decimal told.moment ∷ []
+
+-- what became of it, what decided it, and the numbers that it met
+abbrev pub met_fields : Explanation → List (List ℕ)
+met_fields told =
+    verdict_word told.event.answer ∷ cause_word told.cause ∷ decimal told.before.bytes ∷ decimal told.before.packets ∷ decimal told.delay
+    ∷ decimal told.before.prob ∷ decimal told.before.accu ∷ decimal told.before.burst ∷ []
+
+-- what else there is to say of it, and of the controller before it
+abbrev pub more_fields : Explanation → List (List ℕ)
+more_fields told =
+    ecn_field (packet_of told.event) ∷ number_field (word_of told.event.command) ∷ number_field (wait_where told.event.answer told.waited)
+    ∷ active_field told.before.active ∷ number_field (setter_number told.set_by) ∷ []
+
+-- the numbers after it
+abbrev pub after_fields : Explained → List (List ℕ)
+after_fields all =
+    decimal all.after.bytes ∷ decimal all.after.packets ∷ decimal all.delay ∷ decimal all.after.prob ∷ decimal all.after.accu
+    ∷ decimal all.after.burst
+    ∷ active_field all.after.active ∷ []
+
+-- the twenty-seven fields
+abbrev pub record_of : Explained → List (List ℕ)
+record_of all =
+    head_fields all.told ++ (tag_field (packet_of all.told.event) ∷ size_field (packet_of all.told.event) ∷ []) ++ met_fields all.told
+    ++ more_fields all.told
+    ++ after_fields all
+
+-- the time of day, empty where it is not known
+abbrev pub wall_field : Option ℕ → List ℕ
+wall_field None = []
+wall_field (Some unix) = utc_text unix
+
+-- these fields as a line of CSV: none of them has a comma, a quote or a line's end in it
+abbrev pub line_of : List (List ℕ) → List ℕ
+line_of [] = codes "\n"
+line_of (field ∷ []) = field ++ codes "\n"
+line_of (field ∷ (next ∷ fields)) = field ++ codes "," ++ line_of (next ∷ fields)
+
+-- ---- its parts, as they are written
+
+-- these fields, each with a comma after it, before the end of a line
+abbrev pub onto : List (List ℕ) → List ℕ → List ℕ
+onto [] end = end
+onto (field ∷ fields) end = field ++ (44 ∷ onto fields end)
+
+-- when an event was handed in, and when it was
+abbrev pub moment_fields : ℕ → ℕ → List (List ℕ)
+moment_fields handed effective = decimal handed ∷ decimal effective ∷ []
+
+-- what mostly changes from one event to the next: how much waits, and how long
+abbrev pub moving_fields : ℕ → ℕ → ℕ → List (List ℕ)
+moving_fields bytes packets delay = decimal bytes ∷ decimal packets ∷ decimal delay ∷ []
+
+-- what often stays as it is
+abbrev pub steady_fields : ℕ → ℕ → ℕ → List (List ℕ)
+steady_fields prob accu burst = decimal prob ∷ decimal accu ∷ decimal burst ∷ []
+
+-- what a controller holds
+abbrev pub held_fields : Registers → ℕ → List (List ℕ)
+held_fields held delay =
+    decimal held.bytes ∷ decimal held.packets ∷ decimal delay ∷ decimal held.prob ∷ decimal held.accu ∷ decimal held.burst ∷ []
+
+-- all but the last of the twenty-seven
+abbrev pub most_fields : Explained → List (List ℕ)
+most_fields all =
+    head_fields all.told ++ (tag_field (packet_of all.told.event) ∷ size_field (packet_of all.told.event) ∷ []) ++ met_fields all.told
+    ++ more_fields all.told
+    ++ held_fields all.after all.delay
+
+abbrev pub packet_fields : Option Packet → List (List ℕ)
+packet_fields packet = tag_field packet ∷ size_field packet ∷ []

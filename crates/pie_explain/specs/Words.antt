@@ -1,0 +1,244 @@
+-- An explanation in words, of some lines: what the event did, what decided it, and the numbers that it met.
+use Rattle.std.specs.Prelude.{ℕ, ◌+◌, ◌-◌, ◌*◌, ◌/◌, ◌%◌, ◌^◌, ◌==◌, Bool, true, false, if◌then◌else◌, min, max, List, [], ◌∷◌, ◌++◌, length}
+use Rattle.std.specs.Prelude.{replicate, Option, Some, None, codes}
+use Rattle.std.specs.Fmt.{decimal}
+use Rattle.pie_queue.specs.declared.ecn.Ecn.{Ecn}
+use Rattle.pie_queue.specs.declared.ecn.Ecn.TheVariants.{NotEct, Ect1, Ect0, Ce}
+use Rattle.pie_queue.specs.declared.packet.Packet.{Packet}
+use Rattle.pie_event.specs.declared.cause.Cause.{Cause}
+use Rattle.pie_event.specs.declared.cause.Cause.TheVariants.{NoRoomInBytes, NoRoomInPackets, Inactive, BurstAllowed, LowDelay, ShortQueue}
+use Rattle.pie_event.specs.declared.cause.Cause.TheVariants.{NoProbability, LittleAccumulated, PickedBySum, PickedByWord, WordNotBelow}
+use Rattle.pie_event.specs.declared.cause.Fate.{Fate}
+use Rattle.pie_event.specs.declared.cause.Fate.TheVariants as fate
+use Rattle.pie_event.specs.declared.command.Command.{Command}
+use Rattle.pie_event.specs.declared.command.Command.TheVariants.{Arrive, Depart, Update, Reset, SetParams}
+use Rattle.pie_event.specs.declared.command.Answer.{Answer}
+use Rattle.pie_event.specs.declared.command.Answer.TheVariants.{Enqueued, Marked, DroppedEarly, DroppedBytes, DroppedPackets, Left, Updated}
+use Rattle.pie_event.specs.declared.registers.Registers.{Registers}
+use Rattle.pie_record.specs.declared.clock.Clock.{Clock}
+use Rattle.pie_record.specs.Clock.{unix_at}
+use Rattle.pie_units.specs.Utc.{utc_text, with_zeros}
+use Rattle.pie_explain.specs.declared.explanation.Explained.{Explained}
+use Rattle.pie_explain.specs.declared.explanation.Explanation.{Explanation}
+use Rattle.pie_event.specs.declared.setter.Setter.{Setter}
+use Rattle.pie_event.specs.declared.setter.Setter.TheVariants as setter
+
+-- these texts, one after the other
+abbrev pub joined : List (List ℕ) → List ℕ
+joined [] = []
+joined (text ∷ []) = text
+joined (text ∷ (next ∷ texts)) = text ++ joined (next ∷ texts)
+
+-- ---- numbers with their units, the exact whole number in parentheses
+
+-- a time in nanoseconds, in milliseconds
+unfoldable pub millis : ℕ → List ℕ
+millis time = joined (decimal (time / 10 ^ 6) ∷ codes "." ∷ with_zeros 6 (time % 10 ^ 6) ∷ codes " ms (" ∷ decimal time ∷ codes " ns)" ∷ [])
+
+-- a moment: its time of day, where a record tells it, and else its time since the trace's clock began
+unfoldable pub moment_words : Option Clock → ℕ → List ℕ
+moment_words None moment = millis moment
+moment_words (Some clock) moment = joined (utc_text (unix_at clock moment) ∷ codes " (" ∷ decimal moment ∷ codes " ns)" ∷ [])
+
+-- a part in units of 10^-12, in per cent
+unfoldable pub per_cent : ℕ → List ℕ
+per_cent part = joined (decimal (part / 10 ^ 10) ∷ codes "." ∷ with_zeros 4 (part % 10 ^ 10 / 10 ^ 6) ∷ codes " % (" ∷ decimal part ∷ codes ")" ∷ [])
+
+-- a count as a part of all, in per cent
+unfoldable pub share : ℕ → ℕ → List ℕ
+share count all =
+    joined (decimal (count * 10 ^ 6 / max all 1 / 10 ^ 4) ∷ codes "." ∷ with_zeros 4 (count * 10 ^ 6 / max all 1 % 10 ^ 4) ∷ codes " %" ∷ [])
+
+-- a random word as a part of 2^64, in per cent
+unfoldable pub word_text : ℕ → List ℕ
+word_text word =
+    joined (decimal (word * 10 ^ 6 / 2 ^ 64 / 10 ^ 4) ∷ codes "." ∷ with_zeros 4 (word * 10 ^ 6 / 2 ^ 64 % 10 ^ 4) ∷ codes " % (" ∷ decimal word
+    ∷ codes ")" ∷ [])
+
+-- ---- what an event did
+
+-- an ECN field as RFC 3168 names it
+abbrev pub ecn_name : Ecn → List ℕ
+ecn_name NotEct = codes "Not-ECT"
+ecn_name Ect1 = codes "ECT(1)"
+ecn_name Ect0 = codes "ECT(0)"
+ecn_name Ce = codes "CE"
+
+-- what became of an arriving packet
+abbrev pub verdict_text : Answer → List ℕ
+verdict_text Enqueued = codes "queued"
+verdict_text Marked = codes "queued and marked"
+verdict_text DroppedEarly = codes "DROPPED early"
+verdict_text DroppedBytes = codes "DROPPED, no room in bytes"
+verdict_text DroppedPackets = codes "DROPPED, no room in packets"
+verdict_text _ = codes "-"
+
+-- the beginning of the first line of an event about a packet
+unfoldable pub packet_words : ℕ → Packet → List ℕ
+packet_words number packet =
+    joined (codes "event " ∷ decimal number ∷ codes ": packet " ∷ decimal packet.tag ∷ codes ", " ∷ decimal packet.size ∷ codes " bytes, "
+    ∷ ecn_name packet.ecn ∷ codes ": " ∷ [])
+
+unfoldable pub departure_words : ℕ → Answer → ℕ → List ℕ
+departure_words number (Left packet) waited = joined (packet_words number packet ∷ codes "left\n  it had waited " ∷ millis waited ∷ codes "\n" ∷ [])
+departure_words number _ waited = joined (codes "event " ∷ decimal number ∷ codes ": no packet was there to leave\n" ∷ [])
+
+-- an update while the controller is active takes a delay and makes a probability; while it is turned off it does neither
+unfoldable pub update_words : ℕ → Bool → Answer → List ℕ
+update_words number false answer =
+    joined (codes "event " ∷ decimal number
+    ∷ codes ": an update\n  the controller is turned off: the update takes no delay, and makes no probability\n" ∷ [])
+update_words number true (Updated delay prob burst) =
+    joined (codes "event " ∷ decimal number ∷ codes ": an update\n  it took a delay of " ∷ millis delay ∷ codes ", and made the probability "
+    ∷ per_cent prob
+    ∷ codes "\n  and the burst allowance " ∷ millis burst ∷ codes "\n" ∷ [])
+update_words number true _ = joined (codes "event " ∷ decimal number ∷ codes ": an update\n" ∷ [])
+
+unfoldable pub deed_words : ℕ → Bool → Command → Answer → ℕ → List ℕ
+deed_words number active (Arrive moment packet word) answer waited = joined (packet_words number packet ∷ verdict_text answer ∷ codes "\n" ∷ [])
+deed_words number active (Depart moment) answer waited = departure_words number answer waited
+deed_words number active (Update moment) answer waited = update_words number active answer
+deed_words number active (Reset moment) answer waited = joined (codes "event " ∷ decimal number ∷ codes ": a reset\n" ∷ [])
+deed_words number active (SetParams moment params) answer waited = joined (codes "event " ∷ decimal number ∷ codes ": new parameters\n" ∷ [])
+
+-- when, and by whom
+unfoldable pub when_words : Option Clock → ℕ → ℕ → List ℕ
+when_words clock moment caller = joined (codes "  at " ∷ moment_words clock moment ∷ codes ", by caller " ∷ decimal caller ∷ codes "\n" ∷ [])
+
+-- ---- what decided an arrival
+
+-- why a picked packet was marked or dropped
+unfoldable pub picked_words : Fate → List ℕ
+picked_words (fate.Marked threshold) = joined (codes "  marked: its endpoints understand a mark, and the probability is below " ∷ per_cent threshold
+    ∷ codes "\n" ∷ [])
+picked_words fate.NotCapable = codes "  dropped: its endpoints do not understand a mark\n"
+picked_words (fate.NotBelow threshold) = joined (codes "  dropped, not marked: the probability is not below " ∷ per_cent threshold ∷ codes "\n" ∷ [])
+
+-- what the probability comes to for a packet whose size scales it; nothing where that is the probability itself
+unfoldable pub scaled_words : ℕ → ℕ → List ℕ
+scaled_words prob counted =
+    if counted == prob then []
+    else joined (codes "  the probability, " ∷ per_cent prob ∷ codes ", comes to " ∷ per_cent counted ∷ codes " for a packet of this size\n" ∷ [])
+
+-- what was accumulated, with what the probability counts as for this arrival
+unfoldable pub total_words : ℕ → ℕ → List ℕ
+total_words accu counted = joined (codes "  the accumulated probability, with this one, is " ∷ per_cent (min (accu + counted) (2 ^ 64 - 1)) ∷ [])
+
+unfoldable pub sum_words : ℕ → ℕ → ℕ → List ℕ
+sum_words prob accu counted = joined (scaled_words prob counted ∷ total_words accu counted ∷ [])
+
+-- what the random word is compared with
+unfoldable pub counted_name : ℕ → ℕ → List ℕ
+counted_name prob counted = if counted == prob then codes "the probability" else codes "what that comes to"
+
+-- how the random word compares with what the probability, by this name, counts as
+unfoldable pub compared_words : List ℕ → ℕ → ℕ → List ℕ → List ℕ → List ℕ
+compared_words name word counted outcome compares =
+    joined (codes "\n  " ∷ outcome ∷ codes ": its random word, " ∷ word_text word ∷ codes ", " ∷ compares ∷ codes " " ∷ name ∷ codes ", "
+    ∷ per_cent counted ∷ codes "\n" ∷ [])
+
+-- where the probability counts as one above 0
+unfoldable pub considered_words : ℕ → Cause → List ℕ
+considered_words prob (LittleAccumulated accu counted) = joined (sum_words prob accu counted ∷ codes ", below 85 %\n" ∷ [])
+considered_words prob (PickedBySum accu counted picked) = joined (sum_words prob accu counted ∷ codes ", at least 850 %\n" ∷ picked_words picked ∷ [])
+considered_words prob (PickedByWord accu counted word picked) = joined
+    (sum_words prob accu counted ∷ compared_words (counted_name prob counted) word counted (codes "picked") (codes "is below") ∷ picked_words picked
+    ∷ [])
+considered_words prob (WordNotBelow accu counted word) = joined
+    (sum_words prob accu counted ∷ compared_words (counted_name prob counted) word counted (codes "not picked") (codes "is not below") ∷ [])
+considered_words prob _ = codes ""
+
+-- where it counts as 0
+unfoldable pub never_words : ℕ → List ℕ
+never_words prob = if prob == 0 then codes "  the probability is 0\n" else scaled_words prob 0
+
+-- what decided it, at this probability
+unfoldable pub cause_words : ℕ → Cause → List ℕ
+cause_words shown (NoRoomInBytes bytes size limit) =
+    joined (codes "  the queue holds " ∷ decimal bytes ∷ codes " bytes: with " ∷ decimal size ∷ codes " more it would be above its limit of "
+    ∷ decimal limit ∷ codes "\n" ∷ [])
+cause_words shown (NoRoomInPackets packets) = joined (codes "  the ring is full: it holds " ∷ decimal packets ∷ codes " packets\n" ∷ [])
+cause_words shown Inactive = codes "  the controller is turned off\n"
+cause_words shown (BurstAllowed burst) = joined (codes "  a burst is allowed: " ∷ millis burst ∷ codes " are left of it\n" ∷ [])
+cause_words shown (LowDelay old_delay target prob) =
+    joined (codes "  the old delay, " ∷ millis old_delay ∷ codes ", is below half the target of " ∷ millis target
+    ∷ codes ",\n  and the probability, " ∷ per_cent prob ∷ codes ", below 20 %\n" ∷ [])
+cause_words shown (ShortQueue bytes mean_pkt) =
+    joined (codes "  the queue is short: " ∷ decimal bytes ∷ codes " bytes, at most two mean packets (" ∷ decimal (2 * mean_pkt)
+    ∷ codes " bytes)\n" ∷ [])
+cause_words shown NoProbability = never_words shown
+cause_words shown cause = considered_words shown cause
+
+-- nothing of an event that is no arrival
+unfoldable pub reason_words : ℕ → Option Cause → List ℕ
+reason_words prob None = codes ""
+reason_words prob (Some cause) = cause_words prob cause
+
+-- ---- how long what decided it goes on, by the laws of docs/GUARANTEES.md
+
+-- while a burst is allowed: what is left of it is used up by updates after the last one (`bursts_are_let_in_so_long`)
+unfoldable pub not_before_words : Option Clock → ℕ → ℕ → List ℕ
+not_before_words clock last burst =
+    joined (codes "  with unchanged parameters nothing is marked or dropped early before " ∷ moment_words clock (min (last + burst) (2 ^ 64 - 1))
+    ∷ codes "\n" ∷ [])
+
+-- while little is accumulated: how many considered packets come to 0.85 (`picks_are_far_apart`)
+unfoldable pub seldom_words : ℕ → List ℕ
+seldom_words counted =
+    joined (codes "  where each counts as this one, at most one of " ∷ decimal (849_999_999_999 / max counted 1 + 1)
+    ∷ codes " considered packets in a row is picked\n" ∷ [])
+
+unfoldable pub lasting_words : Option Clock → ℕ → Option Cause → List ℕ
+lasting_words clock last (Some (BurstAllowed burst)) = not_before_words clock last burst
+lasting_words clock last (Some (LittleAccumulated accu counted)) = seldom_words counted
+lasting_words clock last _ = codes ""
+
+-- ---- whether the event turned the controller on or off
+
+-- .. where it was active before it or not, and is active after it or not
+unfoldable pub turned_words : Bool → Bool → List ℕ
+turned_words false true = codes "  this event turned the controller on\n"
+turned_words true false = codes "  this event turned the controller off\n"
+turned_words true true = codes ""
+turned_words false false = codes ""
+
+-- ---- what the controller held before the event
+
+-- the last of so many updates, at this moment
+unfoldable pub last_words : Option Clock → ℕ → ℕ → List ℕ
+last_words clock updates last =
+    if updates == 0 then codes " no update so far;" else joined (codes " last update at " ∷ moment_words clock last ∷ codes ";" ∷ [])
+
+unfoldable pub setter_words : Setter → Registers → List ℕ
+setter_words setter.Opening before = joined (codes "  probability " ∷ per_cent before.prob ∷ codes ", as at the opening;" ∷ [])
+setter_words (setter.Event event) before =
+    joined (codes "  probability " ∷ per_cent before.prob ∷ codes ", set by event " ∷ decimal event ∷ codes ";" ∷ [])
+setter_words setter.Untold before = joined (codes "  probability " ∷ per_cent before.prob ∷ codes ", set before this text begins;" ∷ [])
+
+unfoldable pub queue_words : ℕ → ℕ → ℕ → List ℕ
+queue_words packets bytes delay =
+    joined (codes "  before it: " ∷ decimal packets ∷ codes " packets, " ∷ decimal bytes ∷ codes " bytes, a delay of " ∷ millis delay ∷ codes "\n"
+    ∷ [])
+
+unfoldable pub burst_words : ℕ → List ℕ
+burst_words burst = joined (codes " burst allowance " ∷ millis burst ∷ codes "\n" ∷ [])
+
+unfoldable pub before_words : Option Clock → Explanation → List ℕ
+before_words clock told =
+    joined (queue_words told.before.packets told.before.bytes told.delay ∷ setter_words told.set_by told.before
+    ∷ last_words clock told.updates told.before.last
+    ∷ burst_words told.before.burst ∷ [])
+
+-- ---- the whole
+
+-- .. whose moments are told as times of day, where this record tells them
+unfoldable pub words_by : Option Clock → Explained → List ℕ
+words_by clock all =
+    joined (deed_words all.told.number all.told.before.active all.told.event.command all.told.event.answer all.told.waited
+    ∷ when_words clock all.told.moment all.told.event.caller ∷ reason_words all.told.before.prob all.told.cause
+    ∷ lasting_words clock all.told.before.last all.told.cause ∷ turned_words all.told.before.active all.after.active
+    ∷ before_words clock all.told ∷ [])
+
+-- .. by the trace's clock
+abbrev pub words : Explained → List ℕ
+words all = words_by None all

@@ -1,0 +1,152 @@
+//! What there is to say of one event.
+ghost use Rattle.std.specs.Prelude.{◌≡◌, List};
+ghost use Rattle.pie_event.specs.declared.command.Event.{Event};
+ghost use Rattle.pie_event.specs.declared.opening.Opening.{Opening};
+ghost use Rattle.pie_book.specs.Core.{Shows};
+ghost use Rattle.pie_event.specs.Deed.{deed_of, is_update};
+ghost use Rattle.pie_book.specs.History.{waiting_after};
+ghost use Rattle.pie_book.specs.Statistics.{count_of, wait_of};
+ghost use Rattle.pie_explain.specs.Explanation.{moment_of};
+
+use pie_book::{Answer, Cause, Command, Core, Event, Registers};
+use pie_event::Setter;
+use pie_record::Clock;
+
+/// One event and the numbers that it met: all are those of before the event. Times are in nanoseconds, probabilities in units
+/// of `10^-12`.
+#[derive(Clone, Copy, Debug)]
+pub struct Explanation {
+    /// The number of the event, counted from 1.
+    pub number: u64,
+    /// The event.
+    pub event: Event,
+    /// Its effective moment: the greatest handed in up to it.
+    pub moment: u64,
+    /// What the controller held before it.
+    pub before: Registers,
+    /// The queueing delay before it (RFC 8033, section 5.2).
+    pub delay: u64,
+    /// What decided it, where it is an arrival.
+    pub cause: Option<Cause>,
+    /// How long the packet had waited that left, and 0 for any other event.
+    pub waited: u64,
+    /// The last event before it that set the probability: an update while the controller was active, a reset, or an arrival that turned
+    /// it on.
+    pub set_by: Setter,
+    /// How many updates there were before it.
+    pub updates: u64,
+    /// The last record before it that tells the time of day.
+    pub clock: Option<Clock>,
+}
+
+/// An explanation, and what the controller held after the event.
+#[derive(Clone, Copy, Debug)]
+pub struct Explained {
+    /// The event and the numbers that it met.
+    pub told: Explanation,
+    /// What the controller held after it.
+    pub after: Registers,
+    /// The queueing delay after it (RFC 8033, section 5.2).
+    pub delay: u64,
+}
+
+/// How long the packet had waited that an event let go, at its effective moment, and 0 for any other event.
+fn waited(core: &Core, event: &Event, now: u64) -> u64
+    ensures { (opening : Opening) (history : List Event) → Shows opening core.now history
+        → result ≡ wait_of (deed_of event.now) now (waiting_after opening history) }
+{
+    match event.command {
+        Command::Depart { .. } => match event.answer {
+            Answer::Left(_) => match core.waiting(0) {
+                Some(oldest) => now.saturating_sub(oldest.since.units()),
+                None => 0,
+            },
+            _ => 0,
+        },
+        _ => 0,
+    }
+}
+
+/// How many updates a core has made.
+fn updates(core: &Core) -> u64
+    ensures { (opening : Opening) (history : List Event) → Shows opening core.now history → result ≡ count_of is_update history }
+{
+    core.stats().updates
+}
+
+/// The effective moment of an event that a core is about to decide.
+pub fn moment_of(core: &Core, event: &Event) -> u64
+    ensures { (opening : Opening) (history : List Event) → Shows opening core.now history → result ≡ moment_of opening history event.now }
+{
+    let before = core.registers();
+    let handed_in = event.command.moment();
+    before.moment.max(handed_in)
+}
+
+impl Explanation {
+    ghost use Rattle.pie_explain.specs.Explanation.{explanation};
+
+    /// What there is to say of an event with this number that a core is about to decide, where `set_by` is what last set the
+    /// probability, and `clock` the last record that tells the time of day. The core is as it was.
+    #[inline(always)]
+    pub(crate) fn of(
+        core: &Core,
+        number: u64,
+        event: &Event,
+        set_by: Setter,
+        clock: Option<Clock>,
+    ) -> Explanation
+        ensures { (opening : Opening) (history : List Event) → Shows opening core.now history
+            → result ≡ explanation opening history number event.now set_by clock }
+    {
+        let before = core.registers();
+        let now = moment_of(core, event);
+        Explanation {
+            number,
+            event: *event,
+            moment: now,
+            before,
+            delay: core.delay(),
+            cause: core.cause(&event.command),
+            waited: waited(core, event, now),
+            set_by,
+            updates: updates(core),
+            clock,
+        }
+    }
+}
+
+impl Explained {
+    ghost use Rattle.pie_book.specs.Estimates.{delay_after};
+    ghost use Rattle.pie_book.specs.Registers.{registers_after};
+    ghost use Rattle.pie_explain.specs.Explanation.{explanation, with_after};
+
+    /// What there is to say of an event that a core is about to decide, as `Explanation::of` says it, made where it stays: as long as
+    /// the core has not decided it, what it held before stands in the place of what it holds after.
+    #[inline(always)]
+    pub fn begin(
+        core: &Core,
+        number: u64,
+        event: &Event,
+        set_by: Setter,
+        clock: Option<Clock>,
+    ) -> Explained
+        ensures told { (opening : Opening) (history : List Event) → Shows opening core.now history
+            → result.told ≡ explanation opening history number event.now set_by clock }
+        ensures held { (opening : Opening) (history : List Event) → Shows opening core.now history
+            → (result.after ≡ registers_after opening history) × (result.delay ≡ delay_after opening history) }
+    {
+        let told = Explanation::of(core, number, event, set_by, clock);
+        let (after, delay) = (told.before, told.delay);
+        Explained { told, after, delay }
+    }
+
+    /// Takes what a core holds that has decided the event.
+    #[inline(always)]
+    pub fn end(&mut self, core: &Core)
+        ensures { (opening : Opening) (history : List Event) → Shows opening core.now history → self.new ≡ with_after opening history self.old.told }
+    {
+        self.after = core.registers();
+        self.delay = core.delay();
+    }
+}

@@ -1,0 +1,124 @@
+//! What is written of the explained events.
+ghost use Rattle.std.specs.Prelude.{◌≡◌, ◌++◌, ◌∷◌, [], ℕ, List, IfOk, OnOk};
+ghost use Rattle.pie_explain.specs.declared.explanation.Explained.{Explained};
+ghost use Rattle.pie_explain.specs.Output.{header, said_of};
+ghost use Rattle.pie_explain.specs.Report.{Grows};
+ghost use Rattle.pie_explain.specs.Words.{words_by};
+
+use crate::explanation::Explained;
+use crate::form::Form;
+use crate::record::{HEADER, HEADER_BY_WALL, RecordWriter};
+use crate::text::push_text;
+use pie_page::Page;
+use pie_record::Clock;
+use std::alloc::AllocError;
+
+/// What is written of the explained events, one after another.
+///
+/// `so_far all` is the text of these events while more may come, and `whole all` the text where none comes any more. `shows state all` says
+/// that what is kept was shown these events.
+pub trait Report: Drop {
+    /// What is kept from event to event.
+    type State: Drop;
+
+    ghost shows: { Self → Self.State → List Explained → Type 0 };
+
+    ghost so_far: { Self → List Explained → List ℕ };
+
+    ghost whole: { Self → List Explained → List ℕ };
+
+    /// Writes onto a page what stands before the first event.
+    fn begin(&self, page: &mut Page) -> Result<Self::State, AllocError>
+        ensures shown { IfOk result (λ state. shows self.now state []) }
+        ensures written { OnOk result (page.new ≡ page.old ++ so_far self.now []) };
+
+    /// Writes onto a page what one more event adds.
+    fn tell(
+        &self,
+        state: &mut Self::State,
+        told: &Explained,
+        page: &mut Page,
+    ) -> Result<(), AllocError>
+        ensures { (all : List Explained) → shows self.now state.old all
+            → OnOk result (shows self.now state.new (all ++ told.now ∷ [])
+            × Grows (so_far self.now all) (so_far self.now (all ++ told.now ∷ [])) page.old page.new) };
+
+    /// Writes onto a page what stands behind the last event.
+    fn end(&self, state: &Self::State, page: &mut Page) -> Result<(), AllocError>
+        ensures { (all : List Explained) → shows self.now state.now all
+            → OnOk result (Grows (so_far self.now all) (whole self.now all) page.old page.new) };
+}
+
+/// Writes what stands before the first explanation: for CSV the header row.
+#[tactic(auto, unfolding(crate::specs::Output::header))]
+fn push_header(page: &mut Page, form: Form) -> Result<(), AllocError>
+    ensures { OnOk result (page.new ≡ page.old ++ header form) }
+{
+    match form {
+        Form::Text | Form::TextByWall => Ok(()),
+        Form::Csv => page.push(HEADER.as_bytes()),
+        Form::CsvByWall => page.push(HEADER_BY_WALL.as_bytes()),
+    }
+}
+
+/// Writes an explanation in words onto the page, its moments as times of day where this record tells them.
+///
+/// # Errors
+///
+/// `AllocError` where there is no memory.
+pub fn push_words(page: &mut Page, clock: Option<Clock>, told: &Explained) -> Result<(), AllocError>
+    ensures { OnOk result (page.new ≡ page.old ++ words_by clock told.now) }
+{
+    let mut text = page.words();
+    push_text(&mut text, clock, told)?;
+    page.put(text)
+}
+
+/// Writes an explanation onto the page.
+#[tactic(auto, unfolding(crate::specs::Output::said_of))]
+fn push_said(
+    page: &mut Page,
+    records: &mut RecordWriter,
+    form: Form,
+    told: &Explained,
+) -> Result<(), AllocError>
+    ensures { OnOk result (page.new ≡ page.old ++ said_of form told.now) }
+{
+    match form {
+        Form::Text => push_words(page, None, told),
+        Form::Csv => records.push(page, told),
+        Form::TextByWall => push_words(page, told.told.clock, told),
+        Form::CsvByWall => records.push_by_wall(page, told),
+    }
+}
+
+impl Report for Form {
+    type State = RecordWriter;
+
+    ghost use Rattle.std.specs.Prelude.{⊤};
+    ghost use Rattle.pie_explain.specs.Output.{pages};
+
+    ghost shows = { λ form state all. ⊤ };
+
+    ghost so_far = { pages };
+
+    ghost whole = { pages };
+
+    fn begin(&self, page: &mut Page) -> Result<RecordWriter, AllocError> {
+        push_header(page, *self)?;
+        Ok(RecordWriter::new())
+    }
+
+    fn tell(
+        &self,
+        state: &mut RecordWriter,
+        told: &Explained,
+        page: &mut Page,
+    ) -> Result<(), AllocError> {
+        push_said(page, state, *self, told)
+    }
+
+    fn end(&self, state: &RecordWriter, page: &mut Page) -> Result<(), AllocError> {
+        Ok(())
+    }
+}

@@ -1,0 +1,600 @@
+//! An explanation in words, of four to nine lines.
+ghost use Rattle.std.specs.Prelude.{◌≡◌, ◌++◌, ◌∷◌, [], OnOk, codes, string_bytes, true};
+ghost use Rattle.std.specs.Fmt.{decimal};
+ghost use Rattle.pie_event.specs.declared.cause.Cause.TheVariants.{BurstAllowed, LowDelay, NoRoomInBytes, NoRoomInPackets, ShortQueue};
+ghost use Rattle.pie_event.specs.declared.command.Answer.TheVariants.{Updated};
+ghost use Rattle.pie_explain.specs.Words.{before_words, burst_words, cause_words, compared_words, considered_words, counted_name, deed_words};
+ghost use Rattle.pie_explain.specs.Words.{departure_words, joined, never_words, per_cent, scaled_words, total_words};
+ghost use Rattle.pie_explain.specs.Words.{lasting_words, not_before_words, seldom_words};
+ghost use Rattle.pie_explain.specs.Words.{ecn_name, last_words, packet_words, picked_words, queue_words, reason_words, setter_words};
+ghost use Rattle.pie_explain.specs.Words.{sum_words, turned_words, update_words, verdict_text, when_words, words_by};
+
+use crate::explanation::{Explained, Explanation};
+use crate::units::{Millis, MomentWords, PerCent, Word};
+use pie_book::{Answer, Cause, Command, Fate, Registers};
+use pie_event::Setter;
+use pie_queue::{Ecn, Packet};
+use pie_record::Clock;
+use std::alloc::AllocError;
+
+/// An ECN field as RFC 3168 names it.
+fn ecn_name(ecn: Ecn) -> &'static str
+    ensures { result.now ≡ ecn_name ecn }
+{
+    match ecn {
+        Ecn::NotEct => "Not-ECT",
+        Ecn::Ect1 => "ECT(1)",
+        Ecn::Ect0 => "ECT(0)",
+        Ecn::Ce => "CE",
+    }
+}
+
+/// What became of an arriving packet.
+fn verdict_text(answer: Answer) -> &'static str
+    ensures { result.now ≡ verdict_text answer }
+{
+    match answer {
+        Answer::Enqueued => "queued",
+        Answer::Marked => "queued and marked",
+        Answer::DroppedEarly => "DROPPED early",
+        Answer::DroppedBytes => "DROPPED, no room in bytes",
+        Answer::DroppedPackets => "DROPPED, no room in packets",
+        Answer::Empty | Answer::Left(_) | Answer::Updated { .. } | Answer::Done => "-",
+    }
+}
+
+/// The beginning of the first line of an event about a packet.
+#[tactic(auto, unfolding(crate::specs::Words::packet_words))]
+fn push_packet(page: &mut String, number: u64, packet: Packet) -> Result<(), AllocError>
+    ensures { OnOk result (string_bytes page.new ≡ string_bytes page.old ++ packet_words number packet) }
+{
+    let Packet { tag, size, ecn } = packet;
+    let ecn = ecn_name(ecn);
+    write!(page, "event {number}: packet {tag}, {size} bytes, {ecn}: ")
+}
+
+/// The first line of an event with no packet, and what follows there.
+fn push_event(page: &mut String, number: u64, rest: &str) -> Result<(), AllocError>
+    ensures { OnOk result (string_bytes page.new ≡ string_bytes page.old ++ joined (codes "event " ∷ decimal number ∷ rest.now ∷ [])) }
+{
+    write!(page, "event {number}{rest}")
+}
+
+/// The first lines of a departure.
+#[tactic(auto, unfolding(crate::specs::Words::departure_words))]
+fn push_departure(
+    page: &mut String,
+    number: u64,
+    answer: Answer,
+    waited: u64,
+) -> Result<(), AllocError>
+    ensures { OnOk result (string_bytes page.new ≡ string_bytes page.old ++ departure_words number answer waited) }
+{
+    match answer {
+        Answer::Left(packet) => {
+            let waited = Millis(waited);
+            push_packet(page, number, packet)?;
+            write!(page, "left\n  it had waited {waited}\n")
+        }
+        _ => push_event(page, number, ": no packet was there to leave\n"),
+    }
+}
+
+/// The first lines of an update that took a delay.
+#[tactic(auto, unfolding(crate::specs::Words::update_words))]
+fn push_updated(
+    page: &mut String,
+    number: u64,
+    delay: u64,
+    prob: u64,
+    burst: u64,
+) -> Result<(), AllocError>
+    ensures { OnOk result (string_bytes page.new ≡ string_bytes page.old ++ update_words number true (Updated delay prob burst)) }
+{
+    let (delay, prob, burst) = (Millis(delay), PerCent(prob), Millis(burst));
+    write!(
+        page,
+        "event {number}: an update\n  it took a delay of {delay}, and made the probability {prob}\n  and the burst allowance {burst}\n"
+    )
+}
+
+/// The first lines of an update.
+#[tactic(auto, unfolding(crate::specs::Words::update_words))]
+fn push_update(
+    page: &mut String,
+    number: u64,
+    active: bool,
+    answer: Answer,
+) -> Result<(), AllocError>
+    ensures { OnOk result (string_bytes page.new ≡ string_bytes page.old ++ update_words number active answer) }
+{
+    if !active {
+        return push_event(
+            page,
+            number,
+            ": an update\n  the controller is turned off: the update takes no delay, and makes no probability\n",
+        );
+    }
+    match answer {
+        Answer::Updated { delay, prob, burst } => push_updated(page, number, delay, prob, burst),
+        _ => push_event(page, number, ": an update\n"),
+    }
+}
+
+/// The first line of an arrival.
+fn push_arrival(
+    page: &mut String,
+    number: u64,
+    packet: Packet,
+    answer: Answer,
+) -> Result<(), AllocError>
+    ensures { OnOk result (string_bytes page.new ≡ string_bytes page.old
+        ++ joined (packet_words number packet ∷ verdict_text answer ∷ codes "\n" ∷ [])) }
+{
+    push_packet(page, number, packet)?;
+    let verdict = verdict_text(answer);
+    write!(page, "{verdict}\n")
+}
+
+/// The first lines: what the event did.
+#[tactic(auto, unfolding(crate::specs::Words::deed_words))]
+fn push_deed(
+    page: &mut String,
+    number: u64,
+    active: bool,
+    command: Command,
+    answer: Answer,
+    waited: u64,
+) -> Result<(), AllocError>
+    ensures { OnOk result (string_bytes page.new ≡ string_bytes page.old ++ deed_words number active command answer waited) }
+{
+    match command {
+        Command::Arrive { packet, .. } => push_arrival(page, number, packet, answer),
+        Command::Depart { .. } => push_departure(page, number, answer, waited),
+        Command::Update { .. } => push_update(page, number, active, answer),
+        Command::Reset { .. } => push_event(page, number, ": a reset\n"),
+        Command::SetParams { .. } => push_event(page, number, ": new parameters\n"),
+    }
+}
+
+/// When the event was, and whose it was.
+#[tactic(auto, unfolding(crate::specs::Words::when_words))]
+fn push_when(
+    page: &mut String,
+    clock: Option<Clock>,
+    moment: u64,
+    caller: u16,
+) -> Result<(), AllocError>
+    ensures { OnOk result (string_bytes page.new ≡ string_bytes page.old ++ when_words clock moment caller) }
+{
+    let now = MomentWords { clock, moment };
+    write!(page, "  at {now}, by caller {caller}\n")
+}
+
+/// A line that ends with the threshold of marking.
+fn push_threshold(page: &mut String, text: &str, threshold: u64) -> Result<(), AllocError>
+    ensures { OnOk result (string_bytes page.new ≡ string_bytes page.old ++ joined (text.now ∷ per_cent threshold ∷ codes "\n" ∷ [])) }
+{
+    let threshold = PerCent(threshold);
+    write!(page, "{text}{threshold}\n")
+}
+
+/// Why a picked packet was marked or dropped.
+#[tactic(auto, unfolding(crate::specs::Words::picked_words))]
+fn push_fate(page: &mut String, fate: Fate) -> Result<(), AllocError>
+    ensures { OnOk result (string_bytes page.new ≡ string_bytes page.old ++ picked_words fate) }
+{
+    match fate {
+        Fate::Marked { threshold } => push_threshold(
+            page,
+            "  marked: its endpoints understand a mark, and the probability is below ",
+            threshold,
+        ),
+        Fate::NotCapable => write!(page, "  dropped: its endpoints do not understand a mark\n"),
+        Fate::NotBelow { threshold } => push_threshold(
+            page,
+            "  dropped, not marked: the probability is not below ",
+            threshold,
+        ),
+    }
+}
+
+/// What the probability comes to for a packet whose size scales it; nothing where that is the probability itself.
+#[tactic(auto, unfolding(crate::specs::Words::scaled_words))]
+fn push_scaled(page: &mut String, prob: u64, counted: u64) -> Result<(), AllocError>
+    ensures { OnOk result (string_bytes page.new ≡ string_bytes page.old ++ scaled_words prob counted) }
+{
+    if counted == prob {
+        return Ok(());
+    }
+    let (prob, counted) = (PerCent(prob), PerCent(counted));
+    write!(
+        page,
+        "  the probability, {prob}, comes to {counted} for a packet of this size\n"
+    )
+}
+
+/// What was accumulated, with what the probability counts as for this arrival.
+#[tactic(auto, unfolding(crate::specs::Words::total_words))]
+fn push_total(page: &mut String, accu: u64, counted: u64) -> Result<(), AllocError>
+    ensures { OnOk result (string_bytes page.new ≡ string_bytes page.old ++ total_words accu counted) }
+{
+    let sum = PerCent(accu.saturating_add(counted));
+    write!(
+        page,
+        "  the accumulated probability, with this one, is {sum}"
+    )
+}
+
+/// The same, below what the probability comes to, where that is not the probability itself.
+#[tactic(auto, unfolding(crate::specs::Words::sum_words))]
+fn push_sum(page: &mut String, prob: u64, accu: u64, counted: u64) -> Result<(), AllocError>
+    ensures { OnOk result (string_bytes page.new ≡ string_bytes page.old ++ sum_words prob accu counted) }
+{
+    push_scaled(page, prob, counted)?;
+    push_total(page, accu, counted)
+}
+
+/// What the random word is compared with.
+#[tactic(auto, unfolding(crate::specs::Words::counted_name))]
+fn counted_name(prob: u64, counted: u64) -> &'static str
+    ensures { result.now ≡ counted_name prob counted }
+{
+    if counted == prob {
+        "the probability"
+    } else {
+        "what that comes to"
+    }
+}
+
+/// How the random word compares with what the probability, by this name, counts as.
+#[tactic(auto, unfolding(crate::specs::Words::compared_words))]
+fn push_word(
+    page: &mut String,
+    name: &str,
+    word: u64,
+    counted: u64,
+    outcome: &str,
+    compares: &str,
+) -> Result<(), AllocError>
+    ensures { OnOk result (string_bytes page.new ≡ string_bytes page.old ++ compared_words name.now word counted outcome.now compares.now) }
+{
+    let (word, counted) = (Word(word), PerCent(counted));
+    write!(
+        page,
+        "\n  {outcome}: its random word, {word}, {compares} {name}, {counted}\n"
+    )
+}
+
+/// Why nothing could pick an arrival: the probability is 0, or comes to it.
+#[tactic(auto, unfolding(crate::specs::Words::never_words))]
+fn push_never(page: &mut String, prob: u64) -> Result<(), AllocError>
+    ensures { OnOk result (string_bytes page.new ≡ string_bytes page.old ++ never_words prob) }
+{
+    if prob == 0 {
+        return write!(page, "  the probability is 0\n");
+    }
+    push_scaled(page, prob, 0)
+}
+
+/// Why an arrival met no room in bytes.
+#[tactic(auto, unfolding(crate::specs::Words::cause_words))]
+fn push_no_room(page: &mut String, bytes: u64, size: u32, limit: u64) -> Result<(), AllocError>
+    ensures { OnOk result (string_bytes page.new ≡ string_bytes page.old ++ cause_words 0 (NoRoomInBytes bytes size limit)) }
+{
+    write!(
+        page,
+        "  the queue holds {bytes} bytes: with {size} more it would be above its limit of {limit}\n"
+    )
+}
+
+/// How low the delay and the probability were.
+#[tactic(auto, unfolding(crate::specs::Words::cause_words))]
+fn push_low_delay(
+    page: &mut String,
+    old_delay: u64,
+    target: u64,
+    prob: u64,
+) -> Result<(), AllocError>
+    ensures { OnOk result (string_bytes page.new ≡ string_bytes page.old ++ cause_words 0 (LowDelay old_delay target prob)) }
+{
+    let (old_delay, target, prob) = (Millis(old_delay), Millis(target), PerCent(prob));
+    write!(
+        page,
+        "  the old delay, {old_delay}, is below half the target of {target},\n  and the probability, {prob}, below 20 %\n"
+    )
+}
+
+/// How short the queue was.
+#[tactic(auto, unfolding(crate::specs::Words::cause_words))]
+fn push_short_queue(page: &mut String, bytes: u64, mean_pkt: u64) -> Result<(), AllocError>
+    ensures { OnOk result (string_bytes page.new ≡ string_bytes page.old ++ cause_words 0 (ShortQueue bytes mean_pkt)) }
+{
+    let two_packets = 2 * u128::from(mean_pkt);
+    write!(
+        page,
+        "  the queue is short: {bytes} bytes, at most two mean packets ({two_packets} bytes)\n"
+    )
+}
+
+/// What was left of a burst.
+#[tactic(auto, unfolding(crate::specs::Words::cause_words))]
+fn push_allowed(page: &mut String, burst: u64) -> Result<(), AllocError>
+    ensures { OnOk result (string_bytes page.new ≡ string_bytes page.old ++ cause_words 0 (BurstAllowed burst)) }
+{
+    let burst = Millis(burst);
+    write!(page, "  a burst is allowed: {burst} are left of it\n")
+}
+
+/// How many packets filled the ring.
+#[tactic(auto, unfolding(crate::specs::Words::cause_words))]
+fn push_full(page: &mut String, packets: u64) -> Result<(), AllocError>
+    ensures { OnOk result (string_bytes page.new ≡ string_bytes page.old ++ cause_words 0 (NoRoomInPackets packets)) }
+{
+    write!(page, "  the ring is full: it holds {packets} packets\n")
+}
+
+/// Why an arrival was decided so, at this probability.
+#[tactic(auto, unfolding(crate::specs::Words::cause_words))]
+fn push_cause(page: &mut String, shown: u64, cause: Cause) -> Result<(), AllocError>
+    ensures { OnOk result (string_bytes page.new ≡ string_bytes page.old ++ cause_words shown cause) }
+{
+    match cause {
+        Cause::NoRoomInBytes { bytes, size, limit } => push_no_room(page, bytes, size, limit),
+        Cause::NoRoomInPackets { packets } => push_full(page, packets),
+        Cause::Inactive => write!(page, "  the controller is turned off\n"),
+        Cause::BurstAllowed { burst } => push_allowed(page, burst),
+        Cause::LowDelay {
+            old_delay,
+            target,
+            prob,
+        } => push_low_delay(page, old_delay, target, prob),
+        Cause::ShortQueue { bytes, mean_pkt } => push_short_queue(page, bytes, mean_pkt),
+        Cause::NoProbability => push_never(page, shown),
+        _ => push_considered(page, shown, cause),
+    }
+}
+
+/// What was accumulated, and what it is compared with.
+fn push_against(
+    page: &mut String,
+    shown: u64,
+    accu: u64,
+    prob: u64,
+    against: &str,
+) -> Result<(), AllocError>
+    ensures { OnOk result (string_bytes page.new ≡ string_bytes page.old ++ joined (sum_words shown accu prob ∷ against.now ∷ [])) }
+{
+    push_sum(page, shown, accu, prob)?;
+    page.push_str(against)
+}
+
+/// What was accumulated, and how the random word compares.
+fn push_compared(
+    page: &mut String,
+    shown: u64,
+    accu: u64,
+    prob: u64,
+    word: u64,
+    outcome: &str,
+    compares: &str,
+) -> Result<(), AllocError>
+    ensures { OnOk result (string_bytes page.new ≡ string_bytes page.old
+        ++ joined (sum_words shown accu prob ∷ compared_words (counted_name shown prob) word prob outcome.now compares.now ∷ [])) }
+{
+    push_sum(page, shown, accu, prob)?;
+    let name = counted_name(shown, prob);
+    push_word(page, name, word, prob, outcome, compares)
+}
+
+/// Why an arrival was decided so that was considered, where the probability counted as one above 0.
+#[tactic(auto, unfolding(crate::specs::Words::considered_words))]
+fn push_considered(page: &mut String, shown: u64, cause: Cause) -> Result<(), AllocError>
+    ensures { OnOk result (string_bytes page.new ≡ string_bytes page.old ++ considered_words shown cause) }
+{
+    match cause {
+        Cause::LittleAccumulated { accu, prob } => {
+            push_against(page, shown, accu, prob, ", below 85 %\n")
+        }
+        Cause::PickedBySum { accu, prob, fate } => {
+            push_against(page, shown, accu, prob, ", at least 850 %\n")?;
+            push_fate(page, fate)
+        }
+        Cause::PickedByWord {
+            accu,
+            prob,
+            word,
+            fate,
+        } => {
+            push_compared(page, shown, accu, prob, word, "picked", "is below")?;
+            push_fate(page, fate)
+        }
+        Cause::WordNotBelow { accu, prob, word } => {
+            push_compared(page, shown, accu, prob, word, "not picked", "is not below")
+        }
+        _ => Ok(()),
+    }
+}
+
+/// Why an event was decided so, at this probability; nothing of one that is no arrival.
+#[tactic(auto, unfolding(crate::specs::Words::reason_words))]
+fn push_reason(page: &mut String, prob: u64, cause: Option<Cause>) -> Result<(), AllocError>
+    ensures { OnOk result (string_bytes page.new ≡ string_bytes page.old ++ reason_words prob cause) }
+{
+    match cause {
+        Some(cause) => push_cause(page, prob, cause),
+        None => Ok(()),
+    }
+}
+
+/// Until when nothing is marked or dropped early, by what is left of a burst after the last update.
+#[tactic(auto, unfolding(crate::specs::Words::not_before_words))]
+fn push_not_before(
+    page: &mut String,
+    clock: Option<Clock>,
+    last: u64,
+    burst: u64,
+) -> Result<(), AllocError>
+    ensures { OnOk result (string_bytes page.new ≡ string_bytes page.old ++ not_before_words clock last burst) }
+{
+    let moment = MomentWords {
+        clock,
+        moment: last.saturating_add(burst),
+    };
+    write!(
+        page,
+        "  with unchanged parameters nothing is marked or dropped early before {moment}\n"
+    )
+}
+
+/// How seldom packets are picked for which the probability counts so.
+#[tactic(auto, unfolding(crate::specs::Words::seldom_words))]
+fn push_seldom(page: &mut String, counted: u64) -> Result<(), AllocError>
+    ensures { OnOk result (string_bytes page.new ≡ string_bytes page.old ++ seldom_words counted) }
+{
+    let many = 849_999_999_999 / counted.max(1) + 1;
+    write!(
+        page,
+        "  where each counts as this one, at most one of {many} considered packets in a row is picked\n"
+    )
+}
+
+/// How long what decided an arrival goes on, where a bound says it, the last update having been at this moment.
+#[tactic(auto, unfolding(crate::specs::Words::lasting_words))]
+fn push_lasting(
+    page: &mut String,
+    clock: Option<Clock>,
+    last: u64,
+    cause: Option<Cause>,
+) -> Result<(), AllocError>
+    ensures { OnOk result (string_bytes page.new ≡ string_bytes page.old ++ lasting_words clock last cause) }
+{
+    match cause {
+        Some(Cause::BurstAllowed { burst }) => push_not_before(page, clock, last, burst),
+        Some(Cause::LittleAccumulated { prob, .. }) => push_seldom(page, prob),
+        _ => Ok(()),
+    }
+}
+
+/// The probability before the event, with these words about what set it.
+fn push_since(page: &mut String, prob: PerCent, since: &str) -> Result<(), AllocError>
+    ensures { OnOk result (string_bytes page.new ≡ string_bytes page.old
+        ++ joined (codes "  probability " ∷ per_cent prob.0 ∷ codes ", " ∷ since.now ∷ codes ";" ∷ [])) }
+{
+    write!(page, "  probability {prob}, {since};")
+}
+
+/// The probability before the event, and what set it.
+#[tactic(auto, unfolding(crate::specs::Words::setter_words))]
+fn push_setter(page: &mut String, set_by: Setter, before: &Registers) -> Result<(), AllocError>
+    ensures { OnOk result (string_bytes page.new ≡ string_bytes page.old ++ setter_words set_by before.now) }
+{
+    let prob = PerCent(before.prob);
+    match set_by {
+        Setter::Opening => push_since(page, prob, "as at the opening"),
+        Setter::Event(event) => write!(page, "  probability {prob}, set by event {event};"),
+        Setter::Untold => push_since(page, prob, "set before this text begins"),
+    }
+}
+
+/// When the last of so many updates was.
+#[tactic(auto, unfolding(crate::specs::Words::last_words))]
+fn push_last(
+    page: &mut String,
+    clock: Option<Clock>,
+    updates: u64,
+    last: u64,
+) -> Result<(), AllocError>
+    ensures { OnOk result (string_bytes page.new ≡ string_bytes page.old ++ last_words clock updates last) }
+{
+    if updates == 0 {
+        return write!(page, " no update so far;");
+    }
+    let last = MomentWords {
+        clock,
+        moment: last,
+    };
+    write!(page, " last update at {last};")
+}
+
+/// Whether the event turned the controller on or off.
+#[tactic(auto, unfolding(crate::specs::Words::turned_words))]
+fn turned_text(was_active: bool, is_active: bool) -> &'static str
+    ensures { result.now ≡ turned_words was_active is_active }
+{
+    match (was_active, is_active) {
+        (false, true) => "  this event turned the controller on\n",
+        (true, false) => "  this event turned the controller off\n",
+        (true, true) | (false, false) => "",
+    }
+}
+
+/// The same, written onto a page.
+fn push_turned(page: &mut String, was_active: bool, is_active: bool) -> Result<(), AllocError>
+    ensures { OnOk result (string_bytes page.new ≡ string_bytes page.old ++ turned_words was_active is_active) }
+{
+    page.push_str(turned_text(was_active, is_active))
+}
+
+/// What waited before the event.
+#[tactic(auto, unfolding(crate::specs::Words::queue_words))]
+fn push_queue(page: &mut String, packets: u64, bytes: u64, delay: u64) -> Result<(), AllocError>
+    ensures { OnOk result (string_bytes page.new ≡ string_bytes page.old ++ queue_words packets bytes delay) }
+{
+    let delay = Millis(delay);
+    write!(
+        page,
+        "  before it: {packets} packets, {bytes} bytes, a delay of {delay}\n"
+    )
+}
+
+/// What was left of the burst allowance before the event.
+#[tactic(auto, unfolding(crate::specs::Words::burst_words))]
+fn push_burst(page: &mut String, burst: u64) -> Result<(), AllocError>
+    ensures { OnOk result (string_bytes page.new ≡ string_bytes page.old ++ burst_words burst) }
+{
+    let burst = Millis(burst);
+    write!(page, " burst allowance {burst}\n")
+}
+
+/// What the controller held before the event.
+#[tactic(auto, unfolding(crate::specs::Words::before_words))]
+fn push_before(
+    page: &mut String,
+    clock: Option<Clock>,
+    told: &Explanation,
+) -> Result<(), AllocError>
+    ensures { OnOk result (string_bytes page.new ≡ string_bytes page.old ++ before_words clock told.now) }
+{
+    let before = &told.before;
+    push_queue(page, before.packets, before.bytes, told.delay)?;
+    push_setter(page, told.set_by, before)?;
+    push_last(page, clock, told.updates, before.last)?;
+    push_burst(page, before.burst)
+}
+
+/// Writes an explanation in words, its moments as times of day where this record tells them.
+#[tactic(auto, unfolding(crate::specs::Words::words_by))]
+pub(crate) fn push_text(
+    page: &mut String,
+    clock: Option<Clock>,
+    all: &Explained,
+) -> Result<(), AllocError>
+    ensures { OnOk result (string_bytes page.new ≡ string_bytes page.old ++ words_by clock all.now) }
+{
+    let told = &all.told;
+    let (event, was_active) = (&told.event, told.before.active);
+    push_deed(
+        page,
+        told.number,
+        was_active,
+        event.command,
+        event.answer,
+        told.waited,
+    )?;
+    push_when(page, clock, told.moment, event.caller)?;
+    push_reason(page, told.before.prob, told.cause)?;
+    push_lasting(page, clock, told.before.last, told.cause)?;
+    push_turned(page, was_active, all.after.active)?;
+    push_before(page, clock, told)
+}

@@ -1,0 +1,109 @@
+//! Numbers as people read them, with the exact whole number in parentheses.
+use pie_record::Clock;
+use pie_units::Utc;
+use std::fmt;
+use std::fmt::Display;
+
+/// A time or a moment in nanoseconds, in milliseconds.
+#[derive(Clone, Copy, Debug)]
+pub struct Millis(pub u64);
+
+impl Display for Millis {
+    ghost use Rattle.std.specs.Prelude.{Some};
+    ghost use Rattle.pie_explain.specs.Words.{millis};
+
+    ghost output = { λ time. Some (millis time.0) };
+
+    fn fmt<W: fmt::Write>(&self, f: &mut fmt::Formatter<W>) -> fmt::Result {
+        let (whole, rest) = (self.0 / 1_000_000, self.0 % 1_000_000);
+        let exact = self.0;
+        write!(f, "{whole}.{rest:06} ms ({exact} ns)")
+    }
+}
+
+/// A moment in nanoseconds: its time of day, where a record tells it, and else in milliseconds since the trace's clock began.
+#[derive(Clone, Copy)]
+pub(crate) struct MomentWords {
+    pub(crate) clock: Option<Clock>,
+    pub(crate) moment: u64,
+}
+
+impl Display for MomentWords {
+    ghost use Rattle.std.specs.Prelude.{Some};
+    ghost use Rattle.pie_explain.specs.Words.{moment_words};
+
+    ghost output = { λ told. Some (moment_words told.clock told.moment) };
+
+    #[tactic(auto, unfolding(crate::specs::Words::moment_words))]
+    fn fmt<W: fmt::Write>(&self, f: &mut fmt::Formatter<W>) -> fmt::Result {
+        let exact = self.moment;
+        match self.clock {
+            None => {
+                let time = Millis(exact);
+                write!(f, "{time}")
+            }
+            Some(clock) => {
+                let time = Utc(clock.unix_at(exact));
+                write!(f, "{time} ({exact} ns)")
+            }
+        }
+    }
+}
+
+/// A probability in units of `10^-12`, in per cent, rounded down.
+#[derive(Clone, Copy, Debug)]
+pub struct PerCent(pub u64);
+
+impl Display for PerCent {
+    ghost use Rattle.std.specs.Prelude.{Some};
+    ghost use Rattle.pie_explain.specs.Words.{per_cent};
+
+    ghost output = { λ part. Some (per_cent part.0) };
+
+    fn fmt<W: fmt::Write>(&self, f: &mut fmt::Formatter<W>) -> fmt::Result {
+        let whole = self.0 / 10_000_000_000;
+        let rest = self.0 % 10_000_000_000 / 1_000_000;
+        let exact = self.0;
+        write!(f, "{whole}.{rest:04} % ({exact})")
+    }
+}
+
+/// A random word as a fraction of 2^64, in per cent, rounded down.
+#[derive(Clone, Copy)]
+pub(crate) struct Word(pub(crate) u64);
+
+impl Display for Word {
+    ghost use Rattle.std.specs.Prelude.{Some};
+    ghost use Rattle.pie_explain.specs.Words.{word_text};
+
+    ghost output = { λ word. Some (word_text word.0) };
+
+    fn fmt<W: fmt::Write>(&self, f: &mut fmt::Formatter<W>) -> fmt::Result {
+        let exact = self.0;
+        let parts = (u128::from(exact) * 1_000_000) >> 64;
+        let (whole, rest) = (parts / 10_000, parts % 10_000);
+        write!(f, "{whole}.{rest:04} % ({exact})")
+    }
+}
+
+/// A count as a part of all, in per cent, rounded down; 0 where there are none.
+#[derive(Clone, Copy, Debug)]
+pub struct Share {
+    /// How many of them.
+    pub count: u64,
+    /// How many there are in all.
+    pub all: u64,
+}
+
+impl Display for Share {
+    ghost use Rattle.std.specs.Prelude.{Some};
+    ghost use Rattle.pie_explain.specs.Words.{share};
+
+    ghost output = { λ part. Some (share part.count part.all) };
+
+    fn fmt<W: fmt::Write>(&self, f: &mut fmt::Formatter<W>) -> fmt::Result {
+        let parts = u128::from(self.count) * 1_000_000 / u128::from(self.all.max(1));
+        let (whole, rest) = (parts / 10_000, parts % 10_000);
+        write!(f, "{whole}.{rest:04} %")
+    }
+}

@@ -1,5 +1,0 @@
-use Rattle.pie_explanation.proofs.ReportFacts.{pages-ended}
-use Rattle.pie_explanation.proofs.report.FormReport.end.Goals as goal
-
-pub returns : goal.returns
-returns c = λ all shown. pages-ended c.args.self.now all c.args.page.now

@@ -1,7 +1,0 @@
-pub mod Which
-pub mod Choice
-pub mod Explanation
-pub mod Record
-pub mod Words
-pub mod Report
-pub mod Output

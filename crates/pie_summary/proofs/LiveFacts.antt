@@ -13,7 +13,7 @@ use Rattle.std.proofs.lemmas.List.Elements.{filter_map-append}
 use Rattle.std.proofs.lemmas.List.Sums.{sum_by-cons, sum_by_push}
 use Rattle.std.proofs.lemmas.Nat.{div-mul-add}
 use Rattle.pie_aqm.specs.Places.{Place, greatest, last_or, places}
-use Rattle.pie_aqm.proofs.Places.{last_or-push}
+use Rattle.pie_summary.proofs.Names.{last_or-push}
 use Rattle.pie_event.specs.declared.command.Answer.{Answer}
 use Rattle.pie_event.specs.declared.command.Answer.TheVariants.{Enqueued, Marked, DroppedEarly, DroppedBytes, DroppedPackets, Empty, Left, Updated}
 use Rattle.pie_event.specs.declared.command.Answer.TheVariants.{Done}

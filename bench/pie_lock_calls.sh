@@ -11,8 +11,8 @@ import os, re, signal, subprocess, sys
 
 bench, tests = sys.argv[1:]
 SLEEPERS = "sleepers"
-# So many calls are enough to tell, and so many yields are those of waiters who first look again a few times.
-ENOUGH, FEW = 10_000, 200
+# So many calls are enough to tell, and so many yields are those of four waiters who look again some 500 times before they sleep.
+ENOUGH, FEW = 10_000, 2_500
 
 
 def calls(words, until=None):

@@ -177,12 +177,8 @@ impl<S: Kept> RuledLock<S> {
         self.table.shared.load::<LookStep>(seat, WORD) != FREE
     }
 
-    /// Takes the state. It never blocks.
-    ///
-    /// # Errors
-    ///
-    /// The pass as it was, where another pass has the state. A pass with all numbers always takes it.
-    pub fn try_take(&self, pass: Pass<S>) -> Result<Held<S>, Pass<S>>
+    // Takes the state, unless another pass has it.
+    fn exchange(&self, pass: Pass<S>) -> Result<Held<S>, Pass<S>>
         requires own { pass.lock ≡ self.now }
         ensures taken { IfOk result (HasTaken S.number_of S.origin_of S.tells pass) }
         ensures alone { HoldsAll pass → IsOk result }
@@ -193,9 +189,6 @@ impl<S: Kept> RuledLock<S> {
             limit,
             mut seat,
         } = pass;
-        if self.is_out(&mut seat) {
-            return Err(Pass { first, limit, seat });
-        }
         let found = self
             .table
             .shared
@@ -212,12 +205,36 @@ impl<S: Kept> RuledLock<S> {
         })
     }
 
+    /// Takes the state. It never blocks.
+    ///
+    /// # Errors
+    ///
+    /// The pass as it was, where another pass has the state. A pass with all numbers always takes it.
+    pub fn try_take(&self, pass: Pass<S>) -> Result<Held<S>, Pass<S>>
+        requires own { pass.lock ≡ self.now }
+        ensures taken { IfOk result (HasTaken S.number_of S.origin_of S.tells pass) }
+        ensures alone { HoldsAll pass → IsOk result }
+        ensures busy { IfErr result (λ back. back ≡ pass) }
+    {
+        let Pass {
+            first,
+            limit,
+            mut seat,
+        } = pass;
+        let is_out = self.is_out(&mut seat);
+        let pass = Pass { first, limit, seat };
+        if is_out {
+            return Err(pass);
+        }
+        self.exchange(pass)
+    }
+
     /// Takes the state. It waits while another pass has the state, and nothing is claimed of how long.
     pub fn take<R: Wait>(&self, rt: &R, pass: Pass<S>) -> Held<S>
         requires own { pass.lock ≡ self.now }
         ensures { HasTaken S.number_of S.origin_of S.tells pass result }
     {
-        match self.try_take(pass) {
+        match self.exchange(pass) {
             Ok(held) => held,
             Err(pass) => self.wait_and_take(rt, pass, 0),
         }
@@ -229,7 +246,7 @@ impl<S: Kept> RuledLock<S> {
         requires own { pass.lock ≡ self.now }
         ensures { HasTaken S.number_of S.origin_of S.tells pass result }
     {
-        match self.try_take(pass) {
+        match self.exchange(pass) {
             Ok(held) => held,
             Err(pass) => self.wait_and_take(rt, pass, looks_for(calls)),
         }

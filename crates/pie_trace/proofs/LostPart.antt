@@ -63,4 +63,4 @@ module _ (again : (row : Row) (rows : List Row) (begun : Beginning) → resumed_
       by (Err why) is = some-none why
       by (Ok begun) is = let has = begun-left count before after begun is in λ e.
           lost-later Three (2 ^ 32) (begun.read + 1) count has.before has.after
-              (ap (λ (rs : List Row). fault_from Three (2 ^ 32) (begun.read + 1) rs) (sym has.is) ∙ e)
+          (ap (λ (rs : List Row). fault_from Three (2 ^ 32) (begun.read + 1) rs) (sym has.is) ∙ e)

@@ -18,8 +18,9 @@ pub use Rattle.pie_excerpt.specs.{begun_by, begun_with, checked_opening, choices
 pub use Rattle.pie_excerpt.specs.{cycle_start, draft_of, ecn_word, end_refusal, ended_by, event_row, excerpt_rows, fault_at, fields_of, fields_read}
 pub use Rattle.pie_excerpt.specs.{first_bad, first_fields, flag, held_row, is_device, is_kind, is_resumed, measuring, missing, most_u128, most_u64}
 pub use Rattle.pie_excerpt.specs.{nat_le, needs_quotes, nine_of, number_at, numbers_fault, onto, opened_numbers, opening_refusal, opening_row}
-pub use Rattle.pie_excerpt.specs.{or_fault, placed_row, queue_refusal, queued_after, queued_by, records_of, registers_of, resume_in, resume_of_excerpt}
-pub use Rattle.pie_excerpt.specs.{resume_refusal, resume_with, resumed_by, rows_setup, setter_at, setter_field, setter_of, text_of, with_packet, ⊤}
+pub use Rattle.pie_excerpt.specs.{or_fault, placed_row, queue_refusal, queued_after, queued_by, records_of, registers_of, resume_in}
+pub use Rattle.pie_excerpt.specs.{resume_of_excerpt, resume_refusal, resume_with, resumed_by, rows_setup, setter_at, setter_field, setter_of, text_of}
+pub use Rattle.pie_excerpt.specs.{with_packet, ⊤}
 unfoldable pub use Rattle.pie_excerpt.specs.{core_from, field_at, later_at, number, numbers_from, packet_at, params_at, queued_of, queued_row}
 unfoldable pub use Rattle.pie_excerpt.specs.{resume_of, resume_row, resumed_of, rows_text, waiting_after, with_queue}
 unfoldable pub use Rattle.csv.specs.Reading.{strip_bom}
@@ -37,8 +38,8 @@ pub use Rattle.pie_params.specs.declared.elements.Picking.TheVariants.{Random}
 pub use Rattle.pie_params.specs.declared.elements.Size.TheVariants.{Scaled}
 pub use Rattle.pie_params.specs.declared.elements.Step.TheVariants.{Uncapped}
 pub use Rattle.pie_queue.specs.declared.ecn.Ecn.TheVariants.{Ect0}
-pub use Rattle.pie_record.proofs.Laws.{and_after, back_ecn, back_u32, back_u64, decimal-some, has-all, kind-first, number-back, number-then}
-pub use Rattle.pie_record.proofs.Laws.{ok-same, packet-read, params-back, records_left-written, rows_text-cons, tested, three-back, word-has}
+pub use Rattle.pie_record.proofs.Laws.{and_after, back_ecn, back_u32, back_u64, decimal-some, has-all, kind-first, number-back, number-then, ok-same}
+pub use Rattle.pie_record.proofs.Laws.{packet-read, params-back, records_left-written, rows_text-cons, tested, three-back, word-has}
 pub use Rattle.pie_record.specs.Opening.{Checked}
 pub use Rattle.pie_record.specs.Records.{TakesRow, Took}
 pub use Rattle.pie_record.specs.Text.{records_left}

@@ -7,7 +7,6 @@ use Rattle.pie_record.specs.Answer.{folded_row, refused_row, shown_row, tallied_
 use Rattle.pie_trace.specs.History.{before_fault, fault_of, first_fault, record_fault, end_of, history_rows, history_text, replies, requests_of}
 use Rattle.pie_trace.specs.History.{steps_of, text_left}
 use Rattle.pie_record.specs.Text.{Row, records_of}
-use Rattle.pie_rate.specs.Average.{average}
 use Rattle.pie_book.specs.Registers.{registers_after}
 use Rattle.pie_book.specs.Statistics.{largest_queue, largest_delay, waited, no_stats, stats_after}
 use Rattle.pie_book.specs.Run.{progress_after}

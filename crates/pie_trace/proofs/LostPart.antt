@@ -1,6 +1,6 @@
 -- A record of lost events is a fault of every text that goes on from the middle of a history.
-use Rattle.pie_trace.proofs.Names.{◌≡◌, ◌≢◌, ◌+◌, ◌^◌, ℕ, List, [], ◌∷◌, ◌++◌, drop, map, take, true, refl, sym, ap, ◌∙◌, Option, Some, None, Result, Ok}
-use Rattle.pie_trace.proofs.Names.{Err, field_at, TraceFault, Three, fault_from, Row}
+use Rattle.pie_trace.proofs.Names.{◌≡◌, ◌≢◌, ◌+◌, ◌^◌, ℕ, List, [], ◌∷◌, ◌++◌, drop, map, take, true, refl, sym, ap, ◌∙◌, Option, Some, None, Result}
+use Rattle.pie_trace.proofs.Names.{Ok, Err, field_at, TraceFault, Three, fault_from, Row}
 use Rattle.std.proofs.lemmas.List.{take-append-drop}
 use Rattle.pie_queue.specs.declared.packet.Waiting.{Waiting}
 use Rattle.pie_text.specs.Lost.{lost_row}
@@ -44,11 +44,13 @@ module _ (again : (row : Row) (rows : List Row) (begun : Beginning) → resumed_
   begun-left : (count : ℕ) (before after : List Row) (begun : Beginning) → resumed_of (before ++ (lost_row count ∷ after)) ≡ Ok begun
       → HasLost count begun.left
   unfolding field_at
-  begun-left count [] after begun is = let wrong : is_resumed (lost_row count ∷ after) ≡ true = (opens (lost_row count ∷ after) begun is).resumes in cc
+  begun-left count [] after begun is =
+      let wrong : is_resumed (lost_row count ∷ after) ≡ true = (opens (lost_row count ∷ after) begun is).resumes in cc
   begun-left count (row ∷ before) after begun is =
       let rows : List Row = row ∷ (before ++ (lost_row count ∷ after)) in
       let whole : row ∷ (before ++ (lost_row count ∷ after)) ≡ row ∷ (map queued_row begun.core.waiting ++ begun.left) =
-      sym (take-append-drop begun.read rows) ∙ ap (λ (front : List Row). front ++ drop begun.read rows) (again row (before ++ (lost_row count ∷ after)) begun is)
+      sym (take-append-drop begun.read rows)
+      ∙ ap (λ (front : List Row). front ++ drop begun.read rows) (again row (before ++ (lost_row count ∷ after)) begun is)
       ∙ ap (λ (left : List Row). row ∷ (map queued_row begun.core.waiting ++ left)) (left-is rows begun is) in
       behind-queue count begun.core.waiting before after begun.left
       (let rest : before ++ (lost_row count ∷ after) ≡ map queued_row begun.core.waiting ++ begun.left = cc in rest)
@@ -60,4 +62,5 @@ module _ (again : (row : Row) (rows : List Row) (begun : Beginning) → resumed_
       by : (r : Result Beginning TraceFault) → resumed_of (before ++ (lost_row count ∷ after)) ≡ r → fault_after r ≢ None
       by (Err why) is = some-none why
       by (Ok begun) is = let has = begun-left count before after begun is in λ e.
-          lost-later Three (2 ^ 32) (begun.read + 1) count has.before has.after (ap (λ (rs : List Row). fault_from Three (2 ^ 32) (begun.read + 1) rs) (sym has.is) ∙ e)
+          lost-later Three (2 ^ 32) (begun.read + 1) count has.before has.after
+          (ap (λ (rs : List Row). fault_from Three (2 ^ 32) (begun.read + 1) rs) (sym has.is) ∙ e)

@@ -1,12 +1,12 @@
 -- The history text of a trace is read back: its opening, the events of its run, and notes.
 use Rattle.pie_trace.proofs.Names.{◌≡◌, ◌≤◌, ◌<◌, ◌+◌, ◌-◌, ◌^◌, ◌==◌, ℕ, List, [], ◌∷◌, ◌++◌, length, Bool, true, false, refl, sym, ap, subst, ◌∙◌}
-use Rattle.pie_trace.proofs.Names.{arith, length-append, if◌then◌else◌, All, drop, nat_lt, take, Option, Some, None, Result, Ok, Err, codes, ltb-true}
+use Rattle.pie_trace.proofs.Names.{arith, length-append, if◌then◌else◌, All, nat_lt, take, Option, Some, None, Result, Ok, Err, ltb-true}
 use Rattle.pie_trace.proofs.Names.{nat_tests, All-append, All-cons, All-nil, first_bad, RawParams, Command, Event, Mode, Bounded, Rolling, Opening}
 use Rattle.pie_trace.proofs.Names.{FoldRefusal, TooMany, Refusal, last_events, IsLegal, decision, is_refused_full, or_full, refusal_by_rule}
 use Rattle.pie_trace.proofs.Names.{opening_refusal, registers_after, Progress, event_of, fold_outcome, held_with_one, recorded, refused_or, start}
 use Rattle.pie_trace.proofs.Names.{stats_after, Flaw, TraceFault, Request, Ask, BadParams, Clock, Fold, Show, Tally, Draft, FirstKind, Version}
 use Rattle.pie_trace.proofs.Names.{fault_at, before_fault, history_rows, history_text, record_fault, replies, requests_of, text_left, checked_opening}
-use Rattle.pie_trace.proofs.Names.{opening_of, opening_read, Row, rows_text, text_of, is_kind, request_of, line_of, Begins, TellEach, TellsHistory}
+use Rattle.pie_trace.proofs.Names.{opening_of, opening_read, Row, rows_text, text_of, request_of, line_of, Begins, TellEach, TellsHistory}
 use Rattle.pie_trace.proofs.Names.{line_told, lines_told, run_lines, first_fields, first_kind, kind_word, version_of, Reply, after, history_row}
 use Rattle.pie_trace.proofs.Names.{reply, reply_to_command, reply_to_fold, code_of}
 use Rattle.std.proofs.lemmas.List.Concat.{flat_map-append}
@@ -228,7 +228,8 @@ pub each-good : (version : Version) (most : ℕ) (opening : Opening) (P : ℕ �
 unfolding requests_of
 each-good version most opening P none one number progress [] = rw (before-none version most number) (none number progress)
 each-good version most opening P none one number progress (row ∷ rows) =
-    by (record_fault version most number row) refl (λ request. each-good version most opening P none one (number + 1) (after opening progress request) rows)
+    by (record_fault version most number row) refl
+    (λ request. each-good version most opening P none one (number + 1) (after opening progress request) rows)
   where
     rest : List Row
     rest = before_fault version most (number + 1) rows
@@ -258,7 +259,8 @@ pub before-few : (version : Version) (most : ℕ) (opening : Opening) (number : 
 before-few version most opening number rows =
     each-good version most opening (λ number progress rows requests. number ≤ most + 1 → number + length rows ≤ most + 1)
     (λ number progress within. omega (arith, within))
-    (λ number progress row rows request requests here reads later within. let more = later (omega (arith, here)) in omega (arith, more)) number start rows
+    (λ number progress row rows request requests here reads later within. let more = later (omega (arith, here)) in omega (arith, more))
+    number start rows
 
 pub rows-few : (version : Version) (number : ℕ) (rows : List Row) (given : List Reply) → length (history_rows version number rows given) ≤ length rows
 unfolding history_rows

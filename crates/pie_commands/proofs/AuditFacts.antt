@@ -1,16 +1,8 @@
 -- An audit of one file after another.
-use Rattle.std.proofs.Common.{◌≡◌, ◌∙◌, ℕ, List, [], ◌∷◌, ◌++◌, Bool, true, false, Option, refl, sym, ap}
-use Rattle.std.proofs.KnownBytes.{Appends-nil, Appends-trans}
-use Rattle.std.specs.Prelude.{◌||◌}
-use Rattle.std.specs.List.{flat_map, list_any}
-use Rattle.std.specs.Io.KnownBytes.{Appends}
-use Rattle.std.proofs.lemmas.List.{append-nil, map-append}
-use Rattle.std.proofs.lemmas.List.Elements.{All-nil, All-push}
+use Rattle.pie_commands.proofs.Names.{◌≡◌, ◌∙◌, ℕ, List, [], ◌∷◌, ◌++◌, Bool, true, false, Option, refl, sym, ap, Appends-nil, Appends-trans, ◌||◌}
+use Rattle.pie_commands.proofs.Names.{flat_map, list_any, Appends, append-nil, map-append, All-nil, All-push, flat_map-append, Text, Finding}
+use Rattle.pie_commands.proofs.Names.{AuditsFiles, IsFound, Told, is_different, is_unfound, line_of, told_line}
 use Rattle.std.proofs.lemmas.List.Folds.{list_any-append}
-use Rattle.std.proofs.lemmas.Grind.{flat_map-append}
-use Rattle.clap.specs.Words.{Text}
-use Rattle.pie_audit.specs.declared.auditor.Finding.{Finding}
-use Rattle.pie_commands.specs.AuditEnds.{AuditsFiles, IsFound, Told, is_different, is_unfound, line_of, told_line}
 
 pub or-false : (b : Bool) → (b || false) ≡ b
 or-false true = refl

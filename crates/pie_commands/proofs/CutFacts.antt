@@ -1,20 +1,12 @@
 -- How a cut ends.
-use Rattle.std.proofs.Common.{◌≡◌, ℕ, List, Bool, true, false, Option, Some, None, codes, inl, inr, refl}
-use Rattle.std.specs.Prelude.{IfSome, Ok, Err}
-use Rattle.std.specs.Str.{bytes_eq}
-use Rattle.clap.specs.Words.{Row, Text}
-use Rattle.pie_record.specs.declared.fault.TraceFault.{TraceFault}
-use Rattle.pie_record.specs.Text.{Row as Fields, records_of}
+use Rattle.pie_commands.proofs.Names.{◌≡◌, ℕ, List, Bool, true, false, Option, Some, None, codes, inl, inr, refl, IfSome, Ok, Err, bytes_eq, Text}
+use Rattle.pie_commands.proofs.Names.{TraceFault, records_of, LastEither, text_given, End, Fault, Unable, Part, Last, Every, EndsBy, CutsLast}
+use Rattle.pie_commands.proofs.Names.{EndsCut, cut_ends, end_of_cut, is_named, last_of, wanted_of}
+use Rattle.clap.specs.Words.{Row}
+use Rattle.pie_record.specs.Text.{Row as Fields}
 use Rattle.pie_cut.specs.declared.fault.CutFault.TheVariants.{Trace}
 use Rattle.pie_cut.specs.Answer.{CutsEither}
-use Rattle.pie_cut.specs.Last.{LastEither}
-use Rattle.pie_files.specs.Files.{text_given}
-use Rattle.pie_commands.specs.declared.end.End.{End}
-use Rattle.pie_commands.specs.declared.end.End.TheVariants.{Fault, Unable}
 use Rattle.pie_commands.specs.declared.cut.Wanted.{Wanted}
-use Rattle.pie_commands.specs.declared.cut.Wanted.TheVariants.{Part, Last, Every}
-use Rattle.pie_commands.specs.Ends.{EndsBy}
-use Rattle.pie_commands.specs.CutEnds.{CutsLast, EndsCut, cut_ends, end_of_cut, is_named, last_of, wanted_of}
 
 -- ---- it never began
 

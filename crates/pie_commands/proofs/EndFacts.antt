@@ -1,22 +1,15 @@
 -- How a subcommand ends that never began, and a run, a migration and an audit.
-use Rattle.std.proofs.Common.{◌≡◌, ◌≤◌, ◌^◌, ℕ, List, [], ◌∷◌, Option, Some, None, arith, inl, inr, refl, subst}
-use Rattle.std.specs.Prelude.{Bool, true, false, IfErr, IfOk, IfSome, Result, Ok, Err}
-use Rattle.std.specs.Io.KnownBytes.{Appends}
-use Rattle.clap.specs.Words.{Text}
-use Rattle.pie_record.specs.declared.fault.TraceFault.{TraceFault}
-use Rattle.pie_record.specs.Fault.{IsTold, is_device}
+use Rattle.pie_commands.proofs.Names.{◌≡◌, ◌≤◌, ◌^◌, ℕ, List, [], ◌∷◌, Option, Some, None, arith, inl, inr, refl, subst, Bool, true, false, IfErr}
+use Rattle.pie_commands.proofs.Names.{IfOk, IfSome, Result, Ok, Err, Appends, Text, TraceFault, IsTold, is_device, records_of, Finding, FindsEither}
+use Rattle.pie_commands.proofs.Names.{finding_line, End, Done, Fault, Unable, Failed, EndsEither, EndsOfFiles, EndsAudit, EndsBy, EndsMigrate}
+use Rattle.pie_commands.proofs.Names.{EndsRun, TellsFound, audit_ends, end_found, end_of, run_ends, run_ends_by, status_of}
 use Rattle.pie_trace.specs.declared.run.RunEnd.{RunEnd}
 use Rattle.pie_trace.specs.Resumed.{RunsBy, RunsEither}
 use Rattle.pie_trace.specs.Migrate.{history_events, history_fault, migrated_text}
-use Rattle.pie_record.specs.Text.{Row, records_of}
+use Rattle.pie_record.specs.Text.{Row}
 use Rattle.pie_excerpt.specs.Beginning.{is_resumed}
-use Rattle.pie_audit.specs.declared.auditor.Finding.{Finding}
+use Rattle.pie_commands.specs.declared.end.End.TheVariants.{Differs}
 use Rattle.pie_audit.specs.declared.auditor.Finding.TheVariants as finding
-use Rattle.pie_audit.specs.Text.{FindsEither, finding_line}
-use Rattle.pie_commands.specs.declared.end.End.{End}
-use Rattle.pie_commands.specs.declared.end.End.TheVariants.{Done, Differs, Fault, Unable, Failed}
-use Rattle.pie_commands.specs.JointEnds.{EndsEither, EndsOfFiles}
-use Rattle.pie_commands.specs.Ends.{EndsAudit, EndsBy, EndsMigrate, EndsRun, TellsFound, audit_ends, end_found, end_of, run_ends, run_ends_by, status_of}
 
 -- ---- the status
 

@@ -1,8 +1,7 @@
 -- Which events the words of `pie explain` and `pie cut` choose, worked out.
-use Rattle.std.proofs.Common.{◌≡◌, ◌-◌, ◌^◌, [], ◌∷◌, Some, None, codes, refl}
-use Rattle.clap.specs.Words.{Text}
+use Rattle.pie_commands.proofs.Names.{◌≡◌, ◌-◌, ◌^◌, [], ◌∷◌, Some, None, codes, refl, Text, Choice, options_in, choice_of, Part, Last, Every, around}
+use Rattle.pie_commands.proofs.Names.{between, wanted_of}
 use Rattle.clap.proofs.OnLiterals.{clap_on_literals}
-use Rattle.pie_explain.specs.declared.choice.Choice.{Choice}
 use Rattle.pie_explain.specs.declared.which.Which.{Which}
 use Rattle.pie_explain.specs.declared.which.Which.TheVariants.{Number, Lost, All}
 use Rattle.pie_units.specs.declared.when.When.TheVariants.{Moment, Unix}
@@ -10,10 +9,6 @@ use Rattle.pie_units.specs.Date.{day_number}
 use Rattle.pie_units.specs.Utc.{date_part, has_marks, nanos_in, seconds_part, unix_of, utc_in, utc_with}
 use Rattle.pie_units.specs.Scale.{is_word, time_scale}
 use Rattle.pie_units.specs.Written.{digit_count, number_after}
-use Rattle.pie_options.specs.Words.{options_in}
-use Rattle.pie_commands.specs.Choice.{choice_of}
-use Rattle.pie_commands.specs.declared.cut.Wanted.TheVariants.{Part, Last, Every}
-use Rattle.pie_commands.specs.CutEnds.{around, between, wanted_of}
 
 -- these events, at every moment
 abbrev at_all_moments : Which → Choice

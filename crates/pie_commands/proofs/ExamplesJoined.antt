@@ -1,11 +1,9 @@
 -- What an audit of the files of one history writes of each, and how it ends, worked out.
-use Rattle.std.specs.Prelude.{◌≡◌, [], Some, None, true, false, codes, refl}
+use Rattle.pie_commands.proofs.Names.{◌≡◌, [], Some, None, true, false, codes, refl, Joined, is_broken, lines_of}
 use Rattle.std.specs.Fmt.{digits}
 use Rattle.pie_audit.specs.declared.auditor.Finding.TheVariants.{Clean, Differs}
-use Rattle.pie_cut.specs.declared.joined.Joined.{Joined}
 use Rattle.pie_cut.specs.declared.joined.Joint.{Joint}
 use Rattle.pie_cut.specs.declared.joined.Joint.TheVariants.{Follows, Gap, Unlike}
-use Rattle.pie_commands.specs.JointEnds.{is_broken, lines_of}
 
 -- a file whose events up to 150 are clean, at this joint
 abbrev clean : Joint → Joined

@@ -1,12 +1,7 @@
 -- How an explanation ends that could not begin, or whose options choose no events.
-use Rattle.std.proofs.Common.{◌≡◌, ℕ, List, Option, Some, None, inl, inr, refl}
-use Rattle.std.specs.Prelude.{IfSome}
+use Rattle.pie_commands.proofs.Names.{◌≡◌, ℕ, List, Option, Some, None, inl, inr, refl, IfSome, Explained, Choice, Unable, Failed, choice_of, tale_of}
+use Rattle.pie_commands.proofs.Names.{EndsExplain, explain_ends}
 use Rattle.clap.specs.Words.{Row}
-use Rattle.pie_explain.specs.declared.explanation.Explained.{Explained}
-use Rattle.pie_explain.specs.declared.choice.Choice.{Choice}
-use Rattle.pie_commands.specs.declared.end.End.TheVariants.{Unable, Failed}
-use Rattle.pie_commands.specs.Choice.{choice_of, tale_of}
-use Rattle.pie_commands.specs.ExplainEnds.{EndsExplain, explain_ends}
 
 explain_ends-unable : (choice : Option Choice) (tale : List Explained → List ℕ) (text : List ℕ) (before now : Option (List ℕ)) → now ≡ before
     → explain_ends choice tale text Unable before now

@@ -1,20 +1,10 @@
 -- An audit of one file after another, of one history or of any.
-use Rattle.std.proofs.Common.{◌≡◌, ◌+◌, ◌<◌, ℕ, List, [], ◌∷◌, ◌++◌, add-one, get_or, length, take, Bool, true, false, Option, Some, None}
-use Rattle.std.proofs.Common.{inl, inr, refl, subst, sym}
+use Rattle.pie_commands.proofs.Names.{◌≡◌, ◌+◌, ◌<◌, ℕ, List, [], ◌∷◌, ◌++◌, add-one, get_or, length, take, Bool, true, false, Option, Some, None}
+use Rattle.pie_commands.proofs.Names.{inl, inr, refl, subst, sym, ◌||◌, Appends, append-nil, Text, Joined, EndView, ReadsNamed, text_given, Stays}
+use Rattle.pie_commands.proofs.Names.{reads-given, Fault, AuditsFiles, IsFound, is_different, is_unfound, line_of, named_line, worst, TellsRead}
+use Rattle.pie_commands.proofs.Names.{TellsText, EndsOfFiles, JoinsFile, JoinsFiles, finding_in, is_broken, lines_of}
 use Rattle.std.proofs.Math.Seq.{take-suc}
-use Rattle.std.specs.Prelude.{◌||◌}
-use Rattle.std.specs.Io.KnownBytes.{Appends}
-use Rattle.std.proofs.lemmas.List.{append-nil}
-use Rattle.clap.specs.Words.{Text}
 use Rattle.pie_record.specs.declared.fault.TraceFault.TheVariants as trace_fault
-use Rattle.pie_cut.specs.declared.joined.Joined.{Joined}
-use Rattle.pie_cut.specs.Joined.{EndView}
-use Rattle.pie_files.specs.Files.{ReadsNamed, text_given}
-use Rattle.pie_files.proofs.FileFacts.{Stays, reads-given}
-use Rattle.pie_commands.specs.declared.end.End.TheVariants.{Fault}
-use Rattle.pie_commands.specs.AuditEnds.{AuditsFiles, IsFound, is_different, is_unfound, line_of, named_line, worst}
-use Rattle.pie_commands.specs.FileAudits.{TellsRead, TellsText}
-use Rattle.pie_commands.specs.JointEnds.{EndsOfFiles, JoinsFile, JoinsFiles, finding_in, is_broken, lines_of}
 use Rattle.pie_commands.proofs.AuditFacts.{audits-more, audits-none, or-false}
 use Rattle.pie_commands.proofs.JointFacts.{joins-more, joins-none}
 

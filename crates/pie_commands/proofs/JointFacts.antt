@@ -1,19 +1,7 @@
 -- An audit of the files of one history, one after another.
-use Rattle.std.proofs.Common.{◌≡◌, ◌∙◌, ℕ, List, [], ◌∷◌, ◌++◌, Bool, false, Option, None, refl}
-use Rattle.std.proofs.Common.{subst, ap}
-use Rattle.std.proofs.KnownBytes.{Appends-nil, Appends-trans}
-use Rattle.std.specs.Prelude.{◌||◌}
-use Rattle.std.specs.List.{flat_map}
-use Rattle.std.specs.Io.KnownBytes.{Appends}
-use Rattle.std.proofs.lemmas.List.{append-nil, map-append}
-use Rattle.std.proofs.lemmas.Grind.{flat_map-append}
-use Rattle.clap.specs.Words.{Text}
-use Rattle.pie_cut.specs.declared.joined.Joined.{Joined}
-use Rattle.pie_cut.specs.Joined.{EndView}
-use Rattle.pie_commands.specs.declared.end.End.{End}
-use Rattle.pie_commands.specs.AuditEnds.{is_unfound}
-use Rattle.pie_commands.specs.JointEnds.{AreJoined, EndsEither, EndsOfFiles, JoinsFile, JoinsFiles, ToldJoined, finding_in}
-use Rattle.pie_commands.specs.JointEnds.{is_broken, lines_of, told_lines}
+use Rattle.pie_commands.proofs.Names.{◌≡◌, ◌∙◌, ℕ, List, [], ◌∷◌, ◌++◌, Bool, false, Option, None, refl, subst, ap, Appends-nil, Appends-trans, ◌||◌}
+use Rattle.pie_commands.proofs.Names.{flat_map, Appends, append-nil, map-append, flat_map-append, Text, Joined, EndView, End, is_unfound, AreJoined}
+use Rattle.pie_commands.proofs.Names.{EndsEither, EndsOfFiles, JoinsFile, JoinsFiles, ToldJoined, finding_in, is_broken, lines_of, told_lines}
 use Rattle.pie_commands.proofs.AuditFacts.{any-more}
 
 -- one file more at the end

@@ -1,3 +1,4 @@
+mod Names
 mod AuditFacts
 mod CutFacts
 mod EndFacts

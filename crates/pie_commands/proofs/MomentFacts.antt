@@ -1,6 +1,6 @@
 -- What a getter of `clap` reads of an option that is given a moment, or a bound of moments.
-use Rattle.std.proofs.Common.{◌≡◌, ℕ, List, Option, Some, None, refl, sym, ap}
-use Rattle.std.specs.Prelude.{Result, Ok, Err}
+use Rattle.pie_commands.proofs.Names.{◌≡◌, ℕ, List, Option, Some, None, refl, sym, ap, Result, Ok, Err, bound_read, bound_written, moment_read}
+use Rattle.pie_commands.proofs.Names.{units_of, written}
 use Rattle.clap.specs.Matches.{TriesOne}
 use Rattle.pie_units.specs.declared.moment.Moment.{Moment}
 use Rattle.pie_units.specs.declared.moment.MomentFault.{MomentFault}
@@ -8,7 +8,6 @@ use Rattle.pie_units.specs.Moment.{WritesMoment}
 use Rattle.pie_units.specs.declared.when.When.{When}
 use Rattle.pie_units.specs.declared.when.WhenFault.{WhenFault}
 use Rattle.pie_units.specs.When.{WritesWhen}
-use Rattle.pie_commands.specs.Choice.{bound_read, bound_written, moment_read, units_of, written}
 
 pub moment-given : (given : Option (List ℕ)) (result : Result (Option Moment) MomentFault) → (given ≡ None → result ≡ Ok None)
     → ((text : List ℕ) → given ≡ Some text → TriesOne WritesMoment text result) → units_of result ≡ moment_read given

@@ -1,13 +1,7 @@
 -- What a subcommand writes, where the words name a file for it and where they don't, and what becomes of files.
-use Rattle.std.proofs.Common.{◌≡◌, ℕ, List, Bool, true, false, Option, Some, None, refl, sym, subst, inl, inr}
-use Rattle.std.specs.Prelude.{IsSome}
-use Rattle.clap.specs.Words.{Text}
-use Rattle.pie_files.specs.Files.{file_of}
-use Rattle.pie_files.specs.Output.{Held, IsEmpty, Keeps, Places, Settles}
-use Rattle.pie_commands.specs.declared.end.End.{End}
-use Rattle.pie_commands.specs.declared.end.End.TheVariants.{Done, Differs, Fault, Unable, Failed}
-use Rattle.pie_commands.specs.Ends.{settled, status_of}
-use Rattle.pie_commands.specs.Outputs.{EndsAt, EndsIn, is_whole}
+use Rattle.pie_commands.proofs.Names.{◌≡◌, ℕ, List, Bool, true, false, Option, Some, None, refl, sym, subst, inl, inr, IsSome, Text, file_of, Held}
+use Rattle.pie_commands.proofs.Names.{IsEmpty, Keeps, Places, Settles, End, Done, Fault, Unable, Failed, settled, status_of, EndsAt, EndsIn, is_whole}
+use Rattle.pie_commands.specs.declared.end.End.TheVariants.{Differs}
 
 pub keeps-same : (held : Held) → Keeps held held
 keeps-same held other text is = is

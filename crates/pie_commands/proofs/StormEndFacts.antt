@@ -1,7 +1,7 @@
 -- How a storm of the plan that the options ask for ends.
-use Rattle.std.proofs.Common.{◌≡◌, ℕ, List, Option, Some, None, subst, sym, inl, inr, refl}
+use Rattle.pie_commands.proofs.Names.{◌≡◌, ℕ, List, Option, Some, None, subst, sym, inl, inr, refl, Elements, EndsStorm, elements_in, numbers_in}
+use Rattle.pie_commands.proofs.Names.{storm_ends, Done, Fault, Unable, Failed, TraceFault, IsWrite}
 use Rattle.clap.specs.Words.{Row}
-use Rattle.pie_params.specs.declared.elements.Elements.{Elements}
 use Rattle.pie_event.specs.declared.command.Event.{Event}
 use Rattle.pie_book.specs.Decision.{IsLegal}
 use Rattle.pie_storm.specs.declared.numbers.StormNumbers.{StormNumbers}
@@ -10,10 +10,7 @@ use Rattle.pie_storm.specs.Plans.{opening_of}
 use Rattle.pie_storm.specs.Storms.{IsStorm}
 use Rattle.pie_storm.specs.StormHistory.{WritesHistory}
 use Rattle.pie_storm.specs.StormPlan.{IsStormPlan}
-use Rattle.pie_commands.specs.StormEnds.{EndsStorm, elements_in, numbers_in, storm_ends}
-use Rattle.pie_commands.specs.declared.end.End.TheVariants.{Done, Differs, Fault, Unable, Failed}
-use Rattle.pie_record.specs.declared.fault.TraceFault.{TraceFault}
-use Rattle.pie_record.specs.Fault.{IsWrite}
+use Rattle.pie_commands.specs.declared.end.End.TheVariants.{Differs}
 
 pub storm-ends : (options : List Row) (elements : Elements) (numbers : StormNumbers) (plan : Plan) (events listed : List Event) (too_soon too_many : ℕ)
     (before now : Option (List ℕ))

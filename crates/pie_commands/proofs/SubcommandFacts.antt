@@ -1,33 +1,22 @@
 -- What each subcommand promises, where it never began, where files hold more than they did, and where its words are found.
-use Rattle.std.proofs.Common.{◌≡◌, ◌∙◌, ℕ, List, [], ◌∷◌, Option, Some, None, Bool, true, false, codes, refl, inl, inr, subst, sym}
-use Rattle.std.specs.Prelude.{IfErr, IfOk, IfSome, All, ◌⊎◌, Result, Ok, Err, if◌then◌else◌, option_map}
-use Rattle.std.specs.Str.{bytes_eq}
-use Rattle.std.proofs.lemmas.List.Elements.{All-weaker}
-use Rattle.clap.specs.Words.{App, HasMatchesOf, Row, Text, kind_of, subcommand_name_of, subcommand_rows_of, takes}
+use Rattle.pie_commands.proofs.Names.{◌≡◌, ◌∙◌, ℕ, List, [], ◌∷◌, Option, Some, None, Bool, true, false, codes, refl, inl, inr, subst, sym, IfErr}
+use Rattle.pie_commands.proofs.Names.{IfOk, IfSome, ◌⊎◌, Result, Ok, Err, if◌then◌else◌, option_map, bytes_eq, All-weaker, App, HasMatchesOf, Text}
+use Rattle.pie_commands.proofs.Names.{kind_of, subcommand_name_of, subcommand_rows_of, takes, records_of, FindsEither, Finding, End, Unable, Failed}
+use Rattle.pie_commands.proofs.Names.{Run, Audit, Explain, Cut, Migrate, Storm, Params, file_in, files_in, is_forced, is_joined, options_in, pie_app}
+use Rattle.pie_commands.proofs.Names.{name-found, options-in, same-word, subcommand-found, Joined, EndView, JoinsText, text_given, Held, Keeps}
+use Rattle.pie_commands.proofs.Names.{EndsFiles, IsFound, Told, EndsCut, EndsMigrate, EndsRun, EndsExplain, AreJoined, EndsEither, EndsJoined}
+use Rattle.pie_commands.proofs.Names.{EndsOfFiles, JoinsFile, ToldJoined, elements_in, Answers, EndsAs, EndsRead, EndsTo, Finds, may_differ}
+use Rattle.pie_commands.proofs.Names.{output_for}
+use Rattle.std.specs.Prelude.{All}
+use Rattle.clap.specs.Words.{Row}
 use Rattle.clap.specs.declared.error.Error.{Error}
 use Rattle.clap.specs.declared.error.kind.ErrorKind.TheVariants.{OutOfMemory}
 use Rattle.clap.specs.declared.parser.matches.ArgMatches.{ArgMatches}
-use Rattle.pie_record.specs.Text.{records_of}
-use Rattle.pie_audit.specs.Text.{FindsEither}
-use Rattle.pie_audit.specs.declared.auditor.Finding.{Finding}
-use Rattle.pie_commands.specs.declared.end.End.{End}
-use Rattle.pie_commands.specs.declared.end.End.TheVariants.{Differs, Unable, Failed}
+use Rattle.pie_commands.specs.declared.end.End.TheVariants.{Differs}
+use Rattle.pie_commands.specs.declared.perform.Reads.{Reads}
+use Rattle.pie_commands.specs.declared.perform.Reads.TheVariants as reads
 use Rattle.pie_options.specs.declared.subcommand.Subcommand.{Subcommand}
-use Rattle.pie_options.specs.declared.subcommand.Subcommand.TheVariants.{Run, Audit, Explain, Cut, Migrate, Storm, Params}
-use Rattle.pie_options.specs.Words.{file_in, files_in, is_forced, is_joined, options_in, pie_app}
 use Rattle.pie_options.specs.Subcommands.{word_of}
-use Rattle.pie_options.proofs.WordFacts.{name-found, options-in, same-word, subcommand-found}
-use Rattle.pie_cut.specs.declared.joined.Joined.{Joined}
-use Rattle.pie_cut.specs.Joined.{EndView, JoinsText}
-use Rattle.pie_files.specs.Files.{text_given}
-use Rattle.pie_files.specs.Output.{Held, Keeps}
-use Rattle.pie_commands.specs.AuditEnds.{EndsFiles, IsFound, Told}
-use Rattle.pie_commands.specs.CutEnds.{EndsCut}
-use Rattle.pie_commands.specs.Ends.{EndsMigrate, EndsRun}
-use Rattle.pie_commands.specs.ExplainEnds.{EndsExplain}
-use Rattle.pie_commands.specs.JointEnds.{AreJoined, EndsEither, EndsJoined, EndsOfFiles, JoinsFile, ToldJoined}
-use Rattle.pie_commands.specs.StormEnds.{elements_in}
-use Rattle.pie_commands.specs.Subcommands.{Answers, EndsAs, EndsTo, Finds, may_differ, output_for}
 use Rattle.pie_commands.proofs.CutFacts.{EndsCut-unable}
 use Rattle.pie_commands.proofs.EndFacts.{EndsEither-unable, EndsMigrate-unable, EndsRun-unable}
 use Rattle.pie_commands.proofs.ExplainFacts.{EndsExplain-unable}
@@ -35,6 +24,12 @@ use Rattle.pie_commands.proofs.StormEndFacts.{storm-unable}
 use Rattle.pie_commands.proofs.OutputFacts.{ends-unable, ends-keep, keeps-same}
 
 -- a subcommand that could not begin wrote nothing
+pub EndsRead-unable : (reads : Reads) (options : List Row) (known before now : Option (List ℕ)) → now ≡ before
+    → IfSome known (λ text. EndsRead reads options text Unable before now)
+EndsRead-unable reads.Run options known before now same = EndsRun-unable known before now same
+EndsRead-unable reads.Explain options known before now same = EndsExplain-unable options known before now same
+EndsRead-unable reads.Migrate options known before now same = EndsMigrate-unable known before now same
+
 EndsAs-unable : (subcommand : Subcommand) (options : List Row) (input : Option (List ℕ)) (files : Held) (before now : Option (List ℕ)) → now ≡ before
     → EndsAs subcommand options input files Unable before now
 EndsAs-unable Run options input files before now same = EndsRun-unable (text_given input files (file_in options)) before now same
@@ -166,13 +161,10 @@ EndsAs-kept Params options input old new end before now keeps ended = ended
 pub may-differ : (found : Option Text)
     → (subcommand : Subcommand) × (may_differ subcommand ≡ true) × (found ≡ Some (word_of subcommand))
     → (found ≡ Some (codes "audit")) ⊎ (found ≡ Some (codes "explain")) ⊎ (found ≡ Some (codes "cut"))
-may-differ found (Run, can, is) = cc
 may-differ found (Audit, can, is) = inl is
 may-differ found (Explain, can, is) = inr (inl is)
 may-differ found (Cut, can, is) = inr (inr is)
-may-differ found (Migrate, can, is) = cc
-may-differ found (Storm, can, is) = cc
-may-differ found (Params, can, is) = cc
+may-differ found (_, can, is) = cc
 
 -- what `clap` answers is what it finds in the words
 pub finds-so : (app : App) (words : List Text) (result : Result ArgMatches Error) → app ≡ pie_app → IfOk result (HasMatchesOf app words)

@@ -11,6 +11,8 @@ use Rattle.pie_options.specs.Words.{Asks, file_in, files_in, is_forced, is_joine
 use Rattle.pie_files.specs.Files.{text_given}
 use Rattle.pie_files.specs.Output.{Held, Keeps}
 use Rattle.pie_commands.specs.declared.end.End.{End}
+use Rattle.pie_commands.specs.declared.perform.Reads.{Reads}
+use Rattle.pie_commands.specs.declared.perform.Reads.TheVariants as reads
 use Rattle.pie_commands.specs.declared.end.End.TheVariants.{Differs}
 use Rattle.pie_commands.specs.CutEnds.{EndsCut}
 use Rattle.pie_commands.specs.Ends.{EndsMigrate, EndsRun, status_of}
@@ -19,6 +21,12 @@ use Rattle.pie_commands.specs.JointEnds.{EndsEither}
 use Rattle.pie_commands.specs.Outputs.{EndsIn}
 use Rattle.pie_commands.specs.StormEnds.{EndsStorm}
 use Rattle.pie_commands.specs.Tuning.{EndsParams}
+
+-- a subcommand that reads one text from its beginning to its end, by what it writes
+abbrev pub EndsRead : Reads → List Row → List ℕ → End → Option (List ℕ) → Option (List ℕ) → Type 0
+EndsRead reads.Run options text = EndsRun text
+EndsRead reads.Explain options text = EndsExplain options text
+EndsRead reads.Migrate options text = EndsMigrate text
 
 -- a subcommand with these options, over a reader of which this is known and files of which that is known, by what it writes
 abbrev pub EndsAs : Subcommand → List Row → Option (List ℕ) → Held → End → Option (List ℕ) → Option (List ℕ) → Type 0
@@ -33,13 +41,10 @@ EndsAs Params options input files end before now = EndsParams options end before
 
 -- the file that a subcommand is to write in place of the writer that is handed in
 abbrev pub output_for : Subcommand → List Row → Option Text
-output_for Run options = output_in options
 output_for Audit options = None
-output_for Explain options = output_in options
-output_for Cut options = output_in options
-output_for Migrate options = output_in options
 output_for Storm options = None
 output_for Params options = None
+output_for _ options = output_in options
 
 -- .. to the writer that is handed in, or to a new file that is for the name that the options give, with what becomes of files
 abbrev pub EndsTo : Subcommand → List Row → Option (List ℕ) → Option (List ℕ) → Held → Held → End → Option (List ℕ) → Option (List ℕ) → Type 0
@@ -48,13 +53,10 @@ EndsTo subcommand options input fresh old new =
 
 -- an event can differ in what three of them read
 abbrev pub may_differ : Subcommand → Bool
-may_differ Run = false
 may_differ Audit = true
 may_differ Explain = true
 may_differ Cut = true
-may_differ Migrate = false
-may_differ Storm = false
-may_differ Params = false
+may_differ _ = false
 
 -- ---- the words
 

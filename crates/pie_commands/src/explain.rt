@@ -3,19 +3,16 @@ ghost use Rattle.std.specs.Prelude.{◌≡◌, IfSome, Some, true};
 ghost use Rattle.clap.specs.Words.{found_of, rows_of};
 ghost use Rattle.pie_record.specs.Text.{records_of};
 ghost use Rattle.pie_explain.specs.Either.{ExplainsEither};
-ghost use Rattle.pie_files.specs.Files.{text_given};
-ghost use Rattle.pie_options.specs.Words.{file_in};
 ghost use Rattle.pie_commands.specs.Choice.{choice_of, chosen, every_of, flows_of, form_of, is_by_wall, is_digest, is_either, is_summary, lasts};
 ghost use Rattle.pie_commands.specs.Choice.{tale_by, tale_of, told_by, which_of};
 ghost use Rattle.pie_commands.specs.ExplainEnds.{EndsExplain, end_of_explain, explain_ends};
 
 use crate::end::{End, failed, faulted};
 use crate::moments::{NO_ORDER, bound_of, in_order, moment, moment_of};
-use crate::screen::{Screen, shows_progress};
 use clap::ArgMatches;
 use pie_explain::{Choice, ExplainFault, Form, Which};
-use pie_files::{NamedFiles, Watched, fault, reader_of};
-use pie_options::{file, flag, number};
+use pie_files::{Watched, fault};
+use pie_options::{flag, number};
 use pie_summary::{ByFlow, Summary};
 use std::alloc::Global;
 use std::io::{Read, Write};
@@ -275,7 +272,7 @@ fn explain_chosen<H: Clock, R: Read + Drop, W: Write, E: Write>(
 /// `pie explain`: writes what there is to say of the chosen events of a history, or of a text that goes on from the middle of one, up to its first
 /// fault and the first event that differs, at which it ends so. It has failed where the history has a fault, where the options choose no events,
 /// where no event is the chosen one, and where the reader, the writer or memory fails: each is told on `errors`.
-fn explain_input<H: Clock, R: Read + Drop, W: Write, E: Write>(
+pub(crate) fn explain<H: Clock, R: Read + Drop, W: Write, E: Write>(
     rt: &H,
     alloc: Global,
     options: &ArgMatches<'_>,
@@ -293,24 +290,5 @@ fn explain_input<H: Clock, R: Read + Drop, W: Write, E: Write>(
             explain_chosen(rt, alloc, is_shown, choice, tale, input, output, errors)
         }
         None => End::Failed,
-    }
-}
-
-/// `pie explain` of what the options name.
-pub(crate) fn explain<H: NamedFiles + Screen, R: Read + Drop, W: Write, E: Write>(
-    rt: &H,
-    alloc: Global,
-    options: &ArgMatches<'_>,
-    input: R,
-    output: &mut W,
-    errors: &mut E,
-) -> End
-    ensures { IfSome (text_given (R.remaining input) (H.holds rt.now) (file_in (rows_of (found_of options.now))))
-        (λ text. EndsExplain (rows_of (found_of options.now)) text result (W.contents output.old) (W.contents output.new)) }
-{
-    let is_shown = shows_progress(rt, options, true);
-    match reader_of(rt, file(options), input, errors) {
-        Some(reader) => explain_input(rt, alloc, options, is_shown, reader, output, errors),
-        None => End::Unable,
     }
 }

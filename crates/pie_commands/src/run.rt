@@ -1,16 +1,12 @@
 //! `pie run`.
 ghost use Rattle.std.specs.Prelude.{◌≡◌, ◌≤◌, IfSome, OnOk};
 ghost use Rattle.std.specs.Io.KnownBytes.{Appends};
-ghost use Rattle.clap.specs.Words.{found_of, rows_of};
-ghost use Rattle.pie_files.specs.Files.{text_given};
-ghost use Rattle.pie_options.specs.Words.{file_in};
 ghost use Rattle.pie_commands.specs.Ends.{EndsRun, counts_line, status_of};
 
 use crate::end::{End, ended};
-use crate::screen::{Screen, shows_progress};
 use clap::ArgMatches;
-use pie_files::{NamedFiles, Watched, reader_of};
-use pie_options::{file, flag};
+use pie_files::Watched;
+use pie_options::flag;
 use pie_trace::{RunEnd, TraceFault, run_trace};
 use std::alloc::Global;
 use std::io;
@@ -40,7 +36,7 @@ fn say_counts<E: Write>(
 
 /// `pie run`: writes the history text of a trace, and ends at its first fault; or the end says what failed. Without a fault it says
 /// on `errors` how many events and refused records there were, where that is asked; progress too, where it `is_shown`.
-fn run_input<H: Clock, R: Read + Drop, W: Write, E: Write>(
+pub(crate) fn run<H: Clock, R: Read + Drop, W: Write, E: Write>(
     rt: &H,
     alloc: Global,
     options: &ArgMatches<'_>,
@@ -56,24 +52,4 @@ fn run_input<H: Clock, R: Read + Drop, W: Write, E: Write>(
     let given = run_trace(alloc, watched, output);
     say_counts(options, &given, errors);
     ended(errors, given)
-}
-
-/// `pie run` of what the options name.
-pub(crate) fn run<H: NamedFiles + Screen, R: Read + Drop, W: Write, E: Write>(
-    rt: &H,
-    alloc: Global,
-    options: &ArgMatches<'_>,
-    input: R,
-    output: &mut W,
-    errors: &mut E,
-) -> End
-    ensures status { status_of result ≤ 1 }
-    ensures runs { IfSome (text_given (R.remaining input) (H.holds rt.now) (file_in (rows_of (found_of options.now))))
-        (λ text. EndsRun text result (W.contents output.old) (W.contents output.new)) }
-{
-    let is_shown = shows_progress(rt, options, true);
-    match reader_of(rt, file(options), input, errors) {
-        Some(reader) => run_input(rt, alloc, options, is_shown, reader, output, errors),
-        None => End::Unable,
-    }
 }

@@ -1,26 +1,13 @@
 -- How the burst allowance goes down from update to update, and how far updates are apart.
-use Rattle.std.proofs.Common.{◌≡◌, ◌≤◌, ◌+◌, ◌*◌, ◌-◌, ◌&&◌, ℕ, List, [], ◌∷◌, ◌++◌, Bool, true, false, refl, sym, ap, ◌∙◌, cond}
-use Rattle.std.proofs.Common.{if◌then◌else◌, arith, subst, max, All}
-use Rattle.std.proofs.lemmas.List.{append_assoc}
-use Rattle.std.proofs.lemmas.List.Elements.{All-cons, All-head, All-nil, All-tail}
-use Rattle.std.proofs.lemmas.List.Sums.{sum_by_push, sum_by-append}
-use Rattle.std.proofs.lemmas.Bool.{ltb-false}
-use Rattle.pie_queue.specs.Queue.{bytes_of}
-use Rattle.pie_event.specs.Deed.{deed, deed_of, is_update}
-use Rattle.pie_aqm.specs.Calls.{after_call}
-use Rattle.pie_aqm.specs.Held.{Held, IsSound}
+use Rattle.pie_guarantees.proofs.Names.{◌≡◌, ◌≤◌, ◌+◌, ◌*◌, ◌-◌, ◌&&◌, ℕ, List, [], ◌∷◌, ◌++◌, Bool, true, false, refl, sym, ap, ◌∙◌, cond}
+use Rattle.pie_guarantees.proofs.Names.{if◌then◌else◌, arith, subst, max, All, append_assoc, All-cons, All-head, All-nil, All-tail, All-weaker, sum_by_push}
+use Rattle.pie_guarantees.proofs.Names.{sum_by-append, ltb-false, bytes_of, deed, deed_of, is_update, after_call, Held, IsSound, anew, bytes_with}
+use Rattle.pie_guarantees.proofs.Names.{is_calm, judged, Waiting, Arrival, Command, Arrive, Depart, Update, Reset, SetParams, Answer, Enqueued, Event}
+use Rattle.pie_guarantees.proofs.Names.{Opening, arrival_of, call_of, departure_call, is_too_soon, active_after, held_after, params_after}
+use Rattle.pie_guarantees.proofs.Names.{parts_after, effective_moment, waiting_after, held-is, first-shows, first_core, AllAllow, Allows, IsAllowed}
+use Rattle.pie_guarantees.proofs.Names.{IsWhole, KeepsParams, SetsAllow, burst_left, updates_in, IsLawful, IsEarly}
+use Rattle.pie_book.specs.Types.{RawParams}
 use Rattle.pie_aqm.specs.Steps as Steps
-use Rattle.pie_aqm.specs.Steps.{anew, bytes_with, is_calm, judged}
-use Rattle.pie_book.specs.Types.{RawParams, Waiting, Arrival, Command, Arrive, Depart, Update, Reset, SetParams, Answer, Enqueued, Event, Opening}
-use Rattle.pie_book.specs.Call.{arrival_of, call_of, departure_call}
-use Rattle.pie_book.specs.Decision.{is_too_soon}
-use Rattle.pie_book.specs.Estimates.{active_after, held_after, params_after, parts_after}
-use Rattle.pie_book.specs.History.{effective_moment, waiting_after}
-use Rattle.pie_book.proofs.CoreFacts.{held-is}
-use Rattle.pie_book.proofs.LegalFacts.{first-shows, first_core}
-use Rattle.pie_guarantees.specs.Bursts.{AllAllow, Allows, IsAllowed, IsWhole, KeepsParams, SetsAllow, burst_left, updates_in}
-use Rattle.pie_guarantees.specs.Lawful.{IsLawful}
-use Rattle.pie_guarantees.specs.Verdicts.{IsEarly}
 use Rattle.pie_guarantees.proofs.LawfulFacts.{IsStep, along, sound_at, step_at}
 use Rattle.pie_guarantees.proofs.EarlyFacts.{early_at}
 
@@ -281,25 +268,19 @@ updates-since burst least most opening before between later lawful left allow =
     subst (λ (k : ℕ). (held_after opening before).control.last + k * least ≤ effective_moment opening (before ++ between)) n (omega arith)
 
 keeps-allows : (burst least most : ℕ) (command : Command) → KeepsParams command → SetsAllow burst least most command
-keeps-allows burst least most (Arrive moment packet word) keep = tt
-keeps-allows burst least most (Depart moment) keep = tt
-keeps-allows burst least most (Update moment) keep = tt
-keeps-allows burst least most (Reset moment) keep = tt
 keeps-allows burst least most (SetParams moment params) keep = absurd keep
-
-all-allow : (burst least most : ℕ) (events : List Event) → All (λ event. KeepsParams event.command) events
-    → All (λ event. SetsAllow burst least most event.command) events
-all-allow burst least most [] all = All-nil (λ (event : Event). SetsAllow burst least most event.command)
-all-allow burst least most (event ∷ events) all =
-    All-cons (λ (event : Event). SetsAllow burst least most event.command) event events
-    (keeps-allows burst least most event.command (All-head (λ (e : Event). KeepsParams e.command) event events all))
-    (all-allow burst least most events (All-tail (λ (e : Event). KeepsParams e.command) event events all))
+keeps-allows burst least most _ keep = tt
 
 allow-own : (opening : Opening) (before between : List Event) → IsAllowed opening before → All (λ event. KeepsParams event.command) between
     → AllAllow (burst_left opening before) (params_after opening before).t_update (params_after opening before).t_update opening before between
 allow-own opening before between allowed keep = record {
   force = record { allowance = allowed; apart = omega arith; together = omega arith };
-  set = all-allow (burst_left opening before) (params_after opening before).t_update (params_after opening before).t_update between keep;
+  set = All-weaker (λ (event : Event). KeepsParams event.command)
+      (λ (event : Event). SetsAllow (burst_left opening before) (params_after opening before).t_update
+      (params_after opening before).t_update event.command)
+      (λ (event : Event) keep. keeps-allows (burst_left opening before) (params_after opening before).t_update
+      (params_after opening before).t_update event.command keep)
+      between keep;
 }
 
 module _ (opening : Opening) (before : List Event) (between : List Event) (event : Event) (later : List Event)

@@ -1,34 +1,18 @@
 -- What becomes of every packet.
-use Rattle.std.proofs.Common.{◌≡◌, ◌≤◌, ◌+◌, ◌*◌, ◌==◌, ◌^◌, ℕ, List, [], ◌∷◌, ◌++◌, map, Bool, true, false, refl, sym, ap, ◌∙◌, cond}
-use Rattle.std.proofs.Common.{◌⊎◌, inl, inr, if◌then◌else◌, nat_lt, length, arith, subst, All, Some, None, Option}
-use Rattle.std.specs.Prelude.{sum_by}
-use Rattle.std.proofs.lemmas.Bool.{ltb-false}
-use Rattle.std.proofs.lemmas.List.{append-nil, append_assoc, length-map, map-append}
-use Rattle.std.proofs.lemmas.List.Elements.{filter_map-append}
-use Rattle.std.proofs.lemmas.List.Sums.{sum_by_push, sum_by-cons}
-use Rattle.pie_queue.specs.Queue.{bytes_of}
-use Rattle.pie_event.specs.Deed.{Deed, deed, deed_of, departure, fits, with_ce}
-use Rattle.pie_event.specs.Verdict.{answer_of}
-use Rattle.pie_event.specs.declared.verdict.Verdict.TheVariants as verdict
-use Rattle.pie_early.specs.declared.early.Choice.{Choice}
-use Rattle.pie_early.specs.declared.early.Choice.TheVariants as choice
-use Rattle.pie_aqm.specs.Calls.{after_call}
-use Rattle.pie_aqm.specs.Held.{Held}
-use Rattle.pie_aqm.specs.Steps as Steps
-use Rattle.pie_aqm.proofs.Places.{filter_map-push, with_one}
-use Rattle.pie_book.specs.Types.{Packet, Waiting, Verdict, Command, Arrive, Depart, Update, Reset, SetParams, Answer, Enqueued}
-use Rattle.pie_book.specs.Types.{Marked, DroppedEarly, DroppedBytes, DroppedPackets, Empty, Left, Event, Opening}
-use Rattle.pie_book.specs.Call.{arrival_of, call_of}
-use Rattle.pie_book.specs.Decision.{answer_by}
-use Rattle.pie_book.specs.Estimates.{held_after, params_after}
-use Rattle.pie_book.specs.History.{bytes_after, effective_moment, waiting_after}
-use Rattle.pie_book.specs.Statistics.{count_of, is_dropped_bytes, is_dropped_early, is_dropped_packets, is_marked, is_queued}
-use Rattle.pie_book.proofs.CoreFacts.{answer-fits, held-is}
-use Rattle.pie_book.specs.Step.{waiting_next}
-use Rattle.pie_book.proofs.LegalFacts.{first-shows, first_core}
+use Rattle.pie_guarantees.proofs.Names.{◌≡◌, ◌≤◌, ◌+◌, ◌*◌, ◌==◌, ◌^◌, ℕ, List, [], ◌∷◌, ◌++◌, map, Bool, true, false, refl, sym, ap, ◌∙◌, cond, ◌⊎◌}
+use Rattle.pie_guarantees.proofs.Names.{inl, inr, if◌then◌else◌, nat_lt, length, arith, subst, All, Some, None, Option, sum_by, ltb-false, append-nil}
+use Rattle.pie_guarantees.proofs.Names.{append_assoc, length-map, map-append, filter_map-append, sum_by_push, sum_by-cons, bytes_of, Deed, deed}
+use Rattle.pie_guarantees.proofs.Names.{deed_of, departure, fits, with_ce, answer_of, Choice, after_call, Held, filter_map-push, with_one, Packet}
+use Rattle.pie_guarantees.proofs.Names.{Waiting, Verdict, Command, Arrive, Depart, Update, Reset, SetParams, Answer, Enqueued, Marked, DroppedEarly}
+use Rattle.pie_guarantees.proofs.Names.{DroppedBytes, DroppedPackets, Empty, Left, Event, Opening, arrival_of, call_of, answer_by, held_after}
+use Rattle.pie_guarantees.proofs.Names.{params_after, bytes_after, effective_moment, waiting_after, count_of, is_dropped_bytes, is_dropped_early}
+use Rattle.pie_guarantees.proofs.Names.{is_dropped_packets, is_marked, is_queued, answer-fits, held-is, waiting_next, first-shows, first_core}
+use Rattle.pie_guarantees.proofs.Names.{IsLawful}
 use Rattle.pie_guarantees.specs.Counts.{Carries, SetsLimit, bytes_departed, hands_in, packet_queued, packets_departed, packets_handed_in}
 use Rattle.pie_guarantees.specs.Counts.{packets_queued, packets_waiting, time_of}
-use Rattle.pie_guarantees.specs.Lawful.{IsLawful}
+use Rattle.pie_event.specs.declared.verdict.Verdict.TheVariants as verdict
+use Rattle.pie_early.specs.declared.early.Choice.TheVariants as choice
+use Rattle.pie_aqm.specs.Steps as Steps
 use Rattle.pie_guarantees.proofs.LawfulFacts.{IsStep, along, beginning, stands_at, step_at, throughout}
 
 -- ---- counts
@@ -59,9 +43,7 @@ once-more (Arrive moment packet word) _ e = cc
 once-more (Depart moment) Empty e = refl
 once-more (Depart moment) (Left packet) e = refl
 once-more (Depart moment) _ e = cc
-once-more (Update moment) answer e = refl
-once-more (Reset moment) answer e = refl
-once-more (SetParams moment params) answer e = refl
+once-more _ answer e = refl
 
 adds-next : (opening : Opening) (before : List Event) (event : Event) → IsStep opening before event → Adds before → Adds (before ++ event ∷ [])
 unfolding Adds
@@ -239,9 +221,8 @@ limit-next most h waiting packets (Arrive moment packet word) low set =
     by false = low
 limit-next most h [] packets (Depart moment) low set = low
 limit-next most h (oldest ∷ others) packets (Depart moment) low set = low
-limit-next most h waiting packets (Update moment) low set = low
-limit-next most h waiting packets (Reset moment) low set = low
 limit-next most h waiting packets (SetParams moment params) low set = set
+limit-next most h waiting packets _ low set = low
 
 record Below (most : ℕ) (opening : Opening) (history : List Event) : Type 0 where
   limit : (params_after opening history).limit_bytes ≤ most

@@ -1,27 +1,14 @@
 -- What is known of a packet that was marked or dropped early.
-use Rattle.std.proofs.Common.{◌≡◌, ◌≤◌, ◌<◌, ◌+◌, ◌*◌, ◌&&◌, ◌⊎◌, inl, inr, ℕ, List, [], ◌∷◌, ◌++◌, Bool, true, false, refl, sym, ap, ◌∙◌}
-use Rattle.std.proofs.Common.{if◌then◌else◌, nat_lt, arith, subst}
-use Rattle.std.proofs.lemmas.Bool.Decides.{nat_tests}
+use Rattle.pie_guarantees.proofs.Names.{◌≡◌, ◌≤◌, ◌<◌, ◌+◌, ◌*◌, ◌&&◌, ◌⊎◌, inl, inr, ℕ, List, [], ◌∷◌, ◌++◌, Bool, true, false, refl, sym, ap, ◌∙◌}
+use Rattle.pie_guarantees.proofs.Names.{if◌then◌else◌, nat_lt, arith, subst, nat_tests, is_capable, bytes_of, Choice, Enqueue, Mark, Drop, counted}
+use Rattle.pie_guarantees.proofs.Names.{is_considered, is_picked, picked_choice, Held, choice, chosen, offered, verdict, answer_of, Packet, Waiting}
+use Rattle.pie_guarantees.proofs.Names.{Arrival, Arrive, Depart, Update, Reset, SetParams, Answer, DroppedEarly, Marked, Command, Event, Opening}
+use Rattle.pie_guarantees.proofs.Names.{arrival_of, answer_by, answer_to_departure, held_after, waiting_after, IsLawful, IsArrivalOf}
+use Rattle.pie_guarantees.proofs.Names.{MarksOnlyCapable, OnlyMarks, SparesCapable, is_early}
 use Rattle.pie_queue.specs.declared.ecn.Ecn.{Ecn}
-use Rattle.pie_queue.specs.Ecn.{is_capable}
-use Rattle.pie_queue.specs.Queue.{bytes_of}
 use Rattle.pie_control.specs.Parts.{Parts}
-use Rattle.pie_early.specs.declared.early.Choice.{Choice}
-use Rattle.pie_early.specs.declared.early.Choice.TheVariants.{Enqueue, Mark, Drop}
-use Rattle.pie_early.specs.Decision.{counted, is_considered, is_picked, picked_choice}
-use Rattle.pie_aqm.specs.Held.{Held}
-use Rattle.pie_aqm.specs.Steps.{choice, chosen, offered, verdict}
-use Rattle.pie_event.specs.Verdict.{answer_of}
+use Rattle.pie_book.specs.Types.{RawParams}
 use Rattle.pie_event.specs.declared.verdict.Verdict.TheVariants as verdict
-use Rattle.pie_book.specs.Types.{RawParams, Packet, Waiting, Arrival, Arrive, Depart, Update}
-use Rattle.pie_book.specs.Types.{Reset, SetParams, Answer, DroppedEarly, Marked, Command, Event}
-use Rattle.pie_book.specs.Types.{Opening}
-use Rattle.pie_book.specs.Call.{arrival_of}
-use Rattle.pie_book.specs.Decision.{answer_by, answer_to_departure}
-use Rattle.pie_book.specs.Estimates.{held_after}
-use Rattle.pie_book.specs.History.{waiting_after}
-use Rattle.pie_guarantees.specs.Lawful.{IsLawful}
-use Rattle.pie_guarantees.specs.Verdicts.{IsArrivalOf, MarksOnlyCapable, OnlyMarks, SparesCapable, is_early}
 use Rattle.pie_guarantees.proofs.LawfulFacts.{IsStep, step_at}
 
 -- what is known of the controller where a packet was picked
@@ -86,9 +73,7 @@ picked-of : (h : Held) (waiting : List Waiting) (packets : ℕ) (command : Comma
 picked-of h waiting packets (Arrive moment packet word) e = (chosen-of h (arrival_of waiting packets packet word) e).picked
 picked-of h [] packets (Depart moment) e = cc
 picked-of h (oldest ∷ others) packets (Depart moment) e = cc
-picked-of h waiting packets (Update moment) e = cc
-picked-of h waiting packets (Reset moment) e = cc
-picked-of h waiting packets (SetParams moment params) e = cc
+picked-of h waiting packets _ e = cc
 
 pub early_at : (opening : Opening) (before : List Event) (event : Event) → IsStep opening before event → is_early event.answer ≡ true
     → IsPicked (held_after opening before) (bytes_of (waiting_after opening before))
@@ -202,15 +187,7 @@ early_arrival opening before event step e =
     }
     by (Depart moment) is [] w e = let wrong : is_early (answer_to_departure []) ≡ true = rw (is, w) at e in cc
     by (Depart moment) is (oldest ∷ others) w e = let wrong : is_early (answer_to_departure (oldest ∷ others)) ≡ true = rw (is, w) at e in cc
-    by (Update moment) is waiting w e =
-        let wrong = subst (λ (c : Command). is_early (answer_by (held_after opening before)
-        (waiting_after opening before) opening.limits.packets c) ≡ true)
-        is e in cc
-    by (Reset moment) is waiting w e =
-        let wrong = subst (λ (c : Command). is_early (answer_by (held_after opening before)
-        (waiting_after opening before) opening.limits.packets c) ≡ true)
-        is e in cc
-    by (SetParams moment params) is waiting w e =
+    by _ is waiting w e =
         let wrong = subst (λ (c : Command). is_early (answer_by (held_after opening before)
         (waiting_after opening before) opening.limits.packets c) ≡ true)
         is e in cc

@@ -1,13 +1,7 @@
 -- Worked histories: each theorem computes.
-use Rattle.std.proofs.Common.{◌≡◌, List, [], ◌∷◌, ◌++◌, map, drop, refl, ap, All, None}
-use Rattle.std.proofs.lemmas.List.Elements.{All-cons, All-nil}
-use Rattle.pie_aqm.specs.Places.{Place, places}
-use Rattle.pie_book.specs.Types.{Event, Opening}
-use Rattle.pie_book.specs.Decision.{IsLegal, IsLegalAt, decision, refusal_by_rule}
-use Rattle.pie_book.specs.Estimates.{params_after}
-use Rattle.pie_book.specs.History.{bytes_after, effective_moment}
+use Rattle.pie_guarantees.proofs.Names.{◌≡◌, List, [], ◌∷◌, ◌++◌, map, drop, refl, ap, All, None, All-cons, All-nil, Place, places, Event, Opening}
+use Rattle.pie_guarantees.proofs.Names.{IsLegal, IsLegalAt, decision, refusal_by_rule, params_after, bytes_after, effective_moment, IsWhole}
 use Rattle.pie_book.proofs.Examples.{worked}
-use Rattle.pie_guarantees.specs.Bursts.{IsWhole}
 use Rattle.pie_guarantees.specs.Examples.{burst_begins, burst_goes_on, burst_opening, first_drop, lowered, lowered_opening}
 
 -- at each place the command is taken and has its answer

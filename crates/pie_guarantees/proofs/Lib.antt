@@ -1,3 +1,4 @@
+mod Names
 pub mod LawfulFacts
 pub mod EarlyFacts
 pub mod BurstFacts

@@ -1,21 +1,11 @@
 -- How the next probability follows the delay.
-use Rattle.std.proofs.Common.{◌≡◌, ◌≤◌, ◌<◌, ◌+◌, ◌*◌, ◌/◌, ◌&&◌, ◌==◌, ◌^◌, ℕ, suc, Bool, true, false, refl, arith}
-use Rattle.std.proofs.Common.{if◌then◌else◌, nat_lt}
-use Rattle.std.specs.Prelude.{ℤ, pos, negsuc, ◌+ℤ◌, ◌-ℤ◌, ◌*ℤ◌, ◌≤ℤ◌, int_div, nat_le}
-use Rattle.std.specs.Int.{int_min}
-use Rattle.std.proofs.lemmas.Bool.Decides.{nat_tests}
-use Rattle.std.proofs.lemmas.Int.{clamps, ints}
-use Rattle.std.proofs.lemmas.Nat.{le-div, mul-le}
-use Rattle.std.proofs.Math.Nat.{div-mul-le_self}
-use Rattle.pie_fixed.specs.Fixed.{bounded_of}
+use Rattle.pie_guarantees.proofs.Names.{◌≡◌, ◌≤◌, ◌<◌, ◌+◌, ◌*◌, ◌/◌, ◌&&◌, ◌==◌, ◌^◌, ℕ, suc, Bool, true, false, refl, arith, if◌then◌else◌, nat_lt}
+use Rattle.pie_guarantees.proofs.Names.{ℤ, pos, negsuc, ◌+ℤ◌, ◌-ℤ◌, ◌*ℤ◌, ◌≤ℤ◌, int_div, nat_le, int_min, nat_tests, clamps, ints, le-div, mul-le}
+use Rattle.pie_guarantees.proofs.Names.{div-mul-le_self, bounded_of, Elements, Step, is_capped, decayed, decays, next, raw_step, tuned_step}
+use Rattle.pie_guarantees.proofs.Names.{tuning_divisor, bounded_of-below, decay-below, int_div-below}
 use Rattle.pie_params.specs.declared.raw.RawParams.{RawParams}
 use Rattle.pie_params.specs.declared.elements.Decay.{Decay}
 use Rattle.pie_params.specs.declared.elements.Decay.TheVariants.{Half, Zero}
-use Rattle.pie_params.specs.declared.elements.Elements.{Elements}
-use Rattle.pie_params.specs.declared.elements.Step.{Step}
-use Rattle.pie_params.specs.Elements.{is_capped}
-use Rattle.pie_control.specs.Next.{decayed, decays, next, raw_step, tuned_step, tuning_divisor}
-use Rattle.pie_control.proofs.Quotients.{bounded_of-below, decay-below, int_div-below}
 
 div-mono : (a b d : ℕ) → 0 < d → a ≤ b → a / d ≤ b / d
 div-mono a b d some le = le-div (a / d) b d some (omega (arith, div-mul-le_self a d, le))

@@ -1,30 +1,14 @@
 -- How the probability follows the delay, at each event of a lawful history.
-use Rattle.std.proofs.Common.{◌≡◌, ◌≤◌, ◌<◌, ◌+◌, ◌*◌, ◌-◌, ◌^◌, ◌⊎◌, inl, inr, ℕ, zero, suc, List, [], ◌∷◌, ◌++◌, Bool, true, false, refl, sym}
-use Rattle.std.proofs.Common.{ap, ◌∙◌, cond, if◌then◌else◌, arith, subst}
-use Rattle.std.proofs.lemmas.Nat.{mul-le}
-use Rattle.std.proofs.Math.Nat.{le_of_mul-le-mul_right, pow-suc}
-use Rattle.std.proofs.lemmas.List.{append-nil, append_assoc}
-use Rattle.std.proofs.lemmas.List.Sums.{sum_by-cons}
-use Rattle.pie_params.specs.Elements.{is_capped, usual}
-use Rattle.pie_params.specs.Profile.{default_profile}
-use Rattle.pie_params.specs.declared.elements.Elements.{Elements}
-use Rattle.pie_queue.specs.Queue.{bytes_of}
-use Rattle.pie_control.specs.Next.{decayed, decays, next, raw_step, tuned_step, tuning_divisor}
-use Rattle.pie_event.specs.Deed.{deed, deed_of, is_update}
-use Rattle.pie_aqm.specs.Calls.{after_call}
-use Rattle.pie_aqm.specs.Held.{Held}
-use Rattle.pie_aqm.specs.History.{held_of}
+use Rattle.pie_guarantees.proofs.Names.{◌≡◌, ◌≤◌, ◌<◌, ◌+◌, ◌*◌, ◌-◌, ◌^◌, ◌⊎◌, inl, inr, ℕ, zero, suc, List, [], ◌∷◌, ◌++◌, Bool, true, false, refl}
+use Rattle.pie_guarantees.proofs.Names.{sym, ap, ◌∙◌, cond, if◌then◌else◌, arith, subst, mul-le, le_of_mul-le-mul_right, pow-suc, append-nil}
+use Rattle.pie_guarantees.proofs.Names.{append_assoc, sum_by-cons, is_capped, usual, default_profile, Elements, bytes_of, decayed, decays, next}
+use Rattle.pie_guarantees.proofs.Names.{raw_step, tuned_step, tuning_divisor, deed, deed_of, is_update, after_call, Held, held_of, anew, bytes_with}
+use Rattle.pie_guarantees.proofs.Names.{judged, in-range, Waiting, Arrival, Command, Arrive, Depart, Update, Reset, SetParams, Answer, Enqueued}
+use Rattle.pie_guarantees.proofs.Names.{Event, Opening, arrival_of, call_of, departure_call, active_after, delay_after, held_after, params_after}
+use Rattle.pie_guarantees.proofs.Names.{waiting_after, is_reset, KeepsParams, updates_in, AllAlong, IsLawful, IsActiveUpdate, IsSteady, after_updates}
+use Rattle.pie_guarantees.proofs.Names.{old_delay_after, probability_after}
+use Rattle.pie_book.specs.Types.{RawParams}
 use Rattle.pie_aqm.specs.Steps as Steps
-use Rattle.pie_aqm.specs.Steps.{anew, bytes_with, judged}
-use Rattle.pie_aqm.proofs.InRange.{in-range}
-use Rattle.pie_book.specs.Types.{RawParams, Waiting, Arrival, Command, Arrive, Depart, Update, Reset, SetParams, Answer, Enqueued, Event, Opening}
-use Rattle.pie_book.specs.Call.{arrival_of, call_of, departure_call}
-use Rattle.pie_book.specs.Estimates.{active_after, delay_after, held_after, params_after}
-use Rattle.pie_book.specs.History.{waiting_after}
-use Rattle.pie_book.specs.Statistics.{is_reset}
-use Rattle.pie_guarantees.specs.Bursts.{KeepsParams, updates_in}
-use Rattle.pie_guarantees.specs.Lawful.{AllAlong, IsLawful}
-use Rattle.pie_guarantees.specs.Probability.{IsActiveUpdate, IsSteady, after_updates, old_delay_after, probability_after}
 use Rattle.pie_guarantees.proofs.LawfulFacts.{IsStep, sound_at, step_at}
 use Rattle.pie_guarantees.proofs.NextFacts.{decays_low, next_capped, next_decays, next_down, next_up}
 use Rattle.pie_guarantees.proofs.SteadyFacts.{after_both, stays_down}
@@ -44,13 +28,9 @@ record IsUpdate (command : Command) : Type 0 where
   is : command ≡ Update moment
 
 update-of : (command : Command) (answer : Answer) → is_update (deed command answer) ≡ true → IsUpdate command
-update-of (Arrive moment packet word) Enqueued e = cc
-update-of (Arrive moment packet word) _ e = cc
-update-of (Depart moment) Enqueued e = cc
-update-of (Depart moment) _ e = cc
 update-of (Update moment) answer e = record { moment = moment; is = refl }
-update-of (Reset moment) answer e = cc
-update-of (SetParams moment params) answer e = cc
+update-of _ Enqueued e = cc
+update-of _ _ e = cc
 
 updated-prob : (h : Held) (queued moment : ℕ) → h.active ≡ true
     → (Steps.updated h queued moment).control.prob ≡ next h.elements h.params h.control.prob (Steps.delay_in h queued) h.control.old_delay
@@ -124,8 +104,7 @@ stays-or-zero h [] packets (Depart moment) answer other = omega arith
 stays-or-zero h (oldest ∷ others) packets (Depart moment) answer other = omega arith
 stays-or-zero h waiting packets (Update moment) answer (inl none) = cc
 stays-or-zero h waiting packets (Update moment) answer (inr off) = rw off (omega arith)
-stays-or-zero h waiting packets (Reset moment) answer other = omega arith
-stays-or-zero h waiting packets (SetParams moment params) answer other = omega arith
+stays-or-zero h waiting packets _ answer other = omega arith
 
 pub no_other_rise : (opening : Opening) (before : List Event) (event : Event) (later : List Event)
     → IsLawful opening (before ++ event ∷ later) → (is_update (deed_of event) ≡ false) ⊎ (active_after opening before ≡ false)

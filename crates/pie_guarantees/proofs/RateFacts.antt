@@ -1,15 +1,8 @@
 -- A weighted average lies between what it is made of.
-use Rattle.std.proofs.Common.{◌≡◌, ◌≤◌, ◌<◌, ◌+◌, ◌*◌, ◌-◌, ◌/◌, ℕ, List, [], ◌∷◌, refl, sym, ap, ◌∙◌, arith, length, All, fold}
-use Rattle.std.proofs.lemmas.List.{append-nil}
-use Rattle.std.proofs.lemmas.List.Elements.{All-head, All-tail}
-use Rattle.std.proofs.lemmas.Nat.{le-div, mul-le}
-use Rattle.std.proofs.Math.Nat.{div-le_of_le-mul}
+use Rattle.pie_guarantees.proofs.Names.{◌≡◌, ◌≤◌, ◌<◌, ◌+◌, ◌*◌, ◌-◌, ◌/◌, ℕ, List, [], ◌∷◌, refl, sym, ap, ◌∙◌, arith, length, All, fold, append-nil}
+use Rattle.pie_guarantees.proofs.Names.{All-head, All-tail, le-div, mul-le, div-le_of_le-mul, held_of, threshold-holds, Event, Opening, average_after}
+use Rattle.pie_guarantees.proofs.Names.{held_after, params_after, IsLawful}
 use Rattle.pie_rate.specs.Average.{average, average_of, averaged}
-use Rattle.pie_aqm.specs.History.{held_of}
-use Rattle.pie_aqm.proofs.InRange.{threshold-holds}
-use Rattle.pie_book.specs.Types.{Event, Opening}
-use Rattle.pie_book.specs.Estimates.{average_after, held_after, params_after}
-use Rattle.pie_guarantees.specs.Lawful.{IsLawful}
 use Rattle.pie_guarantees.specs.Rates.{IsBetween, samples_after}
 use Rattle.pie_guarantees.proofs.LawfulFacts.{sound_at}
 

@@ -1,35 +1,18 @@
 -- How the accumulated probability grows, and where it starts anew.
-use Rattle.std.proofs.Common.{◌≡◌, ◌≤◌, ◌<◌, ◌+◌, ◌*◌, ◌&&◌, ◌==◌, ℕ, List, [], ◌∷◌, ◌++◌, Bool, true, false, refl, sym, ap, ◌∙◌}
-use Rattle.std.proofs.Common.{if◌then◌else◌, nat_lt, nat_le, arith, subst, length}
-use Rattle.std.specs.Prelude.{not, ◌||◌}
-use Rattle.std.proofs.lemmas.Bool.Decides.{nat_tests}
-use Rattle.std.proofs.lemmas.List.{append-nil, append_assoc}
-use Rattle.pie_params.specs.declared.elements.Elements.{Elements}
+use Rattle.pie_guarantees.proofs.Names.{◌≡◌, ◌≤◌, ◌<◌, ◌+◌, ◌*◌, ◌&&◌, ◌==◌, ℕ, List, [], ◌∷◌, ◌++◌, Bool, true, false, refl, sym, ap, ◌∙◌}
+use Rattle.pie_guarantees.proofs.Names.{if◌then◌else◌, nat_lt, nat_le, arith, subst, length, not, ◌||◌, nat_tests, append-nil, append_assoc, Elements}
+use Rattle.pie_guarantees.proofs.Names.{is_capable, bytes_of, Choice, Enqueue, Mark, Drop, counted_as, is_considered, is_picked, joined}
+use Rattle.pie_guarantees.proofs.Names.{picked_choice, Deed, deed, answer_of, after_call, Held, anew, bytes_with, chosen, judged, Packet, Waiting}
+use Rattle.pie_guarantees.proofs.Names.{Arrival, Verdict, Command, Arrive, Depart, Update, Reset, SetParams, Answer, Event, Opening, arrival_of}
+use Rattle.pie_guarantees.proofs.Names.{call_of, answer_by, held_after, waiting_after, is_dropped_bytes, is_dropped_packets, is_reset, AllAlong}
+use Rattle.pie_guarantees.proofs.Names.{IsLawful, IsEarly, is_early}
 use Rattle.pie_params.specs.declared.elements.Picking.{Picking}
 use Rattle.pie_params.specs.declared.elements.Picking.TheVariants.{Derandomized, Random}
-use Rattle.pie_queue.specs.Ecn.{is_capable}
-use Rattle.pie_queue.specs.Queue.{bytes_of}
-use Rattle.pie_early.specs.declared.early.Choice.{Choice}
-use Rattle.pie_early.specs.declared.early.Choice.TheVariants.{Enqueue, Mark, Drop}
-use Rattle.pie_early.specs.Decision.{counted_as, is_considered, is_picked, joined, picked_choice}
-use Rattle.pie_event.specs.Deed.{Deed, deed}
-use Rattle.pie_event.specs.Verdict.{answer_of}
-use Rattle.pie_event.specs.declared.verdict.Verdict.TheVariants as verdict
-use Rattle.pie_aqm.specs.Calls.{after_call}
-use Rattle.pie_aqm.specs.Held.{Held}
-use Rattle.pie_aqm.specs.Steps as Steps
-use Rattle.pie_aqm.specs.Steps.{anew, bytes_with, chosen, judged}
-use Rattle.pie_book.specs.Types.{Packet, Waiting, Arrival, Verdict, Command, Arrive, Depart, Update, Reset, SetParams, Answer, Event, Opening}
-use Rattle.pie_book.specs.Call.{arrival_of, call_of}
-use Rattle.pie_book.specs.Decision.{answer_by}
-use Rattle.pie_book.specs.Estimates.{held_after}
-use Rattle.pie_book.specs.Estimates as Book
-use Rattle.pie_book.specs.History.{waiting_after}
 use Rattle.pie_book.specs.Shown.{arriving_size}
-use Rattle.pie_book.specs.Statistics.{is_dropped_bytes, is_dropped_packets, is_reset}
-use Rattle.pie_guarantees.specs.Lawful.{AllAlong, IsLawful}
 use Rattle.pie_guarantees.specs.Spacing.{CountsAtLeast, CountsAtMost, GoesOn, considered_in, counted_at, had_room, was_considered}
-use Rattle.pie_guarantees.specs.Verdicts.{IsEarly, is_early}
+use Rattle.pie_event.specs.declared.verdict.Verdict.TheVariants as verdict
+use Rattle.pie_aqm.specs.Steps as Steps
+use Rattle.pie_book.specs.Estimates as Book
 use Rattle.pie_guarantees.proofs.LawfulFacts.{IsStep, sound_at, step_at}
 use Rattle.pie_guarantees.proofs.ProbabilityFacts.{elements-is}
 use Rattle.pie_guarantees.proofs.EarlyFacts.{early_arrival}
@@ -97,9 +80,7 @@ grows h waiting packets (Arrive moment packet word) =
     (arrival-grows h (arrival_of waiting packets packet word) moment packet)
 grows h [] packets (Depart moment) = omega arith
 grows h (oldest ∷ others) packets (Depart moment) = omega arith
-grows h waiting packets (Update moment) = omega arith
-grows h waiting packets (Reset moment) = omega arith
-grows h waiting packets (SetParams moment params) = omega arith
+grows h waiting packets _ = omega arith
 
 -- ---- a pick starts anew
 
@@ -318,9 +299,8 @@ keeps h least waiting packets (Arrive moment packet word) spaced e b p r some la
     arrival-keeps h moment word least packet waiting packets spaced e b p some large no_start
 keeps h least [] packets (Depart moment) spaced e b p r some large no_start = omega arith
 keeps h least (oldest ∷ others) packets (Depart moment) spaced e b p r some large no_start = omega arith
-keeps h least waiting packets (Update moment) spaced e b p r some large no_start = omega arith
 keeps h least waiting packets (Reset moment) spaced e b p r some large no_start = cc
-keeps h least waiting packets (SetParams moment params) spaced e b p r some large no_start = omega arith
+keeps h least waiting packets _ spaced e b p r some large no_start = omega arith
 
 keeps-at : (least : ℕ) (opening : Opening) (before : List Event) (event : Event) → IsStep opening before event
     → opening.choices.elements.picking ≡ Derandomized → 0 < least → CountsAtLeast least opening before event → GoesOn opening before event

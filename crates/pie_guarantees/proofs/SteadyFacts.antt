@@ -1,21 +1,10 @@
 -- How far updates at one delay move the probability, by the table of auto-tuning.
-use Rattle.std.proofs.Common.{◌≡◌, ◌≤◌, ◌<◌, ◌+◌, ◌*◌, ◌-◌, ◌/◌, ◌&&◌, ◌==◌, ◌^◌, ℕ, zero, suc, Bool, true, false, refl, ap, ◌∙◌, arith}
-use Rattle.std.proofs.Common.{if◌then◌else◌, subst, min}
-use Rattle.std.specs.Prelude.{ℤ, pos, negsuc, ◌+ℤ◌, ◌-ℤ◌, ◌*ℤ◌, ◌≤ℤ◌, int_div, nat_le}
-use Rattle.std.specs.Int.{int_min}
-use Rattle.std.proofs.lemmas.Bool.Decides.{nat_tests}
-use Rattle.std.proofs.lemmas.Int.{clamps, ints}
-use Rattle.std.proofs.lemmas.Nat.{le-div, mul-le}
-use Rattle.std.proofs.Math.Nat.{div-mul-le_self, lt-mul-div-succ}
-use Rattle.pie_fixed.specs.Fixed.{bounded_of}
-use Rattle.pie_params.specs.Profile.{default_profile}
+use Rattle.pie_guarantees.proofs.Names.{◌≡◌, ◌≤◌, ◌<◌, ◌+◌, ◌*◌, ◌-◌, ◌/◌, ◌&&◌, ◌==◌, ◌^◌, ℕ, zero, suc, Bool, true, false, refl, ap, ◌∙◌, arith}
+use Rattle.pie_guarantees.proofs.Names.{if◌then◌else◌, subst, min, ℤ, pos, negsuc, ◌+ℤ◌, ◌-ℤ◌, ◌*ℤ◌, ◌≤ℤ◌, int_div, nat_le, int_min, nat_tests}
+use Rattle.pie_guarantees.proofs.Names.{clamps, ints, le-div, mul-le, div-mul-le_self, lt-mul-div-succ, bounded_of, default_profile, Elements, Step}
+use Rattle.pie_guarantees.proofs.Names.{is_capped, decayed, decays, next, raw_step, tuned_step, tuning_divisor, bounded_of-below, after_updates}
+use Rattle.pie_guarantees.proofs.Names.{least_rise, untuned_fall, untuned_rise, updates_from, updates_to_a_tenth}
 use Rattle.pie_params.specs.declared.raw.RawParams.{RawParams}
-use Rattle.pie_params.specs.declared.elements.Elements.{Elements}
-use Rattle.pie_params.specs.declared.elements.Step.{Step}
-use Rattle.pie_params.specs.Elements.{is_capped}
-use Rattle.pie_control.specs.Next.{decayed, decays, next, raw_step, tuned_step, tuning_divisor}
-use Rattle.pie_control.proofs.Quotients.{bounded_of-below}
-use Rattle.pie_guarantees.specs.Probability.{after_updates, least_rise, untuned_fall, untuned_rise, updates_from, updates_to_a_tenth}
 use Rattle.pie_guarantees.proofs.NextFacts.{decayed-less, divisor-some, next_down, next_up, none_decays}
 
 -- ---- the table of auto-tuning

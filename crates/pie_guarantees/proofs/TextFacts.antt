@@ -1,30 +1,21 @@
 -- What a text can tell: an opening that is accepted, and parameters that are in their ranges.
-use Rattle.std.proofs.Common.{◌≡◌, ◌≤◌, ◌<◌, ◌+◌, ◌==◌, ◌^◌, ℕ, List, [], ◌∷◌, Bool, true, false, refl, subst, ap, arith, nat_lt, All}
-use Rattle.std.proofs.Common.{length, if◌then◌else◌}
+use Rattle.pie_guarantees.proofs.Names.{◌≡◌, ◌≤◌, ◌<◌, ◌+◌, ◌==◌, ◌^◌, ℕ, List, [], ◌∷◌, Bool, true, false, refl, subst, ap, arith, nat_lt, All}
+use Rattle.pie_guarantees.proofs.Names.{length, if◌then◌else◌, Option, Some, None, Result, Ok, Err, ⊤, nat_tests, All-cons, All-head, All-nil}
+use Rattle.pie_guarantees.proofs.Names.{All-tail, ltb-false, first_bad, Command, Arrive, Depart, Update, Reset, SetParams, Answer, Event, Opening}
+use Rattle.pie_guarantees.proofs.Names.{SetsInRange}
 use Rattle.std.specs.List.{filter_map}
-use Rattle.std.specs.Prelude.{Option, Some, None, Result, Ok, Err, ⊤}
-use Rattle.std.proofs.lemmas.Bool.Decides.{nat_tests}
-use Rattle.std.proofs.lemmas.List.Elements.{All-cons, All-head, All-nil, All-tail}
-use Rattle.std.proofs.lemmas.Bool.{ltb-false}
-use Rattle.pie_params.specs.Range.{first_bad}
 use Rattle.pie_params.specs.declared.raw.Field.{Field}
 use Rattle.pie_params.specs.declared.raw.RawParams.{RawParams}
 use Rattle.pie_event.specs.Opening.{opening_refusal}
-use Rattle.pie_book.specs.Types.{Command, Arrive, Depart, Update, Reset, SetParams, Answer, Event, Opening}
 use Rattle.pie_record.specs.declared.command.Asked.{Asked}
-use Rattle.pie_record.specs.declared.command.Asked.TheVariants as asked
 use Rattle.pie_record.specs.declared.command.CommandKind.{CommandKind}
-use Rattle.pie_record.specs.declared.command.CommandKind.TheVariants as kind
 use Rattle.pie_record.specs.declared.fault.Flaw.{Flaw}
-use Rattle.pie_record.specs.declared.fault.Flaw.TheVariants as flaw
 use Rattle.pie_record.specs.declared.fault.TraceFault.{TraceFault}
 use Rattle.pie_record.specs.declared.first_record.Draft.{Draft}
 use Rattle.pie_record.specs.declared.first_record.FirstKind.{FirstKind}
 use Rattle.pie_record.specs.declared.history_record.Line.{Line}
-use Rattle.pie_record.specs.declared.history_record.Line.TheVariants as line
 use Rattle.pie_record.specs.declared.version.Version.{Version}
 use Rattle.pie_record.specs.declared.version.Version.TheVariants.{One, Two, Three}
-use Rattle.pie_record.specs.declared.words.Kind.TheVariants as kinds
 use Rattle.pie_record.specs.Clock.{clock_in}
 use Rattle.pie_record.specs.Command.{arrival_at, asked_at, change_at, change_to, command_at, command_kind}
 use Rattle.pie_record.specs.Field.{and_then, is_kind, packet_at, most_u128, most_u16, most_u64, number_at, params_at}
@@ -40,7 +31,11 @@ use Rattle.pie_record.specs.Words.{word_of_kind}
 use Rattle.pie_record.proofs.Laws.{and_after, lines_from-failed, lines_from-line, lines_from-none, told_by-flaw, told_by-line, told_by-long}
 use Rattle.pie_record.proofs.Openings.{checked}
 use Rattle.pie_audit.specs.Finding.{event_in, events_of}
-use Rattle.pie_guarantees.specs.Lawful.{SetsInRange}
+use Rattle.pie_record.specs.declared.command.Asked.TheVariants as asked
+use Rattle.pie_record.specs.declared.command.CommandKind.TheVariants as kind
+use Rattle.pie_record.specs.declared.fault.Flaw.TheVariants as flaw
+use Rattle.pie_record.specs.declared.history_record.Line.TheVariants as line
+use Rattle.pie_record.specs.declared.words.Kind.TheVariants as kinds
 
 -- ---- the opening
 

@@ -25,11 +25,8 @@ pub record Allows (burst least most : ℕ) (params : RawParams) : Type 0 where
 
 -- new parameters are such
 abbrev pub SetsAllow : ℕ → ℕ → ℕ → Command → Type 0
-SetsAllow burst least most (Arrive moment packet word) = ⊤
-SetsAllow burst least most (Depart moment) = ⊤
-SetsAllow burst least most (Update moment) = ⊤
-SetsAllow burst least most (Reset moment) = ⊤
 SetsAllow burst least most (SetParams moment params) = Allows burst least most params
+SetsAllow burst least most _ = ⊤
 
 -- the parameters in force after some events are such, and so are all that are set between
 pub record AllAllow (burst least most : ℕ) (opening : Opening) (before between : List Event) : Type 0 where
@@ -42,8 +39,5 @@ updates_in events = count_of is_update events
 
 -- no event sets parameters
 abbrev pub KeepsParams : Command → Type 0
-KeepsParams (Arrive moment packet word) = ⊤
-KeepsParams (Depart moment) = ⊤
-KeepsParams (Update moment) = ⊤
-KeepsParams (Reset moment) = ⊤
 KeepsParams (SetParams moment params) = ⊥
+KeepsParams _ = ⊤

@@ -37,11 +37,8 @@ bytes_departed history = sum_by (λ (packet : Packet). packet.size) (packets_dep
 
 -- new parameters have a limit of at most so many bytes
 abbrev pub SetsLimit : ℕ → Command → Type 0
-SetsLimit most (Arrive moment packet word) = ⊤
-SetsLimit most (Depart moment) = ⊤
-SetsLimit most (Update moment) = ⊤
-SetsLimit most (Reset moment) = ⊤
 SetsLimit most (SetParams moment params) = params.limit_bytes ≤ most
+SetsLimit most _ = ⊤
 
 -- from the end of the first events to the end of the later ones, the nanoseconds that passed
 abbrev pub time_of : Opening → List Event → List Event → ℕ

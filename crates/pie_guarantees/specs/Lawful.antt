@@ -7,11 +7,8 @@ use Rattle.pie_book.specs.Decision.{IsLegal}
 
 -- new parameters are in their ranges
 abbrev pub SetsInRange : Command → Type 0
-SetsInRange (Arrive moment packet word) = ⊤
-SetsInRange (Depart moment) = ⊤
-SetsInRange (Update moment) = ⊤
-SetsInRange (Reset moment) = ⊤
 SetsInRange (SetParams moment params) = first_bad params ≡ None
+SetsInRange _ = ⊤
 
 -- limits, parameters and moment of the opening are accepted, new parameters are in their ranges, and each command is taken at its place and
 -- has the answer that the rules give there

@@ -1,9 +1,5 @@
-use Rattle.std.proofs.Common.{List, codes, subst, ap, ◌∙◌}
-use Rattle.std.specs.Prelude.{[], unwrap_or, Option}
-use Rattle.clap.specs.Words.{Text, found_of, rows_of}
-use Rattle.clap.proofs.WalkLemmas.{raw_values-rows}
-use Rattle.pie_options.specs.Words.{is_joined}
-use Rattle.pie_commands.specs.JointEnds.{EndsEither}
+use Rattle.pie_commands.proofs.Names.{List, codes, subst, ap, ◌∙◌, [], unwrap_or, Option, Text, found_of, rows_of, raw_values-rows, is_joined}
+use Rattle.pie_commands.proofs.Names.{EndsEither}
 use Rattle.pie_commands.proofs.audit.audit.Goals as goal
 
 pub returns-in-Some : goal.returns-in-Some

@@ -1,7 +1,4 @@
-use Rattle.std.proofs.Common.{ℕ, List, Option, subst}
-use Rattle.std.specs.Prelude.{IfSome}
-use Rattle.pie_files.specs.Watched.{remaining_of}
-use Rattle.pie_commands.specs.Ends.{EndsAudit}
+use Rattle.pie_commands.proofs.Names.{ℕ, List, Option, subst, IfSome, remaining_of, EndsAudit}
 use Rattle.pie_commands.proofs.EndFacts.{EndsAudit-told}
 use Rattle.pie_commands.proofs.audit.audit_input.Goals as goal
 

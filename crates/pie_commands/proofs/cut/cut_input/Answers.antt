@@ -1,9 +1,4 @@
-use Rattle.std.proofs.Common.{ℕ, List, Option, subst}
-use Rattle.std.specs.Prelude.{IfSome}
-use Rattle.pie_record.specs.Text.{records_of}
-use Rattle.pie_files.specs.Watched.{remaining_of}
-use Rattle.pie_commands.specs.Ends.{EndsBy}
-use Rattle.pie_commands.specs.CutEnds.{CutsInto, end_of_cut}
+use Rattle.pie_commands.proofs.Names.{ℕ, List, Option, subst, IfSome, records_of, remaining_of, EndsBy, CutsInto, end_of_cut}
 use Rattle.pie_commands.proofs.EndFacts.{told-by}
 use Rattle.pie_commands.proofs.cut.cut_input.Goals as goal
 

@@ -1,5 +1,4 @@
-use Rattle.pie_record.specs.Text.{records_of}
-use Rattle.pie_commands.specs.CutEnds.{CutsLast, end_of_cut}
+use Rattle.pie_commands.proofs.Names.{records_of, CutsLast, end_of_cut}
 use Rattle.pie_commands.proofs.CutFacts.{last-faulted, last-told}
 use Rattle.pie_commands.proofs.EndFacts.{unable-by}
 use Rattle.pie_commands.proofs.cut.cut_last.Goals as goal

@@ -1,9 +1,4 @@
-use Rattle.std.proofs.Common.{ℕ, List, Option, subst}
-use Rattle.std.specs.Prelude.{IfSome, option_map}
-use Rattle.pie_record.specs.Text.{records_of}
-use Rattle.pie_files.specs.Files.{text_given}
-use Rattle.pie_commands.specs.Ends.{EndsBy}
-use Rattle.pie_commands.specs.CutEnds.{CutsInto, end_of_cut}
+use Rattle.pie_commands.proofs.Names.{ℕ, List, Option, subst, IfSome, option_map, records_of, text_given, EndsBy, CutsInto, end_of_cut}
 use Rattle.pie_commands.proofs.EndFacts.{unable-by}
 use Rattle.pie_commands.proofs.cut.cut_pieces.Goals as goal
 

@@ -1,7 +1,4 @@
-use Rattle.std.proofs.Common.{ℕ, List, Option, subst}
-use Rattle.std.specs.Prelude.{IfSome}
-use Rattle.pie_record.specs.Text.{records_of}
-use Rattle.pie_cut.specs.Last.{LastEither}
+use Rattle.pie_commands.proofs.Names.{ℕ, List, Option, subst, IfSome, records_of, LastEither}
 use Rattle.pie_commands.proofs.cut.last_in.Goals as goal
 
 pub returns : goal.returns

@@ -1,10 +1,5 @@
-use Rattle.std.proofs.Common.{ℕ, List, Option, Some, subst}
-use Rattle.std.specs.Prelude.{IfSome}
-use Rattle.pie_record.specs.Text.{records_of}
+use Rattle.pie_commands.proofs.Names.{ℕ, List, Option, Some, subst, IfSome, records_of, remaining_of, told_by, end_of_explain, explain_ends}
 use Rattle.pie_explain.specs.Either.{ExplainsEither}
-use Rattle.pie_files.specs.Watched.{remaining_of}
-use Rattle.pie_commands.specs.Choice.{told_by}
-use Rattle.pie_commands.specs.ExplainEnds.{end_of_explain, explain_ends}
 use Rattle.pie_commands.proofs.EndFacts.{told-by}
 use Rattle.pie_commands.proofs.explain.explain_chosen.Goals as goal
 

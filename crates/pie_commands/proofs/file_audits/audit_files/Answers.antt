@@ -1,6 +1,4 @@
-use Rattle.std.proofs.Common.{◌<◌, ℕ, length, map, take, refl, inl, rules, subst, sym}
-use Rattle.std.proofs.lemmas.List.{length-map}
-use Rattle.pie_files.proofs.FileFacts.{stays-on}
+use Rattle.pie_commands.proofs.Names.{◌<◌, ℕ, length, map, take, refl, inl, rules, subst, sym, length-map, stays-on}
 use Rattle.pie_commands.proofs.FileAuditFacts.{by-more, by-none, by-taken, tells-given}
 use Rattle.pie_commands.proofs.file_audits.audit_files.Goals as goal
 

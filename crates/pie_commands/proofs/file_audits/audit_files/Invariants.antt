@@ -1,5 +1,4 @@
-use Rattle.std.proofs.Common.{map, take}
-use Rattle.pie_files.proofs.FileFacts.{Stays}
+use Rattle.pie_commands.proofs.Names.{map, take, Stays}
 use Rattle.pie_commands.proofs.FileAuditFacts.{AuditsBy}
 use Rattle.pie_commands.proofs.file_audits.audit_files.Given as goal
 

@@ -1,5 +1,4 @@
-use Rattle.std.proofs.Common.{ℕ, List, Option, Some, subst}
-use Rattle.pie_commands.specs.FileAudits.{TellsText}
+use Rattle.pie_commands.proofs.Names.{ℕ, List, Option, Some, subst, TellsText}
 use Rattle.pie_commands.proofs.file_audits.told_of.Goals as goal
 
 pub returns-in-Ok : goal.returns-in-Ok

@@ -1,7 +1,4 @@
-use Rattle.std.proofs.Common.{◌∙◌, ap}
-use Rattle.clap.specs.Words.{found_of, one_text}
-use Rattle.clap.proofs.WalkLemmas.{one_text-rows}
-use Rattle.pie_commands.specs.Choice.{bound_read}
+use Rattle.pie_commands.proofs.Names.{◌∙◌, ap, found_of, one_text, one_text-rows, bound_read}
 use Rattle.pie_commands.proofs.MomentFacts.{bound-given}
 use Rattle.pie_commands.proofs.moments.bound.Goals as goal
 

@@ -1,6 +1,4 @@
-use Rattle.std.proofs.Common.{◌∙◌, codes, refl, sym}
-use Rattle.clap.specs.Words.{found_of}
-use Rattle.clap.proofs.WalkLemmas.{first_value-rows}
+use Rattle.pie_commands.proofs.Names.{◌∙◌, codes, refl, sym, found_of, first_value-rows}
 use Rattle.pie_commands.proofs.params.packets_in.Goals as goal
 
 pub returns-in-Some : goal.returns-in-Some

@@ -1,10 +1,7 @@
-use Rattle.std.proofs.Common.{◌≡◌, ◌∙◌, ap, arith, rules, subst}
-use Rattle.std.specs.Io.KnownBytes.{Appends}
-use Rattle.pie_params.specs.declared.elements.Elements.{Elements}
+use Rattle.pie_commands.proofs.Names.{◌≡◌, ◌∙◌, ap, arith, rules, subst, Appends, Elements, text_of}
 use Rattle.pie_params.specs.declared.raw.RawParams.{RawParams}
 use Rattle.pie_params.specs.Range.{IsInRange}
 use Rattle.pie_event.specs.declared.opening.Opening.{Opening}
-use Rattle.pie_record.specs.Text.{text_of}
 use Rattle.pie_record.specs.Write.{opening_row}
 use Rattle.pie_tuning.specs.Opening.{elements_for, opening_for, params_for}
 use Rattle.pie_commands.proofs.params.params.Goals as goal

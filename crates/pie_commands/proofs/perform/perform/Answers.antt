@@ -1,16 +1,14 @@
-use Rattle.std.proofs.Common.{refl}
-use Rattle.clap.specs.Words.{found_of, rows_of}
-use Rattle.pie_commands.specs.StormEnds.{elements_in}
-use Rattle.pie_commands.proofs.EndFacts.{no-difference}
+use Rattle.pie_commands.proofs.Names.{refl, found_of, rows_of, elements_in}
 use Rattle.pie_commands.proofs.StormEndFacts.{storm-same}
 use Rattle.pie_commands.proofs.perform.perform.Goals as goal
 
--- the arm of `pie run` closes by itself
-
 -- ---- an event can differ in three of them
 
+pub returns-in-Run-clause-differs : goal.returns-in-Run-clause-differs
+returns-in-Run-clause-differs g c is = let wrong = c.of_named.ensures.differs is in cc
+
 pub returns-in-Migrate-clause-differs : goal.returns-in-Migrate-clause-differs
-returns-in-Migrate-clause-differs g c is = absurd (no-difference c.migrate.result c.migrate.ensures.status is)
+returns-in-Migrate-clause-differs g c is = let wrong = c.of_named-in-Migrate.ensures.differs is in cc
 
 pub returns-in-Storm-clause-differs : goal.returns-in-Storm-clause-differs
 returns-in-Storm-clause-differs g c is =
@@ -32,17 +30,20 @@ returns-in-Cut-clause-differs g c is = rw c.in-Cut.is refl
 
 -- ---- each ends as it promises
 
+pub returns-in-Run-clause-ends : goal.returns-in-Run-clause-ends
+returns-in-Run-clause-ends g c = rw c.in-Run.is c.of_named.ensures.ends
+
 pub returns-in-Audit-clause-ends : goal.returns-in-Audit-clause-ends
 returns-in-Audit-clause-ends g c = rw c.in-Audit.is c.audit.ensures
 
 pub returns-in-Explain-clause-ends : goal.returns-in-Explain-clause-ends
-returns-in-Explain-clause-ends g c = rw c.in-Explain.is c.explain.ensures
+returns-in-Explain-clause-ends g c = rw c.in-Explain.is c.of_named-in-Explain.ensures.ends
 
 pub returns-in-Cut-clause-ends : goal.returns-in-Cut-clause-ends
 returns-in-Cut-clause-ends g c = rw c.in-Cut.is c.cut.ensures
 
 pub returns-in-Migrate-clause-ends : goal.returns-in-Migrate-clause-ends
-returns-in-Migrate-clause-ends g c = rw c.in-Migrate.is c.migrate.ensures.migrates
+returns-in-Migrate-clause-ends g c = rw c.in-Migrate.is c.of_named-in-Migrate.ensures.ends
 
 pub returns-in-Storm-clause-ends : goal.returns-in-Storm-clause-ends
 returns-in-Storm-clause-ends g c = rw c.in-Storm.is c.make_storm.ensures

@@ -1,10 +1,5 @@
-use Rattle.std.proofs.Common.{◌∙◌, ℕ, List, Bool, Option, option_map, subst}
-use Rattle.clap.specs.Words.{found_of, rows_of}
-use Rattle.pie_files.specs.Files.{Name, file_of}
-use Rattle.pie_options.specs.Words.{is_forced}
-use Rattle.pie_commands.specs.Ends.{settled}
-use Rattle.pie_commands.specs.Outputs.{EndsAt}
-use Rattle.pie_commands.specs.Subcommands.{EndsAs}
+use Rattle.pie_commands.proofs.Names.{◌∙◌, ℕ, List, Bool, Option, option_map, subst, found_of, rows_of, Name, file_of, is_forced, settled, EndsAt}
+use Rattle.pie_commands.proofs.Names.{EndsAs}
 use Rattle.pie_commands.proofs.OutputFacts.{ends-settled}
 use Rattle.pie_commands.proofs.SubcommandFacts.{EndsAs-kept}
 use Rattle.pie_commands.proofs.perform.perform_for.Goals as goal

@@ -1,14 +1,7 @@
-use Rattle.std.proofs.Common.{List, Option, false, map, string_bytes, subst, true}
-use Rattle.std.specs.Prelude.{IfSome}
-use Rattle.clap.specs.Words.{Text}
-use Rattle.pie_options.specs.declared.subcommand.Subcommand.TheVariants.{Run, Audit, Explain, Cut, Migrate, Storm, Params}
-use Rattle.pie_options.specs.Words.{file_in, files_in, is_forced, is_joined, options_in, subcommand_in}
-use Rattle.pie_options.proofs.WordFacts.{audit-asks, audit-files, migrate-asks, migrate-file, migrate-output, run-asks, run-file, run-output}
-use Rattle.pie_files.specs.Files.{text_given}
-use Rattle.pie_commands.specs.Ends.{EndsMigrate, EndsRun}
-use Rattle.pie_commands.specs.JointEnds.{EndsEither}
-use Rattle.pie_commands.specs.Outputs.{EndsIn}
-use Rattle.pie_commands.specs.Subcommands.{EndsAs}
+use Rattle.pie_commands.proofs.Names.{List, Option, false, map, string_bytes, subst, true, IfSome, Text, Run, Audit, Explain, Cut, Migrate, Storm}
+use Rattle.pie_commands.proofs.Names.{Params, file_in, files_in, is_forced, is_joined, options_in, subcommand_in, audit-asks, audit-files}
+use Rattle.pie_commands.proofs.Names.{migrate-asks, migrate-file, migrate-output, run-asks, run-file, run-output, text_given, EndsMigrate, EndsRun}
+use Rattle.pie_commands.proofs.Names.{EndsEither, EndsIn, EndsAs}
 use Rattle.pie_commands.proofs.EndFacts.{status-most}
 use Rattle.pie_commands.proofs.JointFacts.{ends-of-files}
 use Rattle.pie_commands.proofs.SubcommandFacts.{may-differ}

@@ -1,5 +1,4 @@
-use Rattle.std.proofs.Common.{map, string_bytes}
-use Rattle.clap.specs.Words.{app_of}
+use Rattle.pie_commands.proofs.Names.{map, string_bytes, app_of}
 use Rattle.pie_commands.proofs.SubcommandFacts.{finds-so}
 use Rattle.pie_commands.proofs.program.matches_of.Goals as goal
 

@@ -1,17 +1,11 @@
-use Rattle.std.proofs.Common.{◌≡◌, ◌∙◌, ℕ, List, Option, ap, subst}
-use Rattle.std.specs.Prelude.{IfSome}
-use Rattle.either.specs.Either.{either}
-use Rattle.clap.specs.Words.{found_of, rows_of}
-use Rattle.pie_files.specs.Files.{Name, text_given}
-use Rattle.pie_options.specs.Words.{file_in}
-use Rattle.pie_commands.specs.Ends.{EndsRun}
+use Rattle.pie_commands.proofs.Names.{ℕ, List, Option, subst, IfSome, remaining_of, EndsRun, end_of}
+use Rattle.pie_commands.proofs.EndFacts.{EndsRun-told}
 use Rattle.pie_commands.proofs.run.run.Goals as goal
 
-pub returns-in-Some-clause-runs : goal.returns-in-Some-clause-runs
-returns-in-Some-clause-runs g c =
-    let input = g.R.Read.remaining c.args.input in
-    let held = g.H.NamedFiles.holds c.args.rt.now in
-    let same : either g.R.Read.remaining g.H.File.Read.remaining c.in-Some.reader ≡ text_given input held (file_in (rows_of (found_of c.args.options.now))) =
-    c.in-Some.ensures.reads ∙ ap (λ (name : Option Name). text_given input held name) c.file.ensures in
-    subst (λ (known : Option (List ℕ)). IfSome known (λ text. EndsRun text c.run_input.result (g.W.Write.contents c.args.output.now)
-    (g.W.Write.contents c.run_input.new.output))) same c.run_input.ensures.runs
+pub returns-clause-runs : goal.returns-clause-runs
+returns-clause-runs g c =
+    let before = g.W.Write.contents c.args.output.now in
+    let now = g.W.Write.contents c.run_trace-given.new.writer in
+    rw c.ended.ensures (subst (λ (known : Option (List ℕ)). IfSome known (λ text. EndsRun text (end_of c.run_trace-given.result) before now))
+    c.new-watched.ensures
+    (EndsRun-told (remaining_of g.R.Read.remaining c.new-watched.result) c.run_trace-given.result before now c.run_trace-given.ensures.either))

@@ -1,8 +1,5 @@
-use Rattle.std.proofs.Common.{◌≡◌, ◌∙◌, ℕ, List, Option, Some, None, ap}
-use Rattle.clap.specs.Words.{Text, first_of, found_of, rows_of}
-use Rattle.clap.proofs.WalkLemmas.{first_value-rows}
+use Rattle.pie_commands.proofs.Names.{◌≡◌, ◌∙◌, ℕ, List, Option, Some, None, ap, Text, first_of, found_of, rows_of, first_value-rows, choice_by}
 use Rattle.pie_record.specs.FirstRecord.{which_of}
-use Rattle.pie_commands.specs.StormEnds.{choice_by}
 use Rattle.pie_commands.proofs.storm.choice.Goals as goal
 
 pub returns-in-Some : goal.returns-in-Some

@@ -1,5 +1,4 @@
-use Rattle.std.proofs.Common.{◌∙◌, sym}
-use Rattle.clap.specs.Words.{found_of, rows_of}
+use Rattle.pie_commands.proofs.Names.{◌∙◌, sym, found_of, rows_of}
 use Rattle.pie_commands.proofs.StormEndFacts.{storm-ends}
 use Rattle.pie_commands.proofs.storm.make_storm.Goals as goal
 

@@ -1,0 +1,51 @@
+-- What the files of this folder take from below, in one place.
+pub use Rattle.std.proofs.Common.{Bool, List, None, Option, Some, [], add-one, ap, arith, codes, false, get_or, inl, inr, length, map, option_map}
+pub use Rattle.std.proofs.Common.{refl, rules, string_bytes, subst, sym, take, true, ℕ, ◌++◌, ◌+◌, ◌-◌, ◌<◌, ◌^◌, ◌∙◌, ◌∷◌, ◌≡◌, ◌≤◌}
+pub use Rattle.std.proofs.KnownBytes.{Appends-nil, Appends-trans}
+pub use Rattle.std.proofs.lemmas.Grind.{flat_map-append}
+pub use Rattle.std.proofs.lemmas.List.{append-nil, length-map, map-append}
+pub use Rattle.std.proofs.lemmas.List.Elements.{All-nil, All-push, All-weaker}
+pub use Rattle.std.specs.Io.KnownBytes.{Appends}
+pub use Rattle.std.specs.List.{flat_map, list_any}
+pub use Rattle.std.specs.Prelude.{Err, IfErr, IfOk, IfSome, IsSome, Ok, Result, if◌then◌else◌, unwrap_or, ◌||◌, ◌⊎◌}
+pub use Rattle.std.specs.Str.{bytes_eq}
+pub use Rattle.clap.proofs.WalkLemmas.{first_value-rows, one_text-rows, raw_values-rows}
+pub use Rattle.clap.specs.Words.{App, HasMatchesOf, Text, app_of, first_of, found_of, kind_of, one_text, rows_of, subcommand_name_of}
+pub use Rattle.clap.specs.Words.{subcommand_rows_of, takes}
+pub use Rattle.either.specs.Either.{either}
+pub use Rattle.pie_audit.specs.Text.{FindsEither, finding_line}
+pub use Rattle.pie_audit.specs.declared.auditor.Finding.{Finding}
+pub use Rattle.pie_commands.specs.AuditEnds.{AuditsFiles, EndsFiles, IsFound, Told, is_different, is_unfound, line_of, named_line, told_line, worst}
+pub use Rattle.pie_commands.specs.Choice.{bound_read, bound_written, moment_read, tale_of, told_by, units_of, written}
+unfoldable pub use Rattle.pie_commands.specs.Choice.{choice_of}
+pub use Rattle.pie_commands.specs.CutEnds.{CutsInto, CutsLast, EndsCut, around, between, cut_ends, end_of_cut, is_named, last_of}
+unfoldable pub use Rattle.pie_commands.specs.CutEnds.{wanted_of}
+pub use Rattle.pie_commands.specs.Ends.{EndsAudit, EndsBy, EndsMigrate, EndsRun, TellsFound, audit_ends, end_found, end_of, run_ends, run_ends_by}
+pub use Rattle.pie_commands.specs.Ends.{settled, status_of}
+pub use Rattle.pie_commands.specs.ExplainEnds.{EndsExplain, end_of_explain, explain_ends}
+pub use Rattle.pie_commands.specs.FileAudits.{TellsRead, TellsText}
+pub use Rattle.pie_commands.specs.JointEnds.{AreJoined, EndsEither, EndsJoined, EndsOfFiles, JoinsFile, JoinsFiles, ToldJoined, finding_in, is_broken}
+pub use Rattle.pie_commands.specs.JointEnds.{lines_of, told_lines}
+pub use Rattle.pie_commands.specs.Outputs.{EndsAt, EndsIn, is_whole}
+pub use Rattle.pie_commands.specs.StormEnds.{EndsStorm, choice_by, elements_in, numbers_in, storm_ends}
+pub use Rattle.pie_commands.specs.Subcommands.{Answers, EndsAs, EndsRead, EndsTo, Finds, may_differ, output_for}
+pub use Rattle.pie_commands.specs.declared.cut.Wanted.TheVariants.{Every, Last, Part}
+pub use Rattle.pie_commands.specs.declared.end.End.{End}
+pub use Rattle.pie_commands.specs.declared.end.End.TheVariants.{Done, Failed, Fault, Unable}
+pub use Rattle.pie_cut.specs.Joined.{EndView, JoinsText}
+pub use Rattle.pie_cut.specs.Last.{LastEither}
+pub use Rattle.pie_cut.specs.declared.joined.Joined.{Joined}
+pub use Rattle.pie_explain.specs.declared.choice.Choice.{Choice}
+pub use Rattle.pie_explain.specs.declared.explanation.Explained.{Explained}
+pub use Rattle.pie_files.proofs.FileFacts.{Stays, reads-given, stays-on}
+pub use Rattle.pie_files.specs.Files.{Name, ReadsNamed, file_of, text_given}
+pub use Rattle.pie_files.specs.Output.{Held, IsEmpty, Keeps, Places, Settles}
+pub use Rattle.pie_files.specs.Watched.{remaining_of}
+pub use Rattle.pie_options.proofs.WordFacts.{audit-asks, audit-files, migrate-asks, migrate-file, migrate-output, name-found, options-in, run-asks}
+pub use Rattle.pie_options.proofs.WordFacts.{run-file, run-output, same-word, subcommand-found}
+pub use Rattle.pie_options.specs.Words.{file_in, files_in, is_forced, is_joined, options_in, pie_app, subcommand_in}
+pub use Rattle.pie_options.specs.declared.subcommand.Subcommand.TheVariants.{Audit, Cut, Explain, Migrate, Params, Run, Storm}
+pub use Rattle.pie_params.specs.declared.elements.Elements.{Elements}
+pub use Rattle.pie_record.specs.Fault.{IsTold, IsWrite, is_device}
+pub use Rattle.pie_record.specs.Text.{records_of, text_of}
+pub use Rattle.pie_record.specs.declared.fault.TraceFault.{TraceFault}

@@ -1,0 +1,58 @@
+-- What the files of this folder take from below, in one place.
+pub use Rattle.std.proofs.Common.{All, Bool, List, None, Option, Some, [], ap, arith, cond, drop, false, fold, if◌then◌else◌, inl, inr, length, map}
+pub use Rattle.std.proofs.Common.{max, min, nat_le, nat_lt, refl, subst, suc, sym, true, zero, ℕ, ◌&&◌, ◌*◌, ◌++◌, ◌+◌, ◌-◌, ◌/◌, ◌<◌, ◌==◌, ◌^◌, ◌∙◌}
+pub use Rattle.std.proofs.Common.{◌∷◌, ◌≡◌, ◌≤◌, ◌⊎◌}
+pub use Rattle.std.proofs.Math.Nat.{div-le_of_le-mul, div-mul-le_self, le_of_mul-le-mul_right, lt-mul-div-succ, pow-suc}
+pub use Rattle.std.proofs.lemmas.Bool.{eqb-false, leb-true, ltb-false}
+pub use Rattle.std.proofs.lemmas.Bool.Decides.{nat_tests}
+pub use Rattle.std.proofs.lemmas.Int.{clamps, ints}
+pub use Rattle.std.proofs.lemmas.List.{append-nil, append_assoc, length-map, map-append}
+pub use Rattle.std.proofs.lemmas.List.Elements.{All-cons, All-head, All-nil, All-tail, All-weaker, filter_map-append}
+pub use Rattle.std.proofs.lemmas.List.Sums.{sum_by-append, sum_by-cons, sum_by_push}
+pub use Rattle.std.proofs.lemmas.Nat.{le-div, mul-le}
+pub use Rattle.std.specs.Int.{int_min}
+pub use Rattle.std.specs.Prelude.{Err, Ok, Result, int_div, negsuc, not, pos, sum_by, ℤ, ⊤, ◌*ℤ◌, ◌+ℤ◌, ◌-ℤ◌, ◌||◌, ◌≤ℤ◌}
+pub use Rattle.pie_aqm.proofs.InRange.{in-range, threshold-holds}
+pub use Rattle.pie_aqm.proofs.Places.{filter_map-push, place_of, with_one}
+pub use Rattle.pie_aqm.specs.Calls.{IsTaken, after_call}
+pub use Rattle.pie_aqm.specs.Held.{Held, IsSound}
+unfoldable pub use Rattle.pie_aqm.specs.History.{held_of}
+pub use Rattle.pie_aqm.specs.Places.{Place, places}
+pub use Rattle.pie_aqm.specs.Steps.{anew, bytes_with, choice, chosen, is_calm, judged, now_at, offered}
+unfoldable pub use Rattle.pie_aqm.specs.Steps.{verdict}
+pub use Rattle.pie_book.proofs.CoreFacts.{answer-fits, at_place, departed-of-legal, held-is}
+pub use Rattle.pie_book.proofs.LegalFacts.{first-shows, first_core, next-core, next-legal}
+pub use Rattle.pie_book.specs.Call.{arrival_of, call_of, departure_call}
+pub use Rattle.pie_book.specs.Decision.{IsLegal, IsLegalAt, answer_by, answer_to_departure, decision, has_bad_size, is_too_soon, refusal_by_rule}
+pub use Rattle.pie_book.specs.Decision.{refusal_with}
+pub use Rattle.pie_book.specs.Estimates.{active_after, average_after, delay_after, due_after, params_after, parts_after}
+unfoldable pub use Rattle.pie_book.specs.Estimates.{held_after}
+pub use Rattle.pie_book.specs.History.{bytes_after, effective_moment, waiting_after}
+pub use Rattle.pie_book.specs.Statistics.{count_of, is_dropped_bytes, is_dropped_early, is_dropped_packets, is_marked, is_queued, is_reset}
+pub use Rattle.pie_book.specs.Step.{after_command, answer_in, call_in, waiting_next}
+pub use Rattle.pie_book.specs.Types.{Answer, Arrival, Arrive, Command, Depart, DroppedBytes, DroppedEarly, DroppedPackets, Empty, Enqueued, Event}
+pub use Rattle.pie_book.specs.Types.{Left, Marked, Opening, Packet, Refusal, Reset, SetParams, Update, Verdict, Waiting}
+pub use Rattle.pie_control.proofs.Quotients.{bounded_of-below, decay-below, int_div-below}
+pub use Rattle.pie_control.specs.Next.{decays}
+unfoldable pub use Rattle.pie_control.specs.Next.{decayed, next, raw_step, tuned_step, tuning_divisor}
+pub use Rattle.pie_early.specs.Decision.{counted, counted_as, joined, picked_choice}
+unfoldable pub use Rattle.pie_early.specs.Decision.{is_considered, is_picked}
+pub use Rattle.pie_early.specs.declared.early.Choice.{Choice}
+pub use Rattle.pie_early.specs.declared.early.Choice.TheVariants.{Drop, Enqueue, Mark}
+pub use Rattle.pie_event.specs.Deed.{Deed, arrival_deed, deed, deed_of, departure, departure_deed, fits, handed_in, is_update, with_ce}
+pub use Rattle.pie_event.specs.Verdict.{answer_of}
+pub use Rattle.pie_fixed.specs.Fixed.{bounded_of}
+pub use Rattle.pie_guarantees.specs.Bursts.{AllAllow, Allows, IsAllowed, IsWhole, KeepsParams, SetsAllow, burst_left, updates_in}
+pub use Rattle.pie_guarantees.specs.Lawful.{IsLawful, SetsInRange}
+unfoldable pub use Rattle.pie_guarantees.specs.Lawful.{AllAlong}
+pub use Rattle.pie_guarantees.specs.Probability.{IsActiveUpdate, IsSteady, least_rise, old_delay_after, probability_after, untuned_fall, untuned_rise}
+pub use Rattle.pie_guarantees.specs.Probability.{updates_from, updates_to_a_tenth}
+unfoldable pub use Rattle.pie_guarantees.specs.Probability.{after_updates}
+pub use Rattle.pie_guarantees.specs.Verdicts.{IsArrivalOf, IsEarly, MarksOnlyCapable, OnlyMarks, SparesCapable, is_early}
+pub use Rattle.pie_params.specs.Elements.{is_capped, usual}
+pub use Rattle.pie_params.specs.Profile.{default_profile}
+pub use Rattle.pie_params.specs.Range.{first_bad}
+pub use Rattle.pie_params.specs.declared.elements.Elements.{Elements}
+pub use Rattle.pie_params.specs.declared.elements.Step.{Step}
+pub use Rattle.pie_queue.specs.Ecn.{is_capable}
+pub use Rattle.pie_queue.specs.Queue.{bytes_of}

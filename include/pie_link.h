@@ -13,13 +13,13 @@
  *
  * What is proved, for all interleavings of any number of threads: whenever nobody has the turn, there is one history of one thread behind all
  * ports. It contains each port's calls once and in its order, every answer is RFC 8033's at its place, and no event is lost. Each call here whose
- * name has `try` answers as the clause of its export says, which cites that history; so do open, share, gather and close. What a call writes
- * into its event is proved field by field. Not proved: the waiting calls below, which are loops over the others, tested here; that a call that
- * waits is ever served; and what every caller in C owes, since nothing can check it:
+ * name has `try` answers as the clause of its export says, which cites that history; so do open, share, gather, close and those of excerpts. What a
+ * call writes into its event is proved field by field, and an excerpt's text record by record. Not proved: the waiting calls below, which are loops
+ * over the others, tested here; that a call that waits is ever served; and what every caller in C owes, since nothing can check it:
  *
- * - A port is one thread's at a time. It goes to another thread by what orders memory between them: a mutex, a thread's start or join, a
- *   sequentially consistent atomic. (That what it points to may is proved; that this struct may, and that calls run at once, is trusted.) A
- *   struct pie_port is moved, never copied to be used twice, and all zeros before it is opened.
+ * - A port, or an excerpt, is one thread's at a time. It goes to another thread by what orders memory between them: a mutex, a thread's start or
+ *   join, a sequentially consistent atomic. (That what they point to may is proved; that the structs may, and that calls run at once, is trusted.)
+ *   Each is moved, never copied to be used twice, and all zeros before it is opened.
  * - Pointers point to structs that no other thread reads or writes during the call, and that do not overlap.
  * - pie_link_gather is handed two ports of one link.
  * - Each packet is a name here, `tag`: the link has the order in which packets leave, and the caller has the packets.

@@ -325,7 +325,7 @@ static void read_excerpt(struct pie_excerpt *excerpt, const struct pie_event *ev
 }
 
 static void excerpts(void) {
-    enum { EVENTS = 34 };
+    enum { EVENTS = 29 };
     struct pie_port port = PIE_PORT_CLOSED;
     struct pie_excerpt excerpt = PIE_EXCERPT_CLOSED, small = PIE_EXCERPT_CLOSED;
     struct pie_opening opening, larger;

@@ -10,7 +10,7 @@
 
 static struct pie_port ports[4]; /* of the reader, of the link, of each sender: one thread each */
 static atomic_int over;
-static const struct timespec tick = {0, 100000}, second = {1, 0};
+static const struct timespec arrival = {0, 200000}, departure = {0, 100000}, second = {1, 0};
 
 static uint64_t now(void) {
     struct timespec time;
@@ -19,7 +19,7 @@ static uint64_t now(void) {
 }
 
 static void *send(void *of) {
-    for (uint64_t tag = 1, word = (uint64_t)now(); !over; tag++, thrd_sleep(&tick, NULL)) {
+    for (uint64_t tag = 1, word = (uint64_t)now(); !over; tag++, thrd_sleep(&arrival, NULL)) {
         struct pie_event event = {.moment = now(), .tag = tag, .size = 1000, .ecn = tag % 2 ? PIE_ECT0 : PIE_NOT_ECT, .word = word};
         pie_link_arrive(of, &event);                               /* PIE_ENQUEUE and PIE_MARK: it waits now */
         word ^= word << 13, word ^= word >> 7, word ^= word << 17; /* (use a better one) */
@@ -28,7 +28,7 @@ static void *send(void *of) {
 }
 
 static void *transmit(void *of) {
-    for (; !over; thrd_sleep(&tick, NULL)) {
+    for (; !over; thrd_sleep(&departure, NULL)) {
         struct pie_event event = {.moment = now()};
         pie_link_update(of, &event); /* PIE_TOO_SOON, most of the time */
         pie_link_depart(of, &event); /* event.tag is the packet that leaves; or PIE_NONE */

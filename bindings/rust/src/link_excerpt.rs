@@ -17,7 +17,7 @@ pub struct Excerpt {
     raw: RawExcerpt,
 }
 
-// SAFETY: the excerpt's memory is its own, and no call keeps anything of the thread that made it.
+// SAFETY: the library's proof shows that what an excerpt points to may go to another thread; no call keeps anything of the thread that made it.
 unsafe impl Send for Excerpt {}
 
 impl Drop for Excerpt {

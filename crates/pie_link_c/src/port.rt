@@ -5,6 +5,7 @@ ghost use Rattle.pie_link_c.specs.Events.{has_bad_ecn};
 
 use crate::asked::Asked;
 use crate::code::{NO_MEMORY, ONE_NUMBER};
+use crate::excerpt_text::ExcerptText;
 use crate::filling::{fill, fill_number, fill_set};
 use crate::folding::{MOST, room, write_folded};
 use atomic_table::TableRule;
@@ -258,7 +259,8 @@ fn goes_to_another_thread<T: Send>(value: &T) {
     let _ = value;
 }
 
-/// A port may go to another thread: the check shows it of the type here. It does nothing.
-pub(crate) fn ports_cross_threads(port: &Port) {
+/// A port and an excerpt may go to another thread: the check shows it of their types here. It does nothing.
+pub(crate) fn ports_cross_threads(port: &Port, text: &ExcerptText) {
     goes_to_another_thread(port);
+    goes_to_another_thread(text);
 }

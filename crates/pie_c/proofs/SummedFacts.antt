@@ -25,6 +25,15 @@ use Rattle.pie_c.specs.State.{held_in, takes_stamps, with_departure, with_rate}
 use Rattle.pie_aqm.specs.Held.{Held}
 use Rattle.pie_aqm.specs.Steps.{delay_answered, updated}
 use Rattle.pie_c.specs.Summed.{Adds, Tells}
+use Rattle.pie_book.specs.Cause.{cause_after}
+use Rattle.pie_book.specs.Estimates.{held_after}
+use Rattle.pie_book.specs.History.{waiting_after}
+use Rattle.pie_book.specs.Registers.{registers_after}
+use Rattle.pie_book.specs.Statistics.{wait_of}
+use Rattle.pie_event.specs.Deed.{deed_of}
+use Rattle.pie_event.specs.declared.opening.Opening.{Opening}
+use Rattle.pie_event.specs.declared.setter.Setter.{Setter}
+use Rattle.pie_explain.specs.Explanation.{explanation, moment_of, with_after}
 
 -- what an event met, by the states before and after it
 abbrev pub met_by : PieState → PieState → Met
@@ -217,3 +226,26 @@ pub update-refused : (state : PieState) (queued moment answer : ℕ) → answer 
 update-refused state queued moment answer is otherwise taken =
     let made : (updated_by state queued moment).code ≡ 0 = rw taken refl in
     false≢true (sym otherwise ∙ eq-eqb answer 0 (is ∙ made))
+
+-- ---- what is told is what is explained
+
+pub explained : (opening : Opening) (history : List Event) (made : Event) (before after : PieState) (number : ℕ) (set_by : Setter) (day : Option Clock)
+    → held_in before ≡ held_after opening history → held_in after ≡ held_after opening (history ++ made ∷ [])
+    → after.moment ≡ moment_of opening history made
+    → Tells before after day made (cause_after opening history made.command) (wait_of (deed_of made) after.moment (waiting_after opening history))
+    (with_after opening (history ++ made ∷ []) (explanation opening history number made set_by day))
+unfolding explanation held_in registers_after
+explained opening history made before after number set_by day held left moment = record {
+  event = refl;
+  cause = refl;
+  waited = ap (λ (at : ℕ). wait_of (deed_of made) at (waiting_after opening history)) (sym moment);
+  moment = sym moment;
+  was = ap (λ (h : Held). h.active) (sym held);
+  is = ap (λ (h : Held). h.active) (sym left);
+  held = ap (λ (h : Held). h.params.target) (sym held);
+  last = ap (λ (h : Held). h.control.last) (sym held);
+  prob = ap (λ (h : Held). h.control.prob) (sym left);
+  burst = ap (λ (h : Held). h.control.burst) (sym left);
+  target = ap (λ (h : Held). h.params.target) (sym left);
+  clock = refl;
+}

@@ -87,8 +87,9 @@ pub(crate) fn decide(
     }
 }
 
-/// The same, and the place of what decides it, to be compiled where it is called: where the controller is known to be active and the ring to have room, there is nothing
-/// of turning it on, nor of a full ring. The moment is written first, so that no register holds it from then on.
+/// The same, and the place of what decides it, to be compiled where it is called: where the controller is known to be active and the ring
+/// to have room, there is nothing of turning it on, nor of a full ring. The moment is written first, so that no register holds it from
+/// then on.
 #[inline(always)]
 #[tactic(auto, unfolding(crate::specs::Calls::arrival_refusal))]
 pub(crate) fn arrive(

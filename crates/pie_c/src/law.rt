@@ -1,8 +1,16 @@
 //! What the calls that write records write one after another is a text that the readers' laws speak of.
-ghost use Rattle.std.specs.Prelude.{◌≡◌, ◌++◌, ℕ, All, List, Some, map, true};
+ghost use Rattle.std.specs.Prelude.{◌≡◌, ◌++◌, ◌∷◌, [], ℕ, All, List, Option, Some, map, true};
 ghost use Rattle.std.specs.List.{flat_map};
 ghost use Rattle.pie_event.specs.declared.command.Event.{Event};
+ghost use Rattle.pie_book.specs.Cause.{cause_after};
+ghost use Rattle.pie_book.specs.Estimates.{held_after};
 ghost use Rattle.pie_book.specs.History.{waiting_after};
+ghost use Rattle.pie_book.specs.Statistics.{wait_of};
+ghost use Rattle.pie_event.specs.Deed.{deed_of};
+ghost use Rattle.pie_event.specs.declared.opening.Opening.{Opening};
+ghost use Rattle.pie_event.specs.declared.setter.Setter.{Setter};
+ghost use Rattle.pie_explain.specs.Explanation.{explanation, moment_of, with_after};
+ghost use Rattle.pie_record.specs.declared.clock.Clock.{Clock};
 ghost use Rattle.pie_record.specs.Text.{rows_text};
 ghost use Rattle.pie_record.specs.Write.{event_row, written_rows};
 ghost use Rattle.pie_excerpt.specs.Written.{part_rows};
@@ -12,7 +20,8 @@ ghost use Rattle.pie_c.specs.declared.state.PieState.{PieState};
 ghost use Rattle.pie_c.specs.Events.{Kept, opening_text, stands_for, written_text};
 ghost use Rattle.pie_abi.specs.Opening.{opening_in, opening_of, opening_refusal};
 ghost use Rattle.pie_c.specs.Resuming.{CanWait, is_standing, resume_of, resume_text, set_by_of, standing_in, waiting_text};
-ghost use Rattle.pie_c.specs.State.{is_sound};
+ghost use Rattle.pie_c.specs.State.{held_in, is_sound};
+ghost use Rattle.pie_c.specs.Summed.{Tells};
 
 /// What `pie_write_opening` writes, and then `pie_write_event` or `pie_write_params` of each event, one after another, are the records of that
 /// opening and of these events (`whole`). What `pie_write_resume` writes, then `pie_write_queued` of each packet that waits, oldest first, and
@@ -30,4 +39,17 @@ pub fn written_calls_are_records()
         → resume_text (resume_of o s t count set_by packets bytes)
         ++ (flat_map waiting_text (waiting_after (opening_in o) past) ++ flat_map written_text kept)
         ≡ rows_text (part_rows (opening_in o) (standing_in s t count packets bytes) past (set_by_of set_by) (map event_row events)) }
+{}
+
+/// What the calls that sum up add to a period is their event as pie_explain explains it: `Tells` holds of that explanation where the states
+/// before and after the call hold what the controller holds after a history, without the event and with it.
+///
+/// It does nothing: its contract is the law (this project's own).
+pub fn summed_calls_are_explained()
+    ensures { (opening : Opening) (history : List Event) (made : Event) (before after : PieState) (number : ℕ) (set_by : Setter) (day : Option Clock)
+        → held_in before ≡ held_after opening history → held_in after ≡ held_after opening (history ++ made ∷ [])
+        → after.moment ≡ moment_of opening history made
+        → Tells before after day made (cause_after opening history made.command)
+        (wait_of (deed_of made) after.moment (waiting_after opening history))
+        (with_after opening (history ++ made ∷ []) (explanation opening history number made set_by day)) }
 {}

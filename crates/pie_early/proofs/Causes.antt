@@ -38,7 +38,8 @@ cause-nothing picking prob accu fate word none = rw none refl
 -- .. where it isn't picked: the place of its cause by the sum
 pub place-unpicked : (picking : Picking) (prob accu : ℕ) (fate : Fate) (word : ℕ) → 0 < prob
     → is_picked picking prob (accu + prob) word ≡ false
-    → place_of_cause (name_of (considered_cause picking prob accu fate word)) ≡ (if accumulates picking && nat_lt (accu + prob) never_picked then 7 else 14)
+    → place_of_cause (name_of (considered_cause picking prob accu fate word))
+    ≡ (if accumulates picking && nat_lt (accu + prob) never_picked then 7 else 14)
 unfolding considered_cause is_picked
 place-unpicked Derandomized prob accu fate word some unpicked = grind (arith, nat_tests)
 place-unpicked Random prob accu fate word some unpicked = grind (arith, nat_tests)
@@ -53,7 +54,8 @@ cause-picked Random prob accu fate word picked = grind (arith, nat_tests)
 
 -- the place of a picked arrival's cause, by two numbers
 pub place-picked : (by_sum : Bool) (accu prob word : ℕ) (fate : Fate) (first behind : ℕ) → first ≡ (if by_sum then 8 else 11)
-    → (place_of_cause (name_of (PickedBySum accu prob fate)) ≡ 8 + behind) × (place_of_cause (name_of (PickedByWord accu prob word fate)) ≡ 11 + behind)
+    → (place_of_cause (name_of (PickedBySum accu prob fate)) ≡ 8 + behind)
+    × (place_of_cause (name_of (PickedByWord accu prob word fate)) ≡ 11 + behind)
     → first + behind ≡ place_of_cause (name_of (if by_sum then PickedBySum accu prob fate else PickedByWord accu prob word fate))
 place-picked true accu prob word fate first behind is places = ap (λ (n : ℕ). n + behind) is ∙ sym places.0
 place-picked false accu prob word fate first behind is places = ap (λ (n : ℕ). n + behind) is ∙ sym places.1

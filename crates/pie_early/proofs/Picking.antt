@@ -13,7 +13,8 @@ use Rattle.pie_queue.specs.declared.ecn.Ecn.{Ecn}
 use Rattle.pie_queue.specs.Ecn.{is_capable}
 use Rattle.pie_early.specs.declared.early.Choice.{Choice}
 use Rattle.pie_early.specs.declared.early.Choice.TheVariants.{Enqueue, Mark, Drop}
-use Rattle.pie_early.specs.Decision.{a_fifth, never_picked, always_picked, is_considered, is_picked, picked_choice, accu_at, choice_at, is_pick, IsPicked}
+use Rattle.pie_early.specs.Decision.{a_fifth, never_picked, always_picked, is_considered, is_picked, picked_choice}
+use Rattle.pie_early.specs.Decision.{accu_at, choice_at, is_pick, IsPicked}
 
 considered_facts : (params : RawParams) (control : Parts) (bytes : ℕ) → is_considered params control bytes ≡ true
     → (control.burst ≡ 0) × (2 * params.mean_pkt < bytes) × ((params.target ≤ 2 * control.old_delay) ⊎ (a_fifth ≤ control.prob))

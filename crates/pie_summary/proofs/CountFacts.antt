@@ -98,7 +98,8 @@ counted-among {X} place places at shown one old is here = by_test (nat_lt at pla
     by_test : (b : Bool) → nat_lt at places ≡ b → (if b then slice_set old at (min (slice_index old at + 1) 18446744073709551615) else old)
         ≡ counts_of place places (shown ++ one ∷ [])
     by_test true test = counted-push place places at shown one old is here (grind (arith, nat_tests, test))
-    by_test false test = is ∙ same-below (λ w. count_at place w shown) (λ w. count_at place w (shown ++ one ∷ [])) places 0 places (omega arith) (others test)
+    by_test false test =
+        is ∙ same-below (λ w. count_at place w shown) (λ w. count_at place w (shown ++ one ∷ [])) places 0 places (omega arith) (others test)
 
 -- ---- sums of counts
 

@@ -6,7 +6,7 @@ use Rattle.std.specs.List.{sum}
 use Rattle.std.proofs.lemmas.List.{map_push}
 use Rattle.std.proofs.lemmas.List.Sums.{sum_by_push}
 use Rattle.pie_aqm.specs.Places.{greatest}
-use Rattle.pie_summary.proofs.Names.{greatest-push}
+use Rattle.pie_aqm.proofs.Places.{greatest-push}
 use Rattle.pie_explain.specs.declared.explanation.Explained.{Explained}
 use Rattle.pie_summary.specs.declared.flow_sums.FlowSums.{FlowSums}
 use Rattle.pie_summary.specs.Counts.{kept}

@@ -1,4 +1,3 @@
-mod Names
 pub mod CountFacts
 pub mod RangeFacts
 mod Examples

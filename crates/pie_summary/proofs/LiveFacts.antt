@@ -13,12 +13,11 @@ use Rattle.std.proofs.lemmas.List.Elements.{filter_map-append}
 use Rattle.std.proofs.lemmas.List.Sums.{sum_by-cons, sum_by_push}
 use Rattle.std.proofs.lemmas.Nat.{div-mul-add}
 use Rattle.pie_aqm.specs.Places.{Place, greatest, last_or, places}
-use Rattle.pie_summary.proofs.Names.{last_or-push}
 use Rattle.pie_event.specs.declared.command.Answer.{Answer}
 use Rattle.pie_event.specs.declared.command.Answer.TheVariants.{Enqueued, Marked, DroppedEarly, DroppedBytes, DroppedPackets, Empty, Left, Updated}
 use Rattle.pie_event.specs.declared.command.Answer.TheVariants.{Done}
 use Rattle.pie_record.specs.Clock.{unix_at}
-use Rattle.pie_summary.proofs.SumsFacts.{place_of, places-push}
+use Rattle.pie_summary.proofs.SumsFacts.{last_or-push, place_of, places-push}
 use Rattle.pie_explain.specs.Choice.{time_of}
 use Rattle.pie_explain.specs.Words.{joined}
 use Rattle.pie_explain.specs.declared.explanation.Explained.{Explained}
@@ -29,8 +28,10 @@ use Rattle.pie_summary.specs.declared.spans.Bounds.{Bounds}
 use Rattle.pie_summary.specs.declared.spans.Total.{Total}
 use Rattle.pie_summary.specs.Counts.{counts_of, kept}
 use Rattle.pie_summary.specs.Record.{count_fields, first_fields, last_fields, number_fields, record_of}
-use Rattle.pie_summary.specs.Live.{Awaits, Holds, IsSet, Spans, awaiting, bounds_in, bounds_of, carried_over, clock_of, counted_some, first_written, is_first, last_written}
-use Rattle.pie_summary.specs.Live.{length_of, meter_of, meter_record, number_in, peak_in, peak_of, periods_begun, reached, starts, timed_by, total_in, total_of}
+use Rattle.pie_summary.specs.Live.{Awaits, Holds, IsSet, Spans, awaiting, bounds_in, bounds_of, carried_over}
+use Rattle.pie_summary.specs.Live.{clock_of, counted_some, first_written, is_first, last_written}
+use Rattle.pie_summary.specs.Live.{length_of, meter_of, meter_record, number_in, peak_in, peak_of, periods_begun}
+use Rattle.pie_summary.specs.Live.{reached, starts, timed_by, total_in, total_of}
 use Rattle.pie_summary.specs.Ranges.{end_within, first_up_to, ranges_of}
 use Rattle.pie_summary.specs.Summary.{said_of}
 use Rattle.pie_summary.specs.Sums.{answer_of, answer_place, moment_at, sums_of, time_at, wait_in, waits_of, where_left}
@@ -150,7 +151,8 @@ module _ (numbers : List ℕ) (number : ℕ) (old : Total) (new : ℕ) (is : old
       by_test : (b : Bool) → (old.high == 18446744073709551615) ≡ b
           → (if b then the_total old.high 18446744073709551615 else the_total (old.high + 1) new) ≡ total_of (numbers ++ number ∷ [])
       by_test true test =
-          grown-by (full-parts (series_of numbers).total number old.high old.low most high-is low-is none (eqb-true old.high 18446744073709551615 test))
+          grown-by (full-parts (series_of numbers).total number old.high old.low most high-is low-is none
+          (eqb-true old.high 18446744073709551615 test))
       by_test false test =
           grown-by (carried-parts (series_of numbers).total number old.high old.low new most high-is low-is none small new-is (differs test))
 
@@ -276,7 +278,8 @@ count-some numbers (Some number) old now is old-is =
     is ∙ ap (λ (n : ℕ). kept (n + 1)) old-is ∙ ap (λ (s : Series). s.count) (series-grown numbers number)
 
 -- .. and the last of some, or another
-pub since-push : (before : ℕ) (numbers : List ℕ) (read : Option ℕ) → unwrap_or read (last_or before numbers) ≡ last_or before (numbers ++ cons_option read [])
+pub since-push : (before : ℕ) (numbers : List ℕ) (read : Option ℕ)
+    → unwrap_or read (last_or before numbers) ≡ last_or before (numbers ++ cons_option read [])
 since-push before numbers None = ap (last_or before) (sym (append-nil numbers))
 since-push before numbers (Some number) = sym (last_or-push before numbers number)
 
@@ -285,7 +288,10 @@ since-push before numbers (Some number) = sym (last_or-push before numbers numbe
 -- the first of these times stays, where there is one or none more is told
 first-times : (times : List ℕ) (read : Option ℕ) → (times ≡ [] → read ≡ None)
     → (min (length times) 1 ≡ min (length (times ++ cons_option read [])) 1) × (slice_index times 0 ≡ slice_index (times ++ cons_option read []) 0)
-first-times [] read none = (ap (λ (r : Option ℕ). min (length (cons_option r [])) 1) (sym (none refl)), ap (λ (r : Option ℕ). slice_index (cons_option r []) 0) (sym (none refl)))
+first-times [] read none = (
+  ap (λ (r : Option ℕ). min (length (cons_option r [])) 1) (sym (none refl)),
+  ap (λ (r : Option ℕ). slice_index (cons_option r []) 0) (sym (none refl)),
+)
 first-times (time ∷ times) read none = (some (length times) (length (times ++ cons_option read [])), refl)
   where
     some : (n m : ℕ) → min (suc n) 1 ≡ min (suc m) 1
@@ -301,7 +307,8 @@ untold : (told moment unix at : ℕ) → (told ≡ 1 → ⊥)
 untold told moment unix at none = rw (ne_eqb told 1 none) refl
 
 told_at : (told moment unix at : ℕ) → told ≡ 1
-    → time_of (if told == 1 then Some (record { moment = moment; unix = unix }) else None) at ≡ Some (unix_at (record { moment = moment; unix = unix }) at)
+    → time_of (if told == 1 then Some (record { moment = moment; unix = unix }) else None) at
+    ≡ Some (unix_at (record { moment = moment; unix = unix }) at)
 told_at told moment unix at is = rw is refl
 
 module _ (period : LivePeriod) (all : List Explained) (one : Explained) (clock : one.told.clock ≡ clock_of period)

@@ -4,8 +4,8 @@ use Rattle.std.specs.Prelude.{Option, Some, None}
 use Rattle.std.proofs.lemmas.Bool.{eq-eqb, eqb-true}
 use Rattle.std.proofs.lemmas.List.{map_push}
 use Rattle.pie_aqm.specs.Places.{last_or}
-use Rattle.pie_summary.proofs.Names.{after_last-push_no, after_last-push_yes}
-use Rattle.pie_summary.proofs.Names.{last_or-push}
+use Rattle.pie_early.proofs.Laws.{after_last-push_no, after_last-push_yes}
+use Rattle.pie_aqm.proofs.Places.{last_or-push}
 use Rattle.pie_explain.specs.declared.explanation.Explained.{Explained}
 use Rattle.pie_summary.specs.Period.{begins, is_elsewhere, last_events, last_period, period_at, since}
 

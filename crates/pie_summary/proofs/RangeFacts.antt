@@ -1,6 +1,6 @@
 -- Ranges of numbers.
-use Rattle.std.proofs.Common.{◌≡◌, ◌+◌, ◌-◌, ◌*◌, ◌/◌, ◌^◌, ◌<◌, ◌≤◌, arith, ℕ, lit≤, suc, zero, Bool, true, false, List, [], ◌∷◌, ◌++◌, length, refl, sym}
-use Rattle.std.proofs.Common.{ap, ◌∙◌}
+use Rattle.std.proofs.Common.{◌≡◌, ◌+◌, ◌-◌, ◌*◌, ◌/◌, ◌^◌, ◌<◌, ◌≤◌, arith, ℕ, lit≤, suc, zero, Bool, true, false, List}
+use Rattle.std.proofs.Common.{[], ◌∷◌, ◌++◌, length, refl, sym, ap, ◌∙◌}
 use Rattle.std.specs.Prelude.{if◌then◌else◌, min, nat_le, nat_lt, slice_index, slice_set, take, Option, Some}
 use Rattle.std.specs.List.{find, range_with_len, sum}
 use Rattle.std.proofs.lemmas.Bool.Decides.{nat_tests}
@@ -32,7 +32,8 @@ range_at (suc digits) (suc more) number within from to =
     let low : 10 * power ≤ number / 10 = least power (10 ^ suc more) longer from in
     let high : number / 10 < 100 * power = most power (10 ^ suc more) longer to in
     let rest : range_within digits (number / 10) ≡ number / 10 / power + 90 * more = range_at digits more (number / 10) (omega arith) low high in
-    let divided : number / 10 / power ≡ number / 10 ^ suc more = div-div-eq-div-mul number 10 power ∙ ap (λ (p : ℕ). number / p) (turned power (10 ^ suc more) longer) in
+    let divided : number / 10 / power ≡ number / 10 ^ suc more =
+    div-div-eq-div-mul number 10 power ∙ ap (λ (p : ℕ). number / p) (turned power (10 ^ suc more) longer) in
     many power (range_within digits (number / 10)) some low ∙ ap (λ (n : ℕ). n + 90) (rest ∙ ap (λ (n : ℕ). n + 90 * more) divided)
     ∙ one_more (number / 10 ^ suc more)
   where

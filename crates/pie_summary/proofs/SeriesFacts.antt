@@ -5,7 +5,7 @@ use Rattle.std.specs.List.{sum}
 use Rattle.std.proofs.lemmas.List.{length_push}
 use Rattle.std.proofs.lemmas.List.Sums.{sum_by_push}
 use Rattle.pie_aqm.specs.Places.{greatest, last_or}
-use Rattle.pie_summary.proofs.Names.{greatest-push, last_or-push}
+pub use Rattle.pie_aqm.proofs.Places.{greatest-push, last_or-push}
 use Rattle.pie_summary.specs.declared.series.Series.{Series}
 use Rattle.pie_summary.specs.Counts.{kept}
 use Rattle.pie_summary.specs.Series.{held_or, series_of}

@@ -4,7 +4,7 @@ use Rattle.std.specs.Prelude.{Result, Ok, Err, OnOk}
 use Rattle.std.specs.List.{flat_map}
 use Rattle.std.proofs.lemmas.List.{flat_map_more}
 use Rattle.pie_aqm.specs.Places.{places}
-use Rattle.pie_summary.proofs.Names.{place_of, places-push}
+use Rattle.pie_aqm.proofs.Places.{place_of, places-push}
 use Rattle.pie_explain.specs.declared.explanation.Explained.{Explained}
 use Rattle.pie_explain.specs.Report.{Grows}
 use Rattle.pie_summary.specs.declared.period.Period.{Period}

@@ -8,7 +8,7 @@ use Rattle.std.proofs.lemmas.List.Sums.{sum_by_push}
 use Rattle.pie_explain.specs.declared.explanation.Explained.{Explained}
 use Rattle.pie_summary.specs.declared.series.Series.{Series}
 use Rattle.pie_aqm.specs.Places.{last_or}
-pub use Rattle.pie_summary.proofs.Names.{last_or-push, place_of, places-push}
+pub use Rattle.pie_aqm.proofs.Places.{last_or-push, place_of, places-push}
 use Rattle.pie_summary.specs.Counts.{kept}
 use Rattle.pie_summary.specs.Ranges.{ranges_of}
 use Rattle.pie_summary.specs.Series.{held_or, series_of}

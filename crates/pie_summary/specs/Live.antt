@@ -1,6 +1,7 @@
 -- A period that is summed up as it goes: the numbers of a summary's record, kept in as much memory as they take.
 use Rattle.std.specs.Prelude.{ℕ, ◌≡◌, ◌≤◌, ◌<◌, ◌+◌, ◌-◌, ◌*◌, ◌/◌, ◌%◌, ◌^◌, ◌==◌}
-use Rattle.std.specs.Prelude.{Bool, true, false, not, ◌&&◌, nat_le, nat_lt, min, max, slice_index, codes, length, map, List, [], ◌∷◌, ◌++◌, Option, Some, None, count_by, if◌then◌else◌}
+use Rattle.std.specs.Prelude.{Bool, true, false, not, ◌&&◌, nat_le, nat_lt, min, max, slice_index, codes, length, map, List, []}
+use Rattle.std.specs.Prelude.{◌∷◌, ◌++◌, Option, Some, None, count_by, if◌then◌else◌}
 use Rattle.std.specs.Fmt.{decimal}
 use Rattle.std.specs.List.{filter_map, sum}
 use Rattle.pie_aqm.specs.Places.{Place, greatest, last_or, places}
@@ -22,8 +23,8 @@ use Rattle.pie_summary.specs.declared.spans.Total.{Total}
 use Rattle.pie_summary.specs.Counts.{counts_of, kept}
 use Rattle.pie_summary.specs.Period.{last_events, last_period, period_at, period_of, since}
 use Rattle.pie_summary.specs.Series.{series_of}
-use Rattle.pie_summary.specs.Sums.{above_in, answer_of, burst_at, carried_in, cause_of, delay_in, excess_in, first_since, late_at, left_at, moment_at, prob_at}
-use Rattle.pie_summary.specs.Sums.{size_in, target_at, time_at, turned_at, turned_off, turned_on, wait_in, waits_of}
+use Rattle.pie_summary.specs.Sums.{above_in, answer_of, burst_at, carried_in, cause_of, delay_in, excess_in, first_since, late_at, left_at}
+use Rattle.pie_summary.specs.Sums.{moment_at, prob_at, size_in, target_at, time_at, turned_at, turned_off, turned_on, wait_in, waits_of}
 
 -- ---- parts of what a summary keeps
 
@@ -127,7 +128,8 @@ mean_in count total = min (sum_in total / max count 1) (2 ^ 64 - 1)
 
 unfoldable pub first_written : Meter → List ℕ
 first_written meter =
-    joined (number_fields (kept (sum meter.answers) ∷ meter.first ∷ meter.last ∷ meter.arrivals ∷ []) ∷ decimal (sum_in meter.arrived) ∷ codes "," ∷ [])
+    joined (number_fields (kept (sum meter.answers) ∷ meter.first ∷ meter.last ∷ meter.arrivals ∷ [])
+    ∷ decimal (sum_in meter.arrived) ∷ codes "," ∷ [])
 
 abbrev pub later_written : Meter → ℕ → List ℕ
 later_written meter most =

@@ -1,5 +1,6 @@
 //! The numbers of a period that is summed up as it goes, in memory that its owner has: what the record of a summary is made of, and no more.
-ghost use Rattle.std.specs.Prelude.{◌≡◌, ◌+◌, ◌-◌, ◌^◌, ◌<◌, ◌++◌, ◌∷◌, [], ℕ, List, Option, Some, length, min, nat_lt, slice_index, slice_set, unwrap_or, if◌then◌else◌};
+ghost use Rattle.std.specs.Prelude.{◌≡◌, ◌+◌, ◌-◌, ◌^◌, ◌<◌, ◌++◌, ◌∷◌, [], ℕ, List, length, min, nat_lt, slice_index};
+ghost use Rattle.std.specs.Prelude.{slice_set, unwrap_or, if◌then◌else◌};
 ghost use Rattle.std.specs.List.{cons_option};
 ghost use Rattle.pie_aqm.specs.Places.{greatest};
 ghost use Rattle.pie_explain.specs.declared.explanation.Explained.{Explained};

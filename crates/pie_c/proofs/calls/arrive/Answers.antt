@@ -30,7 +30,8 @@ module _ (c : After-of_verdict) where
       (omega arith)
 
   left : c.keep_arrived.new.self ≡ with_arrival state (arrived (held_in state) arrival c.args.moment)
-  left = c.keep_arrived.ensures ∙ kept-later state _ _ _ c.args.moment _ _ c.reach.ensures c.raw_with-held.ensures.held c.arrive_with_place-verdict.ensures.after
+  left = c.keep_arrived.ensures ∙ kept-later state _ _ _ c.args.moment _ _ c.reach.ensures c.raw_with-held.ensures.held
+      c.arrive_with_place-verdict.ensures.after
       (ap with_ecn c.in-Some.ensures.value)
 
   decided : c.arrive_with_place-verdict.result.0 ≡ verdict (held_in state) arrival

@@ -21,7 +21,8 @@ returns-clause-holds c = λ shown one noted clock holds.
     let times : List ℕ = filter_map time_at (before ++ one ∷ []) in
     let known = meter-times period before one awaits.meter in
     let timed = c.note_time.ensures.noted before one at (clock ∙ clock-same c.reach.ensures.settings) known.0 known.1 in
-    let awaited : c.note_time.new.self.meter ≡ awaiting before one = ap (λ (p : LivePeriod). p.meter) timed ∙ meter-timed period before one awaits.meter in
+    let awaited : c.note_time.new.self.meter ≡ awaiting before one =
+    ap (λ (p : LivePeriod). p.meter) timed ∙ meter-timed period before one awaits.meter in
     holds-taken period c.note_time.new.self shown one times c.take.new.self c.count_some.new.counts timed awaits
     (c.take.ensures before one noted awaited)
     (waits-push before one c.args.noted.now.wait period.waits c.count_some.new.counts

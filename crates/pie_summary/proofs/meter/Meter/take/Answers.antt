@@ -61,7 +61,8 @@ returns c = λ shown one noted same.
       longer = some-of-push count_of excess_in shown one n.excess old.longer c.count_some.new.count
           (λ numbers held. count-some numbers n.excess old.longer c.count_some.new.count c.count_some.ensures held)
           (ap (λ (x : Noted). x.excess) noted) (ap (λ (m : Meter). m.longer) same) i;
-      late = (sum-push late_at (places shown) (place_of shown one) (excess_within n.excess c.saturating_sub-since.result) old.late c.add_excess.new.late
+      late = (sum-push late_at (places shown) (place_of shown one) (excess_within n.excess c.saturating_sub-since.result) old.late
+          c.add_excess.new.late
           c.add_excess.ensures read-late (ap (λ (m : Meter). m.late) same)
           ∙ ap (λ ps. kept (sum (map late_at ps))) (sym (places-push shown one))) i;
       target = (ap (λ (x : Noted). x.target) noted ∙ last-push target_at shown one) i;

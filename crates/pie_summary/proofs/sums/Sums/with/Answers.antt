@@ -2,7 +2,7 @@ use Rattle.std.proofs.Common.{◌≡◌, ◌-◌, ℕ, ◌∙◌, ap, map, refl,
 use Rattle.std.specs.Prelude.{Option}
 use Rattle.std.specs.List.{sum}
 use Rattle.pie_aqm.specs.Places.{places}
-use Rattle.pie_summary.proofs.Names.{place_of, places-push}
+use Rattle.pie_aqm.proofs.Places.{place_of, places-push}
 use Rattle.pie_summary.specs.declared.sums.Sums.{Sums}
 use Rattle.pie_summary.specs.Counts.{kept}
 use Rattle.pie_summary.specs.Sums.{above_by, above_in, burst_at, carried_in, excess_by, excess_in, excess_within, late_at, left_at, sums_of}

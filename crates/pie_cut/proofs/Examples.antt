@@ -13,8 +13,8 @@ use Rattle.pie_control.specs.History.{probability, last_delay, last_moment, gran
 use Rattle.pie_control.specs.Next.{raw_step, tuning_divisor, tuned_step, decayed, next}
 use Rattle.pie_early.specs.Decision.{is_considered, is_picked}
 use Rattle.pie_early.specs.History.{accumulated}
-use Rattle.pie_aqm.specs.History.{active_of, arrivals_shown, control_of, delay_noted, departures_of, departures_shown, early_of, held_of}
-use Rattle.pie_aqm.specs.History.{is_active, noted, noted_after, now_of, params_of, updates_shown}
+use Rattle.pie_aqm.specs.History.{active_of, arrivals_shown, control_of, delay_noted, departures_of, departures_shown, early_of, held_of, is_active}
+use Rattle.pie_aqm.specs.History.{noted, noted_after, now_of, params_of, updates_shown}
 use Rattle.pie_aqm.specs.Places.{places, greatest, last_or}
 use Rattle.pie_aqm.specs.Steps.{verdict}
 use Rattle.pie_book.specs.Estimates.{held_after}
@@ -25,20 +25,19 @@ use Rattle.pie_record.specs.declared.history_record.Line.{Line}
 use Rattle.pie_record.specs.Answer.{answer_fields}
 use Rattle.pie_record.specs.Clock.{clock_at, clock_in, clock_row}
 use Rattle.pie_record.specs.Number.{number}
-use Rattle.pie_record.specs.FirstRecord.{draft_at, first_kind, limits_at, profile_of, version_of, version_one_fields, version_two_fields}
-use Rattle.pie_record.specs.FirstRecord.{chosen_at, elements_at, version_three_fields, which_of}
+use Rattle.pie_record.specs.FirstRecord.{draft_at, first_kind, limits_at, profile_of, version_of, version_one_fields, version_two_fields, chosen_at}
+use Rattle.pie_record.specs.FirstRecord.{elements_at, version_three_fields, which_of}
 use Rattle.pie_record.specs.Field.{ecn_of, packet_at, params_at}
 use Rattle.pie_record.specs.Command.{arrival_at, change_at, command_at, command_kind}
 use Rattle.pie_record.specs.HistoryRecord.{answer_at, departure_at, event_line, line_of, note_line, numbers_at, registers_at, shown_line, update_at}
 use Rattle.pie_record.specs.HistoryRecord.{verdict_of}
 use Rattle.pie_record.specs.Opening.{opening_of}
-use Rattle.pie_record.specs.HistoryLines.{after_opening, fault_from, history_opening, history_version, lines_from, told_by}
+use Rattle.pie_record.specs.HistoryLines.{after_opening, fault_from, history_opening, history_version, lines_from, told_by, event_count, latest_clock}
+use Rattle.pie_record.specs.HistoryLines.{history_lines, later_fault}
 use Rattle.pie_record.specs.Text.{Row, records_of}
-use Rattle.pie_record.specs.HistoryLines.{event_count, latest_clock}
 use Rattle.pie_record.specs.Write.{command_fields}
 use Rattle.pie_audit.specs.Finding.{LinePlace, agrees, events_of, finding, first_difference, line_places}
 use Rattle.pie_event.specs.declared.opening.Opening.{Opening}
-use Rattle.pie_record.specs.HistoryLines.{history_lines, later_fault}
 use Rattle.pie_record.specs.declared.fault.TraceFault.{TraceFault}
 use Rattle.pie_record.specs.declared.fault.TraceFault.TheVariants as fault
 use Rattle.pie_cut.specs.declared.fault.CutFault.{CutFault}
@@ -48,7 +47,7 @@ use Rattle.pie_units.specs.declared.when.When.TheVariants.{Moment, Unix}
 use Rattle.pie_cut.specs.declared.span.Met.{Met}
 use Rattle.pie_cut.specs.declared.span.Span.{Span}
 use Rattle.pie_cut.specs.Answer.{answer_since}
-use Rattle.pie_cut.specs.Excerpt.{chosen, end_place, first_place, kept, line_text, number_told}
+use Rattle.pie_cut.specs.Excerpt.{chosen, first_place, kept, line_text, number_told}
 use Rattle.pie_cut.specs.Segment.{every_answer, segment}
 use Rattle.pie_cut.specs.Span.{is_past, is_reached}
 use Rattle.pie_audit.specs.Start.{Start, from_opening}
@@ -115,7 +114,7 @@ unfolding held_after shown held_of now_of params_of active_of departures_shown u
     after_opening events_of event_count agrees line_places first_difference finding accumulated is_considered is_picked delay_of last_or
     places effective_moment greatest waiting_after departed_count admitted average samples begun cycles first_position first_opening
     first_closing first_cycle cycles_from probability last_delay last_moment granted_burst burst_allowance raw_step tuning_divisor
-    tuned_step decayed next digits departures_of delay_noted control_of early_of noted noted_after is_active first_place end_place
+    tuned_step decayed next digits departures_of delay_noted control_of early_of noted noted_after is_active
     chosen latest_clock version_three_fields chosen_at elements_at clock_in clock_at clock_row command_fields answer_fields fields_text is_blank
 worked = ⊤
 

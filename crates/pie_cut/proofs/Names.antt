@@ -3,28 +3,29 @@ pub use Rattle.std.proofs.Common.{Bool, List, [], add-one, ap, append_assoc, ari
 pub use Rattle.std.proofs.Common.{rules, subst, suc, sym, take, true, zero, ℕ, ◌*◌, ◌++◌, ◌+◌, ◌-◌, ◌<◌, ◌^◌, ◌∙◌, ◌∷◌, ◌≡◌, ◌≤◌}
 pub use Rattle.std.proofs.KnownBytes.{Appends-nil, Appends-trans}
 pub use Rattle.std.proofs.lemmas.Bool.Decides.{nat_tests}
-pub use Rattle.std.proofs.lemmas.List.{append-nil}
+pub use Rattle.std.proofs.lemmas.List.{append-nil, length-map}
 pub use Rattle.std.proofs.lemmas.List.Concat.{flat_map-append}
-pub use Rattle.std.proofs.lemmas.List.Elements.{All-append, All-cons, All-head, All-nil, All-tail, filter_map-append}
+pub use Rattle.std.proofs.lemmas.List.Elements.{All-append, All-cons, All-head, All-nil, All-tail, filter-append, filter_map-append}
 pub use Rattle.std.proofs.lemmas.List.Folds.{find-append}
-pub use Rattle.std.specs.List.{filter_map, find}
+pub use Rattle.std.specs.List.{filter, filter_map, find}
 pub use Rattle.std.specs.Option.{option_or}
 pub use Rattle.std.specs.Prelude.{max, nat_le, nat_lt, not, slice_get, ⊤, ◌&&◌, ◌||◌}
 pub use Rattle.pie_cut.specs.{All, Appends, AreSegments, AuditorView, Audits, BeginningsTell, BeginsAt, BeginsWith, BegunBy, Clean, Clock, Coming}
-pub use Rattle.pie_cut.specs.{CoreView, Cuts, Differs, EndView, Err, Event, EventFits, Finding, FindsEither, GoesOn, IfSome, IsBefore, IsCut, IsFound}
+pub use Rattle.pie_cut.specs.{CoreView, Differs, EndView, Err, Event, EventFits, Finding, FindsEither, GoesOn, IfSome, IsBefore, IsCut, IsFound}
 pub use Rattle.pie_cut.specs.{IsInSegments, IsLegal, IsText, IsWritten, JoinsBy, Limits, Line, LinePlace, Made, None, Note, Ok, OnOk, Opening, Option}
-pub use Rattle.pie_cut.specs.{Reaches, Result, Row, Segments, Setter, Shows, Some, Standing, Start, TraceFault, Unmakeable, Waiting, WaitingFits}
-pub use Rattle.pie_cut.specs.{Writes, answered, answered_since, append_known, are_in_range, change_event, chosen_at, chosen_by, clock_row, coming_by}
+pub use Rattle.pie_cut.specs.{Result, Row, Segments, Setter, Shows, Some, Standing, Start, TraceFault, Unmakeable, Waiting, WaitingFits}
+pub use Rattle.pie_cut.specs.{answered, answered_since, append_known, are_in_range, change_event, chosen_at, chosen_by, clock_row, coming_by}
 pub use Rattle.pie_cut.specs.{cons_option, event_row, flat_map, from_opening, has_begun, history_lines, is_device, is_past, is_past_at, is_reached}
 pub use Rattle.pie_cut.specs.{is_reached_at, is_resumed, is_some, kept, latest_clock, line_text, met_at, met_by, min, moment_in, number_of}
 pub use Rattle.pie_cut.specs.{number_told, opening_refusal, part_rows, past_by, place_after, queued_row, reached_by, records_of, resume_with, segment}
 pub use Rattle.pie_cut.specs.{setter_after, setter_by, setter_told, start_after, text_of, up_to, waiting_after, whole_finding, whole_lines, within}
-unfoldable pub use Rattle.pie_cut.specs.{chosen, end_place, event_count, events_of, excerpt_lines, finding, first_difference, first_place}
+pub use Rattle.pie_cut.specs.{end_place, first_place}
+unfoldable pub use Rattle.pie_cut.specs.{chosen, event_count, events_of, excerpt_lines, finding, first_difference}
 unfoldable pub use Rattle.pie_cut.specs.{line_places, resume_row, rows_text}
 unfoldable pub use Rattle.csv.specs.Reading.{records_from, strip_bom}
 pub use Rattle.pie_aqm.specs.Held.{Held, held_by}
 pub use Rattle.pie_audit.proofs.FindingFacts.{line_places-push, place_of}
-pub use Rattle.pie_audit.proofs.SetterFacts.{event_count-push, made-count, none-before, none_of}
+pub use Rattle.pie_audit.proofs.SetterFacts.{event_count-append, event_count-push, few-events, made-count, none-before, none_of}
 pub use Rattle.pie_audit.proofs.Written.{all-made, made-events}
 pub use Rattle.pie_audit.specs.Begun.{FaultedBy, WholeBegun}
 pub use Rattle.pie_audit.specs.Finding.{after_line, event_in}

@@ -19,4 +19,4 @@ pub use law::{beginnings_are_written_again, beginnings_go_on, records_are_read_b
 pub use line::Line;
 pub use resume::Resume;
 pub use writing::{make_resume, put_queued, put_resume};
-pub use written::{add_queue, resume_of_excerpt, write_excerpt};
+pub use written::{add_queue, add_resume, resume_of_excerpt, write_excerpt};

@@ -1,10 +1,14 @@
-use Rattle.pie_cut.proofs.CutText.{part-cut, whole-cut}
+use Rattle.pie_cut.proofs.Names.{from_opening, history_lines, start_after, whole_lines}
+use Rattle.pie_cut.proofs.CutText.{cuts-found}
+use Rattle.pie_cut.proofs.TextFacts.{part-fits, whole-fits}
 use Rattle.pie_cut.proofs.law.cuts_are_found_as_the_whole.Goals as goal
 
 pub returns-clause-whole : goal.returns-clause-whole
-returns-clause-whole c = λ span rows opening place text is begun few.
-    whole-cut span rows opening place text c.written_parts_are_told.ensures.lines c.all_numbers_are_held.ensures.params is begun few
+returns-clause-whole c = λ span rows opening place text cut.
+    cuts-found from_opening span opening (history_lines 4294967296 rows) place text c.written_parts_are_told.ensures.lines
+    (whole-fits rows c.all_numbers_are_held.ensures.params) cut
 
 pub returns-clause-part : goal.returns-clause-part
-returns-clause-part c = λ span rows opening past set_by place text fit is begun few.
-    part-cut span rows opening past set_by place text c.written_parts_are_told.ensures.lines c.all_numbers_are_held.ensures.params fit is begun few
+returns-clause-part c = λ span rows opening past set_by place text fit cut.
+    cuts-found (start_after set_by past) span opening (whole_lines past rows) place text c.written_parts_are_told.ensures.lines
+    (part-fits past rows c.all_numbers_are_held.ensures.params fit) cut

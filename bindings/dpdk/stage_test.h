@@ -97,7 +97,7 @@ void test_shared(void);
 void test_cut_beside(int cuts);
 
 /* With `events` above 0 one more thread writes the history, with `flight` one writes what the flight recorder holds, and with `every` one the records
- * of periods. */
+ * of periods, and tags tell flows. */
 void test_threads(uint32_t rounds, uint32_t events, uint32_t flight, uint64_t every);
 
 #endif

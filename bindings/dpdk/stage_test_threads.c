@@ -182,6 +182,12 @@ static void *write_records(void *argument) {
     return NULL;
 }
 
+/* A packet's flow is its sender. */
+static uint32_t sender_of(void *user, const struct rte_mbuf *mbuf) {
+    (void)user;
+    return mbuf->port;
+}
+
 void test_threads(uint32_t rounds, uint32_t events, uint32_t flight, uint64_t every) {
     struct pie_stage_params params;
     struct pie_stage_stats stats;
@@ -197,6 +203,7 @@ void test_threads(uint32_t rounds, uint32_t events, uint32_t flight, uint64_t ev
     params.events = events;
     params.flight = flight;
     params.every = every;
+    params.flow = every != 0 ? sender_of : NULL;
     snprintf(name, sizeof name, "threads-%" PRIu64, every);
     struct pie_stage *stage = stage_of(&params);
     struct writer writer = {.stage = stage, .file = events != 0 ? open_history(name) : NULL};

@@ -169,6 +169,12 @@ def goes_on(folder):
         hold_counters(f"{count} events, written again", again.look("".join([head, *rows])), summary(part))
     head, rows = periods_of(overload, "10ms")
     hold_counters("shorter periods: another file", again.look("".join([head, *rows])), sums(whole, whole))
+    gap = Watched(folder, "gap")  # a writer that was late: a line tells how many records are missing
+    lines = [head, "lost,2\n", rows[0], rows[1], "lost,3\n", "lost,1\n", rows[2]]
+    for end, lost in ((3, 2), (4, 2), (6, 6), (7, 6)):
+        samples = gap.look("".join(lines[:end]))
+        hold_counters(f"{end} lines, with gaps", samples, sums(*table("".join([head, *rows[: min(end - 2, 2) + (end > 6)]]))))
+        check(samples["lost_periods_total"] == lost, f"{end} lines, with gaps: {samples['lost_periods_total']} lost periods")
     again.look("".join([head, *rows[:5]]))  # (one that lost its end: what is right nobody knows, but nothing falls)
 
 

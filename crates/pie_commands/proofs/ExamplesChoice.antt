@@ -1,5 +1,5 @@
 -- Which events the words of `pie explain` and `pie cut` choose, worked out.
-use Rattle.pie_commands.proofs.Names.{◌≡◌, ◌-◌, ◌^◌, [], ◌∷◌, Some, None, codes, refl, Text, Choice, options_in, choice_of, Part, Last, Every, around}
+use Rattle.pie_commands.proofs.Names.{◌≡◌, [], ◌∷◌, Some, None, codes, refl, Text, Choice, options_in, choice_of, Part, Last, Every, around}
 use Rattle.pie_commands.proofs.Names.{between, wanted_of}
 use Rattle.clap.proofs.OnLiterals.{clap_on_literals}
 use Rattle.pie_explain.specs.declared.which.Which.{Which}

@@ -1,11 +1,11 @@
 -- How the burst allowance goes down from update to update, and how far updates are apart.
 use Rattle.pie_guarantees.proofs.Names.{◌≡◌, ◌≤◌, ◌+◌, ◌*◌, ◌-◌, ◌&&◌, ℕ, List, [], ◌∷◌, ◌++◌, Bool, true, false, refl, sym, ap, ◌∙◌, cond}
-use Rattle.pie_guarantees.proofs.Names.{if◌then◌else◌, arith, subst, max, All, append_assoc, All-cons, All-head, All-nil, All-tail, All-weaker, sum_by_push}
-use Rattle.pie_guarantees.proofs.Names.{sum_by-append, ltb-false, bytes_of, deed, deed_of, is_update, after_call, Held, IsSound, anew, bytes_with}
-use Rattle.pie_guarantees.proofs.Names.{is_calm, judged, Waiting, Arrival, Command, Arrive, Depart, Update, Reset, SetParams, Answer, Enqueued, Event}
-use Rattle.pie_guarantees.proofs.Names.{Opening, arrival_of, call_of, departure_call, is_too_soon, active_after, held_after, params_after}
-use Rattle.pie_guarantees.proofs.Names.{parts_after, effective_moment, waiting_after, held-is, first-shows, first_core, AllAllow, Allows, IsAllowed}
-use Rattle.pie_guarantees.proofs.Names.{IsWhole, KeepsParams, SetsAllow, burst_left, updates_in, IsLawful, IsEarly}
+use Rattle.pie_guarantees.proofs.Names.{if◌then◌else◌, arith, subst, max, All, append_assoc, All-weaker, sum_by_push, sum_by-append, ltb-false}
+use Rattle.pie_guarantees.proofs.Names.{bytes_of, deed, deed_of, is_update, after_call, Held, IsSound, anew, bytes_with, is_calm, judged, Waiting}
+use Rattle.pie_guarantees.proofs.Names.{Arrival, Command, Arrive, Depart, Update, Reset, SetParams, Answer, Enqueued, Event, Opening, arrival_of}
+use Rattle.pie_guarantees.proofs.Names.{call_of, departure_call, is_too_soon, active_after, held_after, params_after, parts_after, effective_moment}
+use Rattle.pie_guarantees.proofs.Names.{waiting_after, held-is, first-shows, first_core, AllAllow, Allows, IsAllowed, IsWhole, KeepsParams, SetsAllow}
+use Rattle.pie_guarantees.proofs.Names.{burst_left, updates_in, IsLawful, IsEarly}
 use Rattle.pie_book.specs.Types.{RawParams}
 use Rattle.pie_aqm.specs.Steps as Steps
 use Rattle.pie_guarantees.proofs.LawfulFacts.{IsStep, along, sound_at, step_at}

@@ -201,7 +201,7 @@ static void run(int threads, double seconds, const char *sums) {
                 before[i] = answered[i];
         }
         /* (the others go on after the one that was cancelled, however long they wait for a processor) */
-        is_over = is_cancelled && now() > 2 * half && have_gone_on(before, threads);
+        is_over = is_cancelled && now() > 2 * half && taken == EXCERPTS && have_gone_on(before, threads);
         CHECK(now() < 2 * half + UINT64_C(120000000000));
         if (is_empty)
             sched_yield();
@@ -215,7 +215,7 @@ static void run(int threads, double seconds, const char *sums) {
         fprintf(file, "%llu %llu\n", (unsigned long long)workers[i].sum.count, (unsigned long long)workers[i].sum.order);
         CHECK(pie_link_close(&workers[i].port) == PIE_DONE);
     }
-    CHECK(taken == EXCERPTS && pie_link_close_excerpt(&excerpt) == PIE_DONE);
+    CHECK(pie_link_close_excerpt(&excerpt) == PIE_DONE);
     CHECK(pie_link_close(&workers[0].port) == PIE_DONE && fclose(file) == 0 && fflush(stdout) == 0);
     fprintf(stderr, "%llu calls without waiting found it busy\n", (unsigned long long)busy);
 }
@@ -236,8 +236,8 @@ static void add_record(uint64_t number, const char *line) {
     sums_so_far[number] = number == 0 ? 0 : sums_so_far[number - 1] + sum_record(number, line);
 }
 
-/* Whether the events of an excerpt are those of the text, from the number on that its first record tells. */
-static void read_excerpt(const char *sums, int number, uint64_t events) {
+/* How many events an excerpt has: they are those of the text, from the number on that its first record tells. */
+static uint64_t read_excerpt(const char *sums, int number, uint64_t events) {
     enum { COUNT = 29 }; /* the place of the number of events in a record that resumes */
     char line[2 * PIE_RESUME_ROOM], name[4096], *at = line;
     uint64_t before, last, sum = 0;
@@ -253,7 +253,8 @@ static void read_excerpt(const char *sums, int number, uint64_t events) {
             last++;
             sum += sum_record(last, line);
         }
-    CHECK(last > before && last <= events && sum == sums_so_far[last] - sums_so_far[before] && fclose(file) == 0);
+    CHECK(last <= events && sum == sums_so_far[last] - sums_so_far[before] && fclose(file) == 0);
+    return last - before;
 }
 
 /* The kind, the caller and the moment with which each record begins. */
@@ -289,7 +290,7 @@ static void read_text(int threads, const char *sums) {
     }
     fclose(file);
     for (i = 1; i <= EXCERPTS; i++)
-        read_excerpt(sums, i, events);
+        CHECK(read_excerpt(sums, i, events) != 0 || i == 1);
     printf("%llu events of %d callers, each one's once and in its order; %llu times the next event was another's\n", (unsigned long long)events,
            threads, (unsigned long long)changes);
 }

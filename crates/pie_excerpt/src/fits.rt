@@ -99,7 +99,7 @@ pub fn resume_fits(resume: Resume)
 }
 
 /// A packet that waits.
-pub fn waiting_fits(waiting: Waiting)
+pub(crate) fn waiting_fits(waiting: Waiting)
     ensures { WaitingFits waiting }
 {
     let _ = (waiting.packet.tag, waiting.packet.size, waiting.since);

@@ -1,6 +1,6 @@
 //! The records with which a text begins that goes on from the middle of a history: what a core stands on, and the packets that wait.
 //!
-//! What they mean is pie_book's (`Standing`, `Core::resume`); here they are written (`put_resume`, `put_queued`, and a whole excerpt by
+//! What they mean is pie_book's (`Standing`, `Core::resume`); here they are written (`make_resume`, `put_queued`, and a whole excerpt by
 //! `write_excerpt`) and read (a whole beginning by `begin_resumed`).
 #![tactic(auto)]
 
@@ -14,9 +14,9 @@ mod writing;
 mod written;
 
 pub use beginning::{Begun, begin_resumed, is_resume};
-pub use fits::{params_are_good, resume_fits, waiting_fits};
+pub use fits::{params_are_good, resume_fits};
 pub use law::{beginnings_are_written_again, beginnings_go_on, records_are_read_back};
 pub use line::Line;
 pub use resume::Resume;
-pub use writing::{make_resume, put_queued, put_resume};
+pub use writing::{make_resume, put_queued};
 pub use written::{add_queue, add_resume, write_excerpt};

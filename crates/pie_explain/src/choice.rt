@@ -77,7 +77,7 @@ impl Choice {
 
     /// Whether the event with this number and this effective moment is explained, where this is the last record before it that tells the
     /// time of day.
-    pub fn picks(self, number: u64, moment: u64, clock: Option<Clock>, event: &Event) -> bool
+    pub(crate) fn picks(self, number: u64, moment: u64, clock: Option<Clock>, event: &Event) -> bool
         ensures { result ≡ picks self number moment clock event.now }
     {
         self.which.chooses(number, event) && self.is_within(moment, time_of(clock, moment))

@@ -124,7 +124,7 @@ impl Explained {
     /// What there is to say of an event that a core is about to decide, as `Explanation::of` says it, made where it stays: as long as
     /// the core has not decided it, what it held before stands in the place of what it holds after.
     #[inline(always)]
-    pub fn begin(
+    pub(crate) fn begin(
         core: &Core,
         number: u64,
         event: &Event,

@@ -62,5 +62,6 @@ pub explanation-is : (opening : Opening) (history : List Event) (number : ℕ) (
     → updates ≡ count_of is_update history
     → the_explanation number event now before delay cause waited set_by updates clock ≡ explanation opening history number event set_by clock
 unfolding explanation
-explanation-is opening history number event set_by now before delay cause waited updates clock before-is delay-is cause-is now-is waited-is updates-is =
+explanation-is opening history number event set_by now before delay cause waited updates clock before-is delay-is cause-is now-is waited-is
+    updates-is =
     rw (waited-is, before-is, delay-is, cause-is, now-is, updates-is) refl

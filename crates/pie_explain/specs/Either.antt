@@ -7,7 +7,8 @@ use Rattle.pie_explain.specs.declared.fault.ExplainFault.{ExplainFault}
 use Rattle.pie_explain.specs.declared.fault.ExplainFault.TheVariants.{Trace}
 use Rattle.pie_explain.specs.Answer.{IsSaid, answer_since}
 
--- the first fault of its beginning is answered; and else, whatever history it goes on after, if it tells of it what set the probability, the answer to
+-- the first fault of its beginning is answered; and else, whatever history it goes on after, if it tells of it what set the probability, the answer
+-- to
 -- that history and its explanations, both of the events of the text
 abbrev pub ExplainsEither : Choice → (List Explained → List ℕ) → List Row → Result ℕ ExplainFault → Option (List ℕ) → Option (List ℕ) → Type 0
 ExplainsEither choice whole rows result old now =

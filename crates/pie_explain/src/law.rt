@@ -5,7 +5,8 @@ ghost use Rattle.pie_explain.specs.{IsAsAudited, answer_since, explanations, as_
 ghost use Rattle.pie_explain.specs.Names.{Choice};
 ghost use Rattle.pie_audit.specs.Text.{judged};
 
-/// The law of excerpts. A whole history gives all explanations (`whole`). A text that goes on after some events of a history, and tells what set the probability before it, gives exactly the
+/// The law of excerpts. A whole history gives all explanations (`whole`). A text that goes on after some events of a history, and tells what set the
+/// probability before it, gives exactly the
 /// explanations that the whole history gives after those of these events (`rest`). One that doesn't tell it gives the same, but for what set
 /// the probability as long as no event of the text did (`untold`). It does nothing: its contract is the law.
 pub fn excerpts_are_explained_as_the_whole()

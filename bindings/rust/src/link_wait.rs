@@ -8,8 +8,8 @@ use crate::LinkRefusal;
 
 /// Rounds that are a pause, each twice as long as the one before: the last one of 64 `spin_loop`s.
 const PAUSES: u32 = 7;
-/// .. and after these, rounds that give the processor up, before those that sleep.
-const YIELDS: u32 = 10;
+/// .. and after these, rounds that give the processor up, before those that sleep: most turns are over by then.
+const YIELDS: u32 = 500;
 /// The first sleep, and the longest, in microseconds. Nobody wakes a sleeper: so long a turn may stay unused.
 const SLEEPS: (u64, u64) = (50, 1000);
 

@@ -79,6 +79,10 @@ def blocks(text):
     return found
 
 
+def has_numpy(python):
+    return shutil.which(python) and subprocess.run([python, "-c", "import numpy"], capture_output=True, check=False).returncode == 0
+
+
 def fresh(copy, real):
     """A copy of the repository's own files, with what was built, and the environment of its commands."""
     listed = subprocess.run(["git", "ls-files", "-co", "--exclude-standard"], cwd=ROOT, capture_output=True, text=True, check=True).stdout
@@ -100,6 +104,9 @@ def fresh(copy, real):
             name.parent.mkdir(exist_ok=True)
             name.write_text(text)
             name.chmod(0o755)
+    # Debian's modules are those of its own Python
+    if not (tools / "python3").exists() and not has_numpy("python3") and has_numpy("/usr/bin/python3"):
+        (tools / "python3").symlink_to("/usr/bin/python3")
     words["PATH"] = f"{tools}:{copy}/crates/pie/out:{words['PATH']}"
     return words
 

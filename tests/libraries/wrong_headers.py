@@ -43,7 +43,8 @@ EDITS = [
     ("a verdict of 8 bits", HEADER, "uint32_t pie_arrive(", "uint8_t pie_arrive("),
     ("parameters that may change", HEADER, "pie_set_params(struct pie_state *state, const ", "pie_set_params(struct pie_state *state, "),
     ("alpha and beta exchanged", HEADER, "uint64_t alpha; ", "uint64_t beta; ", "uint64_t beta; ", "uint64_t alpha; "),
-    ("last and accu exchanged", HEADER, "uint64_t last; ", "uint64_t accu; ", "uint64_t accu; ", "uint64_t last; "),
+    ("last and accu exchanged", HEADER, "uint64_t last;            /*", "uint64_t accu;            /*", "uint64_t accu;            /*",
+     "uint64_t last;            /*"),
     ("due and delay exchanged", HEADER, "uint64_t due;   /*", "uint64_t delay; /*", "uint64_t delay; /*", "uint64_t due;   /*"),
     ("two codes exchanged", HEADER, "PIE_BAD_ECN = 111", "PIE_BAD_ECN = 112", "PIE_BAD_QUEUE = 112", "PIE_BAD_QUEUE = 111"),
     ("two verdicts exchanged", HEADER, "PIE_MARK = 1", "PIE_MARK = 2", "PIE_EARLY = 2", "PIE_EARLY = 1"),
@@ -84,7 +85,8 @@ EDITS = [
     ("Rust: sizes looked at before moments", CRATE + "state.rs", "/// In this order: `Moment`, `Size`, `Queue`.\n    pub fn arrive",
      "/// In this order: `Size`, `Moment`, `Queue`.\n    pub fn arrive"),
     ("Rust: a departure at a link that updates", LINK, "unsafe { pie_link_try_depart(", "unsafe { pie_link_try_update("),
-    ("Rust: an arrival at a link without its random word", LINK, "moment, tag, word, size, ecn: ecn as u8,", "moment, tag, size, ecn: ecn as u8,"),
+    ("Rust: an arrival at a link without its random word", LINK, "let mut event = RawEvent { moment, tag, word, size,",
+     "let mut event = RawEvent { moment, tag, size,"),
     ("Rust: ports of two links are gathered", LINK, "self.link == other.link && ", ""),
     ("Rust: the ports of a link from the highest number on", LINK, "ports.reverse();", ""),
     ("Rust: a waiting call that answers busy", CRATE + "link_wait.rs", "Err(LinkRefusal::Busy) => wait(rounds)",
@@ -98,7 +100,7 @@ EDITS = [
 
 
 def copied(folder):
-    for name in ("include", "bindings", "crates/pie_abi/src", "crates/pie_c/src", "crates/pie_link_c/src", "docs"):
+    for name in ("include", "bindings", "crates/pie_abi/src", "crates/pie_c/src", "crates/pie_link_c/src", "crates/pie_summary/src", "docs"):
         shutil.copytree(ROOT / name, folder / name, ignore=shutil.ignore_patterns("target"))
 
 

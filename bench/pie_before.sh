@@ -1,6 +1,6 @@
 #!/usr/bin/env bash
 # One event decided (and recorded) by pie_book, or one at a link, beside the same by an earlier one, both in turn, so many times (21),
-# and of each the least and the median, and their ratios. It ends with status 1 where the two come to other results.
+# and of each the least and the median, and their ratios. It ends with status 1 where the two decide otherwise.
 # usage: bench/pie_before.sh PIE_BENCH_OF_THE_EARLIER_COMMIT PIE_BENCH [RUNS] [book|link]
 . "$(dirname "$0")/shared.sh"
 runs=${3:-21}
@@ -12,10 +12,10 @@ done > "$work/lines"
 pairs=""
 if [ "$part" = link ]; then
     names="link_uncontended link_mutex_uncontended link_threads_1 link_threads_2 link_threads_4 link_threads_8"
-    sums=link_uncontended_checksum
+    sums=""
 else
     names="book_decided book_recorded_bounded book_recorded_rolling"
-    sums=$(printf '%s_checksum ' $names)
+    sums=book_decided_checksum
 fi
 for name in $names $sums; do
     pairs="$pairs $name/before_$name"

@@ -187,8 +187,6 @@ int main(void) {
         sum = sum * 31 + digest;
     }
     printf("c_book_decided %.1f ns\n", (nanos() - begin) / EVENTS);
-    printf("c_book_mean_wait %llu ns\n", (unsigned long long)(core.waited / core.left));
-    printf("c_book_early %llu packets\n", (unsigned long long)core.early);
     printf("c_book_checksum %llu sum\n", (unsigned long long)sum);
     return 0;
 }

@@ -14,4 +14,4 @@ pairs="book_decided_checksum/c_book_checksum"
 for name in book_decided book_recorded_bounded book_recorded_rolling; do
     pairs="$pairs $name/c_book_decided"
 done
-python3 "$here/ratios.py" "$work/lines" $pairs book_mean_wait c_book_mean_wait book_event
+python3 "$here/ratios.py" "$work/lines" $pairs

@@ -7,14 +7,11 @@ bench=$1
 runs=${2:-15}
 ${CC:-cc} -O2 -o "$work/pie_step" "$here/pie_step.c"
 for _ in $(seq "$runs"); do
-    for part in rate control early; do
-        "$bench" "$part"
-    done
+    "$bench" parts
     "$work/pie_step"
 done > "$work/lines"
 pairs=""
-for name in early_considered early_not_considered rate_departed_open rate_departed_closing rate_departed_mixed \
-    control_update control_next_probability control_delay early_checksum rate_checksum control_checksum; do
-    pairs="$pairs $name/c_$name"
+for name in early_considered early_not_considered rate_departed_open rate_departed_closing control_update control_next_probability control_delay; do
+    pairs="$pairs $name/c_$name ${name}_checksum/c_${name}_checksum"
 done
 python3 "$here/ratios.py" "$work/lines" $pairs

@@ -1,5 +1,5 @@
-/* The steps of PIE in plain C (pie_step.h), timed over the inputs of `pie_bench rate`, `control` and `early`. Each line is
- * that of pie_bench with `c_` before its name, the checksums too.
+/* The steps of PIE in plain C (pie_step.h), timed over the inputs of `pie_bench parts`. Each line is that of pie_bench with `c_` before its name, the
+ * checksums too.
  *
  * usage: bench/pie_parts.sh runs it
  */
@@ -25,12 +25,9 @@ struct arrival {
     int ecn;
 };
 
-static void print_nanos(const char *name, double begin) {
-    printf("%s %.1f ns\n", name, (nanos() - begin) / ((double)INPUTS * ROUNDS));
-}
-
-static void print_checksum(const char *name, uint64_t sum) {
-    printf("%s %llu sum\n", name, (unsigned long long)sum);
+static void print(const char *name, double begin, uint64_t sum) {
+    printf("c_%s %.1f ns\n", name, (nanos() - begin) / ((double)INPUTS * ROUNDS));
+    printf("c_%s_checksum %llu sum\n", name, (unsigned long long)sum);
 }
 
 static struct departure *departures(uint32_t least) {
@@ -46,7 +43,8 @@ static struct departure *departures(uint32_t least) {
 }
 
 /* Departures in runs of so many, each run shown to an estimate of its own. */
-static uint64_t depart(const char *name, const struct departure *made, int run, uint64_t threshold) {
+static void depart(const char *name, uint32_t least, int run, uint64_t threshold) {
+    struct departure *made = departures(least);
     uint64_t sum = 0;
     double begin = nanos();
     for (int round = 0; round < ROUNDS; round++)
@@ -56,18 +54,8 @@ static uint64_t depart(const char *name, const struct departure *made, int run, 
                 departed(&rate, made[i].size, 100000, made[i].moment, threshold);
             sum += rate.average + (uint64_t)rate.begun;
         }
-    print_nanos(name, begin);
-    return sum;
-}
-
-static void measure_rate(void) {
-    struct departure *mixed = departures(64), *large = departures(1024);
-    uint64_t sum = depart("c_rate_departed_open", mixed, 43, 65536);
-    sum += depart("c_rate_departed_closing", large, INPUTS, 1024);
-    sum += depart("c_rate_departed_mixed", mixed, INPUTS, 16384);
-    print_checksum("c_rate_checksum", sum);
-    free(mixed);
-    free(large);
+    print(name, begin, sum);
+    free(made);
 }
 
 static void measure_control(void) {
@@ -90,31 +78,34 @@ static void measure_control(void) {
         struct control control = {0, 0, default_params.max_burst, 0};
         for (int i = 0; i < INPUTS; i++)
             updated(&control, &default_params, updates[i].delay, updates[i].moment);
-        sum += control.prob + control.burst;
+        sum += control.prob + control.old_delay + control.burst;
     }
-    print_nanos("c_control_update", begin);
+    print("control_update", begin, sum);
+    sum = 0;
     begin = nanos();
     for (int round = 0; round < ROUNDS; round++)
         for (int i = 0; i < INPUTS; i++)
             sum += next_probability(&default_params, updates[i].prob, updates[i].delay, updates[i].old);
-    print_nanos("c_control_next_probability", begin);
+    print("control_next_probability", begin, sum);
+    sum = 0;
     begin = nanos();
     for (int round = 0; round < ROUNDS; round++)
         for (int i = 0; i < INPUTS; i++)
             sum += delay(updates[i].bytes, updates[i].average, default_params.dq_threshold);
-    print_nanos("c_control_delay", begin);
-    print_checksum("c_control_checksum", sum);
+    print("control_delay", begin, sum);
     free(updates);
 }
 
-static uint64_t arrive(const char *name, const struct arrival *arrivals, const struct control *control) {
-    uint64_t sum = 0, accu = 0;
+static void arrive(const char *name, const struct arrival *arrivals, const struct control *control) {
+    uint64_t sum = 0;
     double begin = nanos();
-    for (int round = 0; round < ROUNDS; round++)
+    for (int round = 0; round < ROUNDS; round++) {
+        uint64_t accu = 0;
         for (int i = 0; i < INPUTS; i++)
             sum += consider(&accu, &default_params, control, arrivals[i].bytes, arrivals[i].ecn, arrivals[i].word);
-    print_nanos(name, begin);
-    return sum + accu;
+        sum += accu;
+    }
+    print(name, begin, sum);
 }
 
 static void measure_early(void) {
@@ -128,14 +119,14 @@ static void measure_early(void) {
         arrivals[i].word = word();
     }
     struct control long_delay = {50000000000ull, 15000000, 0, 0}, short_delay = {50000000000ull, 1000000, 0, 0};
-    uint64_t sum = arrive("c_early_considered", arrivals, &long_delay);
-    sum += arrive("c_early_not_considered", arrivals, &short_delay);
-    print_checksum("c_early_checksum", sum);
+    arrive("early_considered", arrivals, &long_delay);
+    arrive("early_not_considered", arrivals, &short_delay);
     free(arrivals);
 }
 
 int main(void) {
-    measure_rate();
+    depart("rate_departed_open", 64, 43, 65536);
+    depart("rate_departed_closing", 1024, INPUTS, 1024);
     measure_control();
     measure_early();
     return 0;

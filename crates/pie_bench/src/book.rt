@@ -1,9 +1,9 @@
 //! What an event costs, decided alone and decided and recorded, on a link with 8 per cent more arriving than leaving.
 
-use crate::places::open;
-use crate::report::{Report, Word};
+use crate::places::open_book;
+use crate::report::Report;
 use crate::words::Words;
-use pie_book::{Answer, Book, Command, Core, Limits, Mode, Recorded};
+use pie_book::{Answer, Book, Command, Core, Limits, Mode};
 use pie_params::Params;
 use pie_queue::{Ecn, Packet};
 use std::alloc::Global;
@@ -74,6 +74,28 @@ impl Stream {
     }
 }
 
+/// What decides one command after another.
+trait Decides {
+    fn decide(&mut self, alloc: Global, command: Command) -> Option<Answer>;
+}
+
+/// It decides alone.
+impl Decides for Core {
+    fn decide(&mut self, _alloc: Global, command: Command) -> Option<Answer> {
+        self.step(1, command).ok()
+    }
+}
+
+/// It records too, and is folded whenever its tail is full, unless it is rolling.
+impl Decides for Book {
+    fn decide(&mut self, alloc: Global, command: Command) -> Option<Answer> {
+        if self.tail_len() >= TAIL as usize && self.opening().choices.mode != Mode::Rolling {
+            let _ = self.fold(alloc, u64::from(TAIL));
+        }
+        self.apply(1, command).ok()
+    }
+}
+
 /// A number by which an answer shows in a checksum.
 fn digest(answer: Answer) -> u64 {
     match answer {
@@ -89,113 +111,49 @@ fn digest(answer: Answer) -> u64 {
     }
 }
 
-fn limits() -> Limits {
-    Limits {
+/// Decides all events; the number is that of the answers.
+#[inline(never)]
+fn decide_all<D: Decides>(alloc: Global, place: &mut D) -> u64 {
+    let mut stream = Stream::new();
+    let mut sum: u64 = 0;
+    for _ in 0..EVENTS {
+        if let Some(answer) = place.decide(alloc, stream.next()) {
+            sum = sum.wrapping_mul(31).wrapping_add(digest(answer));
+        }
+    }
+    sum
+}
+
+/// Prints the time of one event.
+fn time<R: Clock + Print, D: Decides>(
+    report: &mut Report<R>,
+    alloc: Global,
+    name: &'static str,
+    place: &mut D,
+) {
+    let start = report.start();
+    let sum = decide_all(alloc, place);
+    report.nanos("book", name, start, EVENTS);
+    report.checksum("book", name, sum);
+}
+
+/// Prints the time of one event decided only (`Core::step`), and decided and recorded (`Book::apply`) in a bounded book that is folded whenever its
+/// tail is full, and in a rolling one.
+pub fn measure<R: Clock + Print>(report: &mut Report<R>, alloc: Global) {
+    let limits = Limits {
         packets: 1024,
         tail: TAIL,
         events: 1 << 40,
+    };
+    if let Ok(mut core) = Core::open(alloc, limits, Params::default_profile(), 0) {
+        time(report, alloc, "decided", &mut core);
     }
-}
-
-/// Decides all events; the number is that of the answers.
-#[inline(never)]
-fn decide(core: &mut Core) -> u64 {
-    let mut stream = Stream::new();
-    let mut sum: u64 = 0;
-    for _ in 0..EVENTS {
-        if let Ok(answer) = core.step(1, stream.next()) {
-            sum = sum.wrapping_mul(31).wrapping_add(digest(answer));
+    for (name, mode) in [
+        ("recorded_bounded", Mode::Bounded),
+        ("recorded_rolling", Mode::Rolling),
+    ] {
+        if let Some(mut book) = open_book(alloc, limits, mode) {
+            time(report, alloc, name, &mut book);
         }
     }
-    sum
-}
-
-/// Folds all events of a full tail of a bounded book, and says how many.
-fn fold_full(alloc: Global, book: &mut Book) -> u64 {
-    if book.tail_len() < TAIL as usize || book.opening().choices.mode == Mode::Rolling {
-        return 0;
-    }
-    match book.fold(alloc, u64::from(TAIL)) {
-        Ok(events) => events.len() as u64,
-        Err(_) => 0,
-    }
-}
-
-/// Decides and records all events; the number is that of the answers and of the events that were handed out.
-#[inline(never)]
-fn record(alloc: Global, book: &mut Book) -> u64 {
-    let mut stream = Stream::new();
-    let mut sum: u64 = 0;
-    for _ in 0..EVENTS {
-        sum = sum.wrapping_add(fold_full(alloc, book));
-        if let Ok(answer) = book.apply(1, stream.next()) {
-            sum = sum.wrapping_mul(31).wrapping_add(digest(answer));
-        }
-    }
-    sum
-}
-
-/// Prints the time of one event that is decided only (`Core::step`), and the mean wait of a packet.
-fn time_core<R: Clock + Print>(report: &mut Report<R>, core: &mut Core) {
-    let start = report.start();
-    let sum = decide(core);
-    report.nanos("book_decided", start, EVENTS);
-    report.checksum("book_decided", sum);
-    let stats = core.stats();
-    let wait = stats.waited / u128::from(stats.left).max(1);
-    let early = u128::from(stats.early);
-    report.line(&[
-        Word::Text("book_mean_wait "),
-        Word::Number(wait),
-        Word::Text(" ns"),
-    ]);
-    report.line(&[
-        Word::Text("book_early "),
-        Word::Number(early),
-        Word::Text(" packets"),
-    ]);
-}
-
-/// Prints the time of one event that is decided and recorded (`Book::apply`).
-fn time_book<R: Clock + Print>(
-    report: &mut Report<R>,
-    alloc: Global,
-    name: &'static str,
-    book: &mut Book,
-) {
-    let start = report.start();
-    let sum = record(alloc, book);
-    report.nanos(name, start, EVENTS);
-    report.checksum(name, sum);
-}
-
-fn measure_core<R: Clock + Print>(report: &mut Report<R>, alloc: Global) {
-    if let Ok(mut core) = Core::open(alloc, limits(), Params::default_profile(), 0) {
-        time_core(report, &mut core);
-    }
-}
-
-fn measure_book<R: Clock + Print>(
-    report: &mut Report<R>,
-    alloc: Global,
-    name: &'static str,
-    mode: Mode,
-) {
-    if let Some(mut book) = open(alloc, limits(), mode) {
-        time_book(report, alloc, name, &mut book);
-    }
-}
-
-/// Prints the time of one event decided only, decided and recorded in a bounded book that is folded whenever its tail is
-/// full, and in a rolling one; and the bytes of an event that is handed out.
-pub fn measure<R: Clock + Print>(report: &mut Report<R>, alloc: Global) {
-    measure_core(report, alloc);
-    measure_book(report, alloc, "book_recorded_bounded", Mode::Bounded);
-    measure_book(report, alloc, "book_recorded_rolling", Mode::Rolling);
-    let event = size_of::<Recorded>() as u128;
-    report.line(&[
-        Word::Text("book_event "),
-        Word::Number(event),
-        Word::Text(" bytes"),
-    ]);
 }

@@ -1,168 +1,220 @@
-//! What an event costs at a link, and how many of them enqueuing threads and one sender make in a second, beside the same
-//! book behind `std::sync::Mutex` in the same run. Both make the same `Book::apply` of the same commands.
+//! Calls and bursts at a link, beside the same book behind `std::sync::Mutex` in the same run, and at a book that one thread has alone. Both make the
+//! same `Book::apply` of the same commands. All are rolling, so that no tail is ever too full for an event.
+ghost use Rattle.std.specs.Prelude.{◌≡◌};
 
-use crate::at_once::{Work, time_at_once};
-use crate::places::{AtLink, AtMutex, Job, link_jobs, mutex_jobs, open_book, open_link};
+use crate::bursts::{Answers, BURSTS, Bursts, Many, time_alone};
+use crate::calls::{Calls, THREADS};
+use crate::places::{AtLink, AtMutex, open_book, opening};
 use crate::report::Report;
-use pie_book::Command;
+use crate::{bursts, calls};
+use pie_book::{Answer, Book, Command, Limits, Mode};
+use pie_link::{Arrival, Link, Told};
 use pie_queue::{Ecn, Packet};
 use std::alloc::Global;
 use std::rt::Clock;
 use std::sync::{Mutex, Wait};
 use std::thread::Threads;
 
-/// How many events there are with no contention: every other one is an arrival, and each of them departs again.
-const UNCONTENDED: u64 = 5_000_000;
-
-/// How many events each thread makes.
-const PER_THREAD: u64 = 500_000;
-
-/// How many threads enqueue, beside one that sends.
-const ENQUEUERS: [u16; 4] = [1, 2, 4, 8];
-
-/// The nanoseconds between two events of a thread.
+/// The nanoseconds between two calls of a thread.
 const BETWEEN: u64 = 100_000;
 
-/// How many packets may wait.
-const PACKETS: u32 = 1024;
-
-/// A place that takes one call after another.
-trait Single {
-    /// In a turn a packet arrives, or one is to depart; the number is 1 where there is an event.
-    fn ask<R: Wait>(&mut self, rt: &R, sends: bool, turn: u64) -> u64;
+/// What is measured at a place: calls, with so many threads that enqueue beside one that sends, or bursts.
+#[derive(Clone, Copy)]
+enum What {
+    Calls(u16),
+    Bursts(Many),
 }
 
-/// The packet of a turn.
-fn packet(turn: u64) -> Packet {
-    Packet {
-        tag: turn,
-        size: 1000,
-        ecn: Ecn::NotEct,
-    }
-}
-
-impl Single for AtLink<'_> {
-    fn ask<R: Wait>(&mut self, rt: &R, sends: bool, turn: u64) -> u64 {
-        let moment = turn.wrapping_mul(BETWEEN);
-        let told = if sends {
-            self.link.depart(rt, &mut self.caller, moment)
-        } else {
-            self.link
-                .arrive(rt, &mut self.caller, moment, packet(turn), 0)
+impl What {
+    /// The limits of a queue of 1024 packets, or of 4096.
+    fn limits(self) -> Limits {
+        let packets = match self {
+            What::Calls(_) => 1024,
+            What::Bursts(_) => 4096,
         };
-        u64::from(told.is_ok())
+        Limits {
+            packets,
+            tail: 1024,
+            events: 1 << 40,
+        }
     }
 }
 
-impl Single for AtMutex<'_> {
-    fn ask<R: Wait>(&mut self, rt: &R, sends: bool, turn: u64) -> u64 {
-        let moment = turn.wrapping_mul(BETWEEN);
+/// The arrival of a turn.
+fn arrival(turn: u64) -> Arrival {
+    Arrival {
+        moment: turn.wrapping_mul(BETWEEN),
+        packet: Packet {
+            tag: turn,
+            size: 1000,
+            ecn: Ecn::NotEct,
+        },
+        word: 0,
+    }
+}
+
+impl Calls for AtLink<'_> {
+    fn call<R: Wait>(mut self, rt: &R, sends: bool, turn: u64) -> Self {
+        let Arrival {
+            moment,
+            packet,
+            word,
+        } = arrival(turn);
+        if sends {
+            let _ = self.link.depart(rt, &mut self.caller, moment);
+        } else {
+            let _ = self.link.arrive(rt, &mut self.caller, moment, packet, word);
+        }
+        self
+    }
+}
+
+impl Calls for AtMutex<'_, Book> {
+    fn call<R: Wait>(self, rt: &R, sends: bool, turn: u64) -> Self {
+        let arrival = arrival(turn);
+        let moment = arrival.moment;
         let command = if sends {
             Command::Depart { moment }
         } else {
-            Command::Arrive {
-                moment,
-                packet: packet(turn),
-                word: 0,
-            }
+            arrival.command()
         };
-        let answer = self.mutex.lock(rt).apply(1, command);
-        u64::from(answer.is_ok())
+        let _ = self.mutex.lock(rt).apply(1, command);
+        self
     }
 }
 
-/// So many calls of one thread while nobody else makes any: each packet departs before the next arrives. The number is that of its events.
-fn call_alone<R: Wait, P: Single>(rt: &R, place: &mut P) -> u64 {
-    let mut events: u64 = 0;
-    for turn in 0..UNCONTENDED {
-        events = events.wrapping_add(place.ask(rt, turn % 2 == 1, turn));
-    }
-    events
-}
-
-impl<P: Single + Drop> Work<u64> for Job<P> {
-    fn toil<R: Wait>(self, rt: &R, what: &u64) -> u64 {
-        let Job { mut place, sends } = self;
-        let mut events: u64 = 0;
-        for turn in 0..*what {
-            events = events.wrapping_add(place.ask(rt, sends, turn));
+/// A command at a book, whose answer is kept as a link's call keeps it.
+#[inline(always)]
+fn ask_book(book: &mut Book, command: &Command, answers: &mut Answers) -> bool {
+    match book.apply(1, *command) {
+        Ok(answer) => {
+            let number = book.count();
+            let goes_on = !matches!(answer, Answer::Empty);
+            let _ = answers.push(Ok(Told { answer, number }));
+            goes_on
         }
-        events
-    }
-}
-
-/// Prints the time of an event of one thread.
-fn time_alone<R: Wait + Clock + Print, P: Single>(
-    report: &mut Report<R>,
-    name: &'static str,
-    place: &mut P,
-) -> u64 {
-    let start = report.start();
-    let events = call_alone(report.rt, place);
-    report.nanos(name, start, UNCONTENDED);
-    events
-}
-
-fn alone_at_link<R: Wait + Clock + Print>(report: &mut Report<R>, alloc: Global) -> u64 {
-    match open_link(alloc, PACKETS, 1) {
-        Some((link, caller)) => {
-            let link = &link;
-            let mut place = AtLink { link, caller };
-            time_alone(report, "link_uncontended", &mut place)
+        Err(why) => {
+            let _ = answers.push(Err(why));
+            false
         }
-        None => 0,
     }
 }
 
-fn alone_at_mutex<R: Wait + Clock + Print>(report: &mut Report<R>, alloc: Global) -> u64 {
-    match open_book(alloc, PACKETS) {
-        Some(book) => {
-            let mutex = Mutex::new(book);
-            let mut place = AtMutex { mutex: &mutex };
-            time_alone(report, "link_mutex_uncontended", &mut place)
+impl Bursts for Book {
+    fn hand_in<R: Wait>(&mut self, _rt: &R, arrivals: &[Arrival], answers: &mut Answers) {
+        for arrival in arrivals {
+            let _ = ask_book(self, &arrival.command(), answers);
         }
-        None => 0,
     }
-}
 
-fn contended_at_link<R: Threads + Wait + Clock + Print + Sync>(
-    report: &mut Report<R>,
-    alloc: Global,
-    enqueuers: u16,
-) -> u64 {
-    match open_link(alloc, PACKETS, 10) {
-        Some((link, mut caller)) => {
-            let jobs = link_jobs(alloc, &link, &mut caller, enqueuers.saturating_add(1));
-            time_at_once(report, "link", enqueuers, jobs, PER_THREAD)
+    fn send<R: Wait>(&mut self, _rt: &R, moment: u64, most: usize, answers: &mut Answers) {
+        for _ in 0..most {
+            if !ask_book(self, &Command::Depart { moment }, answers) {
+                return;
+            }
         }
-        None => 0,
     }
 }
 
-fn contended_at_mutex<R: Threads + Wait + Clock + Print + Sync>(
+impl Bursts for AtMutex<'_, Book> {
+    fn hand_in<R: Wait>(&mut self, rt: &R, arrivals: &[Arrival], answers: &mut Answers) {
+        self.mutex.lock(rt).hand_in(rt, arrivals, answers);
+    }
+
+    fn send<R: Wait>(&mut self, rt: &R, moment: u64, most: usize, answers: &mut Answers) {
+        self.mutex.lock(rt).send(rt, moment, most, answers);
+    }
+}
+
+impl Bursts for AtLink<'_> {
+    fn hand_in<R: Wait>(&mut self, rt: &R, arrivals: &[Arrival], answers: &mut Answers) {
+        let _ = self
+            .link
+            .arrive_all(rt, &mut self.caller, arrivals, answers);
+    }
+
+    fn send<R: Wait>(&mut self, rt: &R, moment: u64, most: usize, answers: &mut Answers) {
+        let _ = self
+            .link
+            .depart_all(rt, &mut self.caller, moment, most, answers);
+    }
+}
+
+fn at_link<R: Threads + Wait + Clock + Print + Sync>(
     report: &mut Report<R>,
     alloc: Global,
-    enqueuers: u16,
-) -> u64 {
-    match open_book(alloc, PACKETS) {
-        Some(book) => {
-            let mutex = Mutex::new(book);
-            let jobs = mutex_jobs(alloc, &mutex, enqueuers.saturating_add(1));
-            time_at_once(report, "link_mutex", enqueuers, jobs, PER_THREAD)
+    what: What,
+) {
+    if let Ok((link, caller)) = Link::open_with(alloc, opening(what.limits(), Mode::Rolling), 10) {
+        let link = &link;
+        let place = AtLink { link, caller };
+        match what {
+            What::Calls(others) => calls::time(
+                report,
+                alloc,
+                "link",
+                others,
+                others.saturating_add(1),
+                place,
+            ),
+            What::Bursts(many) => bursts::time(report, alloc, "link", many, place),
         }
-        None => 0,
     }
 }
 
-/// Prints the time of an event with no contention, and how many there are in a second by 1, 2, 4 and 8 threads that enqueue
-/// beside one that sends, for the link and for the mutex.
-pub fn measure<R: Threads + Wait + Clock + Print + Sync>(report: &mut Report<R>, alloc: Global) {
-    let linked = alone_at_link(report, alloc);
-    let plain = alone_at_mutex(report, alloc);
-    report.checksum("link_uncontended", linked.wrapping_add(plain));
-    for enqueuers in ENQUEUERS {
-        let linked = contended_at_link(report, alloc, enqueuers);
-        let plain = contended_at_mutex(report, alloc, enqueuers);
-        report.checksum("link_threads", linked.wrapping_add(plain));
+fn at_mutex<R: Threads + Wait + Clock + Print + Sync>(
+    report: &mut Report<R>,
+    alloc: Global,
+    what: What,
+) {
+    if let Some(book) = open_book(alloc, what.limits(), Mode::Rolling) {
+        let mutex = &Mutex::new(book);
+        let place = AtMutex { mutex };
+        match what {
+            What::Calls(others) => calls::time(
+                report,
+                alloc,
+                "link_mutex",
+                others,
+                others.saturating_add(1),
+                place,
+            ),
+            What::Bursts(many) => bursts::time(report, alloc, "mutex", many, place),
+        }
+    }
+}
+
+fn at_book<R: Wait + Clock + Print>(report: &mut Report<R>, alloc: Global, many: Many) {
+    if let Some(mut book) = open_book(alloc, What::Bursts(many).limits(), Mode::Rolling) {
+        time_alone(report, alloc, "alone", many, &mut book);
+    }
+}
+
+/// Prints the time of an event with no contention, and how many there are in a second by 1, 2, 4 and 8 threads that enqueue beside one that sends, for
+/// the link and for the mutex.
+pub fn measure_calls<R: Threads + Wait + Clock + Print + Sync>(
+    report: &mut Report<R>,
+    alloc: Global,
+) {
+    for threads in THREADS {
+        at_link(report, alloc, What::Calls(threads));
+        at_mutex(report, alloc, What::Calls(threads));
+    }
+}
+
+/// Prints how many events bursts of 1, 8, 32 and 128 packets make in a second by so many threads, of which one sends, at the link and at the mutex; by
+/// one thread also at a book that it has alone.
+pub fn measure_bursts<R: Threads + Wait + Clock + Print + Sync>(
+    report: &mut Report<R>,
+    alloc: Global,
+    threads: u16,
+) {
+    for burst in BURSTS {
+        let many = Many { burst, threads };
+        if threads == 1 {
+            at_book(report, alloc, many);
+        }
+        at_link(report, alloc, What::Bursts(many));
+        at_mutex(report, alloc, What::Bursts(many));
     }
 }

@@ -1,19 +1,17 @@
-//! `pie_bench`: what an event costs in each part of the controller, measured. Its argument names the measurement.
+//! `pie_bench`: what an event costs in each part of the controller, measured. Its arguments name the measurement.
 #![tactic(auto)]
 
-mod at_once;
 mod book;
 mod bursts;
-mod control;
-mod early;
+mod calls;
 mod link;
 mod lock;
+mod parts;
 mod places;
-mod rate;
 mod report;
 mod words;
 
-use crate::report::{Report, Word};
+use crate::report::Report;
 use std::alloc::Global;
 use std::rt::Clock;
 use std::sync::Wait;
@@ -38,33 +36,22 @@ fn measure<R: Threads + Wait + Clock + Print + Sync>(
     name: &str,
 ) {
     match name {
-        "rate" => rate::measure(report, alloc),
-        "control" => control::measure(report, alloc),
-        "early" => early::measure(report, alloc),
-        "lock" => lock::measure(report, alloc),
+        "parts" => parts::measure(report, alloc),
         "book" => book::measure(report, alloc),
-        "link" => link::measure(report, alloc),
-        _ => match threads_of(name) {
-            Some(threads) => bursts::measure(report, alloc, threads),
-            None => usage(report),
-        },
-    }
-}
-
-/// How many threads make the bursts that have this name.
-fn threads_of(name: &str) -> Option<u16> {
-    match name {
-        "bursts1" => Some(1),
-        "bursts2" => Some(2),
-        "bursts3" => Some(3),
-        "bursts4" => Some(4),
-        "bursts8" => Some(8),
-        _ => None,
+        "lock" => lock::measure(report, alloc),
+        "link" => link::measure_calls(report, alloc),
+        "bursts1" => link::measure_bursts(report, alloc, 1),
+        "bursts2" => link::measure_bursts(report, alloc, 2),
+        "bursts3" => link::measure_bursts(report, alloc, 3),
+        "bursts4" => link::measure_bursts(report, alloc, 4),
+        "bursts8" => link::measure_bursts(report, alloc, 8),
+        _ => usage(report),
     }
 }
 
 fn usage<R: Clock + Print>(report: &mut Report<R>) {
-    let usage =
-        "pie_bench: name a measurement: rate, control, early, lock, book or link; of bursts bursts1, 2, 3, 4 or 8";
-    report.line(&[Word::Text(usage)]);
+    let said = println!(report.rt;
+        "pie_bench: name a measurement: parts, book, lock or link; of bursts bursts1, 2, 3, 4 or 8"
+    );
+    report.printed(said);
 }

@@ -1,12 +1,22 @@
-//! The places at which events are measured: a link, and the same book behind `std::sync::Mutex`. Both are rolling, so that no tail is ever too full
-//! for an event.
-ghost use Rattle.std.specs.Prelude.{◌≡◌, IfSome};
+//! Places at which several threads work: a lock, a link, and the same state behind `std::sync::Mutex`.
+ghost use Rattle.std.specs.Prelude.{◌≡◌};
 
+use crate::report::Report;
 use pie_book::{Book, Choices, Limits, Mode, Opening};
 use pie_link::{Caller, Link};
 use pie_params::Params;
 use std::alloc::{AllocError, Global};
-use std::sync::Mutex;
+use std::rt::Clock;
+use std::sync::{Mutex, Wait};
+use std::thread;
+use std::thread::Threads;
+use std::time::Instant;
+
+/// A place of one thread.
+pub trait Place {
+    /// A place of one thread more; nothing where there is none.
+    fn share(&mut self) -> Option<Self>;
+}
 
 /// A thread at the link.
 #[derive(Drop)]
@@ -17,9 +27,40 @@ pub struct AtLink<'a> {
 }
 
 /// A thread at the mutex.
-#[derive(Clone, Copy)]
-pub struct AtMutex<'a> {
-    pub mutex: &'a Mutex<Book>,
+#[derive(Drop)]
+pub struct AtMutex<'a, S> {
+    pub mutex: &'a Mutex<S>,
+}
+
+impl Place for AtLink<'_> {
+    fn share(&mut self) -> Option<Self> {
+        let link = self.link;
+        match link.share(&mut self.caller) {
+            Ok(caller) => Some(AtLink { link, caller }),
+            Err(_) => None,
+        }
+    }
+}
+
+impl<S> Place for AtMutex<'_, S> {
+    fn share(&mut self) -> Option<Self> {
+        Some(AtMutex { mutex: self.mutex })
+    }
+}
+
+/// What a book and a link are opened with.
+pub fn opening(limits: Limits, mode: Mode) -> Opening {
+    let usual = Opening::usual(limits, Params::default_profile(), 0);
+    let choices = Choices {
+        mode,
+        ..usual.choices
+    };
+    Opening { choices, ..usual }
+}
+
+/// A book with these limits.
+pub fn open_book(alloc: Global, limits: Limits, mode: Mode) -> Option<Book> {
+    Book::open_with(alloc, opening(limits, mode)).ok()
 }
 
 /// What one of several threads does at its place.
@@ -29,61 +70,22 @@ pub struct Job<P> {
     pub sends: bool,
 }
 
-/// Limits for a queue of so many packets.
-fn limits(packets: u32) -> Limits {
-    Limits {
-        packets,
-        tail: 1024,
-        events: 1 << 40,
-    }
+/// The work of several threads.
+pub trait Work<P> {
+    /// Does the part of one of them; the number is that of its calls.
+    fn toil<R: Wait>(&self, rt: &R, job: Job<P>) -> u64;
 }
 
-fn opening(limits: Limits, mode: Mode) -> Opening {
-    let usual = Opening::usual(limits, Params::default_profile(), 0);
-    let choices = Choices {
-        mode,
-        ..usual.choices
-    };
-    Opening { choices, ..usual }
-}
-
-/// A link with a queue of so many packets, and the caller that has all its numbers.
-pub fn open_link(alloc: Global, packets: u32, callers: u16) -> Option<(Link, Caller)>
-    ensures { IfSome result (λ pair. pair.1.lock ≡ pair.0) }
-{
-    match Link::open_with(alloc, opening(limits(packets), Mode::Rolling), callers) {
-        Ok(pair) => Some(pair),
-        Err(_) => None,
-    }
-}
-
-/// The same book by itself.
-pub fn open_book(alloc: Global, packets: u32) -> Option<Book> {
-    open(alloc, limits(packets), Mode::Rolling)
-}
-
-/// A book with these limits.
-pub fn open(alloc: Global, limits: Limits, mode: Mode) -> Option<Book> {
-    match Book::open_with(alloc, opening(limits, mode)) {
-        Ok(book) => Some(book),
-        Err(_) => None,
-    }
-}
-
-/// Work at the link for so many threads, the first of which sends.
-pub fn link_jobs<'a>(
+/// Jobs for so many threads, of which the first sends.
+pub fn jobs<P: Place + Drop>(
     alloc: Global,
-    link: &'a Link,
-    caller: &mut Caller,
+    place: &mut P,
     threads: u16,
-) -> Result<Vec<Job<AtLink<'a>>>, AllocError>
-    requires { caller.old.lock ≡ link.now }
-{
+) -> Result<Vec<Job<P>>, AllocError> {
     let mut jobs = Vec::with_capacity(alloc, usize::from(threads))?;
     let mut sends = true;
     for _ in 0..threads {
-        if let Ok(caller) = link.share(caller) {
-            let place = AtLink { link, caller };
+        if let Some(place) = place.share() {
             let _ = jobs.push(Job { place, sends });
         }
         sends = false;
@@ -91,18 +93,22 @@ pub fn link_jobs<'a>(
     Ok(jobs)
 }
 
-/// The same at the mutex.
-pub fn mutex_jobs(
-    alloc: Global,
-    mutex: &Mutex<Book>,
-    threads: u16,
-) -> Result<Vec<Job<AtMutex>>, AllocError> {
-    let mut jobs = Vec::with_capacity(alloc, usize::from(threads))?;
-    let mut sends = true;
-    for _ in 0..threads {
-        let place = AtMutex { mutex };
-        let _ = jobs.push(Job { place, sends });
-        sends = false;
+/// Has so many threads do the work at once, and gives the moment at which they began.
+pub fn toil_at_once<
+    R: Threads + Wait + Clock + Print + Sync,
+    P: Place + Send + Drop,
+    W: Work<P> + Sync,
+>(report: &mut Report<R>, alloc: Global, place: &mut P, threads: u16, work: &W) -> Option<Instant> {
+    match jobs(alloc, place, threads) {
+        Ok(jobs) => {
+            let rt = report.rt;
+            let start = report.start();
+            let _ = thread::map_vec(rt, jobs, &|job: Job<P>| { work.toil(rt, job) });
+            start
+        }
+        Err(why) => {
+            report.lacks(why);
+            None
+        }
     }
-    Ok(jobs)
 }

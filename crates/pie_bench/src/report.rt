@@ -1,27 +1,11 @@
-//! The lines that the measurements print: `name value unit`.
+//! What the measurements print, in lines `name value unit`.
 
 use std::alloc::AllocError;
 use std::io;
 use std::rt::Clock;
 use std::time::Instant;
 
-/// How many inputs a measurement makes beforehand, so that making them isn't measured.
-pub const INPUTS: u32 = 65_536;
-
-/// How often a measurement goes over its inputs.
-pub const ROUNDS: u32 = 128;
-
-/// How many calls a measurement makes.
-pub const CALLS: u64 = INPUTS as u64 * ROUNDS as u64;
-
-/// A part of a line.
-#[derive(Clone, Copy)]
-pub enum Word {
-    Text(&'static str),
-    Number(u128),
-}
-
-/// What is printed, and the first failure of the clock, of memory or of the output, after which no line is: so no `?` stands beside what is measured.
+/// What is printed on, and the first failure of the clock, of memory or of the output: so no `?` stands beside what is measured.
 #[derive(Drop)]
 pub struct Report<'a, R> {
     pub rt: &'a R,
@@ -33,7 +17,7 @@ impl<'a, R: Clock + Print> Report<'a, R> {
         Report { rt, failure: None }
     }
 
-    /// Whether all lines were printed.
+    /// Whether all was measured and printed.
     pub fn end(self) -> io::Result<()> {
         match self.failure {
             None => Ok(()),
@@ -53,12 +37,10 @@ impl<'a, R: Clock + Print> Report<'a, R> {
         self.fail(memory.into());
     }
 
-    /// Prints a line of these words.
-    pub fn line(&mut self, words: &[Word]) {
-        if self.failure.is_none() {
-            if let Err(why) = print(self.rt, words) {
-                self.failure = Some(why);
-            }
+    /// Takes in whether a line was printed.
+    pub fn printed(&mut self, said: io::Result<()>) {
+        if let Err(why) = said {
+            self.fail(why);
         }
     }
 
@@ -74,58 +56,35 @@ impl<'a, R: Clock + Print> Report<'a, R> {
     }
 
     /// The nanoseconds since then.
-    pub fn since(&mut self, start: Option<Instant>) -> u128 {
-        match start {
-            Some(start) => match start.elapsed(self.rt) {
-                Ok(spent) => spent.as_nanos(),
-                Err(why) => {
-                    self.fail(why);
-                    0
-                }
-            },
-            None => 0,
+    fn since(&mut self, start: Option<Instant>) -> u128 {
+        let Some(start) = start else {
+            return 0;
+        };
+        match start.elapsed(self.rt) {
+            Ok(spent) => spent.as_nanos(),
+            Err(why) => {
+                self.fail(why);
+                0
+            }
         }
+    }
+
+    /// How many of so many events since then there were in a second.
+    pub fn rate(&mut self, start: Option<Instant>, events: u64) -> u128 {
+        u128::from(events) * 1_000_000_000 / self.since(start).max(1)
     }
 
     /// Prints the nanoseconds since then of each of so many calls, to a tenth.
-    pub fn nanos(&mut self, name: &'static str, start: Option<Instant>, calls: u64) {
+    pub fn nanos(&mut self, part: &str, name: &str, start: Option<Instant>, calls: u64) {
         let tenths = self.since(start).saturating_mul(10) / u128::from(calls).max(1);
-        self.line(&[
-            Word::Text(name),
-            Word::Text(" "),
-            Word::Number(tenths / 10),
-            Word::Text("."),
-            Word::Number(tenths % 10),
-            Word::Text(" ns"),
-        ]);
+        let (whole, tenth) = (tenths / 10, tenths % 10);
+        let said = println!(self.rt; "{part}_{name} {whole}.{tenth} ns");
+        self.printed(said);
     }
 
     /// Prints what the results of the calls add up to, which keeps them from being optimised away.
-    pub fn checksum(&mut self, name: &'static str, sum: u64) {
-        self.line(&[
-            Word::Text(name),
-            Word::Text("_checksum "),
-            Word::Number(u128::from(sum)),
-            Word::Text(" sum"),
-        ]);
+    pub fn checksum(&mut self, part: &str, name: &str, sum: u64) {
+        let said = println!(self.rt; "{part}_{name}_checksum {sum} sum");
+        self.printed(said);
     }
-}
-
-fn print(rt: &impl Print, words: &[Word]) -> io::Result<()> {
-    for word in words {
-        match *word {
-            Word::Text(text) => print!(rt; "{text}")?,
-            Word::Number(number) => print!(rt; "{number}")?,
-        }
-    }
-    println!(rt; "")
-}
-
-/// What the numbers add up to.
-pub fn sum(numbers: &[u64]) -> u64 {
-    let mut sum: u64 = 0;
-    for number in numbers {
-        sum = sum.wrapping_add(*number);
-    }
-    sum
 }

@@ -12,7 +12,7 @@ use Rattle.pie_lock.specs.declared.view.Place.TheVariants.{Waits, Holds}
 use Rattle.pie_lock.specs.Rule.{EachPass, Follows, WhileHeld, Ruled}
 use Rattle.pie_lock.specs.Steps.{with_front, pass_at, freed}
 use Rattle.pie_lock.proofs.Following.{follows_whole, each_longer, below_longer}
-use Rattle.pie_lock.proofs.Seats.{set_at, agreed_set, apart_as_before}
+use Rattle.pie_lock.proofs.Seats.{set_at, agreed_set}
 
 module _ {S E O : Type 0} (number : E → ℕ) (origin_of : S → O) (tells : S → List E → Type 0) (origin : O) (numbers : ℕ) where
   abbrev Rule : State (Option S) (Place E O) → Type 0
@@ -47,11 +47,11 @@ module _ {S E O : Type 0} (number : E → ℕ) (origin_of : S → O) (tells : S 
           length-set s.words 0 0 ∙ rule.0,
           (
             next,
-            agreed_set number origin numbers history next s.views id w agreed (follows_whole number origin numbers history p f next) tt
-                (apart_as_before number origin numbers history s.views id (Holds p) w agreed at (λ n h. h))
+            agreed_set number origin numbers history next s.views id (Holds p) w agreed at (λ n h. h)
+                (follows_whole number origin numbers history p f next)
                 (λ j u ne e. subst (λ l. EachPass (Follows number origin numbers l) u) next_is
                 (each_longer number origin numbers history p.first u added mine (agreed.each_follows j u e)
-                (λ h. agreed.apart j id u (Holds p) p.first ne e at h (omega arith, omega arith))))
+                (λ h. ne (sym (agreed.owned j u p.first e h) ∙ agreed.owned id (Holds p) p.first at (omega arith, omega arith)))))
                 (subst (All (λ e. number e < numbers)) next_is (below_longer number origin numbers history p.first added mine
                 (omega arith) agreed.entries_below)),
             inl (

@@ -3,8 +3,6 @@ use Rattle.std.proofs.Common.{◌≡◌, ◌≢◌, ℕ, ◌==◌, ◌<◌, true
 use Rattle.std.proofs.Common.{arith, length-set, get_or-set_same}
 use Rattle.std.specs.List.{All}
 use Rattle.std.proofs.lemmas.List.Elements.{All-weaker}
-use mathlib.Core.Logic.{dite}
-use native.Mathlib.Decide.{ℕ_discrete}
 use mathlib.Core.Option.{none, some, some-injective}
 use lib.ListN.{get_elem?}
 use prog.Atomic.{either}
@@ -18,7 +16,7 @@ use Rattle.pie_lock.specs.Rule.{Follows, Agreed, WhileFree, WhileHeld, Ruled}
 use Rattle.pie_lock.specs.Steps.{with_front, HasAll, Won, looked, taken}
 use Rattle.pie_lock.proofs.Owns.{whole_is_front, within}
 use Rattle.pie_lock.proofs.Following.{follows_whole}
-use Rattle.pie_lock.proofs.Seats.{set_at, agreed_set, apart_as_before}
+use Rattle.pie_lock.proofs.Seats.{set_at, agreed_set}
 
 -- a table with one word, which is written again
 pub word_again : (words : List ℕ) → length words ≡ 1 → set words 0 (get_or words 0 0) ≡ words
@@ -58,8 +56,8 @@ module _ {S E O : Type 0} (number : E → ℕ) (origin_of : S → O) (tells : S 
           length-set s.words 0 1 ∙ one,
           (
             history,
-            agreed_set number origin numbers history history s.views id w agreed (follows_whole number origin numbers history p f history) tt
-                (apart_as_before number origin numbers history s.views id (Waits p) w agreed at (λ n h. h))
+            agreed_set number origin numbers history history s.views id (Waits p) w agreed at (λ n h. h)
+                (follows_whole number origin numbers history p f history)
                 (λ j u ne e. agreed.each_follows j u e) agreed.entries_below,
             inr (
               written,
@@ -96,11 +94,10 @@ module _ {S E O : Type 0} (number : E → ℕ) (origin_of : S → O) (tells : S 
       let there : get_elem? s.views holder ≡ some (Holds q) = held.1.2 in
       let f : Follows number origin numbers history p = agreed.each_follows id (Waits p) at in
       let g : Follows number origin numbers history q = agreed.each_follows holder (Holds q) there in
-      dite (ℕ_discrete holder id)
-      (λ same. let e : Holds q ≡ Waits p = some-injective (Holds q) (Waits p) (sym there ∙ (ap (get_elem? s.views) same ∙ at)) in cc)
-      (λ ne.
       let a = all.0 in let b = all.1 in let c = f.of_all in let d = g.nonempty in let l = g.below in
-      agreed.apart holder id (Holds q) (Waits p) q.first ne there at (omega arith, omega arith) (omega arith, omega arith))
+      let same : holder ≡ id = sym (agreed.owned holder (Holds q) q.first there (omega arith, omega arith))
+      ∙ agreed.owned id (Waits p) q.first at (omega arith, omega arith) in
+      let e : Holds q ≡ Waits p = some-injective (Holds q) (Waits p) (sym there ∙ (ap (get_elem? s.views) same ∙ at)) in cc
 
   -- where the word stays, all does
   stays : (id : ℕ) (p : Shown E O) (s : Table) → Rule s → get_elem? s.views id ≡ some (Waits p) → (n : ℕ) → get_or s.words 0 0 ≡ n

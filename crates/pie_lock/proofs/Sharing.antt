@@ -4,13 +4,13 @@ use Rattle.std.proofs.Common.{inr, ⊎_elim, arith, ◌==◌, true, false, cond,
 use Rattle.std.proofs.lemmas.Bool.Decides.{nat_tests}
 use mathlib.Core.Option.{none, some}
 use lib.ListN.{get_elem?}
-use Rattle.atomic_table.specs.Table.{State, keeps, step, stepped, Splits, Joins, Allows}
+use Rattle.atomic_table.specs.Table.{Me, State, keeps, step, stepped, Splits, Joins, Allows}
 use Rattle.atomic_table.proofs.Lists.{at_set, set_else}
 use Rattle.pie_lock.specs.declared.view.Shown.{Shown}
 use Rattle.pie_lock.specs.declared.view.Place.{Place}
 use Rattle.pie_lock.specs.declared.view.Place.TheVariants.{Spent, Waits, Meets}
 use Rattle.pie_lock.specs.Rule.{IsNumberAt, EachPass, Follows, Agreed, WhileFree, WhileHeld, Ruled}
-use Rattle.pie_lock.specs.Steps.{with_numbers, all_but_highest, highest, meeting, made_one, AreAdjacent, merged}
+use Rattle.pie_lock.specs.Steps.{pass_at, with_numbers, all_but_highest, highest, meeting, made_one, AreAdjacent, merged}
 use Rattle.pie_lock.proofs.Following.{follows_fewer, follows_both, in_either}
 use Rattle.pie_lock.proofs.Taking.{word_again}
 use Rattle.pie_lock.proofs.Seats.{HoldAlike, IsNoHolder, agreed_by, agreed_longer, agreed_set, alike_both, alike_longer, alike_set}
@@ -63,8 +63,8 @@ module _ {S E O : Type 0} (number : E → ℕ) (origin_of : S → O) (tells : S 
       (λ t. let one = t.1 in
       inr (t.0, (one.0, one.1, (alike one.0 one.1).1 one.2, one.3, λ seat q e. one.4 seat q ((alike seat q).0 e)), t.2)) now
 
-  pub splits_keep : (id : ℕ) (p : Shown E O) → p.first + 1 < p.limit → Splits Rule id (Waits p) (all_but_highest (Waits p)) (highest (Waits p))
-  splits_keep id p two s rule at =
+  splits : (id : ℕ) (p : Shown E O) → p.first + 1 < p.limit → Splits Rule id (Waits p) (all_but_highest (Waits p)) (highest (Waits p))
+  splits id p two s rule at =
       let history : List E = rule.1.0 in
       let agreed = rule.1.1 in
       let f : Follows number origin numbers history p = agreed.each_follows id (Waits p) at in
@@ -97,9 +97,17 @@ module _ {S E O : Type 0} (number : E → ℕ) (origin_of : S → O) (tells : S 
         ),
       )
 
-  pub merges_keep : (slots id : ℕ) (p q : Shown E O) → AreAdjacent p q
-      → Allows Rule slots id (Meets p q, []) 0 (λ n. n) (merged number (step slots 0 0 0 none) (Meets p q, []))
-  merges_keep slots id p q adjacent s rule sized at wide =
+  pub splits_keep : (id : ℕ) (v : Place E O) → v ≡ Waits (pass_at v) → (pass_at v).first + 1 < (pass_at v).limit
+      → Splits Rule id v (all_but_highest v) (highest v)
+  splits_keep id v is two =
+      subst (λ (v : Place E O). Splits Rule id v (all_but_highest v) (highest v)) (sym is) (splits id (pass_at v) two)
+
+  -- what a seat with two passes stores: the word again
+  abbrev pub Merges : ℕ → ℕ → Me (Option S) (Place E O) → Type 0
+  Merges slots id me = Allows Rule slots id me 0 (λ n. n) (merged number (step slots 0 0 0 none) me)
+
+  merges : (slots id : ℕ) (p q : Shown E O) → AreAdjacent p q → Merges slots id (Meets p q, [])
+  merges slots id p q adjacent s rule sized at wide =
       let history : List E = rule.1.0 in
       let agreed = rule.1.1 in
       let both : EachPass (Follows number origin numbers history) (Meets p q) = agreed.each_follows id (Meets p q) at in
@@ -125,8 +133,12 @@ module _ {S E O : Type 0} (number : E → ℕ) (origin_of : S → O) (tells : S 
         (refl, facts.1, facts.2),
       )
 
-  pub joins_keep : (id other : ℕ) (p q : Shown E O) → Joins Rule id (Waits p) other (Waits q) (meeting (Waits p) (Waits q)) Spent
-  joins_keep id other p q s rule at ne there =
+  pub merges_keep : (slots id : ℕ) (me : Me (Option S) (Place E O)) (p q : Shown E O) → AreAdjacent p q
+      → ◌≡◌ {A = Me (Option S) (Place E O)} me (Meets p q, []) → Merges slots id me
+  merges_keep slots id me p q adjacent is = subst (Merges slots id) (sym is) (merges slots id p q adjacent)
+
+  joins : (id other : ℕ) (p q : Shown E O) → Joins Rule id (Waits p) other (Waits q) (meeting (Waits p) (Waits q)) Spent
+  joins id other p q s rule at ne there =
       let history : List E = rule.1.0 in
       let agreed = rule.1.1 in
       let both : Place E O = Meets p q in
@@ -162,3 +174,9 @@ module _ {S E O : Type 0} (number : E → ℕ) (origin_of : S → O) (tells : S 
               (alike_set views id (Waits p) both at' (waits_not p) (meets_not p q))),
         ),
       )
+
+  pub joins_keep : (id other : ℕ) (v w : Place E O) → v ≡ Waits (pass_at v) → w ≡ Waits (pass_at w) → Joins Rule id v other w (meeting v w) Spent
+  joins_keep id other v w is its =
+      subst (λ (x : Place E O). Joins Rule id x other w (meeting x w) Spent) (sym is)
+      (subst (λ (x : Place E O). Joins Rule id (Waits (pass_at v)) other x (meeting (Waits (pass_at v)) x) Spent) (sym its)
+      (joins id other (pass_at v) (pass_at w)))

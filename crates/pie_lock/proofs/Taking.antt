@@ -13,7 +13,8 @@ use Rattle.pie_lock.specs.declared.view.Place.{Place}
 use Rattle.pie_lock.specs.declared.view.Place.TheVariants.{Waits, Holds}
 use Rattle.pie_lock.specs.Own.{is_within}
 use Rattle.pie_lock.specs.Rule.{Follows, Agreed, WhileFree, WhileHeld, Ruled}
-use Rattle.pie_lock.specs.Steps.{with_front, HasAll, Won, looked, taken}
+use Rattle.pie_lock.specs.Seating.{IsIdle}
+use Rattle.pie_lock.specs.Steps.{with_front, HasAll, pass_at, Won, looked, taken}
 use Rattle.pie_lock.proofs.Owns.{whole_is_front, within}
 use Rattle.pie_lock.proofs.Following.{follows_whole}
 use Rattle.pie_lock.proofs.Seats.{set_at, agreed_set}
@@ -112,13 +113,16 @@ module _ {S E O : Type 0} (number : E → ℕ) (origin_of : S → O) (tells : S 
   not_all : (id : ℕ) (p : Shown E O) (s : Table) → Rule s → get_elem? s.views id ≡ some (Waits p) → get_or s.words 0 0 ≢ 0 → HasAll p → ⊥
   not_all id p s rule at ne all = ⊎_elim (λ free. ne free.0) (λ held. no_other id p s rule.1.0 at rule.1.1 held all) rule.1.2
 
-  pub looks_keep : (slots id : ℕ) (p : Shown E O) → Allows Rule slots id (Waits p, []) 0 (λ n. n) (looked (step slots 0 0 0 none) (Waits p, []))
-  looks_keep slots id p s rule sized at wide =
-      (Waits p, keeps, tt, stays id p s rule at (get_or s.words 0 0) refl, (refl, not_all id p s rule at))
+  pub looks_keep : (slots id : ℕ) (me : Me (Option S) (Place E O)) → IsIdle me
+      → Allows Rule slots id me 0 (λ n. n) (looked (step slots 0 0 0 none) me)
+  looks_keep slots id me idle =
+      let p : Shown E O = pass_at me.0 in
+      subst (λ (m : Me (Option S) (Place E O)). Allows Rule slots id m 0 (λ n. n) (looked (step slots 0 0 0 none) m)) (sym idle)
+      (λ s rule sized at wide. (Waits p, keeps, tt, stays id p s rule at (get_or s.words 0 0) refl, (refl, not_all id p s rule at)))
 
-  pub takes_keep : (slots id : ℕ) (p : Shown E O)
+  won_or_lost : (slots id : ℕ) (p : Shown E O)
       → Allows Rule slots id (Waits p, []) 0 (λ n. either (n == 0) 1 n) (taken number origin_of tells (step slots 0 0 1 none) (Waits p, []))
-  takes_keep slots id p s rule sized at wide =
+  won_or_lost slots id p s rule sized at wide =
       let n : ℕ = get_or s.words 0 0 in
       let F : ℕ → Type 0 = λ k.
       (w : Place E O) × (a : Act (Option S)) × Valid s.homes [] a × Rule (stepped s 0 k id [] w a)
@@ -130,3 +134,9 @@ module _ {S E O : Type 0} (number : E → ℕ) (origin_of : S → O) (tells : S 
       ⊎_elim (λ free. wins id p s rule.1.0 rule.0 at rule.1.1 free) (λ held. let one = held.0 in absurd (omega arith)) rule.1.2 in
       (won.0, won.1, won.2, won.3, (λ _. won.4, λ ne. absurd (ne hit))))
       (λ miss. (Waits p, keeps, tt, stays id p s rule at n refl, (λ e. absurd (miss e), λ ne. (refl, not_all id p s rule at ne))))
+
+  pub takes_keep : (slots id : ℕ) (me : Me (Option S) (Place E O)) → IsIdle me
+      → Allows Rule slots id me 0 (λ n. either (n == 0) 1 n) (taken number origin_of tells (step slots 0 0 1 none) me)
+  takes_keep slots id me idle =
+      subst (λ (m : Me (Option S) (Place E O)). Allows Rule slots id m 0 (λ n. either (n == 0) 1 n) (taken number origin_of tells (step slots 0 0 1 none) m))
+      (sym idle) (won_or_lost slots id (pass_at me.0))

@@ -301,9 +301,6 @@ module _ (law : EntriesLookBack) (plan : Plan) (h : List Entry) (sound : IsSound
         no_more plan,
         sound.tail,
         sound.events,
-        ap (λ (l : List Entry). length (events_in l)) cut.begins.1,
-        ap (λ (l : List Event). length l) (law.events cut.before cut.begins.0),
-        length-append (events_in cut.before) (events_in cut.begins.0),
       )
 
   all_made : (caller passed : ℕ) → caller < callers_of_plan plan → CameOf plan caller h passed

@@ -70,11 +70,9 @@ AreMade opening caller front (call ∷ calls) history passed =
     ⊎ ((before : List Entry) × (fewer : ℕ) × HasNoMore caller front before × WasPassedOver opening before call × (passed ≡ fewer + 1)
     × AreMade opening caller before calls history fewer)
 
--- the caller stopped where the book was full, after a beginning of the history, and before it had an entry for each command
+-- the caller stopped where the book was full, and before it had an entry for each command
 pub record IsCutShort (opening : Opening) (caller : ℕ) (commands : List Command) (history : List Entry) : Type 0 where
-  pub before : List Entry
-  pub begins : IsPrefix before history
-  pub full : min opening.limits.tail opening.limits.events ≤ length (events_in before)
+  pub full : min opening.limits.tail opening.limits.events ≤ length (events_in history)
   pub fewer : length (entries_of caller history) < length commands
 
 -- what came of a caller's calls in this history

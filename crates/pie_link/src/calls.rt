@@ -264,7 +264,7 @@ impl Link {
         ensures read { TriesToRead registers_after self.now caller.old result caller.new }
         ensures stays { StaysOne caller.old caller.new }
     {
-        replace_with(&mut caller.pass, self, turn::try_registers)
+        replace_with(&mut caller.pass, self, turn::try_read)
     }
 
     /// What the book holds. It waits while another caller has the book.
@@ -273,7 +273,7 @@ impl Link {
         ensures read { Reads registers_after self.now caller.old result caller.new }
         ensures stays { StaysOne caller.old caller.new }
     {
-        replace_with(&mut caller.pass, (self, rt), turn::wait_and_read_registers)
+        replace_with(&mut caller.pass, (self, rt), turn::wait_and_read)
     }
 
     /// The statistics of all events. It never blocks.
@@ -286,7 +286,7 @@ impl Link {
         ensures read { TriesToRead stats_after self.now caller.old result caller.new }
         ensures stays { StaysOne caller.old caller.new }
     {
-        replace_with(&mut caller.pass, self, turn::try_stats)
+        replace_with(&mut caller.pass, self, turn::try_read)
     }
 
     /// The statistics of all events. It waits while another caller has the book.
@@ -295,6 +295,6 @@ impl Link {
         ensures read { Reads stats_after self.now caller.old result caller.new }
         ensures stays { StaysOne caller.old caller.new }
     {
-        replace_with(&mut caller.pass, (self, rt), turn::wait_and_read_stats)
+        replace_with(&mut caller.pass, (self, rt), turn::wait_and_read)
     }
 }

@@ -10,7 +10,7 @@ use Rattle.pie_lock.specs.declared.view.Place.TheVariants.{Waits, Holds, Meets}
 use Rattle.pie_lock.specs.declared.lock.TheConstants.{WORD, SLOT, FREE, HELD}
 use Rattle.pie_lock.specs.declared.counter.CounterEntry.{CounterEntry}
 use Rattle.pie_lock.specs.Own.{own}
-use Rattle.pie_lock.specs.Rule.{IsNumberAt, EachPass, HasNoNumberTwice, Follows, Ruled}
+use Rattle.pie_lock.specs.Rule.{IsNumberAt, EachPass, Follows, Ruled}
 use Rattle.pie_lock.specs.Steps.{longer}
 use Rattle.pie_lock.specs.Tally.{Tally, Tells}
 
@@ -60,48 +60,27 @@ number e = e.caller
 abbrev Fits : Place CounterEntry (Unit {0}) → Type 0
 Fits view = EachPass (Follows number tt 3 history) view
 
-first_follows : Fits (Waits (pass 0 (entry 0 5 ∷ [])))
-first_follows = record { shown = (entry 1 7 ∷ [], refl); owned = refl; nonempty = omega arith; below = omega arith; of_all = refl; of_origin = refl }
-
-second_follows : Fits (Waits (pass 1 history))
-second_follows = record { shown = ([], refl); owned = refl; nonempty = omega arith; below = omega arith; of_all = refl; of_origin = refl }
-
-third_follows : Fits (Waits (pass 2 []))
-third_follows = record { shown = (history, refl); owned = refl; nonempty = omega arith; below = omega arith; of_all = refl; of_origin = refl }
+-- what holds of each of the three seats
+of_three : (P : ℕ → Place CounterEntry (Unit {0}) → Type 0) → P 0 (Waits (pass 0 (entry 0 5 ∷ []))) → P 1 (Waits (pass 1 history))
+    → P 2 (Waits (pass 2 [])) → (seat : ℕ) (view : Place CounterEntry (Unit {0})) → get_elem? views seat ≡ some view → P seat view
+of_three P a b c zero view e = subst (P 0) (some-injective (Waits (pass 0 (entry 0 5 ∷ []))) view e) a
+of_three P a b c (suc zero) view e = subst (P 1) (some-injective (Waits (pass 1 history)) view e) b
+of_three P a b c (suc (suc zero)) view e = subst (P 2) (some-injective (Waits (pass 2 [])) view e) c
+of_three P a b c (suc (suc (suc n))) view e = absurd (some-ne-none view (sym e))
 
 each : (seat : ℕ) (view : Place CounterEntry (Unit {0})) → get_elem? views seat ≡ some view → Fits view
-each zero view e = subst Fits (some-injective (Waits (pass 0 (entry 0 5 ∷ []))) view e) first_follows
-each (suc zero) view e = subst Fits (some-injective (Waits (pass 1 history)) view e) second_follows
-each (suc (suc zero)) view e = subst Fits (some-injective (Waits (pass 2 [])) view e) third_follows
-each (suc (suc (suc n))) view e = absurd (some-ne-none view (sym e))
+each = of_three (λ seat view. Fits view)
+    (record { shown = (entry 1 7 ∷ [], refl); owned = refl; nonempty = omega arith; below = omega arith; of_all = refl; of_origin = refl })
+    (record { shown = ([], refl); owned = refl; nonempty = omega arith; below = omega arith; of_all = refl; of_origin = refl })
+    (record { shown = (history, refl); owned = refl; nonempty = omega arith; below = omega arith; of_all = refl; of_origin = refl })
 
-number_of_seat : (seat : ℕ) (view : Place CounterEntry (Unit {0})) (n : ℕ) → get_elem? views seat ≡ some view → IsNumberAt view n → n ≡ seat
-number_of_seat zero view n e is = let h : IsNumberAt (Waits (pass 0 (entry 0 5 ∷ []))) n = subst (λ v. IsNumberAt v n)
-    (sym (some-injective (Waits (pass 0 (entry 0 5 ∷ []))) view e)) is in let a = h.0 in let b = h.1 in omega arith
-number_of_seat (suc zero) view n e is = let h : IsNumberAt (Waits (pass 1 history)) n = subst (λ v. IsNumberAt v n)
-    (sym (some-injective (Waits (pass 1 history)) view e)) is in let a = h.0 in let b = h.1 in omega arith
-number_of_seat (suc (suc zero)) view n e is = let h : IsNumberAt (Waits (pass 2 [])) n = subst (λ v. IsNumberAt v n)
-    (sym (some-injective (Waits (pass 2 [])) view e)) is in let a = h.0 in let b = h.1 in omega arith
-number_of_seat (suc (suc (suc m))) view n e is = absurd (some-ne-none view (sym e))
+-- the number of each seat is its own
+number_of_seat : (seat : ℕ) (view : Place CounterEntry (Unit {0})) → get_elem? views seat ≡ some view → (n : ℕ) → IsNumberAt view n → n ≡ seat
+number_of_seat = of_three (λ seat view. (n : ℕ) → IsNumberAt view n → n ≡ seat) (λ n is. omega (arith, is.0, is.1))
+    (λ n is. omega (arith, is.0, is.1)) (λ n is. omega (arith, is.0, is.1))
 
 nobody_holds : (seat : ℕ) (p : Shown CounterEntry (Unit {0})) → get_elem? views seat ≡ some (Holds p) → ⊥
-nobody_holds zero p e = let h = some-injective (Waits (pass 0 (entry 0 5 ∷ []))) (Holds p) e in cc
-nobody_holds (suc zero) p e = let h = some-injective (Waits (pass 1 history)) (Holds p) e in cc
-nobody_holds (suc (suc zero)) p e = let h = some-injective (Waits (pass 2 [])) (Holds p) e in cc
-nobody_holds (suc (suc (suc n))) p e = some-ne-none (Holds p) (sym e)
-
-one_pass_each : (seat : ℕ) (view : Place CounterEntry (Unit {0})) → get_elem? views seat ≡ some view → HasNoNumberTwice view
-one_pass_each zero view e = subst HasNoNumberTwice (some-injective (Waits (pass 0 (entry 0 5 ∷ []))) view e) tt
-one_pass_each (suc zero) view e = subst HasNoNumberTwice (some-injective (Waits (pass 1 history)) view e) tt
-one_pass_each (suc (suc zero)) view e = subst HasNoNumberTwice (some-injective (Waits (pass 2 [])) view e) tt
-one_pass_each (suc (suc (suc n))) view e = absurd (some-ne-none view (sym e))
-
--- a seat that joins may have the passes 0..1 and 1..2, and not the pass 1..2 twice
-two_passes : HasNoNumberTwice (Meets (pass 0 []) (pass 1 history))
-two_passes n one other = let a = one.1 in let b = other.0 in omega arith
-
-one_pass_twice : HasNoNumberTwice (Meets (pass 1 []) (pass 1 history)) → ⊥
-one_pass_twice apart = apart 1 (omega arith, omega arith) (omega arith, omega arith)
+nobody_holds seat p e = of_three (λ seat view. view ≡ Holds p → ⊥) (λ h. cc h) (λ h. cc h) (λ h. cc h) seat (Holds p) e refl
 
 -- the free lock meets the rule
 free_is_ruled : Ruled number (λ (t : Tally). tt) Tells tt 3 free
@@ -111,8 +90,8 @@ free_is_ruled = (
     history,
     record {
       each_follows = each;
-      apart = λ seat other view w n ne at at' is is'. ne (sym (number_of_seat seat view n at is) ∙ number_of_seat other w n at' is');
-      apart_within = one_pass_each;
+      owner = λ n. n;
+      owned = λ seat view n at is. number_of_seat seat view at n is;
       entries_below = All-cons (λ e. number e < 3) (entry 0 5) (entry 1 7 ∷ []) (omega arith)
           (All-cons (λ e. number e < 3) (entry 1 7) [] (omega arith) (All-nil (λ e. number e < 3)));
     },

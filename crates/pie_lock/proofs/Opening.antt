@@ -6,7 +6,7 @@ use lib.ListN.{get_elem?}
 use Rattle.atomic_table.specs.Table.{opening}
 use Rattle.pie_lock.specs.declared.view.Place.{Place}
 use Rattle.pie_lock.specs.declared.view.Place.TheVariants.{Holds}
-use Rattle.pie_lock.specs.Rule.{EachPass, HasNoNumberTwice, Follows, Ruled, opened}
+use Rattle.pie_lock.specs.Rule.{EachPass, Follows, Ruled, opened}
 use Rattle.pie_lock.proofs.Prefixes.{prefix_self}
 
 alone : {A : Type 0} (v w : A) (seat : ℕ) → get_elem? (v ∷ []) seat ≡ some w → (seat ≡ 0) × (v ≡ w)
@@ -34,8 +34,8 @@ module _ {S E O : Type 0} (number : E → ℕ) (origin_of : S → O) (tells : S 
           [],
           record {
             each_follows = λ seat w e. subst (EachPass (Follows number origin numbers [])) (alone v w seat e).1 follows;
-            apart = λ i j u x n ne ei ej nu nx. ne ((alone v u i ei).0 ∙ sym (alone v x j ej).0);
-            apart_within = λ seat w e. subst HasNoNumberTwice (alone v w seat e).1 tt;
+            owner = λ n. 0;
+            owned = λ seat w n e nw. sym (alone v w seat e).0;
             entries_below = All-nil (λ e. number e < numbers);
           },
           inl (

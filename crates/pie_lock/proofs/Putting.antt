@@ -4,15 +4,16 @@ use Rattle.std.proofs.Common.{get_or-set_same}
 use Rattle.std.specs.List.{All}
 use mathlib.Core.Option.{none, some, some-injective}
 use lib.ListN.{get_elem?}
-use Rattle.atomic_table.specs.Table.{State, gives, step, Allows}
+use Rattle.atomic_table.specs.Table.{Me, State, gives, step, Allows}
 use Rattle.atomic_table.proofs.Lists.{at_set}
 use Rattle.pie_lock.specs.declared.view.Shown.{Shown}
 use Rattle.pie_lock.specs.declared.view.Place.{Place}
 use Rattle.pie_lock.specs.declared.view.Place.TheVariants.{Waits, Holds}
 use Rattle.pie_lock.specs.Rule.{EachPass, Follows, WhileHeld, Ruled}
+use Rattle.pie_lock.specs.Seating.{IsLeaving}
 use Rattle.pie_lock.specs.Steps.{with_front, pass_at, freed}
 use Rattle.pie_lock.proofs.Following.{follows_whole, each_longer, below_longer}
-use Rattle.pie_lock.proofs.Seats.{set_at, agreed_set, apart_as_before}
+use Rattle.pie_lock.proofs.Seats.{set_at, agreed_set}
 
 module _ {S E O : Type 0} (number : E → ℕ) (origin_of : S → O) (tells : S → List E → Type 0) (origin : O) (numbers : ℕ) where
   abbrev Rule : State (Option S) (Place E O) → Type 0
@@ -26,10 +27,13 @@ module _ {S E O : Type 0} (number : E → ℕ) (origin_of : S → O) (tells : S 
       let e : Holds p ≡ Holds held.1.1 = some-injective (Holds p) (Holds held.1.1) (sym at ∙ (ap (get_elem? s.views) same ∙ held.1.2)) in
       ap (λ v. (pass_at v).front) e ∙ held.1.3
 
-  pub frees_keep : (slots id : ℕ) (p : Shown E O) (stored : S) (added : List E) → p.origin ≡ Some (origin_of stored)
-      → tells stored (p.front ++ added) → All (λ e. number e ≡ p.first) added
-      → Allows Rule slots id (Holds p, (0, Some stored) ∷ []) 0 (λ _. 0) (λ _. freed added (step slots 0 0 0 none) (Holds p, (0, Some stored) ∷ []) 0)
-  frees_keep slots id p stored added from told mine s rule sized at wide =
+  -- what the seat stores, where it has this pass and this state
+  abbrev pub Frees : ℕ → ℕ → List E → Me (Option S) (Place E O) → Type 0
+  Frees slots id added me = Allows Rule slots id me 0 (λ _. 0) (λ _. freed added (step slots 0 0 0 none) me 0)
+
+  frees : (slots id : ℕ) (p : Shown E O) (stored : S) (added : List E) → p.origin ≡ Some (origin_of stored)
+      → tells stored (p.front ++ added) → All (λ e. number e ≡ p.first) added → Frees slots id added (Holds p, (0, Some stored) ∷ [])
+  frees slots id p stored added from told mine s rule sized at wide =
       let history : List E = rule.1.0 in
       let agreed = rule.1.1 in
       let held : WhileHeld number origin_of tells origin numbers history s = ⊎_elim (λ free. absurd (free.1 id p at)) (λ h. h) rule.1.2 in
@@ -47,11 +51,11 @@ module _ {S E O : Type 0} (number : E → ℕ) (origin_of : S → O) (tells : S 
           length-set s.words 0 0 ∙ rule.0,
           (
             next,
-            agreed_set number origin numbers history next s.views id w agreed (follows_whole number origin numbers history p f next) tt
-                (apart_as_before number origin numbers history s.views id (Holds p) w agreed at (λ n h. h))
+            agreed_set number origin numbers history next s.views id (Holds p) w agreed at (λ n h. h)
+                (follows_whole number origin numbers history p f next)
                 (λ j u ne e. subst (λ l. EachPass (Follows number origin numbers l) u) next_is
                 (each_longer number origin numbers history p.first u added mine (agreed.each_follows j u e)
-                (λ h. agreed.apart j id u (Holds p) p.first ne e at h (omega arith, omega arith))))
+                (λ h. ne (sym (agreed.owned j u p.first e h) ∙ agreed.owned id (Holds p) p.first at (omega arith, omega arith)))))
                 (subst (All (λ e. number e < numbers)) next_is (below_longer number origin numbers history p.first added mine
                 (omega arith) agreed.entries_below)),
             inl (
@@ -63,3 +67,9 @@ module _ {S E O : Type 0} (number : E → ℕ) (origin_of : S → O) (tells : S 
         ),
         refl,
       )
+
+  pub frees_keep : (slots id : ℕ) (me : Me (Option S) (Place E O)) (stored : S) (named added : List E) → named ≡ added
+      → IsLeaving number origin_of tells added stored me → Frees slots id named me
+  frees_keep slots id me stored named added same leaving =
+      subst (λ (l : List E). Frees slots id l me) (sym same) (subst (Frees slots id added) (sym leaving.holds)
+      (frees slots id (pass_at me.0) stored added leaving.origin leaving.told leaving.own))

@@ -1,5 +1,5 @@
 -- The views of the seats against one history, as one of them changes or a new one comes.
-use Rattle.std.proofs.Common.{◌≡◌, ◌≢◌, ℕ, zero, suc, ◌<◌, ◌⊎◌, List, [], ◌∷◌, ◌++◌, length, set, refl, ap, sym, ◌∙◌, subst, inl, inr, ⊎_elim}
+use Rattle.std.proofs.Common.{◌≡◌, ◌≢◌, ℕ, zero, suc, ◌<◌, ◌⊎◌, ◌↔◌, List, [], ◌∷◌, ◌++◌, length, set, refl, ap, sym, ◌∙◌, subst, inl, inr, ⊎_elim}
 use Rattle.std.specs.List.{All}
 use mathlib.Core.Option.{some, some-injective, some-ne-none}
 use lib.ListN.{get_elem?}
@@ -7,7 +7,7 @@ use Rattle.atomic_table.proofs.Lists.{at_set, at_longer, set_else}
 use Rattle.pie_lock.specs.declared.view.Shown.{Shown}
 use Rattle.pie_lock.specs.declared.view.Place.{Place}
 use Rattle.pie_lock.specs.declared.view.Place.TheVariants.{Holds}
-use Rattle.pie_lock.specs.Rule.{IsNumberAt, EachPass, HasNoNumberTwice, Follows, Agreed, NoneHolds, OneHolds}
+use Rattle.pie_lock.specs.Rule.{IsNumberAt, EachPass, Follows, Agreed}
 
 module _ {A : Type 0} where
   -- a place that has an element has the new one once it is set
@@ -28,87 +28,61 @@ module _ {E O : Type 0} where
   abbrev pub IsNoHolder : Place E O → Type 0
   IsNoHolder v = (q : Shown E O) → v ≡ Holds q → ⊥
 
-  pub none_set : (views : List (Place E O)) (id : ℕ) (w : Place E O) → NoneHolds views → IsNoHolder w → NoneHolds (set views id w)
-  none_set views id w nobody not j q e = ⊎_elim (λ t. not q t.1) (λ t. nobody j q t.1) (at_set views id j w (Holds q) e)
+  -- the same seats have the state
+  abbrev pub HoldAlike : List (Place E O) → List (Place E O) → Type 0
+  HoldAlike views next = (seat : ℕ) (q : Shown E O) → (get_elem? next seat ≡ some (Holds q)) ↔ (get_elem? views seat ≡ some (Holds q))
 
-  pub none_longer : (views : List (Place E O)) (w : Place E O) → NoneHolds views → IsNoHolder w → NoneHolds (views ++ w ∷ [])
-  none_longer views w nobody not j q e = ⊎_elim (λ t. nobody j q t) (λ t. not q t.1) (at_end views w (Holds q) j e)
+  pub alike_both : (views some_more all : List (Place E O)) → HoldAlike views some_more → HoldAlike some_more all → HoldAlike views all
+  alike_both views some_more all a b = λ seat q. ((λ e. (a seat q).0 ((b seat q).0 e)), (λ e. (b seat q).1 ((a seat q).1 e)))
 
-  pub one_set : (history : List E) (views : List (Place E O)) (id : ℕ) (v w : Place E O) → OneHolds history views → get_elem? views id ≡ some v
-      → IsNoHolder v → IsNoHolder w
-      → OneHolds history (set views id w)
-  one_set history views id v w one at old new =
-      let ne : one.0 ≢ id = λ h. old one.1 (some-injective v (Holds one.1) (sym at ∙ (ap (get_elem? views) (sym h) ∙ one.2))) in (
-        one.0,
-        one.1,
-        set_else views id one.0 w ne ∙ one.2,
-        one.3,
-        λ j q e. ⊎_elim (λ t. absurd (new q t.1)) (λ t. one.4 j q t.1) (at_set views id j w (Holds q) e),
-      )
+  pub alike_set : (views : List (Place E O)) (id : ℕ) (v w : Place E O) → get_elem? views id ≡ some v → IsNoHolder v → IsNoHolder w
+      → HoldAlike views (set views id w)
+  alike_set views id v w at old new = λ seat q. (
+    (λ e. ⊎_elim (λ t. absurd (new q t.1)) (λ t. t.1) (at_set views id seat w (Holds q) e)),
+    (λ e. set_else views id seat w (λ h. old q (some-injective v (Holds q) (sym at ∙ (ap (get_elem? views) (sym h) ∙ e)))) ∙ e),
+  )
 
-  pub one_longer : (history : List E) (views : List (Place E O)) (w : Place E O) → OneHolds history views → IsNoHolder w
-      → OneHolds history (views ++ w ∷ [])
-  one_longer history views w one new = (
-    one.0,
-    one.1,
-    at_longer views (w ∷ []) one.0 (Holds one.1) one.2,
-    one.3,
-    λ j q e. ⊎_elim (λ t. one.4 j q t) (λ t. absurd (new q t.1)) (at_end views w (Holds q) j e),
+  pub alike_longer : (views : List (Place E O)) (w : Place E O) → IsNoHolder w → HoldAlike views (views ++ w ∷ [])
+  alike_longer views w new = λ seat q. (
+    (λ e. ⊎_elim (λ t. t) (λ t. absurd (new q t.1)) (at_end views w (Holds q) seat e)),
+    at_longer views (w ∷ []) seat (Holds q),
   )
 
 module _ {E O : Type 0} (number : E → ℕ) (origin : O) (numbers : ℕ) where
-  -- no seat but this one has a number of w
-  abbrev pub IsApart : List (Place E O) → ℕ → Place E O → Type 0
-  IsApart views id w = (j : ℕ) (u : Place E O) (n : ℕ) → j ≢ id → get_elem? views j ≡ some u → IsNumberAt w n → IsNumberAt u n → ⊥
-
-  -- a seat's view changes, and perhaps the history, so that each pass still follows it
-  pub agreed_set : (history next : List E) (views : List (Place E O)) (id : ℕ) (w : Place E O) → Agreed number origin numbers history views
-      → EachPass (Follows number origin numbers next) w → HasNoNumberTwice w → IsApart views id w
-      → ((j : ℕ) (u : Place E O) → j ≢ id → get_elem? views j ≡ some u → EachPass (Follows number origin numbers next) u)
+  -- a seat's view changes, and perhaps the history and whose the numbers are, so that each pass still follows it
+  pub agreed_by : (owner : ℕ → ℕ) (next : List E) (views : List (Place E O)) (id : ℕ) (w : Place E O)
+      → EachPass (Follows number origin numbers next) w → ((n : ℕ) → IsNumberAt w n → owner n ≡ id)
+      → ((j : ℕ) (u : Place E O) → j ≢ id → get_elem? views j ≡ some u
+      → EachPass (Follows number origin numbers next) u × ((n : ℕ) → IsNumberAt u n → owner n ≡ j))
       → All (λ e. number e < numbers) next → Agreed number origin numbers next (set views id w)
-  agreed_set history next views id w agreed mine within apart others below = record {
-    each_follows = λ j u e. ⊎_elim (λ t. subst (EachPass (Follows number origin numbers next)) t.1 mine) (λ t. others j u t.0 t.1)
+  agreed_by owner next views id w mine own others below = record {
+    each_follows = λ j u e. ⊎_elim (λ t. subst (EachPass (Follows number origin numbers next)) t.1 mine) (λ t. (others j u t.0 t.1).0)
         (at_set views id j w u e);
-    apart = λ i j u x n ne ei ej nu nx.
-        ⊎_elim
-        (λ t. ⊎_elim
-        (λ t'. ne (t.0 ∙ sym t'.0))
-        (λ t'. apart j x n t'.0 t'.1 (subst (λ y. IsNumberAt y n) (sym t.1) nu) nx)
-        (at_set views id j w x ej))
-        (λ t. ⊎_elim
-        (λ t'. apart i u n t.0 t.1 (subst (λ y. IsNumberAt y n) (sym t'.1) nx) nu)
-        (λ t'. agreed.apart i j u x n ne t.1 t'.1 nu nx)
-        (at_set views id j w x ej))
-        (at_set views id i w u ei);
-    apart_within = λ j u e. ⊎_elim (λ t. subst HasNoNumberTwice t.1 within) (λ t. agreed.apart_within j u t.1) (at_set views id j w u e);
+    owner = owner;
+    owned = λ j u n e nu. ⊎_elim (λ t. own n (subst (λ y. IsNumberAt y n) (sym t.1) nu) ∙ sym t.0) (λ t. (others j u t.0 t.1).1 n nu)
+        (at_set views id j w u e);
     entries_below = below;
   }
 
-  -- a seat's view has only numbers that it had, so it is apart from the others as before
-  pub apart_as_before : (history : List E) (views : List (Place E O)) (id : ℕ) (v w : Place E O) → Agreed number origin numbers history views
-      → get_elem? views id ≡ some v
-      → ((n : ℕ) → IsNumberAt w n → IsNumberAt v n) → IsApart views id w
-  apart_as_before history views id v w agreed at sub j u n ne ej nw nu = agreed.apart id j v u n (λ h. ne (sym h)) at ej (sub n nw) nu
+  -- .. where it has only numbers that it had
+  pub agreed_set : (history next : List E) (views : List (Place E O)) (id : ℕ) (v w : Place E O) → Agreed number origin numbers history views
+      → get_elem? views id ≡ some v → ((n : ℕ) → IsNumberAt w n → IsNumberAt v n) → EachPass (Follows number origin numbers next) w
+      → ((j : ℕ) (u : Place E O) → j ≢ id → get_elem? views j ≡ some u → EachPass (Follows number origin numbers next) u)
+      → All (λ e. number e < numbers) next → Agreed number origin numbers next (set views id w)
+  agreed_set history next views id v w agreed at fewer mine others below =
+      agreed_by agreed.owner next views id w mine (λ n nw. agreed.owned id v n at (fewer n nw))
+      (λ j u ne e. (others j u ne e, λ n nu. agreed.owned j u n e nu)) below
 
   -- a new seat comes
-  pub agreed_longer : (history : List E) (views : List (Place E O)) (w : Place E O) → Agreed number origin numbers history views
-      → EachPass (Follows number origin numbers history) w → HasNoNumberTwice w
-      → ((j : ℕ) (u : Place E O) (n : ℕ) → get_elem? views j ≡ some u → IsNumberAt w n → IsNumberAt u n → ⊥)
+  pub agreed_longer : (owner : ℕ → ℕ) (history : List E) (views : List (Place E O)) (w : Place E O) → Agreed number origin numbers history views
+      → EachPass (Follows number origin numbers history) w → ((n : ℕ) → IsNumberAt w n → owner n ≡ length views)
+      → ((j : ℕ) (u : Place E O) (n : ℕ) → get_elem? views j ≡ some u → IsNumberAt u n → owner n ≡ j)
       → Agreed number origin numbers history (views ++ w ∷ [])
-  agreed_longer history views w agreed mine within apart = record {
+  agreed_longer owner history views w agreed mine own others = record {
     each_follows = λ j u e. ⊎_elim (λ t. agreed.each_follows j u t) (λ t. subst (EachPass (Follows number origin numbers history)) t.1 mine)
         (at_end views w u j e);
-    apart = λ i j u x n ne ei ej nu nx.
-        ⊎_elim
-        (λ t. ⊎_elim
-        (λ t'. agreed.apart i j u x n ne t t' nu nx)
-        (λ t'. apart i u n t (subst (λ y. IsNumberAt y n) (sym t'.1) nx) nu)
-        (at_end views w x j ej))
-        (λ t. ⊎_elim
-        (λ t'. apart j x n t' (subst (λ y. IsNumberAt y n) (sym t.1) nu) nx)
-        (λ t'. ne (t.0 ∙ sym t'.0))
-        (at_end views w x j ej))
-        (at_end views w u i ei);
-    apart_within = λ j u e. ⊎_elim (λ t. agreed.apart_within j u t) (λ t. subst HasNoNumberTwice t.1 within) (at_end views w u j e);
+    owner = owner;
+    owned = λ j u n e nu. ⊎_elim (λ t. others j u n t nu) (λ t. own n (subst (λ y. IsNumberAt y n) (sym t.1) nu) ∙ sym t.0)
+        (at_end views w u j e);
     entries_below = agreed.entries_below;
   }

@@ -1,18 +1,19 @@
 -- A seat that is split, or takes in another, keeps the rule.
 use Rattle.std.proofs.Common.{◌≡◌, ◌≢◌, ℕ, zero, suc, ◌+◌, ◌-◌, ◌<◌, ◌⊎◌, List, [], ◌∷◌, ◌++◌, Option, get_or, set, refl, ap, sym, ◌∙◌, subst, inl}
-use Rattle.std.proofs.Common.{inr, ⊎_elim, arith}
+use Rattle.std.proofs.Common.{inr, ⊎_elim, arith, ◌==◌, true, false, cond, length}
+use Rattle.std.proofs.lemmas.Bool.Decides.{nat_tests}
 use mathlib.Core.Option.{none, some}
 use lib.ListN.{get_elem?}
-use Rattle.atomic_table.specs.Table.{State, keeps, step, stepped, Splits, Joins, Allows}
+use Rattle.atomic_table.specs.Table.{Me, State, keeps, step, stepped, Splits, Joins, Allows}
 use Rattle.atomic_table.proofs.Lists.{at_set, set_else}
 use Rattle.pie_lock.specs.declared.view.Shown.{Shown}
 use Rattle.pie_lock.specs.declared.view.Place.{Place}
 use Rattle.pie_lock.specs.declared.view.Place.TheVariants.{Spent, Waits, Meets}
-use Rattle.pie_lock.specs.Rule.{IsNumberAt, EachPass, Follows, Agreed, NoneHolds, OneHolds, WhileFree, WhileHeld, Ruled}
-use Rattle.pie_lock.specs.Steps.{with_numbers, all_but_highest, highest, meeting, made_one, AreAdjacent, merged}
+use Rattle.pie_lock.specs.Rule.{IsNumberAt, EachPass, Follows, Agreed, WhileFree, WhileHeld, Ruled}
+use Rattle.pie_lock.specs.Steps.{pass_at, with_numbers, all_but_highest, highest, meeting, made_one, AreAdjacent, merged}
 use Rattle.pie_lock.proofs.Following.{follows_fewer, follows_both, in_either}
 use Rattle.pie_lock.proofs.Taking.{word_again}
-use Rattle.pie_lock.proofs.Seats.{IsNoHolder, none_set, none_longer, one_set, one_longer, agreed_set, agreed_longer, apart_as_before}
+use Rattle.pie_lock.proofs.Seats.{HoldAlike, IsNoHolder, agreed_by, agreed_longer, agreed_set, alike_both, alike_longer, alike_set}
 
 -- two places are set in either order
 set_swap : {A : Type 0} (l : List A) (i j : ℕ) (a b : A) → i ≢ j → set (set l i a) j b ≡ set (set l j b) i a
@@ -21,6 +22,18 @@ set_swap (x ∷ xs) zero zero a b ne = absurd (ne refl)
 set_swap (x ∷ xs) zero (suc j) a b ne = refl
 set_swap (x ∷ xs) (suc i) zero a b ne = refl
 set_swap (x ∷ xs) (suc i) (suc j) a b ne = ap (λ l. x ∷ l) (set_swap xs i j a b (λ e. ne (ap suc e)))
+
+-- the numbers where this is so much are given to a new owner, and the others stay as they are
+unfoldable given : (ℕ → ℕ) → (ℕ → ℕ) → ℕ → ℕ → ℕ → ℕ
+given owner test value new n = cond (test n == value) new (owner n)
+
+given_new : (owner test : ℕ → ℕ) (value new n : ℕ) → test n ≡ value → given owner test value new n ≡ new
+unfolding given
+given_new owner test value new n is = let yes : (test n == value) ≡ true = grind (arith, nat_tests, is) in rw yes refl
+
+given_else : (owner test : ℕ → ℕ) (value new n : ℕ) → (test n ≡ value → ⊥) → given owner test value new n ≡ owner n
+unfolding given
+given_else owner test value new n other = let no : (test n == value) ≡ false = grind (arith, nat_tests, other) in rw no refl
 
 module _ {E O : Type 0} where
   pub waits_not : (p : Shown E O) → IsNoHolder (Waits p)
@@ -42,13 +55,16 @@ module _ {S E O : Type 0} (number : E → ℕ) (origin_of : S → O) (tells : S 
   -- the word and the slot stay, and of the views none that has the state comes or goes
   same_word : (s : Table) (views : List (Place E O)) (history : List E)
       → WhileFree number origin_of tells origin numbers history s ⊎ WhileHeld number origin_of tells origin numbers history s
-      → (NoneHolds s.views → NoneHolds views) → (OneHolds history s.views → OneHolds history views)
+      → HoldAlike s.views views
       → WhileFree number origin_of tells origin numbers history (record { words = s.words; homes = s.homes; views = views })
       ⊎ WhileHeld number origin_of tells origin numbers history (record { words = s.words; homes = s.homes; views = views })
-  same_word s views history now free held = ⊎_elim (λ t. inl (t.0, free t.1, t.2)) (λ t. inr (t.0, held t.1, t.2)) now
+  same_word s views history now alike = ⊎_elim
+      (λ t. inl (t.0, (λ seat q e. t.1 seat q ((alike seat q).0 e)), t.2))
+      (λ t. let one = t.1 in
+      inr (t.0, (one.0, one.1, (alike one.0 one.1).1 one.2, one.3, λ seat q e. one.4 seat q ((alike seat q).0 e)), t.2)) now
 
-  pub splits_keep : (id : ℕ) (p : Shown E O) → p.first + 1 < p.limit → Splits Rule id (Waits p) (all_but_highest (Waits p)) (highest (Waits p))
-  splits_keep id p two s rule at =
+  splits : (id : ℕ) (p : Shown E O) → p.first + 1 < p.limit → Splits Rule id (Waits p) (all_but_highest (Waits p)) (highest (Waits p))
+  splits id p two s rule at =
       let history : List E = rule.1.0 in
       let agreed = rule.1.1 in
       let f : Follows number origin numbers history p = agreed.each_follows id (Waits p) at in
@@ -57,33 +73,41 @@ module _ {S E O : Type 0} (number : E → ℕ) (origin_of : S → O) (tells : S 
       let some_left = f.nonempty in
       let views : List (Place E O) = set s.views id left in
       let cut : Agreed number origin numbers history views =
-      agreed_set number origin numbers history history s.views id left agreed
-      (follows_fewer number origin numbers history p p.first (p.limit - 1) f (omega arith) (omega arith) (omega arith)) tt
-      (apart_as_before number origin numbers history s.views id (Waits p) left agreed at
-      (λ n h. let a = h.0 in let b = h.1 in (omega arith, omega arith)))
+      agreed_set number origin numbers history history s.views id (Waits p) left agreed at
+      (λ n h. let a = h.0 in let b = h.1 in (omega arith, omega arith))
+      (follows_fewer number origin numbers history p p.first (p.limit - 1) f (omega arith) (omega arith) (omega arith))
       (λ j u ne e. agreed.each_follows j u e) agreed.entries_below in (
         rule.0,
         (
           history,
-          agreed_longer number origin numbers history views right cut
-              (follows_fewer number origin numbers history p (p.limit - 1) p.limit f (omega arith) (omega arith) (omega arith)) tt
-              (λ j u n e nr nu.
-              ⊎_elim
-              (λ t. let nl : IsNumberAt left n = subst (λ y. IsNumberAt y n) (sym t.1) nu in let a = nl.1 in let b = nr.0 in absurd (omega arith))
-              (λ t. let a = nr.0 in let b = nr.1 in agreed.apart j id u (Waits p) n t.0 t.1 at nu (omega arith, omega arith))
-              (at_set s.views id j left u e)),
+          agreed_longer number origin numbers (given cut.owner (λ n. n) (p.limit - 1) (length views)) history views right cut
+              (follows_fewer number origin numbers history p (p.limit - 1) p.limit f (omega arith) (omega arith) (omega arith))
+              (λ n nr. let a = nr.0 in let b = nr.1 in given_new cut.owner (λ n. n) (p.limit - 1) (length views) n (omega arith))
+              (λ j u n e nu.
+              given_else cut.owner (λ n. n) (p.limit - 1) (length views) n
+              (λ is. ⊎_elim
+              (λ t. let nl : IsNumberAt left n = subst (λ y. IsNumberAt y n) (sym t.1) nu in let b = nl.1 in omega arith)
+              (λ t. t.0 (sym (agreed.owned j u n t.1 nu) ∙ agreed.owned id (Waits p) n at (omega arith, omega arith)))
+              (at_set s.views id j left u e))
+              ∙ cut.owned j u n e nu),
           same_word s (views ++ right ∷ []) history rule.1.2
-              (λ nobody. none_longer views right (none_set s.views id left nobody (waits_not (with_numbers p p.first (p.limit - 1))))
-              (waits_not (with_numbers p (p.limit - 1) p.limit)))
-              (λ one. one_longer history views right
-              (one_set history s.views id (Waits p) left one at (waits_not p) (waits_not (with_numbers p p.first (p.limit - 1))))
-              (waits_not (with_numbers p (p.limit - 1) p.limit))),
+              (alike_both s.views views (views ++ right ∷ [])
+              (alike_set s.views id (Waits p) left at (waits_not p) (waits_not (with_numbers p p.first (p.limit - 1))))
+              (alike_longer views right (waits_not (with_numbers p (p.limit - 1) p.limit)))),
         ),
       )
 
-  pub merges_keep : (slots id : ℕ) (p q : Shown E O) → AreAdjacent p q
-      → Allows Rule slots id (Meets p q, []) 0 (λ n. n) (merged number (step slots 0 0 0 none) (Meets p q, []))
-  merges_keep slots id p q adjacent s rule sized at wide =
+  pub splits_keep : (id : ℕ) (v : Place E O) → v ≡ Waits (pass_at v) → (pass_at v).first + 1 < (pass_at v).limit
+      → Splits Rule id v (all_but_highest v) (highest v)
+  splits_keep id v is two =
+      subst (λ (v : Place E O). Splits Rule id v (all_but_highest v) (highest v)) (sym is) (splits id (pass_at v) two)
+
+  -- what a seat with two passes stores: the word again
+  abbrev pub Merges : ℕ → ℕ → Me (Option S) (Place E O) → Type 0
+  Merges slots id me = Allows Rule slots id me 0 (λ n. n) (merged number (step slots 0 0 0 none) me)
+
+  merges : (slots id : ℕ) (p q : Shown E O) → AreAdjacent p q → Merges slots id (Meets p q, [])
+  merges slots id p q adjacent s rule sized at wide =
       let history : List E = rule.1.0 in
       let agreed = rule.1.1 in
       let both : EachPass (Follows number origin numbers history) (Meets p q) = agreed.each_follows id (Meets p q) at in
@@ -100,20 +124,21 @@ module _ {S E O : Type 0} (number : E → ℕ) (origin_of : S → O) (tells : S 
           rule.0,
           (
             history,
-            agreed_set number origin numbers history history s.views id w agreed facts.0 tt
-                (apart_as_before number origin numbers history s.views id (Meets p q) w agreed at
-                (λ n h. in_either p.first p.limit q.first q.limit n adjacent both.0.nonempty both.1.nonempty h.0 h.1))
-                (λ j u ne e. agreed.each_follows j u e) agreed.entries_below,
-            same_word s views history rule.1.2
-                (λ nobody. none_set s.views id w nobody (waits_not (made_one p q)))
-                (λ one. one_set history s.views id (Meets p q) w one at (meets_not p q) (waits_not (made_one p q))),
+            agreed_set number origin numbers history history s.views id (Meets p q) w agreed at
+                (λ n h. in_either p.first p.limit q.first q.limit n adjacent both.0.nonempty both.1.nonempty h.0 h.1)
+                facts.0 (λ j u ne e. agreed.each_follows j u e) agreed.entries_below,
+            same_word s views history rule.1.2 (alike_set s.views id (Meets p q) w at (meets_not p q) (waits_not (made_one p q))),
           ),
         ),
         (refl, facts.1, facts.2),
       )
 
-  pub joins_keep : (id other : ℕ) (p q : Shown E O) → Joins Rule id (Waits p) other (Waits q) (meeting (Waits p) (Waits q)) Spent
-  joins_keep id other p q s rule at ne there =
+  pub merges_keep : (slots id : ℕ) (me : Me (Option S) (Place E O)) (p q : Shown E O) → AreAdjacent p q
+      → ◌≡◌ {A = Me (Option S) (Place E O)} me (Meets p q, []) → Merges slots id me
+  merges_keep slots id me p q adjacent is = subst (Merges slots id) (sym is) (merges slots id p q adjacent)
+
+  joins : (id other : ℕ) (p q : Shown E O) → Joins Rule id (Waits p) other (Waits q) (meeting (Waits p) (Waits q)) Spent
+  joins id other p q s rule at ne there =
       let history : List E = rule.1.0 in
       let agreed = rule.1.1 in
       let both : Place E O = Meets p q in
@@ -122,28 +147,36 @@ module _ {S E O : Type 0} (number : E → ℕ) (origin_of : S → O) (tells : S 
       let views : List (Place E O) = set s.views other spent in
       let swap : set views id both ≡ set (set s.views id both) other spent = set_swap s.views other id spent both ne in
       let left : Agreed number origin numbers history views =
-      agreed_set number origin numbers history history s.views other spent agreed tt tt (λ j u n ne' e h nu. h)
+      agreed_set number origin numbers history history s.views other (Waits q) spent agreed its (λ n h. absurd h) tt
       (λ j u ne' e. agreed.each_follows j u e) agreed.entries_below in
       let at' : get_elem? views id ≡ some (Waits p) = set_else s.views other id spent (λ h. ne (sym h)) ∙ at in
       subst (λ l. Rule (record { words = s.words; homes = s.homes; views = l })) swap (
         rule.0,
         (
           history,
-          agreed_set number origin numbers history history views id both left
+          agreed_by number origin numbers (given agreed.owner agreed.owner other id) history views id both
               (agreed.each_follows id (Waits p) at, agreed.each_follows other (Waits q) its)
-              (λ n mine theirs. agreed.apart id other (Waits p) (Waits q) n (λ h. ne (sym h)) at its mine theirs)
-              (λ j u n ne' e h nu.
-              ⊎_elim
-              (λ t. let none_left : IsNumberAt spent n = subst (λ y. IsNumberAt y n) (sym t.1) nu in none_left)
-              (λ t. ⊎_elim
-              (λ mine. agreed.apart j id u (Waits p) n ne' t.1 at nu mine)
-              (λ other's. agreed.apart j other u (Waits q) n t.0 t.1 its nu other's)
-              h)
-              (at_set s.views other j spent u e))
-              (λ j u ne' e. left.each_follows j u e) agreed.entries_below,
+              (λ n. ⊎_elim
+              (λ mine. let is = agreed.owned id (Waits p) n at mine in
+              given_else agreed.owner agreed.owner other id n (λ h. ne (sym h ∙ is)) ∙ is)
+              (λ theirs. given_new agreed.owner agreed.owner other id n (agreed.owned other (Waits q) n its theirs)))
+              (λ j u ne' e. (
+                left.each_follows j u e,
+                λ n nu. ⊎_elim
+                    (λ t. let none_left : IsNumberAt spent n = subst (λ y. IsNumberAt y n) (sym t.1) nu in absurd none_left)
+                    (λ t. let is = agreed.owned j u n t.1 nu in
+                    given_else agreed.owner agreed.owner other id n (λ h. t.0 (sym is ∙ h)) ∙ is)
+                    (at_set s.views other j spent u e),
+              ))
+              agreed.entries_below,
           same_word s (set views id both) history rule.1.2
-              (λ nobody. none_set views id both (none_set s.views other spent nobody spent_not) (meets_not p q))
-              (λ one. one_set history views id (Waits p) both (one_set history s.views other (Waits q) spent one its (waits_not q) spent_not) at'
-              (waits_not p) (meets_not p q)),
+              (alike_both s.views views (set views id both) (alike_set s.views other (Waits q) spent its (waits_not q) spent_not)
+              (alike_set views id (Waits p) both at' (waits_not p) (meets_not p q))),
         ),
       )
+
+  pub joins_keep : (id other : ℕ) (v w : Place E O) → v ≡ Waits (pass_at v) → w ≡ Waits (pass_at w) → Joins Rule id v other w (meeting v w) Spent
+  joins_keep id other v w is its =
+      subst (λ (x : Place E O). Joins Rule id x other w (meeting x w) Spent) (sym is)
+      (subst (λ (x : Place E O). Joins Rule id (Waits (pass_at v)) other x (meeting (Waits (pass_at v)) x) Spent) (sym its)
+      (joins id other (pass_at v) (pass_at w)))

@@ -3,8 +3,6 @@ use Rattle.std.proofs.Common.{◌≡◌, ◌≢◌, ℕ, ◌==◌, ◌<◌, true
 use Rattle.std.proofs.Common.{arith, length-set, get_or-set_same}
 use Rattle.std.specs.List.{All}
 use Rattle.std.proofs.lemmas.List.Elements.{All-weaker}
-use mathlib.Core.Logic.{dite}
-use native.Mathlib.Decide.{ℕ_discrete}
 use mathlib.Core.Option.{none, some, some-injective}
 use lib.ListN.{get_elem?}
 use prog.Atomic.{either}
@@ -15,10 +13,11 @@ use Rattle.pie_lock.specs.declared.view.Place.{Place}
 use Rattle.pie_lock.specs.declared.view.Place.TheVariants.{Waits, Holds}
 use Rattle.pie_lock.specs.Own.{is_within}
 use Rattle.pie_lock.specs.Rule.{Follows, Agreed, WhileFree, WhileHeld, Ruled}
-use Rattle.pie_lock.specs.Steps.{with_front, HasAll, Won, looked, taken}
+use Rattle.pie_lock.specs.Seating.{IsIdle}
+use Rattle.pie_lock.specs.Steps.{with_front, HasAll, pass_at, Won, looked, taken}
 use Rattle.pie_lock.proofs.Owns.{whole_is_front, within}
 use Rattle.pie_lock.proofs.Following.{follows_whole}
-use Rattle.pie_lock.proofs.Seats.{set_at, agreed_set, apart_as_before}
+use Rattle.pie_lock.proofs.Seats.{set_at, agreed_set}
 
 -- a table with one word, which is written again
 pub word_again : (words : List ℕ) → length words ≡ 1 → set words 0 (get_or words 0 0) ≡ words
@@ -58,8 +57,8 @@ module _ {S E O : Type 0} (number : E → ℕ) (origin_of : S → O) (tells : S 
           length-set s.words 0 1 ∙ one,
           (
             history,
-            agreed_set number origin numbers history history s.views id w agreed (follows_whole number origin numbers history p f history) tt
-                (apart_as_before number origin numbers history s.views id (Waits p) w agreed at (λ n h. h))
+            agreed_set number origin numbers history history s.views id (Waits p) w agreed at (λ n h. h)
+                (follows_whole number origin numbers history p f history)
                 (λ j u ne e. agreed.each_follows j u e) agreed.entries_below,
             inr (
               written,
@@ -96,11 +95,10 @@ module _ {S E O : Type 0} (number : E → ℕ) (origin_of : S → O) (tells : S 
       let there : get_elem? s.views holder ≡ some (Holds q) = held.1.2 in
       let f : Follows number origin numbers history p = agreed.each_follows id (Waits p) at in
       let g : Follows number origin numbers history q = agreed.each_follows holder (Holds q) there in
-      dite (ℕ_discrete holder id)
-      (λ same. let e : Holds q ≡ Waits p = some-injective (Holds q) (Waits p) (sym there ∙ (ap (get_elem? s.views) same ∙ at)) in cc)
-      (λ ne.
       let a = all.0 in let b = all.1 in let c = f.of_all in let d = g.nonempty in let l = g.below in
-      agreed.apart holder id (Holds q) (Waits p) q.first ne there at (omega arith, omega arith) (omega arith, omega arith))
+      let same : holder ≡ id = sym (agreed.owned holder (Holds q) q.first there (omega arith, omega arith))
+      ∙ agreed.owned id (Waits p) q.first at (omega arith, omega arith) in
+      let e : Holds q ≡ Waits p = some-injective (Holds q) (Waits p) (sym there ∙ (ap (get_elem? s.views) same ∙ at)) in cc
 
   -- where the word stays, all does
   stays : (id : ℕ) (p : Shown E O) (s : Table) → Rule s → get_elem? s.views id ≡ some (Waits p) → (n : ℕ) → get_or s.words 0 0 ≡ n
@@ -115,13 +113,16 @@ module _ {S E O : Type 0} (number : E → ℕ) (origin_of : S → O) (tells : S 
   not_all : (id : ℕ) (p : Shown E O) (s : Table) → Rule s → get_elem? s.views id ≡ some (Waits p) → get_or s.words 0 0 ≢ 0 → HasAll p → ⊥
   not_all id p s rule at ne all = ⊎_elim (λ free. ne free.0) (λ held. no_other id p s rule.1.0 at rule.1.1 held all) rule.1.2
 
-  pub looks_keep : (slots id : ℕ) (p : Shown E O) → Allows Rule slots id (Waits p, []) 0 (λ n. n) (looked (step slots 0 0 0 none) (Waits p, []))
-  looks_keep slots id p s rule sized at wide =
-      (Waits p, keeps, tt, stays id p s rule at (get_or s.words 0 0) refl, (refl, not_all id p s rule at))
+  pub looks_keep : (slots id : ℕ) (me : Me (Option S) (Place E O)) → IsIdle me
+      → Allows Rule slots id me 0 (λ n. n) (looked (step slots 0 0 0 none) me)
+  looks_keep slots id me idle =
+      let p : Shown E O = pass_at me.0 in
+      subst (λ (m : Me (Option S) (Place E O)). Allows Rule slots id m 0 (λ n. n) (looked (step slots 0 0 0 none) m)) (sym idle)
+      (λ s rule sized at wide. (Waits p, keeps, tt, stays id p s rule at (get_or s.words 0 0) refl, (refl, not_all id p s rule at)))
 
-  pub takes_keep : (slots id : ℕ) (p : Shown E O)
+  won_or_lost : (slots id : ℕ) (p : Shown E O)
       → Allows Rule slots id (Waits p, []) 0 (λ n. either (n == 0) 1 n) (taken number origin_of tells (step slots 0 0 1 none) (Waits p, []))
-  takes_keep slots id p s rule sized at wide =
+  won_or_lost slots id p s rule sized at wide =
       let n : ℕ = get_or s.words 0 0 in
       let F : ℕ → Type 0 = λ k.
       (w : Place E O) × (a : Act (Option S)) × Valid s.homes [] a × Rule (stepped s 0 k id [] w a)
@@ -133,3 +134,9 @@ module _ {S E O : Type 0} (number : E → ℕ) (origin_of : S → O) (tells : S 
       ⊎_elim (λ free. wins id p s rule.1.0 rule.0 at rule.1.1 free) (λ held. let one = held.0 in absurd (omega arith)) rule.1.2 in
       (won.0, won.1, won.2, won.3, (λ _. won.4, λ ne. absurd (ne hit))))
       (λ miss. (Waits p, keeps, tt, stays id p s rule at n refl, (λ e. absurd (miss e), λ ne. (refl, not_all id p s rule at ne))))
+
+  pub takes_keep : (slots id : ℕ) (me : Me (Option S) (Place E O)) → IsIdle me
+      → Allows Rule slots id me 0 (λ n. either (n == 0) 1 n) (taken number origin_of tells (step slots 0 0 1 none) me)
+  takes_keep slots id me idle =
+      subst (λ (m : Me (Option S) (Place E O)). Allows Rule slots id m 0 (λ n. either (n == 0) 1 n) (taken number origin_of tells (step slots 0 0 1 none) m))
+      (sym idle) (won_or_lost slots id (pass_at me.0))

@@ -43,20 +43,12 @@ module _ {E O : Type 0} where
     pub of_all : p.numbers ≡ numbers
     pub of_origin : p.origin ≡ Some origin
 
-  -- the two passes that a joining seat has for a moment have no number in common
-  abbrev pub HasNoNumberTwice : Place E O → Type 0
-  HasNoNumberTwice Spent = Unit {0}
-  HasNoNumberTwice (Waits p) = Unit {0}
-  HasNoNumberTwice (Holds p) = Unit {0}
-  HasNoNumberTwice (Meets p q) = (n : ℕ) → IsNumberOf p n → IsNumberOf q n → ⊥
-
-  -- the views of the seats against one history: each pass follows it, no number belongs to two passes, of two
-  -- seats or of one that joins, and each entry stands under a number that the lock has
+  -- the views of the seats against one history: each pass follows it, no number belongs to two seats, and each entry
+  -- stands under a number that the lock has
   pub record Agreed (number : E → ℕ) (origin : O) (numbers : ℕ) (history : List E) (views : List (Place E O)) : Type 0 where
     pub each_follows : (seat : ℕ) (view : Place E O) → get_elem? views seat ≡ some view → EachPass (Follows number origin numbers history) view
-    pub apart : (seat other : ℕ) (view w : Place E O) (n : ℕ) → seat ≢ other → get_elem? views seat ≡ some view → get_elem? views other ≡ some w
-        → IsNumberAt view n → IsNumberAt w n → ⊥
-    pub apart_within : (seat : ℕ) (view : Place E O) → get_elem? views seat ≡ some view → HasNoNumberTwice view
+    pub owner : ℕ → ℕ
+    pub owned : (seat : ℕ) (view : Place E O) (n : ℕ) → get_elem? views seat ≡ some view → IsNumberAt view n → owner n ≡ seat
     pub entries_below : All (λ e. number e < numbers) history
 
   -- no seat has the state

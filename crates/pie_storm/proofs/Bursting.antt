@@ -5,14 +5,14 @@ use Rattle.pie_storm.proofs.Names.{drop-map, take-map, IfSome, IsOk, append-nil,
 use Rattle.pie_storm.proofs.Names.{IsPrefix, is_within, Command, Event, Answer, Opening, Refusal, decision, is_refused_full, refusal_by_rule}
 use Rattle.pie_storm.proofs.Names.{refusal_with, due_after, effective_moment, event_of, Arrival, Entry, Made, Told, Reply, always, arrive, entries_of}
 use Rattle.pie_storm.proofs.Names.{events_in, number_of, tail_in, CallerView, LinkView, Call, Ask, Plan, IsFair, calls_of, commands_of, folder}
-use Rattle.pie_storm.proofs.Names.{opening_of, senders, AddedByAll, AreMade, HasMade, HasNoMore, IsAt, IsCutShort, IsFor, MadeOrCut}
+use Rattle.pie_storm.proofs.Names.{opening_of, senders, EntriesLookBack, AddedByAll, AreMade, HasMade, HasNoMore, IsAt, IsCutShort, IsFor, MadeOrCut}
 use Rattle.std.proofs.lemmas.List.Elements.{All-drop, All-take, filter-append}
 use Rattle.std.proofs.lemmas.List.Filters.{length-filter_both}
 use Rattle.pie_event.specs.declared.refusal.Refusal.TheVariants.{TooSoon}
 use Rattle.pie_kept.specs.Bursts.{entries_by, entries_to, refused_or_told, replies_to, reply_in}
 use Rattle.pie_kept.specs.Commands.{refusal_in}
 use Rattle.pie_link.specs.Bursts.{AnswersAll, IsBurst}
-use Rattle.pie_storm.proofs.Making.{few_so_far, full_after, made_from, made_more, seen, stays, which}
+use Rattle.pie_storm.proofs.Making.{CameBy, IsFull, full_after, goes, seen, stays, which}
 use Rattle.pie_storm.proofs.PlanCommands.{all_fair, other_calls}
 
 -- why a command is refused, where its reply is a refusal
@@ -84,130 +84,100 @@ module _ (opening : Opening) (caller : ℕ) where
       taken_first h a later reply (All-head IsOk reply (answers_to g later) all)
       (all_taken g later (All-tail IsOk reply (answers_to g later) all))
 
-  -- where one was refused, the book was full after a part of the burst
-  record WasFull (whole : List Entry) (most : ℕ) (made : List Entry) : Type 0 where
-    before : List Entry
-    begins : IsPrefix before whole
-    full : min opening.limits.tail opening.limits.events ≤ length (events_in before)
-    fewer : length made < most
+  -- where one was refused, the book was full, and there are fewer entries than arrivals
+  abbrev WasFull : List Entry → List Entry → ℕ → Type 0
+  WasFull h added most = (min opening.limits.tail opening.limits.events ≤ length (events_in (h ++ added))) × (length added < most)
 
-  full_first : (h : List Entry) (a : Arrival) (later : List Arrival) (reply : Reply) → reply_in opening h (arrive a) ≡ reply → IsFair (arrive a)
-      → (All IsOk (reply ∷ answers_to (h ++ entries_by caller (arrive a) reply) later) → ⊥)
+  longer : (law : EntriesLookBack) (h added : List Entry) → length (events_in h) ≤ length (events_in (h ++ added))
+  longer law h added = omega (arith, ap (λ (l : List Event). length l) (law.events h added), length-append (events_in h) (events_in added))
+
+  full_first : (law : EntriesLookBack) (h : List Entry) (a : Arrival) (later : List Arrival) (reply : Reply) → reply_in opening h (arrive a) ≡ reply
+      → IsFair (arrive a) → (All IsOk (reply ∷ answers_to (h ++ entries_by caller (arrive a) reply) later) → ⊥)
       → ((All IsOk (answers_to (h ++ entries_by caller (arrive a) reply) later) → ⊥)
-      → WasFull ((h ++ entries_by caller (arrive a) reply) ++ made_by (h ++ entries_by caller (arrive a) reply) later) (length later)
-      (made_by (h ++ entries_by caller (arrive a) reply) later))
-      → WasFull (h ++ (entries_by caller (arrive a) reply ++ made_by (h ++ entries_by caller (arrive a) reply) later)) (length (a ∷ later))
-      (entries_by caller (arrive a) reply ++ made_by (h ++ entries_by caller (arrive a) reply) later)
-  full_first h a later (Ok told) is fair not_all rest =
-      let event = event_of caller (arrive a) told.answer in
-      let g = h ++ Made event ∷ [] in
-      let r = rest (λ all. not_all (All-cons IsOk (Ok told) (answers_to g later) refl all)) in record {
-        before = r.before;
-        begins = subst (λ (k : List Entry). IsPrefix r.before k) (append_assoc h (Made event ∷ []) (made_by g later)) r.begins;
-        full = r.full;
-        fewer = omega (arith, r.fewer);
-      }
-  full_first h a later (Err why) is fair not_all rest =
+      → WasFull (h ++ entries_by caller (arrive a) reply) (made_by (h ++ entries_by caller (arrive a) reply) later) (length later))
+      → WasFull h (entries_by caller (arrive a) reply ++ made_by (h ++ entries_by caller (arrive a) reply) later) (length (a ∷ later))
+  full_first law h a later (Ok told) is fair not_all rest =
+      let g = h ++ Made (event_of caller (arrive a) told.answer) ∷ [] in
+      let r = rest (λ all. not_all (All-cons IsOk (Ok told) (answers_to g later) refl all)) in (
+        subst (λ (l : List Entry). min opening.limits.tail opening.limits.events ≤ length (events_in l))
+            (append_assoc h (Made (event_of caller (arrive a) told.answer) ∷ []) (made_by g later)) r.0,
+        omega (arith, r.1),
+      )
+  full_first law h a later (Err why) is fair not_all rest =
       let refused = refused_why (refusal_in opening h (arrive a)) (record {
         answer = decision opening (events_in h) (arrive a);
         number = length (events_in h) + 1;
-      }) why is in record {
-        before = h;
-        begins = (made_by (h ++ []) later, refl);
-        full = full_after opening h (arrive a) why fair refused (arrives_in_time opening h a why refused);
-        fewer = omega (arith, few_made_by (h ++ []) later);
-      }
+      }) why is in (
+        omega (
+          arith,
+          full_after opening h (arrive a) why fair refused (arrives_in_time opening h a why refused),
+          longer law h (made_by (h ++ []) later),
+        ),
+        omega (arith, few_made_by (h ++ []) later),
+      )
 
-  was_full : (h : List Entry) (burst : List Arrival) → All IsFair (map arrive burst) → (All IsOk (answers_to h burst) → ⊥)
-      → WasFull (h ++ made_by h burst) (length burst) (made_by h burst)
+  was_full : (law : EntriesLookBack) (h : List Entry) (burst : List Arrival) → All IsFair (map arrive burst) → (All IsOk (answers_to h burst) → ⊥)
+      → WasFull h (made_by h burst) (length burst)
   unfolding entries_to replies_to
-  was_full h [] fair not_all = absurd (not_all (All-nil IsOk))
-  was_full h (a ∷ later) fair not_all =
+  was_full law h [] fair not_all = absurd (not_all (All-nil IsOk))
+  was_full law h (a ∷ later) fair not_all =
       let reply = reply_in opening h (arrive a) in
       let g = h ++ entries_by caller (arrive a) reply in
-      full_first h a later reply refl (All-head IsFair (arrive a) (map arrive later) fair) not_all
-      (was_full g later (All-tail IsFair (arrive a) (map arrive later) fair))
+      full_first law h a later reply refl (All-head IsFair (arrive a) (map arrive later) fair) not_all
+      (was_full law g later (All-tail IsFair (arrive a) (map arrive later) fair))
 
--- a caller has no more entries than there are
-few_own : (caller : ℕ) (h : List Entry) → length (entries_of caller h) ≤ length h
-few_own caller h = omega (
-  arith,
-  length-filter_both (λ (e : Entry). is_within caller (caller + 1) (number_of e)) (λ e. not (is_within caller (caller + 1) (number_of e))) (λ e. refl) h,
-)
-
-module _ (plan : Plan) (number k n : ℕ) (link : LinkView) (link_for : IsFor plan link) (before after : CallerView) (at : IsAt link number before)
-    (earlier : ℕ) (events : List Event) (had : HasMade plan number k before.front earlier events) (burst : List Arrival) (replies : List Reply)
-    (some : 1 ≤ n) (sends : number ≤ senders plan) (there : k + n ≤ length (commands_of plan number))
-    (is : map arrive burst ≡ take n (drop k (commands_of plan number)))
-    (long : length burst ≡ n) (history : List Entry) (answered : IsBurst always (opening_of plan) before (map arrive burst) [] replies after history) where
-  no_folder : number ≡ folder plan → ⊥
-  no_folder folds = absurd (omega (arith, folds, sends))
-
-  is_asked : take n (drop k (calls_of plan number)) ≡ map Ask (map arrive burst)
-  is_asked =
-      ap (λ (cs : List Call). take n (drop k cs)) (other_calls plan number no_folder)
-      ∙ (ap (λ (cs : List Call). take n cs) (drop-map Ask k (commands_of plan number))
-      ∙ (take-map Ask n (drop k (commands_of plan number)) ∙ ap (λ (cs : List Command). map Ask cs) (sym is)))
-
-  on : HasNoMore number before.front history
-  on = seen link number before history at answered.from.goes_on
-
-  front_is : after.front ≡ history ++ entries_to always (opening_of plan) number history (map arrive burst)
-  front_is = ap (λ (c : CallerView). c.front) answered.recorded
-      ∙ ap (λ (first : ℕ). history ++ entries_to always (opening_of plan) first history (map arrive burst)) at.first
-
-  replies_are : replies ≡ replies_to always (opening_of plan) number history (map arrive burst)
-  replies_are = answered.answered ∙ ap (λ (first : ℕ). replies_to always (opening_of plan) first history (map arrive burst)) at.first
-
-  -- all of it was taken
-  burst_taken : All IsOk replies → HasMade plan number (k + n) after.front (earlier + 0) events
-  burst_taken all = subst (λ (front : List Entry). HasMade plan number (k + n) front (earlier + 0) events) (sym front_is) (record {
-    made = made_more plan number k n (map Ask (map arrive burst)) before.front _ earlier 0 is_asked had.made
-        (made_from (opening_of plan) number before.front history (map Ask (map arrive burst)) _ 0 on
-        (all_taken (opening_of plan) number history burst (subst (All IsOk) replies_are all)));
-    handed = λ folds. absurd (no_folder folds);
-  })
-
-  -- or one of its arrivals was refused
-  burst_short : (All IsOk replies → ⊥) → IsCutShort (opening_of plan) number (commands_of plan number) after.front
-  burst_short not_all =
-      let fair = subst (All IsFair) (sym is)
-      (All-take IsFair n (drop k (commands_of plan number)) (All-drop IsFair k (commands_of plan number) (all_fair plan link_for.sound number))) in
-      let full = was_full (opening_of plan) number history burst fair (λ all. not_all (subst (All IsOk) (sym replies_are) all)) in
-      let added = entries_to always (opening_of plan) number history (map arrive burst) in
-      subst (λ (front : List Entry). IsCutShort (opening_of plan) number (commands_of plan number) front) (sym front_is) (record {
-        before = full.before;
-        begins = full.begins;
-        full = full.full;
+  -- what comes of a burst after this history
+  burst_by : (law : EntriesLookBack) (h : List Entry) (burst : List Arrival) (passed : Option ℕ) → All IsFair (map arrive burst)
+      → AddedByAll (answers_to h burst) passed → CameBy opening caller h (asked burst) (h ++ made_by h burst) passed
+  unfolding CameBy
+  burst_by law h burst passed fair (inl all) =
+      subst (λ (p : Option ℕ). CameBy opening caller h (asked burst) (h ++ made_by h burst) p) (sym all.1) (all_taken h burst all.0)
+  burst_by law h burst passed fair (inr not_all) =
+      let was = was_full law h burst fair not_all.0 in
+      let mine = λ (e : Entry). is_within caller (caller + 1) (number_of e) in
+      subst (λ (p : Option ℕ). CameBy opening caller h (asked burst) (h ++ made_by h burst) p) (sym not_all.1) (record {
+        full = was.0;
         fewer = omega (
           arith,
-          few_so_far plan number k before.front earlier had.made,
-          ap (λ (l : List Entry). length l) on.1,
-          ap (λ (l : List Entry). length l) (filter-append (λ (e : Entry). is_within number (number + 1) (number_of e)) history added),
-          length-append (entries_of number history) (entries_of number added),
-          few_own number added,
-          full.fewer,
-          long,
-          there,
+          was.1,
+          ap (λ (l : List Entry). length l) (filter-append mine h (made_by h burst)),
+          length-append (entries_of caller h) (entries_of caller (made_by h burst)),
+          length-filter_both mine (λ e. not (mine e)) (λ e. refl) (made_by h burst),
+          length-map (map arrive burst) Ask,
+          length-map burst arrive,
         );
       })
 
-pub burst_next : (plan : Plan) (number k n : ℕ) (link : LinkView) → IsFor plan link → (before after : CallerView) → IsAt link number before
-    → (earlier : ℕ) (events : List Event) → HasMade plan number k before.front earlier events → (burst : List Arrival) (replies : List Reply)
-    → 1 ≤ n → number ≤ senders plan → k + n ≤ length (commands_of plan number) → map arrive burst ≡ take n (drop k (commands_of plan number))
-    → length burst ≡ n → AnswersAll always link before (map arrive burst) [] replies after
+pub burst_next : (law : EntriesLookBack) (plan : Plan) (number k n : ℕ) (link : LinkView) → IsFor plan link → (before after : CallerView)
+    → IsAt link number before → (earlier : ℕ) (events : List Event) → HasMade plan number k before.front earlier events
+    → (burst : List Arrival) (replies : List Reply) → 1 ≤ n → number ≤ senders plan → k + n ≤ length (commands_of plan number)
+    → map arrive burst ≡ take n (drop k (commands_of plan number)) → length burst ≡ n
+    → AnswersAll always link before (map arrive burst) [] replies after
     → (passed : Option ℕ) → AddedByAll replies passed → MadeOrCut plan number (k + n) after.front earlier events passed
-unfolding AnswersAll MadeOrCut
-burst_next plan number k n link link_for before after at earlier events had [] replies some sends there is long answers passed added =
+unfolding AnswersAll
+burst_next law plan number k n link link_for before after at earlier events had [] replies some sends there is long answers passed added =
     absurd (omega (arith, some, long))
-burst_next plan number k n link link_for before after at earlier events had (a ∷ later) replies some sends there is long answers passed (inl all) =
+burst_next law plan number k n link link_for before after at earlier events had (a ∷ later) replies some sends there is long answers passed added =
     let b = answers (opening_of plan) link_for.opened in
-    subst (λ (p : Option ℕ). MadeOrCut plan number (k + n) after.front earlier events p) (sym all.1)
-    (burst_taken plan number k n link link_for before after at earlier events had (a ∷ later) replies some sends there is long b.0 b.1 all.0)
-burst_next plan number k n link link_for before after at earlier events had (a ∷ later) replies some sends there is long answers passed (inr none) =
-    let b = answers (opening_of plan) link_for.opened in
-    subst (λ (p : Option ℕ). MadeOrCut plan number (k + n) after.front earlier events p) (sym none.1)
-    (burst_short plan number k n link link_for before after at earlier events had (a ∷ later) replies some sends there is long b.0 b.1 none.0)
+    let burst = a ∷ later in
+    let answered : IsBurst always (opening_of plan) before (map arrive burst) [] replies after b.0 = b.1 in
+    let no_folder : number ≡ folder plan → ⊥ = λ folds. absurd (omega (arith, folds, sends)) in
+    let asked_for : take n (drop k (calls_of plan number)) ≡ map Ask (map arrive burst) =
+    ap (λ (cs : List Call). take n (drop k cs)) (other_calls plan number no_folder)
+    ∙ (ap (λ (cs : List Call). take n cs) (drop-map Ask k (commands_of plan number))
+    ∙ (take-map Ask n (drop k (commands_of plan number)) ∙ ap (λ (cs : List Command). map Ask cs) (sym is))) in
+    let fair = subst (All IsFair) (sym is)
+    (All-take IsFair n (drop k (commands_of plan number)) (All-drop IsFair k (commands_of plan number) (all_fair plan link_for.sound number))) in
+    let front_is : after.front ≡ b.0 ++ entries_to always (opening_of plan) number b.0 (map arrive burst) =
+    ap (λ (c : CallerView). c.front) answered.recorded
+    ∙ ap (λ (first : ℕ). b.0 ++ entries_to always (opening_of plan) first b.0 (map arrive burst)) at.first in
+    let replies_are : replies ≡ replies_to always (opening_of plan) number b.0 (map arrive burst) =
+    answered.answered ∙ ap (λ (first : ℕ). replies_to always (opening_of plan) first b.0 (map arrive burst)) at.first in
+    goes plan number k link link_for before after at earlier events had n (map Ask (map arrive burst)) b.0 events passed
+    (length-map (map arrive burst) Ask ∙ (length-map burst arrive ∙ long)) asked_for (seen link number before b.0 at answered.from.goes_on)
+    (λ folds. absurd (no_folder folds)) (λ none. there)
+    (subst (λ (h : List Entry). CameBy (opening_of plan) number b.0 (map Ask (map arrive burst)) h passed) (sym front_is)
+    (burst_by (opening_of plan) number law b.0 burst passed fair (subst (λ (l : List Reply). AddedByAll l passed) replies_are added)))
 
 -- no arrival of a burst is passed over
 pub few_by_all : (replies : List Reply) (passed : Option ℕ) → AddedByAll replies passed → IfSome passed (λ n. n ≤ 1)

@@ -10,7 +10,8 @@ use Rattle.std.proofs.Common.{nat_lt}
 use Rattle.pie_event.specs.Opening.{last_moment}
 use Rattle.pie_event.specs.Deed.{handed_in}
 use Rattle.pie_book.specs.Decision.{has_bad_size, is_too_soon}
-use Rattle.pie_storm.specs.Storms.{IsEntryOf, commands_in, events_of}
+use Rattle.std.proofs.lemmas.List.Elements.{All-append}
+use Rattle.pie_storm.specs.Storms.{IsEntryOf, events_of}
 use Rattle.pie_event.specs.declared.refusal.Refusal.TheVariants as refusal
 use Rattle.pie_storm.proofs.Making.{few_made, numbered, own_entry}
 use Rattle.pie_storm.proofs.PlanCommands.{after_senders, folder_calls, of_either, of_sender, other_calls}
@@ -177,38 +178,31 @@ never_too_soon opening h command due calm e =
     let on_time = calm (effective_moment opening h) (due_after opening h) in
     chain (nat_lt last_moment (handed_in command)) (has_bad_size command) (length h == opening.limits.events) due (rw on_time at e)
 
--- a caller that asks for commands has an event for each entry; and one for each command, where no command can be too soon
-record IsAsked (caller : ℕ) (earlier : List Entry) (commands : List Command) (h : List Entry) : Type 0 where
-  events : List Event
-  entries : entries_of caller h ≡ earlier ++ map Made events
-  all : All IsNoUpdate commands → commands_in events ≡ commands
-
 module _ (opening : Opening) (caller : ℕ) where
-  asked_entry : (front before : List Entry) (entry : Entry) (command : Command) (commands : List Command) (h : List Entry)
-      → HasNoMore caller front before → IsEntryOf caller (Ask command) entry
-      → IsAsked caller (entries_of caller (before ++ entry ∷ [])) commands h → IsAsked caller (entries_of caller front) (command ∷ commands) h
-  asked_entry front before (Made event) command commands h on is rest = record {
-    events = event ∷ rest.events;
-    entries = rest.entries ∙ (ap (λ (l : List Entry). l ++ map Made rest.events)
-        (own_entry opening caller before (Made event) is.0 ∙ ap (λ (l : List Entry). l ++ Made event ∷ []) on.1)
-        ∙ append_assoc (entries_of caller front) (Made event ∷ []) (map Made rest.events));
-    all = λ calm. ap (λ (c : Command). c ∷ commands_in rest.events) is.1
-        ∙ ap (λ (cs : List Command). command ∷ cs) (rest.all (All-tail IsNoUpdate command commands calm));
-  }
-  asked_entry front before (Folded who n) command commands h on is rest = absurd is
+  -- where no command can be too soon, none is passed over
+  none_passed : (front : List Entry) (commands : List Command) (h : List Entry) (passed : ℕ) → All IsNoUpdate commands
+      → AreMade opening caller front (map Ask commands) h passed → passed ≡ 0
+  none_passed front [] h passed calm m = m.1
+  none_passed front (command ∷ commands) h passed calm (inl m) =
+      none_passed (m.0 ++ m.1 ∷ []) commands h passed (All-tail IsNoUpdate command commands calm) m.4
+  none_passed front (command ∷ commands) h passed calm (inr m) =
+      absurd (never_too_soon opening (events_in m.0) command m.3.due (All-head IsNoUpdate command commands calm) m.3.refused)
 
-  asked : (front : List Entry) (commands : List Command) (h : List Entry) (passed : ℕ) → AreMade opening caller front (map Ask commands) h passed
-      → IsAsked caller (entries_of caller front) commands h
-  asked front [] h passed m =
-      record { events = []; entries = m.0.1 ∙ sym (append-nil (entries_of caller front)); all = λ calm. refl }
-  asked front (command ∷ commands) h passed (inl m) =
-      asked_entry front m.0 m.1 command commands h m.2 m.3 (asked (m.0 ++ m.1 ∷ []) commands h passed m.4)
-  asked front (command ∷ commands) h passed (inr m) =
-      let rest = asked m.0 commands h m.1 m.5 in record {
-        events = rest.events;
-        entries = rest.entries ∙ ap (λ (l : List Entry). l ++ map Made rest.events) m.2.1;
-        all = λ calm. absurd (never_too_soon opening (events_in m.0) command m.3.due (All-head IsNoUpdate command commands calm) m.3.refused);
-      }
+  -- one that asks for commands has no folds
+  one_made : (command : Command) (entry : Entry) → IsEntryOf caller (Ask command) entry → All IsMade (entry ∷ [])
+  one_made command (Made event) is = All-cons IsMade (Made event) [] tt (All-nil IsMade)
+  one_made command (Folded who n) is = absurd is
+
+  only_made : (front : List Entry) (commands : List Command) (h : List Entry) (passed : ℕ) → AreMade opening caller front (map Ask commands) h passed
+      → All IsMade (entries_of caller front) → All IsMade (entries_of caller h)
+  only_made front [] h passed m all = subst (All IsMade) (sym m.0.1) all
+  only_made front (command ∷ commands) h passed (inl m) all =
+      only_made (m.0 ++ m.1 ∷ []) commands h passed m.4
+      (subst (All IsMade) (sym (own_entry opening caller m.0 m.1 (numbered opening caller (Ask command) m.1 m.3)
+      ∙ ap (λ (l : List Entry). l ++ m.1 ∷ []) m.2.1))
+      (All-append IsMade (entries_of caller front) (m.1 ∷ []) all (one_made command m.1 m.3)))
+  only_made front (command ∷ commands) h passed (inr m) all =
+      only_made m.0 commands h m.1 m.5 (subst (All IsMade) (sym m.2.1) all)
 
   -- one that asks for folds has no event
   no_event : (law : EntriesLookBack) (xs : List Entry) (n : ℕ) (entry : Entry) → IsEntryOf caller (Fold n) entry
@@ -224,14 +218,6 @@ module _ (opening : Opening) (caller : ℕ) where
       ∙ (ap events_in (own_entry opening caller m.0 m.1 (numbered opening caller (Fold n) m.1 m.3))
       ∙ (no_event law (entries_of caller m.0) n m.1 m.3 ∙ ap events_in m.2.1))
   folded law front (n ∷ folds) h passed (inr m) = folded law m.0 folds h m.1 m.5 ∙ ap events_in m.2.1
-
-made_events : (xs : List Event) → events_in (map Made xs) ≡ xs
-made_events [] = refl
-made_events (x ∷ xs) = ap (λ (es : List Event). x ∷ es) (made_events xs)
-
-made_all : (xs : List Event) → All IsMade (map Made xs)
-made_all [] = All-nil IsMade
-made_all (x ∷ xs) = All-cons IsMade (Made x) (map Made xs) tt (made_all xs)
 
 calm_of : {A : Type 0} (xs : List A) (f : A → Command) → ((x : A) → IsNoUpdate (f x)) → All IsNoUpdate (map f xs)
 calm_of [] f calm = All-nil IsNoUpdate
@@ -258,20 +244,18 @@ calm plan caller other =
     (of_if F (n == 2) _ _ (λ two. let is : n ≡ 2 = grind (arith, nat_tests, two) in absurd (other (omega (arith, is))))
     (of_either F (n == 3) _ _ (calm_of plan.changes.items change (λ x before due. refl)) (All-nil IsNoUpdate)))))
 
-none_after : (plan : Plan) (n : ℕ) → 4 ≤ n → commands_after_senders plan n ≡ []
-none_after plan n over =
+-- other callers ask for nothing
+no_calls : (plan : Plan) (caller : ℕ) → senders plan + 5 ≤ caller → calls_of plan caller ≡ []
+unfolding calls_of commands_of
+no_calls plan caller over =
+    let n = caller - senders plan in
+    let no_folder : (caller == folder plan) ≡ false = grind (arith, nat_tests, over) in
+    let not_first : (caller == 0) ≡ false = grind (arith, nat_tests, over) in
+    let no_sender : nat_le caller (senders plan) ≡ false = grind (arith, nat_tests, over) in
     let one : (n == 1) ≡ false = grind (arith, nat_tests, over) in
     let two : (n == 2) ≡ false = grind (arith, nat_tests, over) in
     let three : (n == 3) ≡ false = grind (arith, nat_tests, over) in
-    rw (one, two, three) refl
-
-no_commands : (plan : Plan) (caller : ℕ) → (caller ≡ 0) ⊎ (senders plan + 3 < caller) → commands_of plan caller ≡ []
-unfolding commands_of
-no_commands plan caller (inl first) = subst (λ (c : ℕ). commands_of plan c ≡ []) (sym first) refl
-no_commands plan caller (inr past) =
-    let n = caller - senders plan in
-    let is : senders plan + n ≡ caller = omega (arith, past) in
-    ap (λ (c : ℕ). commands_of plan c) (sym is) ∙ (after_senders plan n (omega (arith, past)) ∙ none_after plan n (omega (arith, past)))
+    rw (no_folder, not_first, no_sender, one, two, three) refl
 
 -- ---- a whole storm
 
@@ -317,9 +301,6 @@ module _ (law : EntriesLookBack) (plan : Plan) (h : List Entry) (sound : IsSound
         no_more plan,
         sound.tail,
         sound.events,
-        ap (λ (l : List Entry). length (events_in l)) cut.begins.1,
-        ap (λ (l : List Event). length l) (law.events cut.before cut.begins.0),
-        length-append (events_in cut.before) (events_in cut.begins.0),
       )
 
   all_made : (caller passed : ℕ) → caller < callers_of_plan plan → CameOf plan caller h passed
@@ -328,66 +309,43 @@ module _ (law : EntriesLookBack) (plan : Plan) (h : List Entry) (sound : IsSound
   all_made caller passed less (inl made) = made
   all_made caller passed less (inr cut) = absurd (never_cut caller less cut)
 
-  -- each caller but the one that folds has events alone: those of its commands, but for updates
-  record HasEvents (caller : ℕ) : Type 0 where
-    made : List Event
-    entries : entries_of caller h ≡ map Made made
-    all : (caller ≡ updater plan → ⊥) → commands_in made ≡ commands_of plan caller
-
-  has_events : (caller : ℕ) → (caller ≡ folder plan → ⊥) → HasEvents caller
-  has_events caller other = by_size (nat_le (callers_of_plan plan) caller) refl
+  -- each caller made all its calls
+  each_made : (caller : ℕ) → (passed : ℕ) × AreMade (opening_of plan) caller [] (calls_of plan caller) h passed
+  each_made caller = by_size (nat_le (callers_of_plan plan) caller) refl
     where
-      by_size : (b : Bool) → nat_le (callers_of_plan plan) caller ≡ b → HasEvents caller
+      by_size : (b : Bool) → nat_le (callers_of_plan plan) caller ≡ b
+          → (passed : ℕ) × AreMade (opening_of plan) caller [] (calls_of plan caller) h passed
       by_size true past =
-          let over : callers_of_plan plan ≤ caller = grind (arith, nat_tests, past) in record {
-            made = [];
-            entries = entries_past (callers_of_plan plan) caller h over below;
-            all = λ calm. sym (no_commands plan caller (inr (omega (arith, over))));
-          }
+          let over : callers_of_plan plan ≤ caller = grind (arith, nat_tests, past) in
+          subst (λ (calls : List Call). (passed : ℕ) × AreMade (opening_of plan) caller [] calls h passed)
+          (sym (no_calls plan caller (omega (arith, over)))) (0, (((h, refl), entries_past (callers_of_plan plan) caller h over below), refl))
       by_size false less =
           let lower : caller < callers_of_plan plan = grind (arith, nat_tests, less) in
           let c = came caller lower in
-          let made = subst (λ (calls : List Call). AreMade (opening_of plan) caller [] calls h c.0) (other_calls plan caller other)
-          (all_made caller c.0 lower c.1) in
-          let its = asked (opening_of plan) caller [] (commands_of plan caller) h c.0 made in
-          record { made = its.events; entries = its.entries; all = λ no_updates. its.all (calm plan caller no_updates) }
+          (c.0, all_made caller c.0 lower c.1)
 
-  commands_made : (caller : ℕ) → (caller ≡ folder plan → ⊥) → (caller ≡ updater plan → ⊥) → commands_in (events caller) ≡ commands_of plan caller
-  commands_made caller no_folds no_updates =
-      let its = has_events caller no_folds in
-      ap (λ (es : List Event). commands_in es) (own_events caller h ∙ (ap events_in its.entries ∙ made_events its.made)) ∙ its.all no_updates
+  commands_made : (caller : ℕ) → (caller ≡ folder plan → ⊥) → (passed : ℕ)
+      × AreMade (opening_of plan) caller [] (map Ask (commands_of plan caller)) h passed
+  commands_made caller other =
+      subst (λ (calls : List Call). (passed : ℕ) × AreMade (opening_of plan) caller [] calls h passed) (other_calls plan caller other) (each_made caller)
 
   -- no caller has folds but the one that makes them
   pub other_made : (caller : ℕ) → (caller ≡ folder plan → ⊥) → All IsMade (entries_of caller h)
-  other_made caller other = let its = has_events caller other in subst (All IsMade) (sym its.entries) (made_all its.made)
-
-  empty_of_commands : (xs : List Event) → commands_in xs ≡ [] → xs ≡ []
-  empty_of_commands [] e = refl
-  empty_of_commands (x ∷ xs) e = absurd (cc e)
+  other_made caller other =
+      let m = commands_made caller other in
+      only_made (opening_of plan) caller [] (commands_of plan caller) h m.0 m.1 (All-nil IsMade)
 
   -- the history of a storm is what its plan asks for
   pub is_storm : (too_soon too_many : ℕ) → CameOf plan (updater plan) h too_soon → CameOf plan (folder plan) h too_many
       → IsStorm plan (events_in h) too_soon too_many
-  unfolding commands_of
-  is_storm too_soon too_many updates folds =
-      let n = senders plan in
-      let whole : (caller : ℕ) → (caller ≡ folder plan → ⊥) → (caller ≡ updater plan → ⊥) → commands_in (events caller)
-      ≡ commands_of plan caller = commands_made in
-      let made_folds = subst (λ (calls : List Call). AreMade (opening_of plan) (folder plan) [] calls h too_many) (folder_calls plan)
-      (all_made (folder plan) too_many (omega arith) folds) in record {
-        arrivals = λ sender some. whole (sender + 1) (λ is. omega (arith, is, some)) (λ is. omega (arith, is, some)) ∙ of_sender plan sender some;
-        departures = whole (n + 1) (λ is. omega (arith, is)) (λ is. omega (arith, is)) ∙ after_senders plan 1 (omega arith);
-        changes = whole (n + 3) (λ is. omega (arith, is)) (λ is. omega (arith, is)) ∙ after_senders plan 3 (omega arith);
-        history = h;
-        of_history = refl;
-        updates = subst (λ (calls : List Call). AreMade (opening_of plan) (updater plan) [] calls h too_soon)
-            (other_calls plan (updater plan) (λ is. omega (arith, is)) ∙ ap (λ (cs : List Command). map Ask cs) (after_senders plan 2 (omega arith)))
-            (all_made (updater plan) too_soon (omega arith) updates);
-        folds = made_folds;
-        no_others = λ caller out. dite (ℕ_discrete caller (folder plan))
-            (λ is. own_events caller h ∙ subst (λ (c : ℕ). events_in (entries_of c h) ≡ []) (sym is)
-            (folded (opening_of plan) (folder plan) law [] plan.folds.items h too_many made_folds))
-            (λ other. empty_of_commands (events caller) (whole caller other (λ is. ⊎_elim (λ z. omega (arith, z, is)) (λ l. omega (arith, l, is)) out)
-            ∙ no_commands plan caller out));
-        no_other_folds = other_made;
-      }
+  is_storm too_soon too_many updates folds = record {
+    history = h;
+    of_history = refl;
+    updates = all_made (updater plan) too_soon (omega arith) updates;
+    folds = all_made (folder plan) too_many (omega arith) folds;
+    others = λ caller no_updates no_folds.
+        let m = commands_made caller no_folds in
+        let none = none_passed (opening_of plan) caller [] (commands_of plan caller) h m.0 (calm plan caller no_updates) m.1 in
+        subst (λ (calls : List Call). AreMade (opening_of plan) caller [] calls h 0) (sym (other_calls plan caller no_folds))
+        (subst (λ (passed : ℕ). AreMade (opening_of plan) caller [] (map Ask (commands_of plan caller)) h passed) none m.1);
+  }

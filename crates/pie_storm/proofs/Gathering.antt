@@ -1,6 +1,6 @@
 -- What is known of all workers of a storm together.
-use Rattle.pie_storm.proofs.Names.{◌≡◌, ℕ, ◌+◌, ◌-◌, ◌<◌, ◌≤◌, List, [], length, refl, ap, sym, ◌∙◌, subst, inl, inr, ⊎_elim, arith, dite, ℕ_discrete}
-use Rattle.pie_storm.proofs.Names.{own, is_within, GoesOn, within, prefix_trans, Event, number_of, EntriesLookBack, Entry, CallerView, LinkView, Plan}
+use Rattle.pie_storm.proofs.Names.{◌≡◌, ℕ, ◌+◌, ◌-◌, ◌<◌, ◌≤◌, List, [], length, length-append, events_in, refl, ap, sym, ◌∙◌, subst, inl, inr, ⊎_elim, arith, dite, ℕ_discrete}
+use Rattle.pie_storm.proofs.Names.{own, is_within, GoesOn, within, Event, number_of, EntriesLookBack, Entry, CallerView, LinkView, Plan}
 use Rattle.pie_storm.proofs.Names.{Work, calls_of, commands_of, folder, opening_of, updater, Call, AreMade, CameOf, HasNoMore, IsAt, IsWell}
 use Rattle.pie_storm.proofs.Names.{IsWorkBelow, WereHanded}
 use Rattle.pie_lock.specs.Promises.{IsBothOf}
@@ -12,14 +12,18 @@ use Rattle.pie_storm.proofs.Making.{made_on, stays}
 use Rattle.pie_storm.proofs.PlanCommands.{other_calls}
 
 -- what came of a caller's calls in a history came of them in one that goes on with nothing more of it
-came_on : (plan : Plan) (caller : ℕ) (h k : List Entry) (passed : ℕ) → HasNoMore caller h k → CameOf plan caller h passed
+came_on : (law : EntriesLookBack) (plan : Plan) (caller : ℕ) (h k : List Entry) (passed : ℕ) → HasNoMore caller h k → CameOf plan caller h passed
     → CameOf plan caller k passed
 unfolding CameOf
-came_on plan caller h k passed on (inl made) = inl (made_on (opening_of plan) caller [] (calls_of plan caller) h k passed on made)
-came_on plan caller h k passed on (inr cut) = inr (record {
-  before = cut.before;
-  begins = prefix_trans cut.before h k cut.begins on.0;
-  full = cut.full;
+came_on law plan caller h k passed on (inl made) = inl (made_on (opening_of plan) caller [] (calls_of plan caller) h k passed on made)
+came_on law plan caller h k passed on (inr cut) = inr (record {
+  full = omega (
+    arith,
+    cut.full,
+    ap (λ (l : List Entry). length (events_in l)) on.0.1,
+    ap (λ (l : List Event). length l) (law.events h on.0.0),
+    length-append (events_in h) (events_in on.0.0),
+  );
   fewer = omega (arith, cut.fewer, ap (λ (l : List Entry). length l) on.1);
 })
 
@@ -68,7 +72,7 @@ together law link plan n work last whole both passed soon as_before events well 
     let q = last.caller in
     let r = whole.caller in
     let on = fronts plan p q r n below.first below.limit its.at.first its.at.limit both in
-    let mine = λ (fine : IsWell whole.folding). came_on plan n q.front r.front last.passed on.1 (its.came (well fine).1) in record {
+    let mine = λ (fine : IsWell whole.folding). came_on law plan n q.front r.front last.passed on.1 (its.came (well fine).1) in record {
       lock = both.0 ∙ below.lock;
       first = omega (arith, both.1, below.first);
       limit = omega (arith, both.2, below.limit, its.at.limit);
@@ -77,14 +81,14 @@ together law link plan n work last whole both passed soon as_before events well 
           (λ other.
           let before : caller < n = omega (arith, less, other) in
           let came = below.came (well fine).0 caller before in
-          (came.0, came_on plan caller p.front r.front came.0 (on.0 caller before) came.1));
+          (came.0, came_on law plan caller p.front r.front came.0 (on.0 caller before) came.1));
       updates = λ fine less. dite (ℕ_discrete n (updater plan))
           (λ is. subst (λ (passed : ℕ). CameOf plan (updater plan) r.front passed) (sym (soon is))
           (subst (λ (c : ℕ). CameOf plan c r.front last.passed) is (mine fine)))
           (λ other.
           let before : updater plan < n = omega (arith, less, other) in
           subst (λ (passed : ℕ). CameOf plan (updater plan) r.front passed) (sym (as_before other))
-          (came_on plan (updater plan) p.front r.front work.too_soon (on.0 (updater plan) before) (below.updates (well fine).0 before)));
+          (came_on law plan (updater plan) p.front r.front work.too_soon (on.0 (updater plan) before) (below.updates (well fine).0 before)));
       folds = λ fine all.
           let is : n ≡ folder plan = omega (arith, all) in
           let handed = its.handed (well fine).1 is in (

@@ -6,7 +6,7 @@ use Rattle.pie_storm.proofs.Names.{All-tail, nat_tests, own, is_within, GoesOn, 
 use Rattle.pie_storm.proofs.Names.{Rolling, Opening, Refusal, is_refused_full, or_full, refusal_by_rule, refusal_with, due_after, effective_moment}
 use Rattle.pie_storm.proofs.Names.{event_of, entries_of, events_in, handed_to, left_in, number_of, tail_in, EntriesLookBack, Entry, Made, Folded}
 use Rattle.pie_storm.proofs.Names.{Told, CallerView, LinkView, Call, Ask, Fold, Plan, IsFair, calls_of, commands_of, folder, opening_of, AreMade}
-use Rattle.pie_storm.proofs.Names.{CameOf, HasMade, HasNoMore, IsAt, IsCutShort, IsFor, MadeOrCut, is_number}
+use Rattle.pie_storm.proofs.Names.{CameOf, HasMade, HasNoMore, IsAt, IsCutShort, IsFor, MadeOrCut, WereHanded, is_number}
 use Rattle.std.proofs.lemmas.List.Elements.{filter-append}
 use Rattle.std.proofs.lemmas.Option.{slice_get_within}
 use Rattle.pie_event.specs.declared.opening.Mode.{Mode}
@@ -146,127 +146,135 @@ full_after opening history command why fair is not_soon =
     (which (refusal_by_rule opening events command) (is_refused_full opening.choices.mode (length (tail_in opening history) == opening.limits.tail))
     why is)
 
--- ---- a caller of a storm
+-- ---- what a turn comes to
 
-module _ (plan : Plan) (number k : ℕ) where
-  -- calls that come after the first k
-  pub made_more : (n : ℕ) (calls : List Call) (front after : List Entry) (earlier more : ℕ) → take n (drop k (calls_of plan number)) ≡ calls
-      → AreMade (opening_of plan) number [] (take k (calls_of plan number)) front earlier
-      → AreMade (opening_of plan) number front calls after more
-      → AreMade (opening_of plan) number [] (take (k + n) (calls_of plan number)) after (earlier + more)
-  made_more n calls front after earlier more is so_far made =
-      let all = calls_of plan number in
-      subst (λ (cs : List Call). AreMade (opening_of plan) number [] cs after (earlier + more))
-      (sym (take-add k n all ∙ ap (λ (cs : List Call). take k all ++ cs) is))
-      (made_both (opening_of plan) number [] (take k all) calls front after earlier more so_far made)
+-- the book was full after these calls, and before the caller had an entry for each
+pub record IsFull (opening : Opening) (caller : ℕ) (h : List Entry) (calls : List Call) (after : List Entry) : Type 0 where
+  pub full : min opening.limits.tail opening.limits.events ≤ length (events_in after)
+  pub fewer : length (entries_of caller after) < length (entries_of caller h) + length calls
 
-  -- after k calls there are no more entries
-  pub few_so_far : (front : List Entry) (passed : ℕ) → AreMade (opening_of plan) number [] (take k (calls_of plan number)) front passed
-      → length (entries_of number front) ≤ k
-  few_so_far front passed made = omega (
-    arith,
-    few_made (opening_of plan) number [] (take k (calls_of plan number)) front passed made,
-    length-take k (calls_of plan number),
-  )
+-- a caller that had been shown this history made these calls, and so many were passed over; or the book was full
+unfoldable pub CameBy : Opening → ℕ → List Entry → List Call → List Entry → Option ℕ → Type 0
+CameBy opening caller h calls after (Some passed) = AreMade opening caller h calls after passed
+CameBy opening caller h calls after None = IsFull opening caller h calls after
 
-  module _ (law : EntriesLookBack) (link : LinkView) (link_for : IsFor plan link) (before after : CallerView) (at : IsAt link number before)
-      (earlier : ℕ) (old : List Event) (had : HasMade plan number k before.front earlier old) where
-    -- the next call has an entry after this history
-    has_entry : (call : Call) (history : List Entry) (entry : Entry) → slice_get (calls_of plan number) k ≡ Some call
-        → HasNoMore number before.front history → IsEntryOf number call entry
-        → AreMade (opening_of plan) number [] (take (k + 1) (calls_of plan number)) (history ++ entry ∷ []) (earlier + 0)
-    has_entry call history entry there on is =
-        made_more 1 (call ∷ []) before.front (history ++ entry ∷ []) earlier 0 (one_at (calls_of plan number) k call there) had.made
-        (inl (history, entry, on, is, (stays (opening_of plan) number (history ++ entry ∷ []), refl)))
+module _ (opening : Opening) (caller : ℕ) where
+  -- a front is this history
+  shows : (h front : List Entry) → front ≡ h → HasNoMore caller h front
+  shows h front is = subst (λ (l : List Entry). HasNoMore caller h l) (sym is) (stays opening caller h)
 
-    -- .. or was passed over there
-    has_passed : (call : Call) (history : List Entry) → slice_get (calls_of plan number) k ≡ Some call
-        → HasNoMore number before.front history → WasPassedOver (opening_of plan) history call
-        → AreMade (opening_of plan) number [] (take (k + 1) (calls_of plan number)) history (earlier + 1)
-    has_passed call history there on was =
-        made_more 1 (call ∷ []) before.front history earlier 1 (one_at (calls_of plan number) k call there) had.made
-        (inr (history, 0, on, was, refl, (stays (opening_of plan) number history, refl)))
+  -- one call has its entry right behind a history, or was passed over there
+  one_made : (call : Call) (h : List Entry) (entry : Entry) (front : List Entry) → IsEntryOf caller call entry → front ≡ h ++ entry ∷ []
+      → AreMade opening caller h (call ∷ []) front 0
+  one_made call h entry front is shown = inl (h, entry, stays opening caller h, is, (shows (h ++ entry ∷ []) front shown, refl))
 
-    -- .. or the book was full
-    cut_short : (command : Command) (why : Refusal) (history : List Entry) → slice_get (calls_of plan number) k ≡ Some (Ask command)
-        → IsRefused (opening_of plan) before command why after history → ((d : ℕ) → why ≡ TooSoon d → ⊥)
-        → IsCutShort (opening_of plan) number (commands_of plan number) after.front
-    cut_short command why history there refused not_soon =
-        let asked = command_at plan number k command there in
-        let on = seen link number before history at refused.from.goes_on in
-        subst (λ (front : List Entry). IsCutShort (opening_of plan) number (commands_of plan number) front)
-        (sym (ap (λ (c : CallerView). c.front) refused.seen))
-        (record {
-          before = history;
-          begins = prefix_self history;
-          full = full_after (opening_of plan) history command why (fair_at plan link_for.sound number k command asked) refused.because not_soon;
-          fewer = omega (
-            arith,
-            few_so_far before.front earlier had.made,
-            slice_get_within (commands_of plan number) k command asked,
-            ap (λ (l : List Entry). length l) on.1,
-          );
-        })
+  one_passed : (call : Call) (h front : List Entry) → WasPassedOver opening h call → front ≡ h → AreMade opening caller h (call ∷ []) front 1
+  one_passed call h front was shown = inr (h, 0, stays opening caller h, was, refl, (shows h front shown, refl))
 
-    -- what comes of a command
-    pub asked_next : (command : Command) (answer : Result (Told Answer) Refusal) → slice_get (calls_of plan number) k ≡ Some (Ask command)
-        → Answers link before command answer after → MadeOrCut plan number (k + 1) after.front earlier old (added_by answer)
-    unfolding Answers MadeOrCut added_by
-    asked_next command (Ok told) there answers =
+module _ (plan : Plan) (number k : ℕ) (link : LinkView) (link_for : IsFor plan link) (before after : CallerView) (at : IsAt link number before)
+    (earlier : ℕ) (old : List Event) (had : HasMade plan number k before.front earlier old) where
+  -- the next calls, after a history that goes on from what the caller had been shown
+  pub goes : (n : ℕ) (calls : List Call) (history : List Entry) (new : List Event) (passed : Option ℕ) → length calls ≡ n
+      → take n (drop k (calls_of plan number)) ≡ calls → HasNoMore number before.front history
+      → (number ≡ folder plan → WereHanded plan number new after.front) → (passed ≡ None → k + n ≤ length (commands_of plan number))
+      → CameBy (opening_of plan) number history calls after.front passed → MadeOrCut plan number (k + n) after.front earlier new passed
+  unfolding CameBy MadeOrCut
+  goes n calls history new (Some more) size is on handed there came =
+      let all = calls_of plan number in record {
+        made = subst (λ (cs : List Call). AreMade (opening_of plan) number [] cs after.front (earlier + more))
+            (sym (take-add k n all ∙ ap (λ (cs : List Call). take k all ++ cs) is))
+            (made_both (opening_of plan) number [] (take k all) calls before.front after.front earlier more had.made
+            (made_from (opening_of plan) number before.front history calls after.front more on came));
+        handed = handed;
+      }
+  goes n calls history new None size is on handed there came = record {
+    full = came.full;
+    fewer = omega (
+      arith,
+      came.fewer,
+      size,
+      there refl,
+      few_made (opening_of plan) number [] (take k (calls_of plan number)) before.front earlier had.made,
+      length-take k (calls_of plan number),
+      ap (λ (l : List Entry). length l) on.1,
+    );
+  }
+
+  -- what comes of a command
+  module _ (command : Command) (there : slice_get (calls_of plan number) k ≡ Some (Ask command)) where
+    asked : (history : List Entry) (passed : Option ℕ) → GoesOn number_of before.first before.limit before.front history
+        → CameBy (opening_of plan) number history (Ask command ∷ []) after.front passed → MadeOrCut plan number (k + 1) after.front earlier old passed
+    asked history passed on came =
+        goes 1 (Ask command ∷ []) history old passed refl (one_at (calls_of plan number) k (Ask command) there)
+        (seen link number before history at on) (λ folds. absurd (folder_asks_nothing plan number k command folds there))
+        (λ none. omega (arith, slice_get_within (commands_of plan number) k command (command_at plan number k command there))) came
+
+    cut_short : (why : Refusal) → (history : List Entry) × IsRefused (opening_of plan) before command why after history
+        → ((d : ℕ) → why ≡ TooSoon d → ⊥) → MadeOrCut plan number (k + 1) after.front earlier old None
+    unfolding CameBy
+    cut_short why refused not_soon =
+        let fair = fair_at plan link_for.sound number k command (command_at plan number k command there) in
+        asked refused.0 None refused.1.from.goes_on
+        (subst (λ (h : List Entry). IsFull (opening_of plan) number refused.0 (Ask command ∷ []) h) (sym (ap (λ (c : CallerView). c.front) refused.1.seen))
+        (record { full = full_after (opening_of plan) refused.0 command why fair refused.1.because not_soon; fewer = omega arith }))
+
+    pub asked_next : (answer : Result (Told Answer) Refusal) → Answers link before command answer after
+        → MadeOrCut plan number (k + 1) after.front earlier old (added_by answer)
+    unfolding Answers CameBy added_by
+    asked_next (Ok told) answers =
         let a = answers (opening_of plan) link_for.opened in
         let taken : IsTaken (opening_of plan) before command told after a.0 = a.1 in
-        let on = seen link number before a.0 at taken.from.goes_on in
-        subst (λ (front : List Entry). HasMade plan number (k + 1) front (earlier + 0) old) (sym (ap (λ (c : CallerView). c.front) taken.recorded))
-        (record {
-          made = has_entry (Ask command) a.0 (Made (event_of before.first command told.answer)) there on (at.first, refl);
-          handed = λ folds. absurd (folder_asks_nothing plan number k command folds there);
-        })
-    asked_next command (Err (TooSoon due)) there answers =
+        asked a.0 (Some 0) taken.from.goes_on
+        (one_made (opening_of plan) number (Ask command) a.0 (Made (event_of before.first command told.answer)) after.front (at.first, refl)
+        (ap (λ (c : CallerView). c.front) taken.recorded))
+    asked_next (Err (TooSoon due)) answers =
         let a = answers (opening_of plan) link_for.opened in
         let refused : IsRefused (opening_of plan) before command (TooSoon due) after a.0 = a.1 in
-        let on = seen link number before a.0 at refused.from.goes_on in
-        subst (λ (front : List Entry). HasMade plan number (k + 1) front (earlier + 1) old) (sym (ap (λ (c : CallerView). c.front) refused.seen))
-        (record {
-          made = has_passed (Ask command) a.0 there on
-              (record { due = due; refused = too_soon_by_rule (opening_of plan) a.0 command due refused.because });
-          handed = λ folds. absurd (folder_asks_nothing plan number k command folds there);
-        })
-    asked_next command (Err Moment) there answers =
-        let a = answers (opening_of plan) link_for.opened in cut_short command Moment a.0 there a.1 (λ d e. cc e)
-    asked_next command (Err Size) there answers =
-        let a = answers (opening_of plan) link_for.opened in cut_short command Size a.0 there a.1 (λ d e. cc e)
-    asked_next command (Err Exhausted) there answers =
-        let a = answers (opening_of plan) link_for.opened in cut_short command Exhausted a.0 there a.1 (λ d e. cc e)
-    asked_next command (Err HistoryFull) there answers =
-        let a = answers (opening_of plan) link_for.opened in cut_short command HistoryFull a.0 there a.1 (λ d e. cc e)
+        asked a.0 (Some 1) refused.from.goes_on
+        (one_passed (opening_of plan) number (Ask command) a.0 after.front
+        (record { due = due; refused = too_soon_by_rule (opening_of plan) a.0 command due refused.because })
+        (ap (λ (c : CallerView). c.front) refused.seen))
+    asked_next (Err Moment) answers = cut_short Moment (answers (opening_of plan) link_for.opened) (λ d e. cc e)
+    asked_next (Err Size) answers = cut_short Size (answers (opening_of plan) link_for.opened) (λ d e. cc e)
+    asked_next (Err Exhausted) answers = cut_short Exhausted (answers (opening_of plan) link_for.opened) (λ d e. cc e)
+    asked_next (Err HistoryFull) answers = cut_short HistoryFull (answers (opening_of plan) link_for.opened) (λ d e. cc e)
 
-    -- what comes of a fold
-    pub folded_next : (n : ℕ) (answer : Result (Told (Vec Event Global)) FoldRefusal) (new : List Event) (passed : Option ℕ)
-        → slice_get (calls_of plan number) k ≡ Some (Fold n) → Folds link before n answer after → TakenIn answer old new passed
-        → MadeOrCut plan number (k + 1) after.front earlier new passed
-    unfolding Folds MadeOrCut TakenIn
-    folded_next n (Ok told) new passed there answers kept =
+  -- what comes of a fold
+  module _ (law : EntriesLookBack) (n : ℕ) (there : slice_get (calls_of plan number) k ≡ Some (Fold n)) where
+    handed_before : (history : List Entry) → HasNoMore number before.front history → number ≡ folder plan → WereHanded plan number old history
+    handed_before history on folds = had.handed folds ∙ sym (handed_same law (opening_of plan) number before.front history on.0 on.1)
+
+    folded : (history : List Entry) (new : List Event) (passed : Option ℕ) (more : ℕ) → passed ≡ Some more → HasNoMore number before.front history
+        → (number ≡ folder plan → WereHanded plan number new after.front)
+        → AreMade (opening_of plan) number history (Fold n ∷ []) after.front more → MadeOrCut plan number (k + 1) after.front earlier new passed
+    unfolding CameBy
+    folded history new passed more some on handed made =
+        subst (λ (p : Option ℕ). MadeOrCut plan number (k + 1) after.front earlier new p) (sym some)
+        (goes 1 (Fold n ∷ []) history new (Some more) refl (one_at (calls_of plan number) k (Fold n) there) on handed (λ none. absurd (cc none)) made)
+
+    pub folded_next : (answer : Result (Told (Vec Event Global)) FoldRefusal) (new : List Event) (passed : Option ℕ)
+        → Folds link before n answer after → TakenIn answer old new passed → MadeOrCut plan number (k + 1) after.front earlier new passed
+    unfolding Folds TakenIn
+    folded_next (Ok told) new passed answers kept =
         let a = answers (opening_of plan) link_for.opened in
         let made : IsFoldMade (opening_of plan) before n told after a.0 = a.1 in
         let on = seen link number before a.0 at made.from.goes_on in
-        let handed = λ (folds : number ≡ folder plan). kept.0 ∙ (ap (λ (es : List Event). es ++ told.answer.items)
-        (had.handed folds ∙ sym (handed_same law (opening_of plan) number before.front a.0 on.0 on.1))
+        let shown : after.front ≡ a.0 ++ Folded before.first n ∷ [] = ap (λ (c : CallerView). c.front) made.recorded in
+        folded a.0 new passed 0 kept.1 on
+        (λ folds. kept.0 ∙ (ap (λ (es : List Event). es ++ told.answer.items) (handed_before a.0 on folds)
         ∙ (ap (λ (es : List Event). handed_to (is_number number) (opening_of plan) [] a.0 ++ es) made.folded.oldest
-        ∙ sym (handed_more law (opening_of plan) number a.0 n before.first at.first))) in
-        subst (λ (p : Option ℕ). MadeOrCut plan number (k + 1) after.front earlier new p) (sym kept.1)
-        (subst (λ (front : List Entry). HasMade plan number (k + 1) front (earlier + 0) new) (sym (ap (λ (c : CallerView). c.front) made.recorded))
-        (record { made = has_entry (Fold n) a.0 (Folded before.first n) there on (at.first, refl); handed = handed }))
-    folded_next n (Err (TooMany held)) new passed there answers kept =
+        ∙ (sym (handed_more law (opening_of plan) number a.0 n before.first at.first)
+        ∙ ap (λ (h : List Entry). handed_to (is_number number) (opening_of plan) [] h) (sym shown)))))
+        (one_made (opening_of plan) number (Fold n) a.0 (Folded before.first n) after.front (at.first, refl) shown)
+    folded_next (Err (TooMany held)) new passed answers kept =
         let a = answers (opening_of plan) link_for.opened in
         let refused : IsFoldRefused (opening_of plan) before n (TooMany held) after a.0 = a.1 in
         let on = seen link number before a.0 at refused.from.goes_on in
-        subst (λ (p : Option ℕ). MadeOrCut plan number (k + 1) after.front earlier new p) (sym kept.1)
-        (subst (λ (front : List Entry). HasMade plan number (k + 1) front (earlier + 1) new) (sym (ap (λ (c : CallerView). c.front) refused.seen))
-        (record {
-          made = has_passed (Fold n) a.0 there on (omega (arith, refused.because.0, refused.because.1));
-          handed = λ folds. kept.0 ∙ (had.handed folds ∙ sym (handed_same law (opening_of plan) number before.front a.0 on.0 on.1));
-        }))
-    folded_next n (Err Memory) new passed there answers kept = absurd kept
+        let shown : after.front ≡ a.0 = ap (λ (c : CallerView). c.front) refused.seen in
+        folded a.0 new passed 1 kept.1 on
+        (λ folds. kept.0 ∙ (handed_before a.0 on folds ∙ ap (λ (h : List Entry). handed_to (is_number number) (opening_of plan) [] h) (sym shown)))
+        (one_passed (opening_of plan) number (Fold n) a.0 after.front (omega (arith, refused.because.0, refused.because.1)) shown)
+    folded_next (Err Memory) new passed answers kept = absurd kept
 
 -- ---- from the first call to the last
 

@@ -70,11 +70,9 @@ AreMade opening caller front (call ∷ calls) history passed =
     ⊎ ((before : List Entry) × (fewer : ℕ) × HasNoMore caller front before × WasPassedOver opening before call × (passed ≡ fewer + 1)
     × AreMade opening caller before calls history fewer)
 
--- the caller stopped where the book was full, after a beginning of the history, and before it had an entry for each command
+-- the caller stopped where the book was full, and before it had an entry for each command
 pub record IsCutShort (opening : Opening) (caller : ℕ) (commands : List Command) (history : List Entry) : Type 0 where
-  pub before : List Entry
-  pub begins : IsPrefix before history
-  pub full : min opening.limits.tail opening.limits.events ≤ length (events_in before)
+  pub full : min opening.limits.tail opening.limits.events ≤ length (events_in history)
   pub fewer : length (entries_of caller history) < length commands
 
 -- what came of a caller's calls in this history
@@ -171,27 +169,18 @@ abbrev pub IsMade : Entry → Type 0
 IsMade (Made event) = Unit {0}
 IsMade (Folded caller n) = ⊥
 
--- the commands of these events
-abbrev pub commands_in : List Event → List Command
-commands_in events = map (λ (event : Event). event.command) events
-
 -- these events are those that the plan asks for, but for so many updates that were too soon; and so many of its folds were of more
 -- events than the tail held
 pub record IsStorm (plan : Plan) (events : List Event) (too_soon too_many : ℕ) : Type 0 where
-  -- each sender's arrivals, in order; senders are counted from 0
-  pub arrivals : (sender : ℕ) → sender < senders plan → commands_in (events_of (sender + 1) events) ≡ sent plan.arrivals.items sender
-  -- the departures, in order, and the changes
-  pub departures : commands_in (events_of (senders plan + 1) events) ≡ map Depart plan.departs.items
-  pub changes : commands_in (events_of (senders plan + 3) events) ≡ map change plan.changes.items
   -- the link's history, of which these are the events
   pub history : List Entry
   pub of_history : events_in history ≡ events
-  -- the updates, in order, but for those that were too soon; and the folds, but for those that were of too many events: each at its place
-  pub updates : AreMade (opening_of plan) (updater plan) [] (map Ask (map Update plan.updates.items)) history too_soon
-  pub folds : AreMade (opening_of plan) (folder plan) [] (map Fold plan.folds.items) history too_many
-  -- no other caller has an event, and no other a fold
-  pub no_others : (caller : ℕ) → (caller ≡ 0) ⊎ (senders plan + 3 < caller) → events_of caller events ≡ []
-  pub no_other_folds : (caller : ℕ) → (caller ≡ folder plan → ⊥) → All IsMade (entries_of caller history)
+  -- the updates and the folds were made, but for so many, and no others of their callers
+  pub updates : AreMade (opening_of plan) (updater plan) [] (calls_of plan (updater plan)) history too_soon
+  pub folds : AreMade (opening_of plan) (folder plan) [] (calls_of plan (folder plan)) history too_many
+  -- .. and of each other caller all its calls, and no others
+  pub others : (caller : ℕ) → (caller ≡ updater plan → ⊥) → (caller ≡ folder plan → ⊥)
+      → AreMade (opening_of plan) caller [] (calls_of plan caller) history 0
 
 -- a storm of this plan ended so: what was recorded is a legal history that the plan asks for, and the book held what looking back over it gives
 pub record IsEndOf (plan : Plan) (end : StormEnd) : Type 0 where

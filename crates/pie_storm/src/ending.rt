@@ -20,7 +20,7 @@ pub struct StormEnd {
 }
 
 /// Why a storm has no end (this project's own). They are looked for in this order: `BadPlan` before all else, then `Opening`, then
-/// `Thread` and the memory for the answers to bursts, and last the memory for events. `Gap` never comes. Nothing of the run is kept.
+/// `Thread`, and last `Memory`. `Gap` never comes. Nothing of the run is kept.
 #[derive(Clone, Copy, Debug, PartialEq, Eq, Error)]
 pub enum StormFault {
     /// The plan has fewer than 2 or more than 8 senders, bursts outside 1 to 1024 arrivals, a moment above `2^60 - 1`, an arrival whose

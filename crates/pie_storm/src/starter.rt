@@ -1,5 +1,5 @@
 //! The storm: a link under many threads at once, recorded.
-ghost use Rattle.std.specs.Prelude.{vec_capacity, ◌≡◌, ◌+◌, ◌*◌, ◌^◌, ◌≤◌, ◌≢◌, ◌↔◌, ◌⊎◌, ◌++◌, ℕ, List, false, Some, None, Err, IfSome, IfOk, IfErr, OnOk};
+ghost use Rattle.std.specs.Prelude.{◌≡◌, ◌+◌, ◌*◌, ◌^◌, ◌≤◌, ◌≢◌, ◌↔◌, ◌++◌, ℕ, List, false, Some, None, Err, IfSome, IfOk, IfErr, OnOk};
 ghost use denote.Param.Send.{IsSync};
 ghost use Rattle.pie_event.specs.declared.command.Event.{Event};
 ghost use Rattle.pie_book.specs.Book.{Tells};
@@ -9,39 +9,20 @@ ghost use Rattle.pie_storm.specs.declared.plan.Plan.{Plan};
 ghost use Rattle.pie_kept.specs.Entries.{number_of};
 ghost use Rattle.pie_link.specs.declared.refusal.LinkRefusal.{LinkRefusal};
 ghost use Rattle.pie_link.specs.Opening.{IsRefusedFor, link_refusal};
-ghost use Rattle.pie_storm.specs.Plans.{IsSound, opening_of, senders, turn_of, updater};
+ghost use Rattle.pie_storm.specs.Plans.{IsSound, opening_of, senders, updater};
 ghost use Rattle.pie_storm.specs.Storms.{Begins, IsEndOf, IsFor, IsWell, IsWorkBelow, IsWorkOf};
 ghost use Rattle.pie_lock.specs.Promises.{IsBothOf, first_pass};
 
 use crate::ending::{StormEnd, StormFault};
 use crate::gate::Gate;
 use crate::plan::Plan;
-use crate::worker::{Folding, Replies, Work, make_calls};
+use crate::worker::{Folding, Work, make_calls};
 use pie_book::{Book, Event, Recorded};
 use pie_link::{Caller, Link, LinkRefusal, entries_look_back};
-use std::alloc::{AllocError, Global};
+use std::alloc::Global;
 use std::sync::Wait;
 use std::thread;
 use std::thread::{Promise, PromisedHandle, Scope, Threads};
-
-// Why a worker was not started: its thread was refused, or the memory for what its bursts are answered.
-#[derive(Clone, Copy)]
-enum Unstarted {
-    Thread,
-    Memory,
-}
-
-impl Unstarted {
-    // The storm's fault.
-    fn fault(self) -> StormFault
-        ensures { (result ≡ StormFault.Thread) ⊎ (result ≡ StormFault.Memory) }
-    {
-        match self {
-            Unstarted::Thread => StormFault::Thread,
-            Unstarted::Memory => StormFault::Memory,
-        }
-    }
-}
 
 // What a worker promises: it made all calls of the caller with this number.
 #[derive(Clone, Copy)]
@@ -55,16 +36,8 @@ impl<'a> Promise<Work> for MakesAll<'a> {
     ghost kept_by = { λ p work. IsWorkOf p.link.now p.plan.now p.caller work };
 }
 
-// A vector with room for what the burst of a caller is answered: a caller whose turn is one command needs none.
-fn room_for_replies(alloc: Global, plan: &Plan, caller: u16) -> Result<Replies, AllocError>
-    ensures { IfOk result (λ replies. turn_of plan.now caller ≢ 1 → turn_of plan.now caller ≤ vec_capacity replies) }
-{
-    let turn = plan.turn(caller);
-    Vec::with_capacity(alloc, if turn == 1 { 0 } else { turn })
-}
-
-// Starts the worker of a caller in a thread of its own. Apart from `work_in`, which would let one caller more go on each way out. Both call
-// `drop` on what a way out lets go, so that it is proved once how that goes.
+// Starts the worker of a caller in a thread of its own, where that is not refused. Apart from `work_in`, which would let one caller more go on
+// each way out.
 fn start<'s, E: 's, R: Threads + Wait + Sync, G: Gate + Sync>(
     scope: &Scope<'s, E>,
     rt: &'s R,
@@ -73,17 +46,13 @@ fn start<'s, E: 's, R: Threads + Wait + Sync, G: Gate + Sync>(
     plan: &'s Plan,
     gate: &'s G,
     caller: Caller,
-) -> Result<PromisedHandle<Work, MakesAll<'s>>, Unstarted>
+) -> Option<PromisedHandle<Work, MakesAll<'s>>>
     requires begins { Begins link.now plan.now caller }
     requires one { caller.limit ≡ caller.first + 1 }
-    ensures { IfOk result (λ worker. (worker.promise.link.now ≡ link.now) × (worker.promise.plan.now ≡ plan.now)
+    ensures { IfSome result (λ worker. (worker.promise.link.now ≡ link.now) × (worker.promise.plan.now ≡ plan.now)
         × (worker.promise.caller ≡ caller.first)) }
 {
     let number = caller.first();
-    let Ok(replies) = room_for_replies(alloc, plan, number) else {
-        drop(caller);
-        return Err(Unstarted::Memory);
-    };
     let promise = MakesAll {
         link,
         plan,
@@ -92,15 +61,14 @@ fn start<'s, E: 's, R: Threads + Wait + Sync, G: Gate + Sync>(
     match scope.spawn_with(
         promise,
         move || -> Work
-            requires { Begins link.now plan.now caller × (caller.limit ≡ caller.first + 1)
-                × (turn_of plan.now caller.first ≢ 1 → turn_of plan.now caller.first ≤ vec_capacity replies) }
+            requires { Begins link.now plan.now caller × (caller.limit ≡ caller.first + 1) }
             ensures { IsWorkOf link.entry.now plan.entry.now caller.first result }
-        { make_calls(rt, alloc, link, plan, gate, caller, replies) },
+        { make_calls(rt, alloc, link, plan, gate, caller) },
     ) {
-        Ok(worker) => Ok(worker),
+        Ok(worker) => Some(worker),
         Err(refused) => {
             drop(refused);
-            Err(Unstarted::Thread)
+            None
         }
     }
 }
@@ -115,37 +83,34 @@ fn work_in<'s, E: 's, R: Threads + Wait + Sync, G: Gate + Sync>(
     plan: &'s Plan,
     gate: &'s G,
     caller: Caller,
-) -> Result<Work, Unstarted>
+) -> Option<Work>
     requires begins { Begins link.now plan.now caller }
     requires first { caller.first ≡ 0 }
-    ensures { IfOk result (IsWorkBelow link.now plan.now caller.limit) }
+    ensures { IfSome result (IsWorkBelow link.now plan.now caller.limit) }
 {
     let mut rest = caller;
     let last = match link.share(&mut rest) {
         Ok(last) => last,
         Err(_) => {
-            return Ok(Work {
+            return Some(Work {
                 caller: rest,
                 passed: 0,
                 too_soon: 0,
-                folding: Folding::none(alloc),
+                folding: Folding::none(alloc, 0),
             });
         }
     };
-    let worker = match start(scope, rt, alloc, link, plan, gate, last) {
-        Ok(worker) => worker,
-        Err(why) => {
-            drop(rest);
-            return Err(why);
-        }
+    let Some(worker) = start(scope, rt, alloc, link, plan, gate, last) else {
+        drop(rest);
+        return None;
     };
     let others = work_in(scope, rt, alloc, link, plan, gate, rest);
     let theirs = worker.join(rt);
     match others {
-        Ok(others) => Ok(both(link, plan, others, theirs)),
-        Err(why) => {
+        Some(others) => Some(both(link, plan, others, theirs)),
+        None => {
             drop(theirs);
-            Err(why)
+            None
         }
     }
 }
@@ -158,17 +123,17 @@ fn work_at_once<R: Threads + Wait + Sync, G: Gate + Sync>(
     plan: &Plan,
     gate: &G,
     caller: Caller,
-) -> Result<Work, Unstarted>
+) -> Option<Work>
     requires begins { Begins link.now plan.now caller }
     requires first { caller.first ≡ 0 }
-    ensures { IfOk result (IsWorkBelow link.now plan.now caller.limit) }
+    ensures { IfSome result (IsWorkBelow link.now plan.now caller.limit) }
 {
     thread::scope(
         thread::scope_env(),
         rt,
-        |scope| -> Result<Work, Unstarted>
+        |scope| -> Option<Work>
             requires { IsSync R.row × IsSync G.row × Begins link.now plan.now caller × (caller.first ≡ 0) }
-            ensures { IfOk result (IsWorkBelow link.entry.now plan.entry.now caller.limit) }
+            ensures { IfSome result (IsWorkBelow link.entry.now plan.entry.now caller.limit) }
         { work_in(scope, rt, alloc, link, plan, gate, caller) },
     )
 }
@@ -227,9 +192,8 @@ fn both(link: &Link, plan: &Plan, work: Work, last: Work) -> Work
 /// # Errors
 ///
 /// `BadPlan` before anything else, where the plan is not sound; `Opening` where the link is not opened; `Thread` where a worker's
-/// thread could not be started, whatever the others met, or `Memory` where there was none for the answers to its bursts; then
-/// `Memory`, where a fold or the list of all events had none. All workers that were started have ended then. `Gap` never comes: no
-/// event is lost between folds and tail.
+/// thread could not be started, whatever the others met; then `Memory`, where a fold, the answers to a burst or the list of all events
+/// had none. All workers that were started have ended then. `Gap` never comes: no event is lost between folds and tail.
 pub fn storm<R: Threads + Wait + Sync, G: Gate + Sync>(
     rt: &R,
     alloc: Global,
@@ -273,9 +237,8 @@ fn run<R: Threads + Wait + Sync, G: Gate + Sync>(
     ensures no_gap { result ≢ Err StormFault.Gap }
 {
     entries_look_back();
-    let work = match work_at_once(rt, alloc, &link, plan, gate, starter) {
-        Ok(work) => work,
-        Err(why) => return Err(why.fault()),
+    let Some(work) = work_at_once(rt, alloc, &link, plan, gate, starter) else {
+        return Err(StormFault::Thread);
     };
     let Work {
         caller,

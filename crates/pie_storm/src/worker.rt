@@ -1,5 +1,5 @@
 //! The workers of a storm: each makes the calls of one caller, one after another.
-ghost use Rattle.std.specs.Prelude.{◌≡◌, ◌≢◌, ◌+◌, ◌^◌, ◌<◌, ◌≤◌, ◌-◌, ◌++◌, [], false, Some, IfSome, length, vec_capacity};
+ghost use Rattle.std.specs.Prelude.{◌≡◌, ◌+◌, ◌^◌, ◌<◌, ◌≤◌, ◌-◌, ◌++◌, [], false, Some, IfSome, length};
 ghost use Rattle.pie_link.specs.Commands.{Answers};
 ghost use Rattle.pie_link.specs.Views.{StaysOne};
 ghost use Rattle.pie_storm.specs.Plans.{calls_of, commands_of, senders, turn_of};
@@ -23,23 +23,29 @@ pub(crate) struct Work {
     pub(crate) folding: Folding,
 }
 
-/// What folds handed out, one after another.
+/// What a worker is handed.
 #[derive(Drop)]
 pub(crate) struct Folding {
-    /// The folded events, while none is missing.
+    /// What its folds handed out, one after another, while none is missing.
     pub(crate) events: Vec<Recorded>,
-    /// Whether memory was wanting for the events of a fold.
+    // What the arrivals of its last burst were answered.
+    replies: Vec<Result<Told<Answer>, Refusal>>,
+    /// Whether memory was wanting for the events of a fold, or for the answers to a burst.
     pub(crate) is_short_of_memory: bool,
 }
 
 impl Folding {
-    /// No folds.
-    pub(crate) fn none(alloc: Global) -> Folding
-        ensures events { result.events.items ≡ [] }
-        ensures well { IsWell result }
+    /// No folds, and room for so many answers, where there is memory for them.
+    pub(crate) fn none(alloc: Global, answers: usize) -> Folding
+        ensures { result.events.items ≡ [] }
     {
+        let replies = match Vec::with_capacity(alloc, answers) {
+            Ok(replies) => replies,
+            Err(_) => Vec::new(alloc),
+        };
         Folding {
             events: Vec::new(alloc),
+            replies,
             is_short_of_memory: false,
         }
     }
@@ -110,9 +116,6 @@ fn ask<R: Wait>(
     }
 }
 
-/// What the arrivals of a burst are answered.
-pub(crate) type Replies = Vec<Result<Told<Answer>, Refusal>>;
-
 // What an answer adds to the updates that were too soon; none where the book was full.
 #[tactic(auto, unfolding(crate::specs::Storms::added_by))]
 fn added_by(answer: &Result<Told<Answer>, Refusal>) -> Option<u64>
@@ -161,14 +164,14 @@ fn call_next<R: Wait>(
     }
 }
 
-// Hands in at once the `count` arrivals of a sender that come after `k` others. There is no answer where the book was full.
+// Hands in at once the `count` arrivals of a sender that come after `k` others. There is no answer where the book was full, or memory was wanting.
 fn send_next<R: Wait>(
     rt: &R,
     link: &Link,
     plan: &Plan,
     number: u16,
     caller: &mut Caller,
-    replies: &mut Replies,
+    folding: &mut Folding,
     k: usize,
     count: usize,
 ) -> Option<u64>
@@ -177,16 +180,16 @@ fn send_next<R: Wait>(
     requires sender { (1 ≤ number) × (number ≤ senders plan.now) }
     requires some { 1 ≤ count }
     requires there { k + count ≤ length (commands_of plan.now number) }
-    requires room { count ≤ vec_capacity replies.old }
-    ensures turn { (folding : Folding) → TakesTurn link.now plan.now number k (k + count) caller.old caller.new folding folding result }
-    ensures capacity { vec_capacity replies.new ≡ vec_capacity replies.old }
+    ensures { TakesTurn link.now plan.now number k (k + count) caller.old caller.new folding.old folding.new result }
 {
+    entries_look_back();
     let burst = plan.burst(number, k, count);
-    replies.clear();
-    let Ok(()) = link.arrive_all(rt, caller, burst, replies) else {
-        unreachable!()
+    folding.replies.clear();
+    let Ok(()) = link.arrive_all(rt, caller, burst, &mut folding.replies) else {
+        folding.is_short_of_memory = true;
+        return None;
     };
-    added_by_all(replies.as_slice())
+    added_by_all(folding.replies.as_slice())
 }
 
 // Makes the `count` calls of a caller that come after `k` others, in one turn at the link, and tells how many were passed over.
@@ -196,7 +199,6 @@ fn make_turn<R: Wait>(
     plan: &Plan,
     number: u16,
     caller: &mut Caller,
-    replies: &mut Replies,
     folding: &mut Folding,
     k: usize,
     count: usize,
@@ -206,14 +208,12 @@ fn make_turn<R: Wait>(
     requires some { 1 ≤ count }
     requires turn { count ≤ turn_of plan.now number }
     requires there { k + count ≤ length (calls_of plan.now number) }
-    requires room { turn_of plan.now number ≢ 1 → turn_of plan.now number ≤ vec_capacity replies.old }
-    ensures turn { TakesTurn link.now plan.now number k (k + count) caller.old caller.new folding.old folding.new result }
-    ensures capacity { vec_capacity replies.new ≡ vec_capacity replies.old }
+    ensures { TakesTurn link.now plan.now number k (k + count) caller.old caller.new folding.old folding.new result }
 {
     if plan.turn(number) == 1 {
         call_next(rt, link, plan, number, caller, folding, k)
     } else {
-        send_next(rt, link, plan, number, caller, replies, k, count)
+        send_next(rt, link, plan, number, caller, folding, k, count)
     }
 }
 
@@ -225,12 +225,10 @@ fn make_all<R: Wait, G: Gate>(
     gate: &G,
     number: u16,
     caller: &mut Caller,
-    replies: &mut Replies,
     folding: &mut Folding,
 ) -> u64
     requires begins { Begins link.now plan.now caller.old }
     requires at { IsAt link.now number caller.old }
-    requires room { turn_of plan.now number ≢ 1 → turn_of plan.now number ≤ vec_capacity replies.old }
     requires none { folding.old.events.items ≡ [] }
     ensures { IsWorkOf link.now plan.now number (record { caller = caller.new; passed = result; too_soon = 0; folding = folding.new }) }
 {
@@ -243,7 +241,7 @@ fn make_all<R: Wait, G: Gate>(
         let count = turn.min(calls - k);
         call += 1;
         gate.before(number, call);
-        match make_turn(rt, link, plan, number, caller, replies, folding, k, count) {
+        match make_turn(rt, link, plan, number, caller, folding, k, count) {
             Some(more) => {
                 gate.after(number, call);
                 passed += more;
@@ -266,26 +264,16 @@ pub(crate) fn make_calls<R: Wait, G: Gate>(
     plan: &Plan,
     gate: &G,
     caller: Caller,
-    replies: Replies,
 ) -> Work
     requires begins { Begins link.now plan.now caller }
     requires one { caller.limit ≡ caller.first + 1 }
-    requires room { turn_of plan.now caller.first ≢ 1 → turn_of plan.now caller.first ≤ vec_capacity replies }
     ensures { IsWorkOf link.now plan.now caller.first result }
 {
-    let (mut caller, mut replies) = (caller, replies);
-    let mut folding = Folding::none(alloc);
+    let mut caller = caller;
     let number = caller.first();
-    let passed = make_all(
-        rt,
-        link,
-        plan,
-        gate,
-        number,
-        &mut caller,
-        &mut replies,
-        &mut folding,
-    );
+    let turn = plan.turn(number);
+    let mut folding = Folding::none(alloc, if turn == 1 { 0 } else { turn });
+    let passed = make_all(rt, link, plan, gate, number, &mut caller, &mut folding);
     Work {
         caller,
         passed,

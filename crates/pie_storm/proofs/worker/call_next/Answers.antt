@@ -12,8 +12,8 @@ returns-in-Some-Ask g c =
       goes = λ earlier well had.
           subst (λ (passed : Option ℕ). MadeOrCut c.args.plan.now c.args.number (c.args.k + 1) c.ask.new.caller.front earlier
           c.args.folding.now.events.items passed) (sym c.added_by.ensures.value)
-          (asked_next c.args.plan.now c.args.number c.args.k c.entries_look_back.ensures c.args.link.now c.requires.link_for c.args.caller.now
-          c.ask.new.caller at earlier c.args.folding.now.events.items had c.in-Some-Ask.command c.ask.result (sym c.in-Some-Ask.ensures ∙ ap Some c.in-Some-Ask.field-0-is)
+          (asked_next c.args.plan.now c.args.number c.args.k c.args.link.now c.requires.link_for c.args.caller.now c.ask.new.caller at earlier
+          c.args.folding.now.events.items had c.in-Some-Ask.command (sym c.in-Some-Ask.ensures ∙ ap Some c.in-Some-Ask.field-0-is) c.ask.result
           c.ask.ensures.answered);
     }
 
@@ -25,7 +25,8 @@ returns-in-Some-Fold g c =
       few = c.take_in.ensures.few;
       well = c.take_in.ensures.well;
       goes = λ earlier well had.
-          folded_next c.args.plan.now c.args.number c.args.k c.entries_look_back.ensures c.args.link.now c.requires.link_for c.args.caller.now
-          c.fold.new.caller at earlier c.args.folding.now.events.items had c.in-Some-Fold.n c.fold.result c.take_in.new.self.events.items
-          c.take_in.result (sym c.in-Some-Fold.ensures ∙ ap Some c.in-Some-Fold.field-0-is) c.fold.ensures.folded (c.take_in.ensures.taken well);
+          folded_next c.args.plan.now c.args.number c.args.k c.args.link.now c.requires.link_for c.args.caller.now c.fold.new.caller at earlier
+          c.args.folding.now.events.items had c.entries_look_back.ensures c.in-Some-Fold.n
+          (sym c.in-Some-Fold.ensures ∙ ap Some c.in-Some-Fold.field-0-is) c.fold.result c.take_in.new.self.events.items c.take_in.result
+          c.fold.ensures.folded (c.take_in.ensures.taken well);
     }

@@ -7,7 +7,6 @@ loop-k-init g c = record {
   calls = omega arith;
   few = omega arith;
   within = omega arith;
-  room = refl;
   at = c.requires.at;
   made = λ well. made_none c.args.plan.now c.args.number c.args.caller.now.front c.args.folding.now.events.items c.requires.begins.new c.requires.none;
 }
@@ -16,11 +15,10 @@ pub loop-k-preserved : goal.loop-k-preserved
 unfolding MadeOrCut
 loop-k-preserved g c =
     let l = c.loop-k.invariant in
-    let turn = c.in-Some.ensures.turn in record {
+    let turn = c.in-Some.ensures in record {
       calls = omega (arith, l.calls, l.within, c.min-count.ensures, c.loop-k-test.true, c.turn-turn.ensures.some c.requires.begins.link_for.sound);
       few = omega (arith, l.few, turn.few);
       within = omega (arith, l.within, c.min-count.ensures);
-      room = c.make_turn.ensures.capacity ∙ l.room;
       at = turn.at;
       made = λ well. turn.goes c.loop-k.passed well (l.made (turn.well well));
     }
@@ -29,7 +27,7 @@ pub returns-in-None : goal.returns-in-None
 unfolding MadeOrCut
 returns-in-None g c =
     let l = c.loop-k.invariant in
-    let turn = c.in-None.ensures.turn in
+    let turn = c.in-None.ensures in
     let cut = λ (well : IsWell c.make_turn.new.folding). turn.goes c.loop-k.passed well (l.made (turn.well well)) in record {
       at = turn.at;
       came = λ well. came_cut c.args.plan.now c.args.number c.make_turn.new.caller.front c.loop-k.passed (cut well);

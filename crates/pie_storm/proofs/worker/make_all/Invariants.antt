@@ -1,4 +1,4 @@
-use Rattle.pie_storm.proofs.Names.{◌≡◌, ◌≤◌, ◌-◌, vec_capacity, HasMade, IsAt, IsWell}
+use Rattle.pie_storm.proofs.Names.{◌≡◌, ◌≤◌, ◌-◌, HasMade, IsAt, IsWell}
 use Rattle.pie_storm.proofs.worker.make_all.Given as goal
 
 abbrev pub invariant-loop-k : goal.invariant-loop-k
@@ -6,7 +6,6 @@ invariant-loop-k g l = record {
   calls : l.call ≤ l.k;
   few : l.passed ≤ l.call;
   within : l.k ≤ l.calls;
-  room : vec_capacity l.replies ≡ vec_capacity l.fn.replies;
   at : IsAt l.link l.number l.caller;
   made : IsWell l.folding → HasMade l.plan l.number l.k l.caller.front l.passed l.folding.events.items;
 }

@@ -11,6 +11,3 @@ send_next-requires-clause-there g c =
       ap (λ (calls : List Call). length calls) (other_calls c.args.plan.now c.args.number (λ is. omega (arith, is, sends))),
       length-map (commands_of c.args.plan.now c.args.number) Ask,
     )
-
-pub returns-else-turn-eq1-clause-turn : goal.returns-else-turn-eq1-clause-turn
-returns-else-turn-eq1-clause-turn g c = c.send_next.ensures.turn c.args.folding.now

@@ -3,8 +3,18 @@ use Rattle.pie_link.specs.Bursts.{AnswersAll}
 use Rattle.pie_storm.proofs.Bursting.{burst_next, few_by_all}
 use Rattle.pie_storm.proofs.worker.send_next.Goals as goal
 
-pub returns-clause-turn : goal.returns-clause-turn
-returns-clause-turn g c = λ folding.
+pub returns-in_default : goal.returns-in_default
+returns-in_default g c =
+    let at = c.requires.at in
+    let stays = c.arrive_all.ensures.stays in record {
+      at = record { own = stays.0 ∙ at.own; first = stays.1 ∙ at.first; limit = stays.2 ∙ at.limit };
+      few = tt;
+      well = λ well. absurd (cc well);
+      goes = λ earlier well had. absurd (cc well);
+    }
+
+pub returns : goal.returns
+returns g c =
     let at = c.requires.at in
     let stays = c.in-Ok.ensures.stays in
     let burst = c.burst-burst.result.now in
@@ -16,7 +26,7 @@ returns-clause-turn g c = λ folding.
       few = few_by_all replies c.added_by_all.result added;
       well = λ well. well;
       goes = λ earlier well had.
-          burst_next c.args.plan.now c.args.number c.args.k c.args.count c.args.link.now c.requires.link_for c.args.caller.now
-          c.arrive_all.new.caller at earlier folding.events.items had burst replies c.requires.some c.requires.sender.1 c.requires.there
-          c.burst-burst.ensures.value c.burst-burst.ensures.long answered c.added_by_all.result added;
+          burst_next c.entries_look_back.ensures c.args.plan.now c.args.number c.args.k c.args.count c.args.link.now c.requires.link_for
+          c.args.caller.now c.arrive_all.new.caller at earlier c.args.folding.now.events.items had burst replies c.requires.some c.requires.sender.1
+          c.requires.there c.burst-burst.ensures.value c.burst-burst.ensures.long answered c.added_by_all.result added;
     }

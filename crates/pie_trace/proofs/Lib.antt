@@ -1,5 +1,6 @@
 mod Names
 pub mod HistoryFacts
+pub mod Passing
 pub mod StepFacts
 pub mod RunFacts
 pub mod EndFacts

@@ -7,11 +7,11 @@ pub use Rattle.std.proofs.lemmas.Bool.Decides.{nat_tests}
 pub use Rattle.std.proofs.lemmas.List.{append-nil}
 pub use Rattle.std.proofs.lemmas.List.Elements.{All-append, All-cons, All-nil, filter_map-append}
 pub use Rattle.std.specs.Prelude.{All, OnErr, codes, nat_lt, option_map, ⊤}
-pub use Rattle.pie_trace.specs.{Answer, Appends, Ask, BadParams, Begins, BookView, Bounded, Clean, Clock, Coming, CoreView, Ends, Err, Event}
-pub use Rattle.pie_trace.specs.{FirstKind, Flaw, Fold, FoldRefusal, Goes, HasField, IfErr, IfOk, IfSome, IsAnswered, IsAt, IsRead, IsTold, IsWrite}
-pub use Rattle.pie_trace.specs.{Line, Migrates, Moves, MovesOn, None, Ok, OnOk, One, Opening, Option, Progress, Refusal, Registers, Replies}
+pub use Rattle.pie_trace.specs.{Answer, Appends, Ask, BadParams, Begins, BookView, Bounded, Clean, Clock, Coming, CoreView, Err, Event}
+pub use Rattle.pie_trace.specs.{FirstKind, Flaw, Fold, FoldRefusal, HasField, IfErr, IfOk, IfSome, IsAt, IsRead, IsTold, IsWrite}
+pub use Rattle.pie_trace.specs.{Line, migrates, moves_on, None, Ok, OnOk, One, Opening, Option, Progress, Refusal, Registers, Replies}
 pub use Rattle.pie_trace.specs.Reply.{Reply}
-pub use Rattle.pie_trace.specs.{Request, Result, Rolling, Row, RunsFrom, Show, Shows, Some, Stands, Stats, Tally, TellTheSame, Tells, TellsHistory}
+pub use Rattle.pie_trace.specs.{Request, Result, Rolling, Row, Show, Shows, Some, Stats, Tally, TellTheSame, Tells, TellsHistory}
 pub use Rattle.pie_trace.specs.{Three, TraceFault, Two, Version, after, append_known, closed, code_of, coming_after, end_at, end_left}
 pub use Rattle.pie_trace.specs.{event_count, events_in, fault_at, fault_behind, fault_from, fields_of, fold_outcome, history_row}
 pub use Rattle.pie_trace.specs.{is_device, is_kind, last_events, later_rows, let_go, line_told, lines_from, migrated_text, migrated_version}

@@ -9,11 +9,12 @@ use Rattle.pie_excerpt.specs.Beginning.{Beginning, BeginsWell, GoesOn, or_fault,
 use Rattle.pie_audit.specs.Finding.{events_of}
 use Rattle.pie_audit.specs.Laws.{EventsAreLines}
 use Rattle.pie_audit.specs.Text.{IsFound, TellsPart, excerpt_lines, whole_finding}
+use Rattle.pie_trace.specs.Laws.{Held}
 use Rattle.pie_trace.specs.History.{end_in, fault_in, going_on}
 use Rattle.pie_trace.specs.Resumed.{going_by, progress_resumed, resumed_end, resumed_fault, resumed_text, resumed_within, within_most}
 use Rattle.pie_record.specs.declared.fault.TraceFault.TheVariants as fault
 use Rattle.pie_trace.proofs.EndFacts.{part-opened}
-use Rattle.pie_trace.proofs.RunBack.{Held, Opens, Sound, before-few, rows-few, rows-told, text-begun}
+use Rattle.pie_trace.proofs.RunBack.{Opens, Sound, before-few, rows-few, rows-told, text-begun}
 use Rattle.pie_trace.proofs.RunFindings.{AreRuns, before-all, lines-legal}
 
 -- what is wanted of the crates below

@@ -1,49 +1,26 @@
 -- The history text of a trace is read back: its opening, the events of its run, and notes.
 use Rattle.pie_trace.proofs.Names.{◌≡◌, ◌≤◌, ◌<◌, ◌+◌, ◌-◌, ◌^◌, ◌==◌, ℕ, List, [], ◌∷◌, ◌++◌, length, Bool, true, false, refl, sym, ap, subst, ◌∙◌}
 use Rattle.pie_trace.proofs.Names.{arith, length-append, if◌then◌else◌, All, nat_lt, take, Option, Some, None, Result, Ok, Err, ltb-true}
-use Rattle.pie_trace.proofs.Names.{nat_tests, All-append, All-cons, All-nil, first_bad, RawParams, Command, Event, Mode, Bounded, Rolling, Opening}
+use Rattle.pie_trace.proofs.Names.{nat_tests, All-append, All-cons, All-nil, first_bad, Command, Event, Mode, Bounded, Rolling, Opening}
 use Rattle.pie_trace.proofs.Names.{FoldRefusal, TooMany, Refusal, last_events, IsLegal, decision, is_refused_full, or_full, refusal_by_rule}
 use Rattle.pie_trace.proofs.Names.{opening_refusal, registers_after, Progress, event_of, fold_outcome, held_with_one, recorded, refused_or, start}
 use Rattle.pie_trace.proofs.Names.{stats_after, Flaw, TraceFault, Request, Ask, BadParams, Clock, Fold, Show, Tally, Draft, FirstKind, Version}
-use Rattle.pie_trace.proofs.Names.{fault_at, before_fault, history_rows, history_text, record_fault, replies, requests_of, text_left, checked_opening}
+use Rattle.pie_trace.proofs.Names.{fault_at, before_fault, history_rows, history_text, record_fault, replies, requests_of, text_left}
 use Rattle.pie_trace.proofs.Names.{opening_of, opening_read, Row, rows_text, text_of, request_of, line_of, Begins, TellEach, TellsHistory}
 use Rattle.pie_trace.proofs.Names.{line_told, lines_told, run_lines, first_fields, first_kind, kind_word, version_of, Reply, after, history_row}
-use Rattle.pie_trace.proofs.Names.{reply, reply_to_command, reply_to_fold, code_of}
+use Rattle.pie_trace.proofs.Names.{reply, reply_to_command, reply_to_fold, code_of, drop, records_of, told_rows, told_by-line, Line}
 use Rattle.std.proofs.lemmas.List.Concat.{flat_map-append}
-use Rattle.pie_event.specs.Deed.{fits}
-use Rattle.pie_event.specs.Ranges.{AnswerFits, CommandFits, ParamsFit, RegistersFit, StatsFit}
-use Rattle.pie_record.specs.Opening.{Checked, opening_by}
-use Rattle.pie_record.specs.Laws.{AnswersAreReadBack, RequestsAreWrittenAgain, TextsAreReadBack}
+use Rattle.pie_event.specs.Ranges.{CommandFits, ParamsFit}
+use Rattle.pie_record.specs.Opening.{opening_by}
+use Rattle.pie_record.specs.Laws.{TextsAreReadBack}
 use Rattle.pie_event.specs.declared.refusal.Refusal.TheVariants as refusal
 use Rattle.pie_record.specs.declared.fault.TraceFault.TheVariants as fault
 use Rattle.pie_trace.specs.History.{Begun, going_on, text_in}
 use Rattle.pie_trace.proofs.EndFacts.{first-one, whole-opened}
 use Rattle.pie_trace.proofs.HistoryFacts.{before_fault-later, flawed-record, long-record, requests_of-cons}
+use Rattle.pie_trace.specs.Laws.{Held}
 use Rattle.pie_trace.proofs.MigrateFirst.{first-word}
-
--- what pie_book promises of all histories, and pie_record of all records
-pub record Held : Type 0 where
-  pub back : AnswersAreReadBack
-  pub again : RequestsAreWrittenAgain
-  pub texts : TextsAreReadBack
-  pub opens : (kind : FirstKind) (draft : Draft) (opening : Opening) → checked_opening kind (first_bad draft.params) draft ≡ Ok opening
-      → Checked draft opening
-  pub params : (params : RawParams) → first_bad params ≡ None → ParamsFit params
-  pub registers : (opening : Opening) (history : List Event) → opening_refusal opening.limits opening.moment ≡ None → ParamsFit opening.params
-      → IsLegal opening history
-      → All (λ event. CommandFits event.command) history → RegistersFit (registers_after opening history)
-  pub stats : (opening : Opening) (history : List Event) → opening_refusal opening.limits opening.moment ≡ None → ParamsFit opening.params
-      → IsLegal opening history
-      → All (λ event. CommandFits event.command) history → StatsFit (stats_after opening history)
-  pub answers : (opening : Opening) (history : List Event) (command : Command) → opening_refusal opening.limits opening.moment ≡ None
-      → ParamsFit opening.params → IsLegal opening history
-      → All (λ event. CommandFits event.command) history → refusal_by_rule opening history command ≡ None
-      → AnswerFits (decision opening history command)
-  pub kinds : (opening : Opening) (history : List Event) (command : Command) → fits command (decision opening history command) ≡ true
-  pub legal_at_first : (opening : Opening) → IsLegal opening []
-  pub legal_with_one_more : (opening : Opening) (history : List Event) (caller : ℕ) (command : Command) → IsLegal opening history
-      → refusal_by_rule opening history command ≡ None
-      → IsLegal opening (history ++ event_of caller command (decision opening history command) ∷ [])
+use Rattle.pie_trace.proofs.MigrateFacts.{told_rows-line, told_rows-none}
 
 abbrev AllFit : List Event → Type 0
 AllFit history = All (λ event. CommandFits event.command) history
@@ -268,15 +245,40 @@ rows-few version number [] given = omega arith
 rows-few version number (row ∷ rows) [] = omega arith
 rows-few version number (row ∷ rows) (reply ∷ given) = let more = rows-few version (number + 1) rows given in omega arith
 
+-- ---- a text that was written
+
+-- its first record opens a history, and each of the others tells a line
+pub record Written (kind : FirstKind) (rest : Row) (rows : List Row) (opening : Opening) (lines : List Line) : Type 0 where
+  pub opens : opening_of (kind_word kind ∷ rest) ≡ Ok opening
+  pub told : TellEach (version_of (kind_word kind ∷ rest)) rows lines
+  pub few : length rows < 2 ^ 32
+
+-- records that each tell a line are all told
+all-told : (version : Version) (most number : ℕ) (rows : List Row) (lines : List Line) → number + length rows ≤ most + 1
+    → TellEach version rows lines → told_rows version most number rows ≡ rows
+unfolding TellEach
+all-told version most number [] lines within tells = told_rows-none version most number
+all-told version most number (row ∷ rows) [] within tells = absurd tells
+all-told version most number (row ∷ rows) (line ∷ lines) within tells =
+    told_rows-line version most number row rows line (told_by-line version most number row line (omega arith) tells.0)
+    ∙ ap (λ (l : List Row). row ∷ l) (all-told version most (number + 1) rows lines (omega arith) tells.1)
+
+module _ (texts : TextsAreReadBack) (kind : FirstKind) (rest : Row) (rows : List Row) (opening : Opening) (lines : List Line) where
+  pub written-tells : Written kind rest rows opening lines → TellsHistory (rows_text ((kind_word kind ∷ rest) ∷ rows)) opening lines
+  written-tells w = texts.history kind rest rows opening lines w.opens (texts.fields _ rows lines w.told) w.told w.few
+
+  pub written-read : Written kind rest rows opening lines → records_of (rows_text ((kind_word kind ∷ rest) ∷ rows)) ≡ (kind_word kind ∷ rest) ∷ rows
+  written-read w = texts.first kind rest rows (texts.fields _ rows lines w.told)
+
+  pub written-kept : Written kind rest rows opening lines → told_rows (version_of (kind_word kind ∷ rest)) (2 ^ 32) 2 rows ≡ rows
+  written-kept w = let few = w.few in all-told (version_of (kind_word kind ∷ rest)) (2 ^ 32) 2 rows lines (omega arith) w.told
+
 -- ---- the first record
 
 pub record Opened (row : Row) (opening : Opening) : Type 0 where
   pub begins : Begins row
   pub accepted : opening_refusal opening.limits opening.moment ≡ None
   pub in_range : first_bad opening.params ≡ None
-
-begins : (row : Row) (kind : FirstKind) → first_kind row ≡ Some kind → Begins row
-begins row kind is = let word = first-word row kind is in record { kind = kind; rest = word.rest; is = word.is }
 
 pub opened : Held → (row : Row) (opening : Opening) → opening_of row ≡ Ok opening → Opened row opening
 unfolding opening_of
@@ -287,7 +289,11 @@ opened held row opening = by (first_kind row) refl
     read kind is (Err what) e = cc
     read kind is (Ok draft) e =
         let c = held.opens kind draft opening e in
-        subst (λ (o : Opening). Opened row o) c.same (record { begins = begins row kind is; accepted = c.accepted; in_range = c.in_range })
+        subst (λ (o : Opening). Opened row o) c.same (record {
+          begins = record { kind = kind; rest = drop 1 row; is = first-word row kind is };
+          accepted = c.accepted;
+          in_range = c.in_range;
+        })
 
     by : (o : Option FirstKind) → first_kind row ≡ o → opening_by o row ≡ Ok opening → Opened row opening
     by None is e = cc
@@ -318,29 +324,27 @@ text-whole most row rows opening some opens =
     ∙ ap (λ (first : List Row). rows_text (first ++ history_rows (version_of row) 2 (before_fault (version_of row) most 2 rows)
     (replies opening start (requests_of (version_of row) (before_fault (version_of row) most 2 rows))))) (first-one row rows))
 
-run-begun : (held : Held) (most : ℕ) (kind : FirstKind) (rest : Row) (rows : List Row) (opening : Opening) → 0 < most → most ≤ 2 ^ 32
+pub run-written : (held : Held) (most : ℕ) (kind : FirstKind) (rest : Row) (rows : List Row) (opening : Opening) → most ≤ 2 ^ 32
     → opening_of (kind_word kind ∷ rest) ≡ Ok opening
-    → TellsHistory (history_text most ((kind_word kind ∷ rest) ∷ rows)) opening (run_lines (version_of (kind_word kind ∷ rest)) most opening rows)
-unfolding run_lines
-run-begun held most kind rest rows opening some few opens =
-    let first : Row = kind_word kind ∷ rest in
+    → let version = version_of (kind_word kind ∷ rest) in
+    let good = before_fault version most 2 rows in
+    let given = replies opening start (requests_of version good) in
+    0 < most → Written kind rest (history_rows version 2 good given) opening (lines_told (requests_of version good) given)
+run-written held most kind rest rows opening few opens some =
     let version : Version = version_of (kind_word kind ∷ rest) in
     let is = opened held (kind_word kind ∷ rest) opening opens in
     let fit : Opens opening = record { accepted = is.accepted; params = held.params opening.params is.in_range } in
-    let asked : List Request = requests_of version (before_fault version most 2 rows) in
-    let given : List Reply = replies opening start asked in
-    let told : TellEach version (history_rows version 2 (before_fault version most 2 rows) given) (lines_told asked given) =
-    rows-told version held most opening 2 start rows few fit (sound-start held opening) in
+    let good = before_fault version most 2 rows in
     let count = before-few version most opening 2 rows (omega arith) in
-    let fewer = rows-few version 2 (before_fault version most 2 rows) given in
-    subst (λ (text : List ℕ). TellsHistory text opening (lines_told asked given)) (sym (text-whole most first rows opening some opens))
-    (held.texts.history kind rest (history_rows version 2 (before_fault version most 2 rows) given) opening (lines_told asked given) opens
-    (held.texts.fields version _ _ told) told (omega arith))
+    let fewer = rows-few version 2 good (replies opening start (requests_of version good)) in
+    record { opens = opens; told = rows-told version held most opening 2 start rows few fit (sound-start held opening); few = omega arith }
 
 pub run-told : (held : Held) (most : ℕ) (row : Row) (rows : List Row) (opening : Opening) → 0 < most → most ≤ 2 ^ 32 → opening_of row ≡ Ok opening
     → TellsHistory (history_text most (row ∷ rows)) opening (run_lines (version_of row) most opening rows)
+unfolding run_lines
 run-told held most row rows opening some few opens =
-    let is = opened held row opening opens in
-    subst (λ (first : Row). TellsHistory (history_text most (first ∷ rows)) opening (run_lines (version_of first) most opening rows))
-    (sym is.begins.is)
-    (run-begun held most is.begins.kind is.begins.rest rows opening some few (ap opening_of (sym is.begins.is) ∙ opens))
+    let is = (opened held row opening opens).begins in
+    subst (λ (first : Row). TellsHistory (history_text most (first ∷ rows)) opening (run_lines (version_of first) most opening rows)) (sym is.is)
+    (let there = ap opening_of (sym is.is) ∙ opens in
+    rw (text-whole most (kind_word is.kind ∷ is.rest) rows opening some there)
+    (written-tells held.texts is.kind is.rest _ opening _ (run-written held most is.kind is.rest rows opening few there some)))

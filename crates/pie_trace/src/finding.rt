@@ -8,13 +8,9 @@ ghost use Rattle.pie_trace.specs.declared.run.RunEnd.{RunEnd};
 ghost use Rattle.pie_text.specs.Lost.{lost_row};
 ghost use Rattle.pie_audit.specs.Text.{IsFound, excerpt_fault};
 
-use crate::law::history_texts_are_read_back;
+use crate::law::{all_is_held, history_texts_are_read_back};
 use pie_audit::{clean_is_legal, clean_parts_are_legal, events_are_lines, written_parts_are_told};
-use pie_book::all_numbers_are_held;
 use pie_excerpt::beginnings_are_written_again;
-use pie_record::{
-    answers_are_read_back, openings_are_checked, requests_are_written_again, texts_are_read_back,
-};
 
 /// What a run writes is found clean: the finding of the history text of a trace is `Clean`, with as many events as the run recorded
 /// (`whole`). Where the trace has a fault, its history text is that of the records before it, and is found clean as far as it
@@ -28,7 +24,7 @@ pub fn runs_are_clean()
         → text_finding (records_of (history_text most (row ∷ rows)))
         ≡ Ok (Clean (length (progress_at_end opening (requests_of (version_of row) (before_fault (version_of row) most 2 rows))).history)) }
 {
-    all_numbers_are_held();
+    all_is_held();
     clean_is_legal();
     history_texts_are_read_back();
 }
@@ -46,14 +42,10 @@ pub fn resumed_runs_are_clean()
         → GoesOn rows opening past → All (λ event. CommandFits event.command) past → resumed_within most rows ≡ Ok begun
         → IsFound (resumed_text most past rows) opening past (Clean (length (progress_resumed most past begun).history)) }
 {
-    all_numbers_are_held();
-    answers_are_read_back();
+    all_is_held();
     beginnings_are_written_again();
     clean_parts_are_legal();
     events_are_lines();
-    openings_are_checked();
-    requests_are_written_again();
-    texts_are_read_back();
     written_parts_are_told();
 }
 

@@ -2,11 +2,25 @@
 ghost use Rattle.std.specs.Prelude.{◌≡◌, ◌<◌, ◌≤◌, ◌^◌, ◌∷◌, ◌++◌};
 ghost use Rattle.pie_trace.specs.{ℕ, List, Ok, Opening, progress_after, start, Request, history_text, progress_at_end, replies, steps_of, let_go};
 ghost use Rattle.pie_trace.specs.{going_on, version_of, opening_of, TellsHistory, run_lines, Row};
+ghost use Rattle.pie_trace.specs.Laws.{Held};
 
 use pie_book::all_numbers_are_held;
 use pie_record::{
     answers_are_read_back, openings_are_checked, requests_are_written_again, texts_are_read_back,
 };
+
+/// What the crates below promise of all histories and all records.
+///
+/// It does nothing: its contract is the law.
+pub(crate) fn all_is_held()
+    ensures { Held }
+{
+    all_numbers_are_held();
+    answers_are_read_back();
+    openings_are_checked();
+    requests_are_written_again();
+    texts_are_read_back();
+}
 
 /// What `run_trace` writes, `HistoryLines` reads: the history text of every trace whose first record opens a book tells that opening, the event
 /// of each command that was answered, the time of day where the trace told it, a note for each other record, and then its end with no fault. Where
@@ -17,11 +31,7 @@ pub fn history_texts_are_read_back()
     ensures { (most : ℕ) (row : Row) (rows : List Row) (opening : Opening) → 0 < most → most ≤ 2 ^ 32 → opening_of row ≡ Ok opening
         → TellsHistory (history_text most (row ∷ rows)) opening (run_lines (version_of row) most opening rows) }
 {
-    all_numbers_are_held();
-    answers_are_read_back();
-    openings_are_checked();
-    requests_are_written_again();
-    texts_are_read_back();
+    all_is_held();
 }
 
 /// A trace that goes on from the middle of a history is answered as the whole from there on: where a whole trace asks for some things, then lets

@@ -5,8 +5,8 @@ pub returns : goal.returns
 returns c =
     let told = c.history_texts_are_read_back.ensures in
     let clean = c.clean_is_legal.ensures.legal_is_clean in
-    let numbers = c.all_numbers_are_held.ensures in
+    let held = c.all_is_held.ensures in
     record {
-      whole = whole-clean told clean numbers.legal_with_one_more numbers.legal_at_first;
-      up_to_fault = run-clean told clean numbers.legal_with_one_more numbers.legal_at_first;
+      whole = whole-clean told clean held.legal_with_one_more held.legal_at_first;
+      up_to_fault = run-clean told clean held.legal_with_one_more held.legal_at_first;
     }

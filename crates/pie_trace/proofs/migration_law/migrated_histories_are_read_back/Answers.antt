@@ -2,4 +2,5 @@ use Rattle.pie_trace.proofs.MigrateWhole.{migrated-tells, migrated-version, same
 use Rattle.pie_trace.proofs.migration_law.migrated_histories_are_read_back.Goals as goal
 
 pub returns : goal.returns
-returns c = record { tells = migrated-tells; version = migrated-version; same = same-told }
+returns c =
+    let texts = c.texts_are_read_back.ensures in record { tells = migrated-tells texts; version = migrated-version texts; same = same-told texts }

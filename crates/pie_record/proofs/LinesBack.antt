@@ -22,7 +22,9 @@ use Rattle.pie_record.specs.Answer.{answer_fields, flag, folded_row, refused_row
 use Rattle.pie_record.proofs.CommandFacts.{AskedFits, ChangeFits, ClockFits, asked-as-written, asked_fields, asked_kind, clock-as-written, clock-read}
 use Rattle.pie_record.proofs.CommandFacts.{command-back, command-read, kind-back, kind_of}
 use Rattle.pie_record.proofs.FieldFacts.{and_after, back_ecn, back_u32, back_u64, field-read, number-then, ok-same, one-way, no-flaw, packet-read, tested}
+use Rattle.pie_record.proofs.HistoryFacts.{read-all}
 use Rattle.pie_record.proofs.NumberFacts.{number-back}
+use Rattle.pie_record.proofs.Names.{All, lines_from}
 
 -- ---- what a line that was read holds
 
@@ -140,11 +142,9 @@ clock-fits version row told e =
     let a = and_after (clock_in version row) (λ (clock : Clock). let it : Result Line Flaw = Ok (line.Clock clock) in it) told e in
     line-same (line.Clock a.got) told a.rest (clock-read version row a.got a.is).fits
 
--- whatever pie_params promises of parameters in their ranges
-pub line-fits : (version : Version) (row : Row) (told : Line) → ((params : RawParams) → first_bad params ≡ None → ParamsFit params)
-    → line_of version row ≡ Ok told → LineFits told
+line-holds : (version : Version) (row : Row) (told : Line) → line_of version row ≡ Ok told → LineFits told
 unfolding line_of
-line-fits version row told held e = by (command_kind row) e
+line-holds version row told e = by (command_kind row) e
   where
     by : (o : Option CommandKind) → Tells (line_by o version row) told → LineFits told
     by (Some k) e = event-fits row k told e
@@ -154,6 +154,14 @@ line-fits version row told held e = by (command_kind row) e
         one-way (is_kind row (codes "shown")) _ _ _ e (λ is e. shown-fits version row told e) (λ e.
         one-way (is_kind row (codes "tallied")) _ _ _ e (λ is e. note-fits row 14 most_u128 told e) (λ e.
         one-way (is_kind row (codes "clock")) _ _ _ e (λ is e. clock-fits version row told e) (λ e. absurd (no-flaw flaw.Kind told e))))))
+
+pub lines-fit : (version : Version) (most number : ℕ) (rows : List Row) → All LineFits (lines_from version most number rows)
+lines-fit version most number rows = read-all LineFits version most number rows (line-holds version)
+
+-- the same, whatever pie_params promises of parameters in their ranges
+pub line-fits : (version : Version) (row : Row) (told : Line) → ((params : RawParams) → first_bad params ≡ None → ParamsFit params)
+    → line_of version row ≡ Ok told → LineFits told
+line-fits version row told held e = line-holds version row told e
 
 -- ---- an event's record is read as it was written
 

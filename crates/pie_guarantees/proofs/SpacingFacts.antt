@@ -87,17 +87,13 @@ grows-at : (opening : Opening) (before : List Event) (event : Event) → IsStep 
 grows-at opening before event step =
     let h = held_after opening before in
     let w = waiting_after opening before in
-    let more = grows h w opening.limits.packets event.command in
-    let answered : (after_call h (call_of w opening.limits.packets event.command)).accu
-    ≤ h.accu + (if considers h (bytes_of w) event.command event.answer then q-of h (arriving_size event.command) else 0) =
-    subst (λ (a : Answer). (after_call h (call_of w opening.limits.packets event.command)).accu
-    ≤ h.accu + (if considers h (bytes_of w) event.command a then q-of h (arriving_size event.command) else 0)) (sym step.here.answered) more in
-    let held : (held_after opening (before ++ event ∷ [])).accu
-    ≤ h.accu + (if considers h (bytes_of w) event.command event.answer then q-of h (arriving_size event.command) else 0) =
-    subst (λ (g : Held). g.accu ≤ h.accu + (if considers h (bytes_of w) event.command event.answer then q-of h (arriving_size event.command) else 0))
-    (sym step.held) answered in
-    subst (λ (q : ℕ). (held_after opening (before ++ event ∷ [])).accu
-    ≤ h.accu + (if considers h (bytes_of w) event.command event.answer then q else 0)) (q-is opening before event) held
+    let more = subst (λ (answer : Answer). (after_call (held_after opening before) (call_of (waiting_after opening before) opening.limits.packets
+    event.command)).accu ≤ Book.accu_after opening before
+    + (if considers (held_after opening before) (bytes_of (waiting_after opening before)) event.command answer
+    then q-of (held_after opening before) (arriving_size event.command) else 0))
+    (sym step.here.answered) (grows h w opening.limits.packets event.command) in
+    subst (λ (g : Held). g.accu ≤ Book.accu_after opening before + (if was_considered opening before event then counted_at opening before event
+    else 0)) (sym step.held) (rw (q-is opening before event) at more)
 
 -- what holds with a count before some events, and stays so with one more at each considered packet, holds with their number
 counting : (P : ℕ → List Event → Type 0) (Q : List Event → Event → Type 0) (opening : Opening)

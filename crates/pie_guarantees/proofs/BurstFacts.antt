@@ -9,146 +9,91 @@ use Rattle.pie_guarantees.proofs.Names.{burst_left, updates_in, IsLawful, IsEarl
 use Rattle.pie_book.specs.Types.{RawParams}
 use Rattle.pie_aqm.specs.Steps as Steps
 use Rattle.pie_guarantees.proofs.LawfulFacts.{IsStep, along, sound_at, step_at}
+use Rattle.pie_guarantees.proofs.CallFacts.{after-arrival, asks_update, burst-updated, last-updated, update-is}
 use Rattle.pie_guarantees.proofs.EarlyFacts.{early_at}
 
--- ---- the numbers, from call to call
-
--- after so many updates since a moment, with these parameters in force: what is left of a burst, the last update's moment, and now
-record Lasts (burst least most start last n : ℕ) (params : RawParams) (left before now : ℕ) : Type 0 where
-  allows : Allows burst least most params
-  whole : burst ≤ left + n * most
-  apart : start + n * least ≤ max (before + least) start
-  since : last + n * least ≤ before
-  later : start ≤ now
-  sound : before ≤ now
+-- ---- what a controller holds, from call to call
 
 one-more : (n k : ℕ) → (n + 1) * k ≡ n * k + k
 one-more n k = grind arith
 
-module _ (burst least most start last n : ℕ) (params : RawParams) (left before now : ℕ)
-    (old : Lasts burst least most start last n params left before now) where
-  kept : (moment : ℕ) → Lasts burst least most start last n params left before (max now moment)
-  kept moment =
-      let later = old.later in
-      let sound = old.sound in
-      record {
-        allows = old.allows;
-        whole = old.whole;
-        apart = old.apart;
-        since = old.since;
-        later = omega arith;
-        sound = omega arith;
-      }
+-- how many updates there are after a command
+abbrev counted_with : Command → ℕ → ℕ
+counted_with (Update moment) n = n + 1
+counted_with _ n = n
 
-  renewed : (moment : ℕ) → Lasts burst least most start last n params params.max_burst before (max now moment)
-  renewed moment =
-      let later = old.later in
-      let sound = old.sound in
-      let allowance = old.allows.allowance in
-      record {
-        allows = old.allows;
-        whole = omega arith;
-        apart = old.apart;
-        since = old.since;
-        later = omega arith;
-        sound = omega arith;
-      }
+counted-with : (command : Command) (answer : Answer) (n : ℕ) → n + cond (is_update (deed command answer)) 1 0 ≡ counted_with command n
+counted-with command answer n = rw (update-is command answer) (by command)
+  where
+    by : (command : Command) → n + cond (asks_update command) 1 0 ≡ counted_with command n
+    by (Update moment) = refl
+    by _ = omega arith
 
-  changed : (moment : ℕ) (new : RawParams) → Allows burst least most new → Lasts burst least most start last n new left before (max now moment)
-  changed moment new allows =
-      let later = old.later in
-      let sound = old.sound in
-      record {
-        allows = allows;
-        whole = old.whole;
-        apart = old.apart;
-        since = old.since;
-        later = omega arith;
-        sound = omega arith;
-      }
+module _ (burst least most start last : ℕ) where
+  -- after so many updates since a moment: what is left of a burst, the last update's moment, and now
+  record Holds (n : ℕ) (h : Held) : Type 0 where
+    allows : Allows burst least most h.params
+    whole : burst ≤ h.control.burst + n * most
+    apart : start + n * least ≤ max (h.control.last + least) start
+    since : last + n * least ≤ h.control.last
+    later : start ≤ h.moment
+    sound : h.control.last ≤ h.moment
 
-  -- an update that isn't too soon takes one `t_update` at most
-  updated : (moment new : ℕ) → before + params.t_update ≤ max now moment → burst ≤ new + n * most + most
-      → Lasts burst least most start last (n + 1) params new (max now moment) (max now moment)
-  updated moment new due taken =
+  -- after a call that is no update
+  carried : (n : ℕ) (h g : Held) (moment : ℕ) → Holds n h → g.control.last ≡ h.control.last → g.moment ≡ max h.moment moment
+      → Allows burst least most g.params → burst ≤ g.control.burst + n * most → Holds n g
+  carried n h g moment old same now allows whole =
       let apart = old.apart in
       let since = old.since in
       let later = old.later in
       let sound = old.sound in
-      let near = old.allows.apart in
-      let first = one-more n most in
-      let second = one-more n least in
       record {
-        allows = old.allows;
-        whole = rw first (omega arith);
-        apart = rw second (omega arith);
-        since = rw second (omega arith);
-        later = omega arith;
-        sound = omega arith;
+        allows = allows;
+        whole = whole;
+        apart = rw same apart;
+        since = rw same since;
+        later = omega (arith, now, later);
+        sound = omega (arith, now, same, sound);
       }
 
--- ---- what a controller holds, from call to call
-
-module _ (burst least most start last : ℕ) where
-  abbrev Holds : ℕ → Held → Type 0
-  Holds n h = Lasts burst least most start last n h.params h.control.burst h.control.last h.moment
-
-  none-more : (n : ℕ) (h : Held) → Holds n h → Holds (n + 0) h
-  none-more n h old = let none : n + 0 ≡ n = omega arith in subst (λ (k : ℕ). Holds k h) (sym none) old
-
-  arrived-holds : (n : ℕ) (h : Held) (a : Arrival) (moment : ℕ) → Holds n h → Holds n (Steps.arrived h a moment)
-  arrived-holds n h a moment old = by (Steps.turns_on h (bytes_with (Steps.verdict h a) a.queued a.size))
-    where
-      by : (on : Bool) → Holds n (if on then record (anew (judged h a moment)) { active = true } else judged h a moment)
-      by true = renewed burst least most start last n h.params h.control.burst h.control.last h.moment old moment
-      by false = kept burst least most start last n h.params h.control.burst h.control.last h.moment old moment
-
+  -- an update that isn't too soon takes one `t_update` at most
   updated-holds : (n : ℕ) (h : Held) (queued moment : ℕ) → Holds n h → h.control.last + h.params.t_update ≤ max h.moment moment
       → Holds (n + 1) (Steps.updated h queued moment)
-  updated-holds n h queued moment old due = by h.active
-    where
-      next : (new : ℕ) → burst ≤ new + n * most + most
-          → Lasts burst least most start last (n + 1) h.params new (max h.moment moment) (max h.moment moment)
-      next new = λ left. updated burst least most start last n h.params h.control.burst h.control.last h.moment old moment new due left
-
-      taken : (calm : Bool) → burst ≤ (if calm then h.params.max_burst else (h.control.burst - h.params.t_update)) + n * most + most
-      taken true = let allowance = old.allows.allowance in omega arith
-      taken false = let whole = old.whole in let far = old.allows.together in omega arith
-
-      by : (active : Bool) → Lasts burst least most start last (n + 1) h.params
-          (if active then Steps.control_updated h.elements h.params h.control (Steps.delay_in h queued) (max h.moment moment)
-          else record h.control { last = max h.moment moment }).burst
-          (if active then Steps.control_updated h.elements h.params h.control (Steps.delay_in h queued) (max h.moment moment)
-          else record h.control { last = max h.moment moment }).last
-          (max h.moment moment)
-      by true = next (if is_calm h queued then h.params.max_burst else (h.control.burst - h.params.t_update)) (taken (is_calm h queued))
-      by false = next h.control.burst (let whole = old.whole in omega arith)
-
-  -- how many updates a command is
-  abbrev many : Command → ℕ
-  many (Update moment) = 1
-  many _ = 0
+  updated-holds n h queued moment old due =
+      let allows = old.allows in
+      let whole = old.whole in
+      let apart = old.apart in
+      let since = old.since in
+      let later = old.later in
+      let near = allows.apart in
+      let far = allows.together in
+      let allowance = allows.allowance in
+      let first = one-more n most in
+      let second = one-more n least in
+      let is = last-updated h queued (max h.moment moment) in
+      let left = burst-updated (λ (b : ℕ). burst ≤ b + (n * most + most)) h queued (max h.moment moment) (omega arith) (omega arith)
+      (omega arith) in
+      record {
+        allows = allows;
+        whole = omega (arith, first, left);
+        apart = omega (arith, second, is, apart, since, later, near, due);
+        since = omega (arith, second, is, since, near, due);
+        later = omega (arith, later);
+        sound = omega (arith, is);
+      }
 
   call-holds : (n : ℕ) (h : Held) (waiting : List Waiting) (packets : ℕ) (command : Command) → Holds n h → SetsAllow burst least most command
-      → is_too_soon h.moment (Steps.due h) command ≡ false → Holds (n + many command) (after_call h (call_of waiting packets command))
+      → is_too_soon h.moment (Steps.due h) command ≡ false → Holds (counted_with command n) (after_call h (call_of waiting packets command))
   call-holds n h waiting packets (Arrive moment packet word) old set due =
-      none-more n (Steps.arrived h (arrival_of waiting packets packet word) moment)
-      (arrived-holds n h (arrival_of waiting packets packet word) moment old)
-  call-holds n h waiting packets (Depart moment) old set due = by waiting
-    where
-      now : Lasts burst least most start last n h.params h.control.burst h.control.last (max h.moment moment)
-      now = kept burst least most start last n h.params h.control.burst h.control.last h.moment old moment
-
-      by : (waiting : List Waiting) → Holds (n + 0) (after_call h (departure_call waiting moment))
-      by [] = none-more n (after_call h (departure_call [] moment)) now
-      by (oldest ∷ others) = none-more n (after_call h (departure_call (oldest ∷ others) moment)) now
+      after-arrival (Holds n) h (arrival_of waiting packets packet word) moment (carried n h _ moment old refl refl old.allows old.whole)
+      (λ on. carried n h _ moment old refl refl old.allows (let allowance = old.allows.allowance in omega arith))
+  call-holds n h [] packets (Depart moment) old set due = carried n h _ moment old refl refl old.allows old.whole
+  call-holds n h (oldest ∷ others) packets (Depart moment) old set due = carried n h _ moment old refl refl old.allows old.whole
   call-holds n h waiting packets (Update moment) old set due =
       updated-holds n h (bytes_of waiting) moment old (ltb-false (max h.moment moment) (h.control.last + h.params.t_update) due)
   call-holds n h waiting packets (Reset moment) old set due =
-      none-more n (Steps.reset h moment) (renewed burst least most start last n h.params h.control.burst h.control.last h.moment old moment)
-  call-holds n h waiting packets (SetParams moment params) old set due =
-      none-more n (Steps.changed h params moment)
-      (changed burst least most start last n h.params h.control.burst h.control.last h.moment old moment params set)
+      carried n h _ moment old refl refl old.allows (let allowance = old.allows.allowance in omega arith)
+  call-holds n h waiting packets (SetParams moment params) old set due = carried n h _ moment old refl refl set old.whole
 
 -- ---- along a lawful history
 
@@ -158,27 +103,18 @@ counted-push before event = sum_by_push (λ (e : Event). cond (is_update (deed_o
 counted-append : (before between : List Event) → updates_in (before ++ between) ≡ updates_in before + updates_in between
 counted-append before between = sum_by-append (λ (e : Event). cond (is_update (deed_of e)) 1 0) before between
 
-many-is : (burst least most start last : ℕ) (command : Command) (answer : Answer)
-    → cond (is_update (deed command answer)) 1 0 ≡ many burst least most start last command
-many-is burst least most start last (Arrive moment packet word) Enqueued = refl
-many-is burst least most start last (Arrive moment packet word) _ = refl
-many-is burst least most start last (Depart moment) Enqueued = refl
-many-is burst least most start last (Depart moment) _ = refl
-many-is burst least most start last _ answer = refl
-
 module _ (burst least most : ℕ) (opening : Opening) (before : List Event) where
-  start : ℕ
-  start = effective_moment opening before
-
-  last : ℕ
-  last = (held_after opening before).control.last
+  -- so many updates after these events
+  abbrev HoldsAfter : ℕ → List Event → Type 0
+  HoldsAfter n history =
+      Holds burst least most (effective_moment opening before) (held_after opening before).control.last n (held_after opening history)
 
   -- after a history that begins with these events
   record Since (history : List Event) : Type 0 where
     n : ℕ
     counted : updates_in history ≡ updates_in before + n
     moment : (held_after opening history).moment ≡ effective_moment opening history
-    holds : Holds burst least most (effective_moment opening before) (held_after opening before).control.last n (held_after opening history)
+    holds : HoldsAfter n history
 
   since-next : (earlier : List Event) (event : Event) → IsStep opening earlier event → SetsAllow burst least most event.command → Since earlier
       → Since (earlier ++ event ∷ [])
@@ -186,16 +122,15 @@ module _ (burst least most : ℕ) (opening : Opening) (before : List Event) wher
       let h = held_after opening earlier in
       let due : is_too_soon h.moment (Steps.due h) event.command ≡ false =
       subst (λ (m : ℕ). is_too_soon m (Steps.due h) event.command ≡ false) (sym step.same_moment) step.free.in_time in
-      let m : ℕ = many burst least most (effective_moment opening before) (held_after opening before).control.last event.command in
       let count = counted-push earlier event in
-      let one = many-is burst least most (effective_moment opening before) (held_after opening before).control.last event.command event.answer in
+      let one = counted-with event.command event.answer old.n in
       let was = old.counted in
       record {
-        n = old.n + m;
+        n = counted_with event.command old.n;
         counted = omega (arith, count, one, was);
         moment = step.next_moment;
-        holds = subst (λ (g : Held). Holds burst least most (effective_moment opening before) (held_after opening before).control.last (old.n + m) g)
-            (sym step.held)
+        holds = subst (λ (g : Held). Holds burst least most (effective_moment opening before) (held_after opening before).control.last
+            (counted_with event.command old.n) g) (sym step.held)
             (call-holds burst least most (effective_moment opening before) (held_after opening before).control.last old.n h
             (waiting_after opening earlier) opening.limits.packets event.command old.holds set due);
       }
@@ -218,54 +153,48 @@ module _ (burst least most : ℕ) (opening : Opening) (before : List Event) wher
         };
       }
 
-  since-after : (between later : List Event) → IsLawful opening (before ++ between ++ later) → burst ≤ burst_left opening before
-      → AllAllow burst least most opening before between → Since (before ++ between)
-  since-after between later lawful left allow =
+  -- by the updates between
+  by-updates : (between : List Event) → Since (before ++ between)
+      → HoldsAfter (updates_in between) (before ++ between)
+      × ((held_after opening (before ++ between)).moment ≡ effective_moment opening (before ++ between))
+  by-updates between s =
+      let count = s.counted in
+      let both = counted-append before between in
+      let n : s.n ≡ updates_in between = omega (arith, count, both) in
+      (subst (λ (k : ℕ). HoldsAfter k (before ++ between)) n s.holds, s.moment)
+
+  since-between : (between later : List Event) → IsLawful opening (before ++ between ++ later) → burst ≤ burst_left opening before
+      → AllAllow burst least most opening before between
+      → HoldsAfter (updates_in between) (before ++ between)
+      × ((held_after opening (before ++ between)).moment ≡ effective_moment opening (before ++ between))
+  since-between between later lawful left allow =
       let it = sound_at opening before (between ++ later) (rw (append_assoc before between later) at lawful) in
-      along Since (λ (event : Event). SetsAllow burst least most event.command) opening since-next before between later lawful allow.set
-      (since-first it.0 it.1 left allow.force)
+      by-updates between (along Since (λ (event : Event). SetsAllow burst least most event.command) opening since-next before between later lawful
+      allow.set (since-first it.0 it.1 left allow.force))
 
 pub updates_before : (burst : ℕ) (least : ℕ) (most : ℕ) (opening : Opening) (before : List Event) (between : List Event) (event : Event)
     (later : List Event) → IsLawful opening (before ++ between ++ event ∷ later) → burst ≤ burst_left opening before
     → AllAllow burst least most opening before between → IsEarly event → burst ≤ updates_in between * most
 updates_before burst least most opening before between event later lawful left allow early =
-    let s = since-after burst least most opening before between (event ∷ later) lawful left allow in
+    let whole = (since-between burst least most opening before between (event ∷ later) lawful left allow).0.whole in
     let none = (early_at opening (before ++ between) event (step_at opening (before ++ between) event later lawful) early).no_burst in
-    let whole = s.holds.whole in
-    let count = s.counted in
-    let both = counted-append before between in
-    let n : s.n ≡ updates_in between = omega (arith, count, both) in
-    let used : burst ≤ s.n * most = omega (arith, whole, none) in
-    subst (λ (k : ℕ). burst ≤ k * most) n used
+    omega (arith, whole, none)
 
 pub updates_apart : (burst : ℕ) (least : ℕ) (most : ℕ) (opening : Opening) (before : List Event) (between : List Event)
     (later : List Event) → IsLawful opening (before ++ between ++ later) → burst ≤ burst_left opening before
     → AllAllow burst least most opening before between
     → effective_moment opening before + updates_in between * least ≤ effective_moment opening (before ++ between) + least
 updates_apart burst least most opening before between later lawful left allow =
-    let s = since-after burst least most opening before between later lawful left allow in
-    let count = s.counted in
-    let both = counted-append before between in
-    let n : s.n ≡ updates_in between = omega (arith, count, both) in
-    let apart = s.holds.apart in
-    let sound = s.holds.sound in
-    let later = s.holds.later in
-    let moment = s.moment in
-    subst (λ (k : ℕ). effective_moment opening before + k * least ≤ effective_moment opening (before ++ between) + least) n (omega arith)
+    let s = since-between burst least most opening before between later lawful left allow in
+    omega (arith, s.0.apart, s.0.sound, s.0.later, s.1)
 
 updates-since : (burst : ℕ) (least : ℕ) (most : ℕ) (opening : Opening) (before : List Event) (between : List Event)
     (later : List Event) → IsLawful opening (before ++ between ++ later) → burst ≤ burst_left opening before
     → AllAllow burst least most opening before between
     → (held_after opening before).control.last + updates_in between * least ≤ effective_moment opening (before ++ between)
 updates-since burst least most opening before between later lawful left allow =
-    let s = since-after burst least most opening before between later lawful left allow in
-    let count = s.counted in
-    let both = counted-append before between in
-    let n : s.n ≡ updates_in between = omega (arith, count, both) in
-    let since = s.holds.since in
-    let sound = s.holds.sound in
-    let moment = s.moment in
-    subst (λ (k : ℕ). (held_after opening before).control.last + k * least ≤ effective_moment opening (before ++ between)) n (omega arith)
+    let s = since-between burst least most opening before between later lawful left allow in
+    omega (arith, s.0.since, s.0.sound, s.1)
 
 keeps-allows : (burst least most : ℕ) (command : Command) → KeepsParams command → SetsAllow burst least most command
 keeps-allows burst least most (SetParams moment params) keep = absurd keep
@@ -315,30 +244,11 @@ within-next : (h : Held) (waiting : List Waiting) (packets : ℕ) (command : Com
     → Within (after_call h (call_of waiting packets command))
 unfolding Within
 within-next h waiting packets (Arrive moment packet word) old keep =
-    by (Steps.turns_on h (bytes_with (Steps.verdict h (arrival_of waiting packets packet word)) (bytes_of waiting) packet.size))
-  where
-    a : Arrival
-    a = arrival_of waiting packets packet word
-
-    by : (on : Bool) → (if on then record (anew (judged h a moment)) { active = true } else judged h a moment).control.burst
-        ≤ (if on then record (anew (judged h a moment)) { active = true } else judged h a moment).params.max_burst
-    by true = omega arith
-    by false = old
+    after-arrival Within h (arrival_of waiting packets packet word) moment old (λ on. omega arith)
 within-next h [] packets (Depart moment) old keep = old
 within-next h (oldest ∷ others) packets (Depart moment) old keep = old
-within-next h waiting packets (Update moment) old keep = by h.active
-  where
-    d : ℕ
-    d = Steps.delay_in h (bytes_of waiting)
-
-    less : (calm : Bool) → (if calm then h.params.max_burst else (h.control.burst - h.params.t_update)) ≤ h.params.max_burst
-    less true = omega arith
-    less false = omega (arith, old)
-
-    by : (active : Bool) → (if active then Steps.control_updated h.elements h.params h.control (Steps.delay_in h (bytes_of waiting))
-        (max h.moment moment) else record h.control { last = max h.moment moment }).burst ≤ h.params.max_burst
-    by true = less (is_calm h (bytes_of waiting))
-    by false = old
+within-next h waiting packets (Update moment) old keep =
+    burst-updated (λ (b : ℕ). b ≤ h.params.max_burst) h (bytes_of waiting) (max h.moment moment) (omega arith) (omega (arith, old)) old
 within-next h waiting packets (Reset moment) old keep = omega arith
 within-next h waiting packets (SetParams moment params) old keep = absurd keep
 
@@ -371,16 +281,8 @@ wakes-whole : (h : Held) (waiting : List Waiting) (packets : ℕ) (command : Com
     → (after_call h (call_of waiting packets command)).active ≡ true
     → (after_call h (call_of waiting packets command)).control.burst ≡ (after_call h (call_of waiting packets command)).params.max_burst
 wakes-whole h waiting packets (Arrive moment packet word) off on =
-    by (Steps.turns_on h (bytes_with (Steps.verdict h (arrival_of waiting packets packet word)) (bytes_of waiting) packet.size)) on
-  where
-    a : Arrival
-    a = arrival_of waiting packets packet word
-
-    by : (on : Bool) → (if on then record (anew (judged h a moment)) { active = true } else judged h a moment).active ≡ true
-        → (if on then record (anew (judged h a moment)) { active = true } else judged h a moment).control.burst
-        ≡ (if on then record (anew (judged h a moment)) { active = true } else judged h a moment).params.max_burst
-    by true on = refl
-    by false on = let wrong : false ≡ true = sym off ∙ on in cc
+    after-arrival (λ (g : Held). g.active ≡ true → g.control.burst ≡ g.params.max_burst) h (arrival_of waiting packets packet word) moment
+    (λ on. let wrong : false ≡ true = sym off ∙ on in cc) (λ wakes on. refl) on
 wakes-whole h [] packets (Depart moment) off on = let wrong : false ≡ true = sym off ∙ on in cc
 wakes-whole h (oldest ∷ others) packets (Depart moment) off on = let wrong : false ≡ true = sym off ∙ on in cc
 wakes-whole h waiting packets (Update moment) off on =

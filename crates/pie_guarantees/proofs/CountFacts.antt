@@ -8,11 +8,13 @@ use Rattle.pie_guarantees.proofs.Names.{DroppedBytes, DroppedPackets, Empty, Lef
 use Rattle.pie_guarantees.proofs.Names.{params_after, bytes_after, effective_moment, waiting_after, count_of, is_dropped_bytes, is_dropped_early}
 use Rattle.pie_guarantees.proofs.Names.{is_dropped_packets, is_marked, is_queued, answer-fits, held-is, waiting_next, first-shows, first_core}
 use Rattle.pie_guarantees.proofs.Names.{IsLawful}
+use Rattle.std.proofs.lemmas.List.{append_cancel_left}
 use Rattle.pie_guarantees.specs.Counts.{Carries, SetsLimit, bytes_departed, hands_in, packet_queued, packets_departed, packets_handed_in}
 use Rattle.pie_guarantees.specs.Counts.{packets_queued, packets_waiting, time_of}
 use Rattle.pie_event.specs.declared.verdict.Verdict.TheVariants as verdict
 use Rattle.pie_early.specs.declared.early.Choice.TheVariants as choice
 use Rattle.pie_aqm.specs.Steps as Steps
+use Rattle.pie_guarantees.proofs.CallFacts.{after-arrival}
 use Rattle.pie_guarantees.proofs.LawfulFacts.{IsStep, along, beginning, stands_at, step_at, throughout}
 
 -- ---- counts
@@ -213,12 +215,7 @@ room_for_bytes opening before event later packet lawful is =
 limit-next : (most : ℕ) (h : Held) (waiting : List Waiting) (packets : ℕ) (command : Command) → h.params.limit_bytes ≤ most
     → SetsLimit most command → (after_call h (call_of waiting packets command)).params.limit_bytes ≤ most
 limit-next most h waiting packets (Arrive moment packet word) low set =
-    by (Steps.turns_on h (Steps.bytes_with (Steps.verdict h (arrival_of waiting packets packet word)) (bytes_of waiting) packet.size))
-  where
-    by : (on : Bool) → (if on then record (Steps.anew (Steps.judged h (arrival_of waiting packets packet word) moment)) { active = true }
-        else Steps.judged h (arrival_of waiting packets packet word) moment).params.limit_bytes ≤ most
-    by true = low
-    by false = low
+    after-arrival (λ (g : Held). g.params.limit_bytes ≤ most) h (arrival_of waiting packets packet word) moment low (λ on. low)
 limit-next most h [] packets (Depart moment) low set = low
 limit-next most h (oldest ∷ others) packets (Depart moment) low set = low
 limit-next most h waiting packets (SetParams moment params) low set = set
@@ -268,10 +265,6 @@ same-beginning (x ∷ some) (y ∷ other) rest more e l =
     let tail = same-beginning some other rest more parts.1 (omega (arith, l)) in
     rw (parts.0, tail) refl
 
-cancel : (some rest other : List Packet) → some ++ rest ≡ some ++ other → rest ≡ other
-cancel [] rest other e = e
-cancel (x ∷ some) rest other e = cancel some rest other (cons-same x x (some ++ rest) (some ++ other) e).1
-
 departed-append : (before between : List Event) → packets_departed (before ++ between) ≡ packets_departed before ++ packets_departed between
 unfolding packets_departed
 departed-append before between = filter_map-append (λ (e : Event). departure (deed_of e)) before between
@@ -295,7 +288,7 @@ first_out opening before between later lawful many =
     ap (λ (ps : List Packet). ps ++ rest) (sym (departed-append before between)) ∙ both ∙ queued-append before between in
     let two : gone ++ (left ++ rest) ≡ gone ++ (waits ++ new) =
     sym (append_assoc gone left rest) ∙ one ∙ ap (λ (ps : List Packet). ps ++ new) (sym first) ∙ append_assoc gone waits new in
-    let three : left ++ rest ≡ waits ++ new = cancel gone (left ++ rest) (waits ++ new) two in
+    let three = append_cancel_left gone (left ++ rest) (waits ++ new) two in
     let length : length left ≡ length waits = many ∙ sym (length-map (waiting_after opening before) (λ (entry : Waiting). entry.packet)) in
     same-beginning left waits rest new three length
 

@@ -1,7 +1,7 @@
 -- What is known of a packet that was marked or dropped early.
 use Rattle.pie_guarantees.proofs.Names.{◌≡◌, ◌≤◌, ◌<◌, ◌+◌, ◌*◌, ◌&&◌, ◌⊎◌, inl, inr, ℕ, List, [], ◌∷◌, ◌++◌, Bool, true, false, refl, sym, ap, ◌∙◌}
 use Rattle.pie_guarantees.proofs.Names.{if◌then◌else◌, nat_lt, arith, subst, nat_tests, is_capable, bytes_of, Choice, Enqueue, Mark, Drop, counted}
-use Rattle.pie_guarantees.proofs.Names.{is_considered, is_picked, picked_choice, Held, choice, chosen, offered, verdict, answer_of, Packet, Waiting}
+use Rattle.pie_guarantees.proofs.Names.{is_considered, is_picked, picked_choice, Held, choice, chosen, offered, verdict, Verdict, answer_of, Packet, Waiting}
 use Rattle.pie_guarantees.proofs.Names.{Arrival, Arrive, Depart, Update, Reset, SetParams, Answer, DroppedEarly, Marked, Command, Event, Opening}
 use Rattle.pie_guarantees.proofs.Names.{arrival_of, answer_by, answer_to_departure, held_after, waiting_after, IsLawful, IsArrivalOf}
 use Rattle.pie_guarantees.proofs.Names.{MarksOnlyCapable, OnlyMarks, SparesCapable, is_early}
@@ -9,6 +9,7 @@ use Rattle.pie_queue.specs.declared.ecn.Ecn.{Ecn}
 use Rattle.pie_control.specs.Parts.{Parts}
 use Rattle.pie_book.specs.Types.{RawParams}
 use Rattle.pie_event.specs.declared.verdict.Verdict.TheVariants as verdict
+use Rattle.pie_guarantees.proofs.CallFacts.{after-verdict}
 use Rattle.pie_guarantees.proofs.LawfulFacts.{IsStep, step_at}
 
 -- what is known of the controller where a packet was picked
@@ -30,56 +31,43 @@ pub record IsChosen (h : Held) (a : Arrival) : Type 0 where
   pub verdict : verdict h a ≡ chosen (picked_choice h.params h.control.prob a.ecn)
 
 chosen-of : (h : Held) (a : Arrival) → is_early (answer_of (verdict h a)) ≡ true → IsChosen h a
-unfolding verdict
-chosen-of h a = by (nat_lt h.params.limit_bytes (a.queued + a.size)) a.is_full refl refl
-  where
-    c : Choice
-    c = picked_choice h.params h.control.prob a.ecn
+chosen-of h a e =
+    after-verdict h a (λ (v : Verdict) (left : ℕ). verdict h a ≡ v → is_early (answer_of v) ≡ true → IsChosen h a) (λ v e. cc) (λ v e. cc)
+    (λ off v e. cc)
+    (λ on considered picked v e. let facts = considered-facts h.params h.control a.queued considered in record {
+      picked = record { active = on; no_burst = facts.0; long = facts.1; high = facts.2 };
+      by_sum = picked;
+      verdict = v;
+    })
+    (λ on none v e. cc) (λ on some v e. cc) refl e
 
-    considered : Bool
-    considered = is_considered h.params h.control a.queued
+-- the arrival that was marked or dropped early
+pub record IsEarlyArrival (h : Held) (waiting : List Waiting) (packets : ℕ) (command : Command) : Type 0 where
+  pub moment : ℕ
+  pub packet : Packet
+  pub word : ℕ
+  pub is : command ≡ Arrive moment packet word
+  pub chosen : IsChosen h (arrival_of waiting packets packet word)
 
-    picked : Bool
-    picked = is_picked h.elements.picking (counted h.elements h.params h.control (offered a))
-        (h.accu + counted h.elements h.params h.control (offered a)) a.word
-
-    at : Bool → Bool → Bool → Choice
-    at active considered picked = if active then (if considered && picked then c else Enqueue) else Enqueue
-
-    inner : (active considered picked : Bool) → h.active ≡ active → is_considered h.params h.control a.queued ≡ considered
-        → is_picked h.elements.picking (counted h.elements h.params h.control (offered a)) (h.accu + counted h.elements h.params h.control
-        (offered a))
-        a.word ≡ picked
-        → verdict h a ≡ chosen (if active then (if considered && picked then c else Enqueue) else Enqueue)
-        → is_early (answer_of (chosen (if active then (if considered && picked then c else Enqueue) else Enqueue))) ≡ true → IsChosen h a
-    inner true true true is con sum v e =
-        let facts = considered-facts h.params h.control a.queued con in
-        record { picked = record { active = is; no_burst = facts.0; long = facts.1; high = facts.2 }; by_sum = sum; verdict = v }
-    inner true true false is con sum v e = cc
-    inner true false p is con sum v e = cc
-    inner false con' p is con sum v e = cc
-
-    by : (over full : Bool) → nat_lt h.params.limit_bytes (a.queued + a.size) ≡ over → a.is_full ≡ full
-        → is_early (answer_of (if over then verdict.DroppedBytes else if full then verdict.DroppedPackets else chosen (choice h a))) ≡ true
-        → IsChosen h a
-    by true full o f e = cc
-    by false true o f e = cc
-    by false false o f e = inner h.active considered picked refl refl refl (rw (o, f) refl) e
+early-arrival : (h : Held) (waiting : List Waiting) (packets : ℕ) (command : Command) → is_early (answer_by h waiting packets command) ≡ true
+    → IsEarlyArrival h waiting packets command
+early-arrival h waiting packets (Arrive moment packet word) e =
+    record { moment = moment; packet = packet; word = word; is = refl; chosen = chosen-of h (arrival_of waiting packets packet word) e }
+early-arrival h [] packets (Depart moment) e = cc
+early-arrival h (oldest ∷ others) packets (Depart moment) e = cc
+early-arrival h waiting packets _ e = cc
 
 -- ---- at a place of a lawful history
 
-picked-of : (h : Held) (waiting : List Waiting) (packets : ℕ) (command : Command) → is_early (answer_by h waiting packets command) ≡ true
-    → IsPicked h (bytes_of waiting)
-picked-of h waiting packets (Arrive moment packet word) e = (chosen-of h (arrival_of waiting packets packet word) e).picked
-picked-of h [] packets (Depart moment) e = cc
-picked-of h (oldest ∷ others) packets (Depart moment) e = cc
-picked-of h waiting packets _ e = cc
+pub early_arrival : (opening : Opening) (before : List Event) (event : Event) → IsStep opening before event → is_early event.answer ≡ true
+    → IsEarlyArrival (held_after opening before) (waiting_after opening before) opening.limits.packets event.command
+early_arrival opening before event step e =
+    early-arrival (held_after opening before) (waiting_after opening before) opening.limits.packets event.command
+    (ap (λ (a : Answer). is_early a) (sym step.here.answered) ∙ e)
 
 pub early_at : (opening : Opening) (before : List Event) (event : Event) → IsStep opening before event → is_early event.answer ≡ true
     → IsPicked (held_after opening before) (bytes_of (waiting_after opening before))
-early_at opening before event step e =
-    picked-of (held_after opening before) (waiting_after opening before) opening.limits.packets event.command
-    (ap (λ (a : Answer). is_early a) (sym step.here.answered) ∙ e)
+early_at opening before event step e = (early_arrival opening before event step e).chosen.picked
 
 unless : (answer : Answer) → (is_early answer ≡ true → ⊥) → is_early answer ≡ false
 unless answer never = by (is_early answer) refl
@@ -156,38 +144,3 @@ capable_alone opening before event later lawful = λ packet arrival other marked
     let step = step_at opening before event later lawful in
     let is = arrival-chosen opening before event packet step arrival (ap (λ (x : Answer). is_early x) marked) in
     fate-marked h.params h.control.prob packet.ecn other (sym is ∙ marked)
-
--- the arrival that was marked or dropped early
-pub record IsEarlyArrival (opening : Opening) (before : List Event) (event : Event) : Type 0 where
-  pub moment : ℕ
-  pub packet : Packet
-  pub word : ℕ
-  pub is : event.command ≡ Arrive moment packet word
-  pub chosen : IsChosen (held_after opening before) (arrival_of (waiting_after opening before) opening.limits.packets packet word)
-
-pub early_arrival : (opening : Opening) (before : List Event) (event : Event) → IsStep opening before event → is_early event.answer ≡ true
-    → IsEarlyArrival opening before event
-early_arrival opening before event step e =
-    by event.command refl (waiting_after opening before) refl (ap (λ (a : Answer). is_early a) (sym step.here.answered) ∙ e)
-  where
-    h : Held
-    h = held_after opening before
-
-    by : (command : Command) → event.command ≡ command → (waiting : List Waiting) → waiting_after opening before ≡ waiting
-        → is_early (answer_by (held_after opening before) (waiting_after opening before) opening.limits.packets event.command) ≡ true
-        → IsEarlyArrival opening before event
-    by (Arrive moment packet word) is waiting w e = record {
-      moment = moment;
-      packet = packet;
-      word = word;
-      is = is;
-      chosen = chosen-of (held_after opening before) (arrival_of (waiting_after opening before) opening.limits.packets packet word)
-          (subst (λ (c : Command). is_early (answer_by (held_after opening before)
-          (waiting_after opening before) opening.limits.packets c) ≡ true) is e);
-    }
-    by (Depart moment) is [] w e = let wrong : is_early (answer_to_departure []) ≡ true = rw (is, w) at e in cc
-    by (Depart moment) is (oldest ∷ others) w e = let wrong : is_early (answer_to_departure (oldest ∷ others)) ≡ true = rw (is, w) at e in cc
-    by _ is waiting w e =
-        let wrong = subst (λ (c : Command). is_early (answer_by (held_after opening before)
-        (waiting_after opening before) opening.limits.packets c) ≡ true)
-        is e in cc

@@ -1,5 +1,6 @@
 mod Names
 pub mod LawfulFacts
+pub mod CallFacts
 pub mod EarlyFacts
 pub mod BurstFacts
 pub mod CountFacts

@@ -40,18 +40,17 @@ raw-mono params old delay more le =
 
 pub divisor-some : (prob : ℕ) → 0 < tuning_divisor prob
 unfolding tuning_divisor
-divisor-some prob =
-    by (nat_lt prob (10 ^ 6)) (nat_lt prob (10 ^ 7)) (nat_lt prob (10 ^ 8)) (nat_lt prob (10 ^ 9)) (nat_lt prob (10 ^ 10)) (nat_lt prob (10 ^ 11))
+divisor-some prob = grind (arith, nat_tests)
+
+-- a tuned step is the quotient, or where it is capped the less of it and two hundredths
+pub tuned-by : (P : ℤ → Type 0) (step : Step) (prob : ℕ) (x : ℤ) → P (int_min (int_div x (pos (tuning_divisor prob))) (pos 20_000_000_000))
+    → P (int_div x (pos (tuning_divisor prob))) → P (tuned_step step prob x)
+unfolding tuned_step
+tuned-by P step prob x capped whole = by (is_capped step && nat_le (10 ^ 11) prob)
   where
-    by : (a b c d e f : Bool) → 0 < (if a then 2048 else (if b then 512 else (if c then 128 else (if d then 32 else (if e then 8 else (if f then 2
-        else 1))))))
-    by true b c d e f = omega arith
-    by false true c d e f = omega arith
-    by false false true d e f = omega arith
-    by false false false true e f = omega arith
-    by false false false false true f = omega arith
-    by false false false false false true = omega arith
-    by false false false false false false = omega arith
+    by : (b : Bool) → P (if b then int_min (int_div x (pos (tuning_divisor prob))) (pos 20_000_000_000) else int_div x (pos (tuning_divisor prob)))
+    by true = capped
+    by false = whole
 
 tuned-mono : (step : Step) (prob : ℕ) (x y : ℤ) → x ≤ℤ y → tuned_step step prob x ≤ℤ tuned_step step prob y
 unfolding tuned_step
@@ -131,25 +130,14 @@ quotient-up (pos a) d le = omega (arith, ints)
 quotient-up (negsuc a) d le = absurd (omega (arith, ints, le))
 
 tuned-up : (step : Step) (prob : ℕ) (x : ℤ) → pos 0 ≤ℤ x → pos 0 ≤ℤ tuned_step step prob x
-unfolding tuned_step
-tuned-up step prob x le = by (is_capped step && nat_le (10 ^ 11) prob)
-  where
-    q : pos 0 ≤ℤ int_div x (pos (tuning_divisor prob))
-    q = quotient-up x (tuning_divisor prob) le
-
-    by : (capped : Bool) → pos 0 ≤ℤ (if capped then int_min (int_div x (pos (tuning_divisor prob))) (pos 20_000_000_000)
-        else int_div x (pos (tuning_divisor prob)))
-    by true = let q = quotient-up x (tuning_divisor prob) le in omega (arith, ints, clamps, q)
-    by false = quotient-up x (tuning_divisor prob) le
+tuned-up step prob x le =
+    let q = quotient-up x (tuning_divisor prob) le in
+    tuned-by (λ (z : ℤ). pos 0 ≤ℤ z) step prob x (omega (arith, ints, clamps, q)) q
 
 tuned-down : (step : Step) (prob : ℕ) (x : ℤ) → x ≤ℤ pos 0 → tuned_step step prob x ≤ℤ pos 0
-unfolding tuned_step
-tuned-down step prob x le = by (is_capped step && nat_le (10 ^ 11) prob)
-  where
-    by : (capped : Bool) → (if capped then int_min (int_div x (pos (tuning_divisor prob))) (pos 20_000_000_000)
-        else int_div x (pos (tuning_divisor prob))) ≤ℤ pos 0
-    by true = let q = int_div-below x (tuning_divisor prob) 0 le in omega (arith, ints, clamps, q)
-    by false = int_div-below x (tuning_divisor prob) 0 le
+tuned-down step prob x le =
+    let q = int_div-below x (tuning_divisor prob) 0 le in
+    tuned-by (λ (z : ℤ). z ≤ℤ pos 0) step prob x (omega (arith, ints, clamps, q)) q
 
 raw-up : (params : RawParams) (delay old : ℕ) → params.target ≤ delay → old ≤ delay → pos 0 ≤ℤ raw_step params delay old
 unfolding raw_step

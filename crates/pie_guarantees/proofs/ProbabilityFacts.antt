@@ -9,6 +9,7 @@ use Rattle.pie_guarantees.proofs.Names.{waiting_after, is_reset, KeepsParams, up
 use Rattle.pie_guarantees.proofs.Names.{old_delay_after, probability_after}
 use Rattle.pie_book.specs.Types.{RawParams}
 use Rattle.pie_aqm.specs.Steps as Steps
+use Rattle.pie_guarantees.proofs.CallFacts.{after-arrival, asks_update, update-is}
 use Rattle.pie_guarantees.proofs.LawfulFacts.{IsStep, sound_at, step_at}
 use Rattle.pie_guarantees.proofs.NextFacts.{decays_low, next_capped, next_decays, next_down, next_up}
 use Rattle.pie_guarantees.proofs.SteadyFacts.{after_both, stays_down}
@@ -27,10 +28,9 @@ record IsUpdate (command : Command) : Type 0 where
   moment : ℕ
   is : command ≡ Update moment
 
-update-of : (command : Command) (answer : Answer) → is_update (deed command answer) ≡ true → IsUpdate command
-update-of (Update moment) answer e = record { moment = moment; is = refl }
-update-of _ Enqueued e = cc
-update-of _ _ e = cc
+update-of : (command : Command) → asks_update command ≡ true → IsUpdate command
+update-of (Update moment) e = record { moment = moment; is = refl }
+update-of _ e = cc
 
 updated-prob : (h : Held) (queued moment : ℕ) → h.active ≡ true
     → (Steps.updated h queued moment).control.prob ≡ next h.elements h.params h.control.prob (Steps.delay_in h queued) h.control.old_delay
@@ -42,7 +42,7 @@ prob-next : (opening : Opening) (before : List Event) (event : Event) → IsStep
     (old_delay_after opening before)
 prob-next opening before event step active =
     let h = held_after opening before in
-    let u = update-of event.command event.answer active.update in
+    let u = update-of event.command (sym (update-is event.command event.answer) ∙ active.update) in
     ap (λ (g : Held). g.control.prob) step.held
     ∙ ap (λ (c : Command). (after_call h (call_of (waiting_after opening before) opening.limits.packets c)).control.prob) u.is
     ∙ updated-prob h (bytes_of (waiting_after opening before)) u.moment active.active
@@ -94,12 +94,7 @@ stays-or-zero : (h : Held) (waiting : List Waiting) (packets : ℕ) (command : C
     → (is_update (deed command answer) ≡ false) ⊎ (h.active ≡ false)
     → (after_call h (call_of waiting packets command)).control.prob ≤ h.control.prob
 stays-or-zero h waiting packets (Arrive moment packet word) answer other =
-    by (Steps.turns_on h (bytes_with (Steps.verdict h (arrival_of waiting packets packet word)) (bytes_of waiting) packet.size))
-  where
-    by : (on : Bool) → (if on then record (anew (judged h (arrival_of waiting packets packet word) moment)) { active = true }
-        else judged h (arrival_of waiting packets packet word) moment).control.prob ≤ h.control.prob
-    by true = omega arith
-    by false = omega arith
+    after-arrival (λ (g : Held). g.control.prob ≤ h.control.prob) h (arrival_of waiting packets packet word) moment (omega arith) (λ on. omega arith)
 stays-or-zero h [] packets (Depart moment) answer other = omega arith
 stays-or-zero h (oldest ∷ others) packets (Depart moment) answer other = omega arith
 stays-or-zero h waiting packets (Update moment) answer (inl none) = cc
@@ -121,38 +116,16 @@ record Next (delay : ℕ) (elements : Elements) (h g : Held) (updates : Bool) : 
   params : g.params ≡ h.params
   prob : g.control.prob ≡ (if updates then next elements h.params h.control.prob delay delay else h.control.prob)
 
-active-arrival : (h : Held) (a : Arrival) (moment : ℕ) → h.active ≡ true → Steps.arrived h a moment ≡ judged h a moment
-active-arrival h a moment on = by (Steps.turns_on h (bytes_with (Steps.verdict h a) a.queued a.size)) (rw on refl)
-  where
-    by : (b : Bool) → b ≡ false → (if b then record (anew (judged h a moment)) { active = true } else judged h a moment) ≡ judged h a moment
-    by true e = cc
-    by false e = refl
-
 same-next : (delay : ℕ) (h : Held) (waiting : List Waiting) (packets : ℕ) (command : Command) (answer : Answer) → KeepsParams command
     → is_reset (deed command answer) ≡ false → h.active ≡ true
-    → (is_update (deed command answer) ≡ true → Steps.delay_in h (bytes_of waiting) ≡ delay)
-    → (is_update (deed command answer) ≡ true → h.control.old_delay ≡ delay)
-    → Next delay h.elements h (after_call h (call_of waiting packets command)) (is_update (deed command answer))
+    → (asks_update command ≡ true → Steps.delay_in h (bytes_of waiting) ≡ delay)
+    → (asks_update command ≡ true → h.control.old_delay ≡ delay)
+    → Next delay h.elements h (after_call h (call_of waiting packets command)) (asks_update command)
 same-next delay h waiting packets (Arrive moment packet word) answer keeps unreset on now old =
-    by answer (active-arrival h (arrival_of waiting packets packet word) moment on)
-  where
-    same : (g : Held) → g ≡ judged h (arrival_of waiting packets packet word) moment → Next delay h.elements h g false
-    same g is = record { params = ap (λ (k : Held). k.params) is; prob = ap (λ (k : Held). k.control.prob) is }
-
-    by : (answer : Answer) → Steps.arrived h (arrival_of waiting packets packet word) moment ≡ judged h
-        (arrival_of waiting packets packet word) moment
-        → Next delay h.elements h (Steps.arrived h (arrival_of waiting packets packet word) moment)
-        (is_update (deed (Arrive moment packet word) answer))
-    by Enqueued is = same (Steps.arrived h (arrival_of waiting packets packet word) moment) is
-    by _ is = same (Steps.arrived h (arrival_of waiting packets packet word) moment) is
-same-next delay h waiting packets (Depart moment) answer keeps unreset on now old = by waiting answer
-  where
-    by : (waiting : List Waiting) (answer : Answer)
-        → Next delay h.elements h (after_call h (departure_call waiting moment)) (is_update (deed (Depart moment) answer))
-    by [] Enqueued = record { params = refl; prob = refl }
-    by [] _ = record { params = refl; prob = refl }
-    by (oldest ∷ others) Enqueued = record { params = refl; prob = refl }
-    by (oldest ∷ others) _ = record { params = refl; prob = refl }
+    after-arrival (λ (g : Held). Next delay h.elements h g false) h (arrival_of waiting packets packet word) moment
+    (record { params = refl; prob = refl }) (λ wakes. let wrong = rw on at wakes in cc)
+same-next delay h [] packets (Depart moment) answer keeps unreset on now old = record { params = refl; prob = refl }
+same-next delay h (oldest ∷ others) packets (Depart moment) answer keeps unreset on now old = record { params = refl; prob = refl }
 same-next delay h waiting packets (Update moment) answer keeps unreset on now old = record {
   params = refl;
   prob = updated-prob h (bytes_of waiting) moment on ∙ rw (now refl, old refl) refl;
@@ -189,7 +162,8 @@ steadily delay opening before (event ∷ between) later lawful steady =
     let w = waiting_after opening before in
     let moved : Next delay h.elements h (held_after opening (before ++ event ∷ [])) (is_update (deed_of event)) =
     subst (λ (g : Held). Next delay h.elements h g (is_update (deed_of event))) (sym step.held)
-    (same-next delay h w opening.limits.packets event.command event.answer here.keeps here.unreset here.active here.delay_now here.delay_old) in
+    (rw (update-is event.command event.answer) (same-next delay h w opening.limits.packets event.command event.answer here.keeps here.unreset
+    here.active (λ is. here.delay_now (update-is event.command event.answer ∙ is)) (λ is. here.delay_old (update-is event.command event.answer ∙ is)))) in
     let s = opening.choices.elements in
     let prob : probability_after opening (before ++ event ∷ [])
     ≡ (if is_update (deed_of event) then next s h.params h.control.prob delay delay else h.control.prob) =

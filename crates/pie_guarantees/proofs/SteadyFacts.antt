@@ -5,7 +5,7 @@ use Rattle.pie_guarantees.proofs.Names.{clamps, ints, le-div, mul-le, div-mul-le
 use Rattle.pie_guarantees.proofs.Names.{is_capped, decayed, decays, next, raw_step, tuned_step, tuning_divisor, bounded_of-below, after_updates}
 use Rattle.pie_guarantees.proofs.Names.{least_rise, untuned_fall, untuned_rise, updates_from, updates_to_a_tenth}
 use Rattle.pie_params.specs.declared.raw.RawParams.{RawParams}
-use Rattle.pie_guarantees.proofs.NextFacts.{decayed-less, divisor-some, next_down, next_up, none_decays}
+use Rattle.pie_guarantees.proofs.NextFacts.{decayed-less, divisor-some, next_down, next_up, none_decays, tuned-by}
 
 -- ---- the table of auto-tuning
 
@@ -82,38 +82,25 @@ fall-bounded prob fall within = by (nat_le fall prob) refl
         let less : prob < fall = grind (arith, nat_tests) in omega arith
 
 tuned-below : (step : Step) (prob n : ℕ) → tuned_step step prob (pos 0 -ℤ pos n) ≡ pos 0 -ℤ pos (n / tuning_divisor prob)
-unfolding tuned_step
 tuned-below step prob n =
     let q = quotient-below n (tuning_divisor prob) in
-    rw q (by (is_capped step && nat_le (10 ^ 11) prob))
-  where
-    by : (capped : Bool) → (if capped then int_min (pos 0 -ℤ pos (n / tuning_divisor prob)) (pos 20_000_000_000)
-        else pos 0 -ℤ pos (n / tuning_divisor prob)) ≡ pos 0 -ℤ pos (n / tuning_divisor prob)
-    by true = omega (arith, ints, clamps)
-    by false = refl
+    tuned-by (λ (z : ℤ). z ≡ pos 0 -ℤ pos (n / tuning_divisor prob)) step prob (pos 0 -ℤ pos n) (rw q (omega (arith, ints, clamps))) q
 
 least-tuned : (step : Step) (params : RawParams) (delay prob : ℕ)
     → pos (least_rise params delay prob) ≤ℤ tuned_step step prob (pos (untuned_rise params delay))
-unfolding tuned_step
-least-tuned step params delay prob = by (is_capped step && nat_le (10 ^ 11) prob)
+least-tuned step params delay prob =
+    tuned-by (λ (z : ℤ). pos (least_rise params delay prob) ≤ℤ z) step prob (pos (untuned_rise params delay))
+    (by (untuned_rise params delay / tuning_divisor prob)) (least (untuned_rise params delay / tuning_divisor prob))
   where
-    q : ℕ
-    q = untuned_rise params delay / tuning_divisor prob
+    by : (q : ℕ) → pos (min q 20_000_000_000) ≤ℤ int_min (pos q) (pos 20_000_000_000)
+    by q = omega (arith, ints, clamps)
 
-    by : (capped : Bool) → pos (least_rise params delay prob)
-        ≤ℤ (if capped then int_min (pos (untuned_rise params delay / tuning_divisor prob)) (pos 20_000_000_000)
-        else pos (untuned_rise params delay / tuning_divisor prob))
-    by true = omega (arith, ints, clamps)
-    by false = omega (arith, ints, clamps)
+    least : (q : ℕ) → pos (min q 20_000_000_000) ≤ℤ pos q
+    least q = omega (arith, ints, clamps)
 
 tuned-most : (step : Step) (prob n : ℕ) → tuned_step step prob (pos n) ≤ℤ pos (n / tuning_divisor prob)
-unfolding tuned_step
-tuned-most step prob n = by (is_capped step && nat_le (10 ^ 11) prob)
-  where
-    by : (capped : Bool) → (if capped then int_min (pos (n / tuning_divisor prob)) (pos 20_000_000_000) else pos (n / tuning_divisor prob))
-        ≤ℤ pos (n / tuning_divisor prob)
-    by true = omega (arith, ints, clamps)
-    by false = omega (arith, ints, clamps)
+tuned-most step prob n =
+    tuned-by (λ (z : ℤ). z ≤ℤ pos (n / tuning_divisor prob)) step prob (pos n) (omega (arith, ints, clamps)) (omega (arith, ints))
 
 -- a sum that is at least this is as a probability
 least-bounded : (prob rise : ℕ) (x : ℤ) → pos rise ≤ℤ x → min (10 ^ 12) (prob + rise) ≤ bounded_of (pos prob +ℤ x)

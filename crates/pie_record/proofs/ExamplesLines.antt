@@ -41,37 +41,17 @@ opened_in profile mode params = record {
 abbrev opened_as : Mode → RawParams → Opening
 opened_as mode params = opened_in One mode params
 
-abbrev one_arrival : List ℕ
-one_arrival = codes "open,0,4,16,100\narrive,1,10,7,1500,ect0,0,enqueue\ndepart,2,25,left,7,1500,ect0\ndepart,2,30,empty\n"
-
--- one arrival and two departures, the second of an empty queue
-one_arrival-lines : (history_opening (records_of one_arrival) ≡ Ok (opened_as Bounded default_profile))
-    × (lines_of one_arrival ≡ Made (arrival Enqueued) ∷ Made (event 2 (Depart 25) (Left (packet ecn.Ect0))) ∷ Made (event 2 (Depart 30) Empty) ∷ [])
-    × (fault_in one_arrival ≡ None)
-unfolding worked_text
-one_arrival-lines = (refl, refl, refl)
-
--- updates, resets, parameters, verdicts and notes; parameters of which one is out of its range cannot be made
-kinds-lines : lines_of (
+-- notes, and parameters of which one is out of its range, which cannot be made
+notes-lines : lines_of (
     codes "open,0,4,16,100\n"
-    ++ codes "update,3,4,5,6,7\n"
-    ++ codes "reset,1,2,done\n"
-    ++ codes "params,1,2,15000000,15000000,150000000,125,1250,1024,262144,100000000000,16384,done\n"
     ++ codes "params,1,2,1,15000000,150000000,125,1250,1024,262144,100000000000,16384,done\n"
-    ++ codes "arrive,1,10,7,1500,ect0,0,mark\n"
-    ++ codes "arrive,1,10,7,1500,ect0,0,early\n"
-    ++ codes "arrive,1,10,7,1500,ect0,0,bytes\n"
-    ++ codes "arrive,1,10,7,1500,ect0,0,packets\n"
     ++ codes "refused,2,3\n"
     ++ codes "folded,4\n"
     ++ codes "shown,1,2,3,4,5,6,7,8,9,10,1\n"
     ++ codes "tallied,1,2,3,4,5,6,7,8,9,10,11,12,13,14,340282366920938463463374607431768211455\n")
-    ≡ Made (event 3 (Update 4) (Updated 5 6 7)) ∷ Made (event 1 (Reset 2) Done) ∷ Made (event 1 (SetParams 2 default_profile) Done)
-    ∷ Unmakeable (record { caller = 1; moment = 2; params = record default_profile { target = 1 } })
-    ∷ Made (arrival Marked) ∷ Made (arrival DroppedEarly) ∷ Made (arrival DroppedBytes) ∷ Made (arrival DroppedPackets) ∷ Note ∷ Note ∷ Note ∷ Note
-    ∷ []
+    ≡ Unmakeable (record { caller = 1; moment = 2; params = record default_profile { target = 1 } }) ∷ Note ∷ Note ∷ Note ∷ Note ∷ []
 unfolding worked_text
-kinds-lines = refl
+notes-lines = refl
 
 -- lines before a fault stand; a record past the greatest number is that fault
 faulty-lines : (lines_of (codes "open,0,4,16,100\nrefused,1,1\ndep\nrefused,1,1\n") ≡ Note ∷ [])
@@ -110,6 +90,9 @@ clock-lines = (refl, refl, refl)
 kinds-written : rows_text (written_rows (opened_as Bounded default_profile) (
     arrival Enqueued
     ∷ event 1 (Arrive 10 (packet ecn.Ce) 18446744073709551615) Marked
+    ∷ arrival DroppedEarly
+    ∷ arrival DroppedBytes
+    ∷ arrival DroppedPackets
     ∷ event 2 (Depart 25) (Left (packet ecn.Ce))
     ∷ event 2 (Depart 30) Empty
     ∷ event 3 (Update 4) (Updated 5 6 7)
@@ -119,6 +102,9 @@ kinds-written : rows_text (written_rows (opened_as Bounded default_profile) (
     ≡ codes "open,0,4,16,100\n"
     ++ codes "arrive,1,10,7,1500,ect0,0,enqueue\n"
     ++ codes "arrive,1,10,7,1500,ce,18446744073709551615,mark\n"
+    ++ codes "arrive,1,10,7,1500,ect0,0,early\n"
+    ++ codes "arrive,1,10,7,1500,ect0,0,bytes\n"
+    ++ codes "arrive,1,10,7,1500,ect0,0,packets\n"
     ++ codes "depart,2,25,left,7,1500,ce\n"
     ++ codes "depart,2,30,empty\n"
     ++ codes "update,3,4,5,6,7\n"
@@ -130,27 +116,19 @@ kinds-written = refl
 abbrev with_beta : ℕ → RawParams
 with_beta beta = record default_profile { beta = beta }
 
--- the short form exactly where all nine are the defaults, and the kind of the book's mode
+-- the short form exactly where all nine are the defaults, the kind of the book's mode, and version two exactly where the profile is two
 openings-written : map (λ opening. rows_text (opening_row opening ∷ []))
     (opened_as Bounded (with_beta 1250) ∷ opened_as Bounded (with_beta 1251) ∷ opened_as Rolling (with_beta 1250) ∷ opened_as Rolling (with_beta 0)
-    ∷ [])
+    ∷ opened_in Two Bounded (with_beta 1250) ∷ opened_in Two Rolling (with_beta 0) ∷ [])
     ≡ codes "open,0,4,16,100\n"
     ∷ codes "open,0,4,16,100,15000000,15000000,150000000,125,1251,1024,262144,100000000000,16384\n"
     ∷ codes "rolling,0,4,16,100\n"
     ∷ codes "rolling,0,4,16,100,15000000,15000000,150000000,125,0,1024,262144,100000000000,16384\n"
-    ∷ []
-unfolding worked_text
-openings-written = refl
-
--- version two exactly where the profile is two
-versions-written : map (λ opening. rows_text (opening_row opening ∷ []))
-    (opened_in One Rolling (with_beta 1250) ∷ opened_in Two Bounded (with_beta 1250) ∷ opened_in Two Rolling (with_beta 0) ∷ [])
-    ≡ codes "rolling,0,4,16,100\n"
     ∷ codes "open2,2,bounded,0,4,16,100\n"
     ∷ codes "open2,2,rolling,0,4,16,100,15000000,15000000,150000000,125,0,1024,262144,100000000000,16384\n"
     ∷ []
 unfolding worked_text
-versions-written = refl
+openings-written = refl
 
 -- version three exactly where an element is not the usual one, or a limit is above those of version two
 abbrev opened_by : Elements → ℕ → ℕ → RawParams → Opening
@@ -209,14 +187,11 @@ third-limits = refl
 
 -- a decay that is told stands behind the size: `zero` in words is what no word means
 third-decays : map opened_in_text (
-    codes "open3,1,rate,derandomized,capped,unscaled,half,bounded,0,4,16,100\n"
-    ∷ codes "open3,1,rate,derandomized,capped,unscaled,half,bounded,0,4,16,100,15000000,15000000,150000000,125,0,1024,262144,100000000000,16384\n"
-    ∷ codes "open3,1,rate,derandomized,capped,unscaled,zero,bounded,0,4,16,100\n"
+    codes "open3,1,rate,derandomized,capped,unscaled,zero,bounded,0,4,16,100\n"
     ∷ codes "open3,1,rate,derandomized,capped,unscaled,quarter,bounded,0,4,16,100\n"
     ∷ codes "open3,1,rate,derandomized,capped,unscaled,bounded,0,4,16,100,100\n"
     ∷ [])
-    ≡ Ok (opened_by (record usual { decay = Half }) 4 100 default_profile) ∷ Ok (opened_by (record usual { decay = Half }) 4 100 (with_beta 0))
-    ∷ Ok (opened_by usual 4 100 default_profile) ∷ Err (fault.Word 1) ∷ Err (fault.Word 1) ∷ []
+    ≡ Ok (opened_by usual 4 100 default_profile) ∷ Err (fault.Word 1) ∷ Err (fault.Word 1) ∷ []
 unfolding worked_text
 third-decays = refl
 

@@ -16,37 +16,17 @@ use Rattle.pie_record.proofs.TextBack.{records_of-written}
 
 -- ---- rows that tell lines
 
-pub TellEach-none : (version : Version) → TellEach version [] []
-unfolding TellEach
-TellEach-none version = tt
-
-pub TellEach-cons : (version : Version) (row : Row) (rows : List Row) (line : Line) (lines : List Line) → line_of version row ≡ Ok line
-    → TellEach version rows lines → TellEach version (row ∷ rows) (line ∷ lines)
-unfolding TellEach
-TellEach-cons version row rows line lines tells others = (tells, others)
-
-coming-line : (version : Version) (most number : ℕ) (row : Row) (rows : List Row) (line : Line) (lines : List Line)
-    → told_by version most number row ≡ Ok line
-    → coming_from version most (number + 1) rows ≡ record { lines = lines; fault = None }
-    → coming_from version most number (row ∷ rows) ≡ record { lines = line ∷ lines; fault = None }
-unfolding lines_from fault_from
-coming-line version most number row rows line lines tells later =
-    rw tells (ap (λ (c : Coming). let more : Coming = record { lines = line ∷ c.lines; fault = c.fault } in more) later)
-
-coming-none : (version : Version) (most number : ℕ) → coming_from version most number [] ≡ record { lines = []; fault = None }
-unfolding lines_from fault_from
-coming-none version most number = refl
-
 pub coming-told : (version : Version) (most number : ℕ) (rows : List Row) (lines : List Line) → number + length rows ≤ most + 1
     → TellEach version rows lines
     → coming_from version most number rows ≡ record { lines = lines; fault = None }
-unfolding TellEach
-coming-told version most number [] [] within tells = coming-none version most number
+unfolding TellEach lines_from fault_from
+coming-told version most number [] [] within tells = refl
 coming-told version most number [] (line ∷ lines) within tells = absurd tells
 coming-told version most number (row ∷ rows) [] within tells = absurd tells
 coming-told version most number (row ∷ rows) (line ∷ lines) within tells =
-    coming-line version most number row rows line lines (told_by-line version most number row line (omega arith) tells.0)
-    (coming-told version most (number + 1) rows lines (omega arith) tells.1)
+    rw (told_by-line version most number row line (omega arith) tells.0)
+    (ap (λ (c : Coming). let more : Coming = record { lines = line ∷ c.lines; fault = c.fault } in more)
+    (coming-told version most (number + 1) rows lines (omega arith) tells.1))
 
 -- ---- a whole text
 
@@ -80,11 +60,10 @@ events-some (event ∷ events) = All-cons HasField (event_row event) (map event_
     (events-some events)
 
 pub events-tell : (version : Version) (events : List Event) → All EventFits events → TellEach version (map event_row events) (map Made events)
-events-tell version [] fit = TellEach-none version
+unfolding TellEach
+events-tell version [] fit = tt
 events-tell version (event ∷ events) fit =
-    let fits = All-head EventFits event events fit in
-    TellEach-cons version (event_row event) (map event_row events) (Made event) (map Made events)
-    (event-back version event fits) (events-tell version events (All-tail EventFits event events fit))
+    (event-back version event (All-head EventFits event events fit), events-tell version events (All-tail EventFits event events fit))
 
 opening_row-begins : (o : Opening) → Begins (opening_row o)
 unfolding opening_row

@@ -5,7 +5,7 @@ use Rattle.pie_record.proofs.Names.{RawParams, Packet, AnswerFits, ParamsFit, Re
 use Rattle.pie_record.proofs.Names.{DroppedEarly, DroppedBytes, DroppedPackets, Empty, Left, Updated, Done, Command, Arrive, Depart, Update, Reset}
 use Rattle.pie_record.proofs.Names.{SetParams, Event, Clock, Asked, CommandKind, Flaw, Line, Version, Three, clock_at, clock_in, clock_row}
 use Rattle.pie_record.proofs.Names.{most_moment, command_at, command_kind, is_kind, most_u128, most_u64, number_at, packet_at, word_at, active_line}
-use Rattle.pie_record.proofs.Names.{answer_at, clock_line, departure_at, event_line, has_length, line_by, line_for, line_of, made, note_line}
+use Rattle.pie_record.proofs.Names.{answer_at, departure_at, event_line, has_length, line_by, line_for, line_of, made, note_line}
 use Rattle.pie_record.proofs.Names.{numbers_at, registers_at, shown_line, update_at, verdict_of, number, EventFits, TellEach, Row, request_of}
 use Rattle.pie_record.proofs.Names.{word_said, command_fields, event_row, line_rows, without_notes}
 use Rattle.std.proofs.lemmas.Option.{none-some}
@@ -22,7 +22,9 @@ use Rattle.pie_record.specs.Answer.{answer_fields, flag, folded_row, refused_row
 use Rattle.pie_record.proofs.CommandFacts.{AskedFits, ChangeFits, ClockFits, asked-as-written, asked_fields, asked_kind, clock-as-written, clock-read}
 use Rattle.pie_record.proofs.CommandFacts.{command-back, command-read, kind-back, kind_of}
 use Rattle.pie_record.proofs.FieldFacts.{and_after, back_ecn, back_u32, back_u64, field-read, number-then, ok-same, one-way, no-flaw, packet-read, tested}
+use Rattle.pie_record.proofs.HistoryFacts.{read-all}
 use Rattle.pie_record.proofs.NumberFacts.{number-back}
+use Rattle.pie_record.proofs.Names.{All, and_then, lines_from}
 
 -- ---- what a line that was read holds
 
@@ -135,16 +137,14 @@ shown-fits One row told e =
 shown-fits Two row told e = active-fits row told e
 shown-fits Three row told e = active-fits row told e
 
-clock-fits : (version : Version) (row : Row) (told : Line) → Tells (clock_line version row) told → LineFits told
+clock-fits : (version : Version) (row : Row) (told : Line) → Tells (and_then (clock_in version row) (λ clock. Ok (line.Clock clock))) told → LineFits told
 clock-fits version row told e =
     let a = and_after (clock_in version row) (λ (clock : Clock). let it : Result Line Flaw = Ok (line.Clock clock) in it) told e in
     line-same (line.Clock a.got) told a.rest (clock-read version row a.got a.is).fits
 
--- whatever pie_params promises of parameters in their ranges
-pub line-fits : (version : Version) (row : Row) (told : Line) → ((params : RawParams) → first_bad params ≡ None → ParamsFit params)
-    → line_of version row ≡ Ok told → LineFits told
+line-holds : (version : Version) (row : Row) (told : Line) → line_of version row ≡ Ok told → LineFits told
 unfolding line_of
-line-fits version row told held e = by (command_kind row) e
+line-holds version row told e = by (command_kind row) e
   where
     by : (o : Option CommandKind) → Tells (line_by o version row) told → LineFits told
     by (Some k) e = event-fits row k told e
@@ -154,6 +154,14 @@ line-fits version row told held e = by (command_kind row) e
         one-way (is_kind row (codes "shown")) _ _ _ e (λ is e. shown-fits version row told e) (λ e.
         one-way (is_kind row (codes "tallied")) _ _ _ e (λ is e. note-fits row 14 most_u128 told e) (λ e.
         one-way (is_kind row (codes "clock")) _ _ _ e (λ is e. clock-fits version row told e) (λ e. absurd (no-flaw flaw.Kind told e))))))
+
+pub lines-fit : (version : Version) (most number : ℕ) (rows : List Row) → All LineFits (lines_from version most number rows)
+lines-fit version most number rows = read-all LineFits version most number rows (line-holds version)
+
+-- the same, whatever pie_params promises of parameters in their ranges
+pub line-fits : (version : Version) (row : Row) (told : Line) → ((params : RawParams) → first_bad params ≡ None → ParamsFit params)
+    → line_of version row ≡ Ok told → LineFits told
+line-fits version row told held e = line-holds version row told e
 
 -- ---- an event's record is read as it was written
 
@@ -205,7 +213,8 @@ pub event-back : (version : Version) (event : Event) → EventFits event → lin
 event-back version event fits = line-back version (asked.Command event.caller event.command) event.answer (fits.caller, fits.command) fits.kind fits.answer
 
 -- .. and of the time of day, from version three on
-clock-line : (version : Version) (clock : Clock) → line_of version (clock_row clock) ≡ clock_line version (clock_row clock)
+clock-line : (version : Version) (clock : Clock)
+    → line_of version (clock_row clock) ≡ and_then (clock_in version (clock_row clock)) (λ told. Ok (line.Clock told))
 unfolding line_of command_kind field_at clock_row
 clock-line version clock = refl
 

@@ -53,7 +53,7 @@ unfoldable pub use Rattle.pie_record.specs.FirstRecord.{version_three_fields, ve
 pub use Rattle.pie_record.specs.HistoryLines.{Coming, Gives, ReadsLine, clock_told, coming_after, coming_from, events_in, history_lines, later_fault}
 unfoldable pub use Rattle.pie_record.specs.HistoryLines.{after_opening, event_count, fault_from, history_opening, history_version, latest_clock}
 unfoldable pub use Rattle.pie_record.specs.HistoryLines.{lines_from, told_by}
-pub use Rattle.pie_record.specs.HistoryRecord.{active_line, clock_line, has_length, line_by, line_for, made}
+pub use Rattle.pie_record.specs.HistoryRecord.{active_line, has_length, line_by, line_for, made}
 unfoldable pub use Rattle.pie_record.specs.HistoryRecord.{answer_at, departure_at, event_line, line_of, note_line, numbers_at, registers_at}
 unfoldable pub use Rattle.pie_record.specs.HistoryRecord.{shown_line, update_at, verdict_of}
 pub use Rattle.pie_record.specs.Number.{is_canonical, starts_well}
@@ -65,7 +65,7 @@ unfoldable pub use Rattle.pie_record.specs.ReadBack.{TellEach}
 pub use Rattle.pie_record.specs.Records.{IsReading, ReadsTraces, TakesRow, rows_left}
 pub use Rattle.pie_record.specs.Text.{HasField, Row, records_left, records_of, text_of}
 unfoldable pub use Rattle.pie_record.specs.Text.{rows_text}
-pub use Rattle.pie_record.specs.TraceRecord.{alone, clock_request, request_by, request_for}
+pub use Rattle.pie_record.specs.TraceRecord.{alone, request_by, request_for}
 unfoldable pub use Rattle.pie_record.specs.TraceRecord.{command_request, fold_request, request_of}
 pub use Rattle.pie_record.specs.Words.{delay_word, ecn_word, mode_word, picking_word, profile_number, size_word, step_word, word_said}
 pub use Rattle.pie_record.specs.Write.{are_default, are_usual, change_event, chosen_row, earlier_row, event_row, is_earlier, is_usual_decay}

@@ -16,30 +16,26 @@ use Rattle.pie_params.specs.declared.elements.Step.{Step}
 use Rattle.pie_event.specs.declared.opening.Choices.{Choices}
 use Rattle.pie_event.specs.declared.opening.Limits.{Limits}
 use Rattle.pie_record.specs.declared.first_record.FirstKind.TheVariants as kinds
+use Rattle.std.proofs.lemmas.Bool.Decides.{nat_tests}
 use Rattle.pie_record.proofs.CommandFacts.{nine-of-fits}
 use Rattle.pie_record.proofs.FieldFacts.{back_u32, back_u64, params-back}
 
 are_default-true : (p : RawParams) → are_default p ≡ true → p ≡ default_profile
 are_default-true p e =
     let d = default_profile in
-    let nine = and_parts _ (p.dq_threshold == d.dq_threshold) e in
-    let eight = and_parts _ (p.mark_ecnth == d.mark_ecnth) nine.0 in
-    let seven = and_parts _ (p.limit_bytes == d.limit_bytes) eight.0 in
-    let six = and_parts _ (p.mean_pkt == d.mean_pkt) seven.0 in
-    let five = and_parts _ (p.beta == d.beta) six.0 in
-    let four = and_parts _ (p.alpha == d.alpha) five.0 in
-    let three = and_parts _ (p.max_burst == d.max_burst) four.0 in
-    let two = and_parts (p.target == d.target) (p.t_update == d.t_update) three.0 in
+    let is : (p.target ≡ d.target) × (p.t_update ≡ d.t_update) × (p.max_burst ≡ d.max_burst) × (p.alpha ≡ d.alpha) × (p.beta ≡ d.beta)
+    × (p.mean_pkt ≡ d.mean_pkt) × (p.limit_bytes ≡ d.limit_bytes) × (p.mark_ecnth ≡ d.mark_ecnth) × (p.dq_threshold ≡ d.dq_threshold) =
+    grind (arith, nat_tests) in
     λ i. record {
-      target = eqb-true p.target d.target two.0 i;
-      t_update = eqb-true p.t_update d.t_update two.1 i;
-      max_burst = eqb-true p.max_burst d.max_burst three.1 i;
-      alpha = eqb-true p.alpha d.alpha four.1 i;
-      beta = eqb-true p.beta d.beta five.1 i;
-      mean_pkt = eqb-true p.mean_pkt d.mean_pkt six.1 i;
-      limit_bytes = eqb-true p.limit_bytes d.limit_bytes seven.1 i;
-      mark_ecnth = eqb-true p.mark_ecnth d.mark_ecnth eight.1 i;
-      dq_threshold = eqb-true p.dq_threshold d.dq_threshold nine.1 i;
+      target = is.0 i;
+      t_update = is.1 i;
+      max_burst = is.2 i;
+      alpha = is.3 i;
+      beta = is.4 i;
+      mean_pkt = is.5 i;
+      limit_bytes = is.6 i;
+      mark_ecnth = is.7 i;
+      dq_threshold = is.8 i;
     }
 
 -- ---- the numbers of an opening, and its parameters or nothing

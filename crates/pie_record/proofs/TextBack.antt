@@ -17,9 +17,6 @@ unfolding escaped
 escaped-same [] = refl
 escaped-same (b ∷ rest) = rw (escaped-same rest) refl
 
-field-same : (field : List ℕ) → field_text rows_setup field ≡ field_text default_writer field
-field-same field = rw (escaped-same field) refl
-
 fields-same : (fields : Row) → fields_text rows_setup fields ≡ fields_text default_writer fields
 unfolding fields_text
 fields-same [] = refl

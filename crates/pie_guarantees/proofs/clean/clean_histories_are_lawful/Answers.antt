@@ -1,4 +1,4 @@
-use Rattle.pie_guarantees.proofs.TextFacts.{opened_well, sets_of, sets_told}
+use Rattle.pie_guarantees.proofs.TextFacts.{opened_well, sets_told}
 use Rattle.pie_guarantees.proofs.clean.clean_histories_are_lawful.Goals as goal
 
 pub returns : goal.returns
@@ -7,6 +7,6 @@ returns c = λ text opening lines events told clean.
     record {
       opens = opened.accepted;
       params = opened.in_range;
-      set = sets_of lines (sets_told text opening lines told);
+      set = sets_told text opening lines told;
       legal = (c.clean_is_legal.ensures.clean_is_legal text opening lines events told clean).0.legal;
     }

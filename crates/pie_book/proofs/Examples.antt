@@ -91,17 +91,6 @@ early_events opening history = arrivals_shown (opened_of opening) (shown opening
 
 -- what an event did
 
-arrivals : map (deed (Arrive 1 (packet 7 60) 0)) (Enqueued ∷ Marked ∷ DroppedEarly ∷ DroppedBytes ∷ DroppedPackets ∷ [])
-    ≡ queued (packet 7 60) ∷ marked (packet 7 60) ∷ dropped_early ∷ dropped_bytes ∷ dropped_packets ∷ []
-arrivals = refl
-
-departures : map (deed (Depart 1)) (Left (packet 7 60) ∷ Empty ∷ []) ≡ departed (packet 7 60) ∷ found_none ∷ []
-departures = refl
-
-others : (deed (Update 1) (Updated 2 3 4) ≡ updated) × (deed (Reset 1) Done ≡ was_reset)
-    × (deed (SetParams 1 default_profile) Done ≡ set default_profile)
-others = (refl, refl, refl)
-
 -- an answer that the command cannot have: of an arrival and a departure such an event did nothing
 misfits : (map (deed (Arrive 1 (packet 7 60) 0)) (Empty ∷ Left (packet 7 60) ∷ Updated 2 3 4 ∷ Done ∷ [])
     ≡ nothing ∷ nothing ∷ nothing ∷ nothing ∷ [])
@@ -119,10 +108,6 @@ fitting : (map (fits (Arrive 1 (packet 7 60) 0)) all_answers ≡ true ∷ true �
     × (map (fits (SetParams 1 default_profile)) all_answers ≡ false ∷ false ∷ false ∷ false ∷ false ∷ false ∷ false ∷ false ∷ true ∷ [])
 unfolding all_answers
 fitting = (refl, refl, refl, refl, refl)
-
-moments_handed_in : map handed_in (Arrive 1 (packet 7 60) 0 ∷ Depart 2 ∷ Update 3 ∷ Reset 4 ∷ SetParams 5 default_profile ∷ [])
-    ≡ 1 ∷ 2 ∷ 3 ∷ 4 ∷ 5 ∷ []
-moments_handed_in = refl
 
 abbrev all_deeds : List Deed
 all_deeds = queued (packet 7 60) ∷ marked (capable 7 60) ∷ dropped_early ∷ dropped_bytes ∷ dropped_packets ∷ departed (packet 7 60) ∷ found_none
@@ -151,10 +136,6 @@ three = arrival ∷ departure_of_it ∷ late_departure ∷ []
 
 abbrev pub place : List Event → Event → Place Event
 place before event = record { before = before; event = event }
-
-three-departed : (departed_count (arrival ∷ []) ≡ 0) × (departed_count three ≡ 1)
-unfolding departed_count
-three-departed = (refl, refl)
 
 -- a moment that falls back counts as the greatest before it, from the opening moment on
 

@@ -43,18 +43,6 @@ invented-illegal legal =
     let first = All-head (IsLegalAt (opened 4 16 100)) (place [] (event 2 (Depart 1) (Left (packet 7 1500)))) [] legal in
     let answered : Left (packet 7 1500) ≡ Empty = first.answered in cc
 
-too_large-illegal : IsLegal (opened 4 16 100) (event 1 (Arrive 1 (packet 1 65536) 0) Enqueued ∷ []) → ⊥
-unfolding worked
-too_large-illegal legal =
-    let first = All-head (IsLegalAt (opened 4 16 100)) (place [] (event 1 (Arrive 1 (packet 1 65536) 0) Enqueued)) [] legal in
-    let taken : Some Size ≡ None = first.taken in cc
-
-early_update-illegal : IsLegal (opened 4 16 100) (event 1 (Update 14999999) (Updated 0 0 150000000) ∷ []) → ⊥
-unfolding worked
-early_update-illegal legal =
-    let first = All-head (IsLegalAt (opened 4 16 100)) (place [] (event 1 (Update 14999999) (Updated 0 0 150000000))) [] legal in
-    let taken : Some (TooSoon 15000000) ≡ None = first.taken in cc
-
 -- the fourth arrival cannot have been marked: the tenth event has the answer of a mark, the fourth not
 wrong_mark-illegal : IsLegalAt opening (place (take 3 fourteen) (event 1 (Arrive 0 (packet 4 1024) 0) Marked)) → ⊥
 unfolding worked
@@ -79,25 +67,7 @@ core_at_twelve = record {
   };
   waiting = waits (packet 3 1024) 0 ∷ waits (packet 4 1024) 0 ∷ waits (record { tag = 5; size = 500; ecn = Ce }) 1001003
       ∷ waits (packet 7 500) 1001003 ∷ [];
-  stats = tallied 0 0;
-}
-
--- after all fourteen the estimate, the probability and what was accumulated are gone
-abbrev core_at_fourteen : CoreView
-core_at_fourteen = record core_at_twelve {
-  count = 14;
-  held = record {
-    profile = One;
-    elements = usual;
-    params = some_burst;
-    moment = 1001005;
-    active = true;
-    rate = no_estimate;
-    waited = 0;
-    control = parts 0 0 50 1001002;
-    accu = 0;
-  };
-  stats = tallied 1 1;
+  stats = tallied;
 }
 
 twelve-shown : Shows opening core_at_twelve twelve
@@ -111,66 +81,6 @@ twelve-shown = record {
   waiting = refl;
   controller = refl;
   stats = refl;
-}
-
-fourteen-shown : Shows opening core_at_fourteen fourteen
-unfolding worked Controller.Shows
-fourteen-shown = record {
-  legal = fourteen-legal;
-  packets = refl;
-  events = refl;
-  count = refl;
-  moment = refl;
-  waiting = refl;
-  controller = refl;
-  stats = refl;
-}
-
--- what the cores show of themselves is what looking back gives
-cores-registers : (registers_of core_at_twelve ≡ registers_after opening twelve) × (registers_of core_at_fourteen ≡ registers_after opening fourteen)
-unfolding worked
-cores-registers = (refl, refl)
-
--- the next update is due at 1001003
-cores-refusal : map (λ moment. refusal_of (record core_at_twelve { held = record core_at_twelve.held { moment = moment } }) (Update 0))
-    (1001002 ∷ 1001003 ∷ []) ≡ Some (TooSoon 1001003) ∷ None ∷ []
-cores-refusal = refl
-
--- after a fold of twelve a book tells the same fourteen events, with the last two in its tail: where it keeps all of them, where its
--- snapshot has the first twelve, and where it keeps no others
-abbrev pub folded_book : List Event → ℕ → ℕ → CoreView → CoreView → BookView
-folded_book kept gone ahead base snapshot = record {
-  opening = opening;
-  running = core_at_fourteen;
-  kept = kept;
-  gone = gone;
-  tail = change ∷ restart ∷ [];
-  base = base;
-  snapshot = snapshot;
-  ahead = ahead;
-  span = 14;
-}
-
-decided-told : Tells (folded_book (change ∷ restart ∷ []) 0 2 core_at_twelve core_at_fourteen) fourteen
-decided-told = record {
-  before = take 12 fourteen;
-  whole = refl;
-  split = refl;
-  tail = refl;
-  running = fourteen-shown;
-  base = twelve-shown;
-  snapshot = fourteen-shown;
-}
-
-kept-told : Tells (folded_book fourteen 12 12 (first_core opening) core_at_twelve) fourteen
-kept-told = record {
-  before = [];
-  whole = refl;
-  split = refl;
-  tail = refl;
-  running = fourteen-shown;
-  base = first-shows opening;
-  snapshot = twelve-shown;
 }
 
 -- the tail's events are the last ones, in order, and the checkpoint's the others
@@ -187,26 +97,3 @@ tails_with_one : (tail_with (opened_with Rolling (limits 4 2 100) no_burst) (arr
     × (tail_with (opened_with Bounded (limits 4 3 100) no_burst) (arrival ∷ departure_of_it ∷ []) late_departure ≡ three)
     × (tail_with (opened_with Rolling (limits 4 1 100) no_burst) (arrival ∷ []) late_departure ≡ late_departure ∷ [])
 tails_with_one = (refl, refl, refl, refl)
-
--- what each event adds, in one row: arrivals, queued, marked, dropped early, by bytes, by packets, departed, its bytes, none found, updates, resets,
--- changes, largest delay, waited
-abbrev row : Stats → List ℕ
-row s =
-    s.arrivals ∷ s.enqueued ∷ s.marked ∷ s.early ∷ s.over_bytes ∷ s.over_packets ∷ s.left ∷ s.left_bytes ∷ s.empty ∷ s.updates ∷ s.resets
-    ∷ s.changes ∷ s.largest_delay ∷ s.waited ∷ []
-
-abbrev adds : Deed → List ℕ
-adds d = row (counted no_stats d 7 9)
-
-each_adds : (adds (queued (packet 1 60)) ≡ 1 ∷ 1 ∷ 0 ∷ 0 ∷ 0 ∷ 0 ∷ 0 ∷ 0 ∷ 0 ∷ 0 ∷ 0 ∷ 0 ∷ 0 ∷ 0 ∷ [])
-    × (adds (marked (packet 1 60)) ≡ 1 ∷ 0 ∷ 1 ∷ 0 ∷ 0 ∷ 0 ∷ 0 ∷ 0 ∷ 0 ∷ 0 ∷ 0 ∷ 0 ∷ 0 ∷ 0 ∷ [])
-    × (adds dropped_early ≡ 1 ∷ 0 ∷ 0 ∷ 1 ∷ 0 ∷ 0 ∷ 0 ∷ 0 ∷ 0 ∷ 0 ∷ 0 ∷ 0 ∷ 0 ∷ 0 ∷ [])
-    × (adds dropped_bytes ≡ 1 ∷ 0 ∷ 0 ∷ 0 ∷ 1 ∷ 0 ∷ 0 ∷ 0 ∷ 0 ∷ 0 ∷ 0 ∷ 0 ∷ 0 ∷ 0 ∷ [])
-    × (adds dropped_packets ≡ 1 ∷ 0 ∷ 0 ∷ 0 ∷ 0 ∷ 1 ∷ 0 ∷ 0 ∷ 0 ∷ 0 ∷ 0 ∷ 0 ∷ 0 ∷ 0 ∷ [])
-    × (adds (departed (packet 1 60)) ≡ 0 ∷ 0 ∷ 0 ∷ 0 ∷ 0 ∷ 0 ∷ 1 ∷ 60 ∷ 0 ∷ 0 ∷ 0 ∷ 0 ∷ 0 ∷ 9 ∷ [])
-    × (adds found_none ≡ 0 ∷ 0 ∷ 0 ∷ 0 ∷ 0 ∷ 0 ∷ 0 ∷ 0 ∷ 1 ∷ 0 ∷ 0 ∷ 0 ∷ 0 ∷ 0 ∷ [])
-    × (adds updated ≡ 0 ∷ 0 ∷ 0 ∷ 0 ∷ 0 ∷ 0 ∷ 0 ∷ 0 ∷ 0 ∷ 1 ∷ 0 ∷ 0 ∷ 7 ∷ 0 ∷ [])
-    × (adds was_reset ≡ 0 ∷ 0 ∷ 0 ∷ 0 ∷ 0 ∷ 0 ∷ 0 ∷ 0 ∷ 0 ∷ 0 ∷ 1 ∷ 0 ∷ 0 ∷ 0 ∷ [])
-    × (adds (set no_burst) ≡ 0 ∷ 0 ∷ 0 ∷ 0 ∷ 0 ∷ 0 ∷ 0 ∷ 0 ∷ 0 ∷ 0 ∷ 0 ∷ 1 ∷ 0 ∷ 0 ∷ [])
-    × (adds nothing ≡ 0 ∷ 0 ∷ 0 ∷ 0 ∷ 0 ∷ 0 ∷ 0 ∷ 0 ∷ 0 ∷ 0 ∷ 0 ∷ 0 ∷ 0 ∷ 0 ∷ [])
-each_adds = (refl, refl, refl, refl, refl, refl, refl, refl, refl, refl, refl)

@@ -71,10 +71,10 @@ the_delays = refl
 abbrev pub parts : ℕ → ℕ → ℕ → ℕ → Parts
 parts prob old burst last = record { prob = prob; old_delay = old; burst = burst; last = last }
 
--- the statistics: seven arrivals, of which five were queued as they came, one marked and one dropped early; two departures after 1000 and 1001000;
--- three updates; and at last a reset and new parameters
-abbrev pub tallied : ℕ → ℕ → Stats
-tallied resets changes = record {
+-- the statistics of the twelve: seven arrivals, of which five were queued as they came, one marked and one dropped early; two departures after
+-- 1000 and 1001000; three updates
+abbrev pub tallied : Stats
+tallied = record {
   arrivals = 7;
   enqueued = 5;
   marked = 1;
@@ -85,8 +85,8 @@ tallied resets changes = record {
   left_bytes = 2048;
   empty = 0;
   updates = 3;
-  resets = resets;
-  changes = changes;
+  resets = 0;
+  changes = 0;
   largest_queue = 4096;
   largest_delay = 2000000;
   waited = 1002000;

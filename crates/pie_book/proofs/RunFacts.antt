@@ -5,6 +5,7 @@ use Rattle.std.proofs.Common.{not, Option, Some, None, Result, Ok, Err, filter_m
 use Rattle.pie_book.specs.Types.{Command, Answer, Event, Mode, Bounded, Rolling, Opening, Refusal}
 use Rattle.pie_book.specs.Decision.{decision, refusal_by_rule, or_full, is_refused_full}
 use Rattle.pie_book.specs.Run.{Step, asked, folded, Progress, Asked, event_of, refused_or, recorded, held_after_fold, outcomes, answer_of, answers}
+use Rattle.pie_event.specs.declared.refusal.Refusal.TheVariants.{HistoryFull}
 use Rattle.pie_book.specs.Run.{without_folds, is_full, before_full, AreSameUntilFull}
 
 abbrev Given : Type 0
@@ -33,68 +34,58 @@ given_from opening progress steps = filter_map answer_of (outcomes opening progr
 abbrev at : List Event → ℕ → Progress
 at history held = record { history = history; held = held }
 
--- a rolling book's tail refuses nothing
-rolls : (mode : Mode) (full : Bool) → mode ≡ Rolling → is_refused_full mode full ≡ false
-rolls Bounded full is = cc
-rolls Rolling full is = refl
+-- ---- what holds of no answers, of one more and the same, and of all from one on that says that the tail is full, holds of those of a run and of the rules
 
--- one command of a rolling book, and the steps after it
-rolling-asked : (opening : Opening) (history : List Event) (held caller : ℕ) (command : Command) (steps : List Step)
-    → ((history : List Event) (held : ℕ) → given_from opening (at history held) steps ≡ all_ruled opening history (without_folds steps))
-    → (why : Option Refusal) (full : Bool) (answer : Answer) → full ≡ false
-    → refused_or (or_full why full) answer ∷ given_from opening
-    (recorded opening (at history held) caller command (refused_or (or_full why full) answer)) steps
-    ≡ refused_or why answer ∷ all_ruled opening (extended history caller command (refused_or why answer)) (without_folds steps)
-rolling-asked opening history held caller command steps later (Some why) full answer is = ap (◌∷◌ (Err why)) (later history held)
-rolling-asked opening history held caller command steps later None true answer is = cc
-rolling-asked opening history held caller command steps later None false answer is = ap (◌∷◌ (Ok answer)) (later _ _)
+module _ (opening : Opening) (R : List Given → List Given → Type 0) (none : R [] [])
+    (same : (first : Given) (some other : List Given) → R some other → R (first ∷ some) (first ∷ other))
+    (filled : (held : ℕ) (some other : List Given) → is_refused_full opening.choices.mode (held == opening.limits.tail) ≡ true
+    → R (Err HistoryFull ∷ some) other) where
+  -- one command, and the steps after it
+  one-asked : (history : List Event) (held caller : ℕ) (command : Command) (steps : List Step)
+      → ((history : List Event) (held : ℕ) → R (given_from opening (at history held) steps) (all_ruled opening history (without_folds steps)))
+      → (why : Option Refusal) (full : Bool) (answer : Answer) → is_refused_full opening.choices.mode (held == opening.limits.tail) ≡ full
+      → R (refused_or (or_full why full) answer ∷ given_from opening
+      (recorded opening (at history held) caller command (refused_or (or_full why full) answer)) steps)
+      (refused_or why answer ∷ all_ruled opening (extended history caller command (refused_or why answer)) (without_folds steps))
+  one-asked history held caller command steps later (Some why) full answer is = same (Err why) _ _ (later history held)
+  one-asked history held caller command steps later None true answer is = filled held _ _ is
+  one-asked history held caller command steps later None false answer is = same (Ok answer) _ _ (later _ _)
 
--- a rolling book answers as the rules do
-rolling-ruled : (opening : Opening) (history : List Event) (held : ℕ) (steps : List Step) → opening.choices.mode ≡ Rolling
-    → given_from opening (at history held) steps ≡ all_ruled opening history (without_folds steps)
-unfolding all_ruled outcomes without_folds
-rolling-ruled opening history held [] is = refl
-rolling-ruled opening history held (folded n ∷ steps) is = rolling-ruled opening history (held_after_fold held n) steps is
-rolling-ruled opening history held (asked caller command ∷ steps) is =
-    rolling-asked opening history held caller command steps (λ history held. rolling-ruled opening history held steps is)
-    (refusal_by_rule opening history command) (is_refused_full opening.choices.mode (held == opening.limits.tail)) (decision opening history command)
-    (rolls opening.choices.mode (held == opening.limits.tail) is)
+  all-asked : (history : List Event) (held : ℕ) (steps : List Step)
+      → R (given_from opening (at history held) steps) (all_ruled opening history (without_folds steps))
+  unfolding all_ruled outcomes without_folds
+  all-asked history held [] = none
+  all-asked history held (folded n ∷ steps) = all-asked history (held_after_fold held n) steps
+  all-asked history held (asked caller command ∷ steps) =
+      one-asked history held caller command steps (λ history held. all-asked history held steps) (refusal_by_rule opening history command)
+      (is_refused_full opening.choices.mode (held == opening.limits.tail)) (decision opening history command) refl
 
--- the same answer before lists that are the same so far
-same-cons : (first : Given) (some other : List Given) → take (before_full some) some ≡ take (before_full some) other
-    → take (before_full (first ∷ some)) (first ∷ some) ≡ take (before_full (first ∷ some)) (first ∷ other)
-same-cons first some other same = by (is_full first)
+-- a rolling book answers as the rules do, since its tail refuses nothing
+rolling-ruled : (opening : Opening) (steps : List Step) → opening.choices.mode ≡ Rolling
+    → given_from opening (at [] 0) steps ≡ all_ruled opening [] (without_folds steps)
+rolling-ruled opening steps is =
+    all-asked opening (λ some other. some ≡ other) refl (λ first some other e. ap (◌∷◌ first) e)
+    (λ held some other full. let none = rolls opening.choices.mode (held == opening.limits.tail) is in cc) [] 0 steps
   where
-    by : (full : Bool) → take (cond (not full) (1 + before_full some) 0) (first ∷ some)
-        ≡ take (cond (not full) (1 + before_full some) 0) (first ∷ other)
-    by true = refl
-    by false = rw one-add (ap (◌∷◌ first) same)
+    rolls : (mode : Mode) (full : Bool) → mode ≡ Rolling → is_refused_full mode full ≡ false
+    rolls Bounded full is = cc
+    rolls Rolling full is = refl
 
--- one command, and the steps after it
-until_full-asked : (opening : Opening) (history : List Event) (held caller : ℕ) (command : Command) (steps : List Step)
-    → ((history : List Event) (held : ℕ)
-    → take (before_full (given_from opening (at history held) steps)) (given_from opening (at history held) steps)
-    ≡ take (before_full (given_from opening (at history held) steps)) (all_ruled opening history (without_folds steps)))
-    → (why : Option Refusal) (full : Bool) (answer : Answer)
-    → let given = refused_or (or_full why full) answer ∷ given_from opening
-    (recorded opening (at history held) caller command (refused_or (or_full why full) answer)) steps in
-    take (before_full given) given
-    ≡ take (before_full given) (refused_or why answer ∷ all_ruled opening (extended history caller command (refused_or why answer))
-    (without_folds steps))
-until_full-asked opening history held caller command steps later (Some why) full answer = same-cons (Err why) _ _ (later history held)
-until_full-asked opening history held caller command steps later None true answer = refl
-until_full-asked opening history held caller command steps later None false answer = same-cons (Ok answer) _ _ (later _ _)
+-- the same up to the first answer that says that the tail is full
+abbrev SameUntilFull : List Given → List Given → Type 0
+SameUntilFull some other = take (before_full some) some ≡ take (before_full some) other
 
--- a book answers as the rules do, up to the first answer that says that the tail is full
-until_full-ruled : (opening : Opening) (history : List Event) (held : ℕ) (steps : List Step)
-    → take (before_full (given_from opening (at history held) steps)) (given_from opening (at history held) steps)
-    ≡ take (before_full (given_from opening (at history held) steps)) (all_ruled opening history (without_folds steps))
-unfolding all_ruled outcomes without_folds
-until_full-ruled opening history held [] = refl
-until_full-ruled opening history held (folded n ∷ steps) = until_full-ruled opening history (held_after_fold held n) steps
-until_full-ruled opening history held (asked caller command ∷ steps) =
-    until_full-asked opening history held caller command steps (λ history held. until_full-ruled opening history held steps)
-    (refusal_by_rule opening history command) (is_refused_full opening.choices.mode (held == opening.limits.tail)) (decision opening history command)
+until_full-ruled : (opening : Opening) (steps : List Step)
+    → SameUntilFull (given_from opening (at [] 0) steps) (all_ruled opening [] (without_folds steps))
+until_full-ruled opening steps = all-asked opening SameUntilFull refl same-cons (λ held some other full. refl) [] 0 steps
+  where
+    same-cons : (first : Given) (some other : List Given) → SameUntilFull some other → SameUntilFull (first ∷ some) (first ∷ other)
+    same-cons first some other same = by (is_full first)
+      where
+        by : (full : Bool) → take (cond (not full) (1 + before_full some) 0) (first ∷ some)
+            ≡ take (cond (not full) (1 + before_full some) 0) (first ∷ other)
+        by true = refl
+        by false = rw one-add (ap (◌∷◌ first) same)
 
 -- two lists of steps with the same commands are answered the same until a tail is full
 pub same_until_full : (opening : Opening) (some other : List Step) → without_folds some ≡ without_folds other
@@ -103,7 +94,7 @@ unfolding answers
 same_until_full opening some other same =
     shorter (before_full (answers opening some)) (before_full (answers opening other))
     (answers opening some) (answers opening other) (all_ruled opening [] (without_folds some))
-    (until_full-ruled opening [] 0 some) (rw same (until_full-ruled opening [] 0 other))
+    (until_full-ruled opening some) (rw same (until_full-ruled opening other))
   where
     shorter : (a b : ℕ) (xs ys zs : List Given) → take a xs ≡ take a zs → take b ys ≡ take b zs → take (min a b) xs ≡ take (min a b) ys
     shorter a b xs ys zs p q =
@@ -117,4 +108,4 @@ pub same_when_rolling : (opening : Opening) (some other : List Step) → opening
     → answers opening some ≡ answers opening other
 unfolding answers
 same_when_rolling opening some other is same =
-    rolling-ruled opening [] 0 some is ∙ ap (all_ruled opening []) same ∙ sym (rolling-ruled opening [] 0 other is)
+    rolling-ruled opening some is ∙ ap (all_ruled opening []) same ∙ sym (rolling-ruled opening other is)

@@ -10,19 +10,13 @@ use Rattle.pie_commands.specs.declared.cut.Wanted.{Wanted}
 
 -- ---- it never began
 
-cut_ends-unable : (wanted : Option Wanted) (named : Bool) (rows : List Fields) (before now : Option (List ℕ)) → now ≡ before
+pub cut-unable : (wanted : Option Wanted) (named : Bool) (rows : List Fields) (before now : Option (List ℕ)) → now ≡ before
     → cut_ends wanted named rows Unable before now
-cut_ends-unable None named rows before now same = (inl refl, same)
-cut_ends-unable (Some (Part span)) named rows before now same = inl (refl, same)
-cut_ends-unable (Some (Last many)) false rows before now same = (inl refl, same)
-cut_ends-unable (Some (Last many)) true rows before now same = inl (refl, same)
-cut_ends-unable (Some (Every every)) named rows before now same = inl (refl, same)
-
-pub EndsCut-unable : (options : List Row) (file : Option Text) (known : Option (List ℕ)) (before now : Option (List ℕ)) → now ≡ before
-    → IfSome known (λ text. EndsCut options file text Unable before now)
-EndsCut-unable options file None before now same = tt
-EndsCut-unable options file (Some text) before now same =
-    cut_ends-unable (wanted_of options) (is_named file) (records_of text) before now same
+cut-unable None named rows before now same = (inl refl, same)
+cut-unable (Some (Part span)) named rows before now same = inl (refl, same)
+cut-unable (Some (Last many)) false rows before now same = (inl refl, same)
+cut-unable (Some (Last many)) true rows before now same = inl (refl, same)
+cut-unable (Some (Every every)) named rows before now same = inl (refl, same)
 
 -- ---- the last events
 

@@ -1,7 +1,7 @@
 -- How a subcommand ends that never began, and a run, a migration and an audit.
 use Rattle.pie_commands.proofs.Names.{◌≡◌, ◌≤◌, ◌^◌, ℕ, List, [], ◌∷◌, Option, Some, None, arith, inl, inr, refl, subst, Bool, true, false, IfErr}
 use Rattle.pie_commands.proofs.Names.{IfOk, IfSome, Result, Ok, Err, Appends, Text, TraceFault, IsTold, is_device, records_of, Finding, FindsEither}
-use Rattle.pie_commands.proofs.Names.{finding_line, End, Done, Fault, Unable, Failed, EndsEither, EndsOfFiles, EndsAudit, EndsBy, EndsMigrate}
+use Rattle.pie_commands.proofs.Names.{finding_line, End, Done, Fault, Unable, Failed, EndsEither, EndsAudit, EndsBy, EndsMigrate}
 use Rattle.pie_commands.proofs.Names.{EndsRun, TellsFound, audit_ends, end_found, end_of, run_ends, run_ends_by, status_of}
 use Rattle.pie_trace.specs.declared.run.RunEnd.{RunEnd}
 use Rattle.pie_trace.specs.Resumed.{RunsBy, RunsEither}
@@ -41,23 +41,14 @@ unable-by end_for tells (Some text) before = inl (refl, refl)
 
 -- ---- before a subcommand begins
 
-run-unable : (kind : Bool) (rows : List Row) (before now : Option (List ℕ)) → now ≡ before → run_ends_by kind rows Unable before now
+-- what holds of any text holds of one that may be known
+pub if-known : (known : Option (List ℕ)) (P : List ℕ → Type 0) → ((text : List ℕ) → P text) → IfSome known P
+if-known None P all = tt
+if-known (Some text) P all = all text
+
+pub run-unable : (kind : Bool) (rows : List Row) (before now : Option (List ℕ)) → now ≡ before → run_ends_by kind rows Unable before now
 run-unable false rows before now same = same
 run-unable true rows before now same = same
-
-pub EndsRun-unable : (known : Option (List ℕ)) (before now : Option (List ℕ)) → now ≡ before → IfSome known (λ text. EndsRun text Unable before now)
-EndsRun-unable None before now same = tt
-EndsRun-unable (Some text) before now same = run-unable (is_resumed (records_of text)) (records_of text) before now same
-
-pub EndsAudit-unable : (known : Option (List ℕ)) (before now : Option (List ℕ)) → now ≡ before
-    → IfSome known (λ text. EndsAudit text Unable before now)
-EndsAudit-unable None before now same = tt
-EndsAudit-unable (Some text) before now same = same
-
-pub EndsMigrate-unable : (known : Option (List ℕ)) (before now : Option (List ℕ)) → now ≡ before
-    → IfSome known (λ text. EndsMigrate text Unable before now)
-EndsMigrate-unable None before now same = tt
-EndsMigrate-unable (Some text) before now same = same
 
 -- ---- `pie run` and `pie migrate`
 
@@ -122,15 +113,3 @@ pub EndsAudit-told : (known : Option (List ℕ)) (found : Result Finding TraceFa
     → IfSome known (λ text. EndsAudit text end before now)
 EndsAudit-told None found end before now tells finds = tt
 EndsAudit-told (Some text) found end before now tells finds = audit-told (FindsEither (records_of text)) found end before now finds tells
-
--- ---- of files
-
-files-unable : (joined : Bool) (input : Option (List ℕ)) (files : Text → Option (List ℕ)) (names : List Text) (before now : Option (List ℕ))
-    → now ≡ before → EndsOfFiles joined input files names Unable before now
-files-unable false input files names before now same = inr (inl (refl, same))
-files-unable true input files names before now same = inr (inl (refl, same))
-
-pub EndsEither-unable : (joined : Bool) (input : Option (List ℕ)) (files : Text → Option (List ℕ)) (names : List Text)
-    (before now : Option (List ℕ)) → now ≡ before → EndsEither joined input files names Unable before now
-EndsEither-unable joined input files [] before now same = EndsAudit-unable input before now same
-EndsEither-unable joined input files (name ∷ names) before now same = files-unable joined input files (name ∷ names) before now same

@@ -14,10 +14,6 @@ use Rattle.pie_units.specs.Written.{digit_count, number_after}
 abbrev at_all_moments : Which → Choice
 at_all_moments which = record { which = which; from = None; to = None }
 
-lost-chosen : (name : Text) → choice_of (options_in (name ∷ codes "explain" ∷ codes "--lost" ∷ [])) ≡ Some (at_all_moments Lost)
-unfolding clap_on_literals choice_of
-lost-chosen name = refl
-
 event-chosen : (name : Text) → choice_of (options_in (name ∷ codes "explain" ∷ codes "--csv" ∷ codes "--event" ∷ codes "10" ∷ []))
     ≡ Some (at_all_moments (Number 10))
 unfolding clap_on_literals choice_of
@@ -57,11 +53,6 @@ from-cut : (name : Text) → wanted_of (options_in (name ∷ codes "cut" ∷ cod
     ≡ Some (Part (between (Some (Moment 2_000_000_000)) None))
 unfolding clap_on_literals wanted_of digit_count number_after is_word time_scale
 from-cut name = refl
-
-to_day-cut : (name : Text) → wanted_of (options_in (name ∷ codes "cut" ∷ codes "--to=2026-11-24T20:00:00Z" ∷ []))
-    ≡ Some (Part (between None (Some (Unix 1795550400000000000))))
-unfolding clap_on_literals wanted_of digit_count number_after utc_in utc_with unix_of seconds_part date_part has_marks nanos_in day_number
-to_day-cut name = refl
 
 late-cut : (name : Text) → wanted_of (options_in (name ∷ codes "cut" ∷ codes "--from=2" ∷ codes "--to=1" ∷ [])) ≡ None
 unfolding clap_on_literals wanted_of digit_count number_after is_word time_scale

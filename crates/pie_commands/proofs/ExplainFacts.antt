@@ -3,15 +3,10 @@ use Rattle.pie_commands.proofs.Names.{◌≡◌, ℕ, List, Option, Some, None, 
 use Rattle.pie_commands.proofs.Names.{EndsExplain, explain_ends}
 use Rattle.clap.specs.Words.{Row}
 
-explain_ends-unable : (choice : Option Choice) (tale : List Explained → List ℕ) (text : List ℕ) (before now : Option (List ℕ)) → now ≡ before
+pub explain-unable : (choice : Option Choice) (tale : List Explained → List ℕ) (text : List ℕ) (before now : Option (List ℕ)) → now ≡ before
     → explain_ends choice tale text Unable before now
-explain_ends-unable None tale text before now same = (inl refl, same)
-explain_ends-unable (Some choice) tale text before now same = inl (refl, same)
-
-pub EndsExplain-unable : (options : List Row) (known : Option (List ℕ)) (before now : Option (List ℕ)) → now ≡ before
-    → IfSome known (λ text. EndsExplain options text Unable before now)
-EndsExplain-unable options None before now same = tt
-EndsExplain-unable options (Some text) before now same = explain_ends-unable (choice_of options) (tale_of options) text before now same
+explain-unable None tale text before now same = (inl refl, same)
+explain-unable (Some choice) tale text before now same = inl (refl, same)
 
 pub EndsExplain-unchosen : (options : List Row) (known : Option (List ℕ)) (before : Option (List ℕ)) → choice_of options ≡ None
     → IfSome known (λ text. EndsExplain options text Failed before before)

@@ -1,18 +1,12 @@
--- An audit of one file after another, of one history or of any.
-use Rattle.pie_commands.proofs.Names.{◌≡◌, ◌+◌, ◌<◌, ℕ, List, [], ◌∷◌, ◌++◌, add-one, get_or, length, take, Bool, true, false, Option, Some, None}
-use Rattle.pie_commands.proofs.Names.{inl, inr, refl, subst, sym, ◌||◌, Appends, append-nil, Text, Joined, EndView, ReadsNamed, text_given, Stays}
-use Rattle.pie_commands.proofs.Names.{reads-given, Fault, AuditsFiles, IsFound, is_different, is_unfound, line_of, named_line, worst, TellsRead}
-use Rattle.pie_commands.proofs.Names.{TellsText, EndsOfFiles, JoinsFile, JoinsFiles, finding_in, is_broken, lines_of}
+-- An audit of one file after another, of any or of those of one history.
+use Rattle.pie_commands.proofs.Names.{◌≡◌, ◌∙◌, ◌+◌, ◌<◌, ℕ, List, [], ◌∷◌, ◌++◌, add-one, get_or, length, take, Bool, true, false, Option, Some, None}
+use Rattle.pie_commands.proofs.Names.{inl, inr, refl, ap, subst, sym, ◌||◌, Appends, Appends-nil, Appends-trans, append-nil, map-append, flat_map}
+use Rattle.pie_commands.proofs.Names.{flat_map-append, list_any, Text, Joined, EndView, End, Fault, ReadsNamed, text_given, Stays, reads-given}
+use Rattle.pie_commands.proofs.Names.{AreTold, AuditsFiles, EndsEither, EndsOfFiles, TellsRead, TellsText, Told, is_broken, is_unfound, lines_of}
+use Rattle.pie_commands.proofs.Names.{told_lines, worst}
 use Rattle.std.proofs.Math.Seq.{take-suc}
+use Rattle.std.proofs.lemmas.List.Folds.{list_any-append}
 use Rattle.pie_record.specs.declared.fault.TraceFault.TheVariants as trace_fault
-use Rattle.pie_commands.proofs.AuditFacts.{audits-more, audits-none, or-false}
-use Rattle.pie_commands.proofs.JointFacts.{joins-more, joins-none}
-
--- each of these files was audited in turn, as those of one history or as any
-abbrev pub AuditsBy : Bool → Option (List ℕ) → (Text → Option (List ℕ)) → List Text → Bool → Bool → Option EndView → Option (List ℕ)
-    → Option (List ℕ) → Type 0
-AuditsBy false input files names unfound broken end before now = AuditsFiles input files names unfound broken before now
-AuditsBy true input files names unfound broken end before now = JoinsFiles input files names unfound broken end before now
 
 -- what is told of a file is told of its text
 pub tells-given : {R : Type 0} (joined : Bool) (remaining : R → Option (List ℕ)) (first : R) (input : Option R) (files : Text → Option (List ℕ))
@@ -24,70 +18,78 @@ tells-given joined remaining first input files name before (Some told) after sta
     subst (λ (known : Option (List ℕ)). TellsText joined known before (Some told) after)
     (reads-given remaining first input files name tells.0 stays tells.1) tells.2
 
--- ---- a file of any
+-- whether one of a list passes, with one more at its end
+any-more : {X : Type 0} (test : X → Bool) (xs : List X) (x : X) (before : Bool) → before ≡ list_any test xs
+    → (before || test x) ≡ list_any test (xs ++ x ∷ [])
+any-more test xs x before is = sym (list_any-append test xs (x ∷ []) ∙ ap (λ (b : Bool). list_any test xs || b) (or-false (test x))
+    ∙ ap (λ (b : Bool). b || test x) (sym is))
+  where
+    or-false : (b : Bool) → (b || false) ≡ b
+    or-false true = refl
+    or-false false = refl
 
-found-alone : (input : Option (List ℕ)) (files : Text → Option (List ℕ)) (name : Text) (end after : Option EndView) (told : Option Joined)
-    → TellsText false (text_given input files (Some name)) end told after → IsFound input files (name, finding_in told)
-found-alone input files name end after None tells = tt
-found-alone input files name end after (Some joined) tells = tells.1
+-- the lines of the files, with one more
+lines-more : (told : List Told) (one : Told) → flat_map told_lines (told ++ one ∷ []) ≡ flat_map told_lines told ++ told_lines one
+lines-more told one =
+    flat_map-append told_lines told (one ∷ []) ∙ ap (λ (line : List ℕ). flat_map told_lines told ++ line) (append-nil (told_lines one))
 
-broken-alone : (known : Option (List ℕ)) (end after : Option EndView) (told : Option Joined) → TellsText false known end told after
-    → is_different (finding_in told) ≡ is_broken told
-broken-alone known end after None tells = refl
-broken-alone known end after (Some joined) tells = rw tells.0 (sym (or-false (is_different (Some joined.finding))))
+-- one file more at the end
+told-more : (joined : Bool) (input : Option (List ℕ)) (files : Text → Option (List ℕ)) (before : Option EndView) (told : List Told)
+    (between : Option EndView) (one : Told) (after : Option EndView) → AreTold joined input files before told between
+    → TellsText joined (text_given input files (Some one.0)) between one.1 after → AreTold joined input files before (told ++ one ∷ []) after
+told-more joined input files before [] between one after told is =
+    let here : TellsText joined (text_given input files (Some one.0)) before one.1 after =
+    subst (λ (e : Option EndView). TellsText joined (text_given input files (Some one.0)) e one.1 after) told is in (after, here, refl)
+told-more joined input files before (first ∷ more) between one after told is =
+    (told.0, told.1, told-more joined input files told.0 more between one after told.2 is)
 
-lines-alone : (known : Option (List ℕ)) (end after : Option EndView) (name : Text) (told : Option Joined) → TellsText false known end told after
-    → lines_of name told ≡ line_of name (finding_in told)
-lines-alone known end after name None tells = refl
-lines-alone known end after name (Some joined) tells = rw tells.0 (append-nil (named_line name joined.finding))
+pub audits-none : (joined : Bool) (input : Option (List ℕ)) (files : Text → Option (List ℕ)) (before : Option (List ℕ))
+    → AuditsFiles joined input files [] false false None before before
+audits-none joined input files before = record {
+  told = [];
+  in_order = refl;
+  are_told = refl;
+  written = Appends-nil before;
+  any_unfound = refl;
+  any_broken = refl;
+}
 
--- ---- a file of one history
-
-joins-told : (input : Option (List ℕ)) (files : Text → Option (List ℕ)) (name : Text) (before after : Option EndView) (told : Option Joined)
-    → TellsText true (text_given input files (Some name)) before told after → JoinsFile input files name before told after
-joins-told input files name before after None tells = tells refl
-joins-told input files name before after (Some joined) tells = tells
-
--- ---- files
-
-pub by-none : (joined : Bool) (input : Option (List ℕ)) (files : Text → Option (List ℕ)) (before : Option (List ℕ))
-    → AuditsBy joined input files [] false false None before before
-by-none false input files before = audits-none input files before
-by-none true input files before = joins-none input files before
-
--- one file more
-pub by-more : (joined : Bool) (input : Option (List ℕ)) (files : Text → Option (List ℕ)) (names : List Text) (unfound broken : Bool)
+pub audits-more : (joined : Bool) (input : Option (List ℕ)) (files : Text → Option (List ℕ)) (names : List Text) (unfound broken : Bool)
     (end after : Option EndView) (before mid now : Option (List ℕ)) (name : Text) (told : Option Joined)
-    → AuditsBy joined input files names unfound broken end before mid
+    → AuditsFiles joined input files names unfound broken end before mid
     → TellsText joined (text_given input files (Some name)) end told after → Appends mid now (lines_of name told)
-    → AuditsBy joined input files (names ++ name ∷ []) (unfound || is_unfound (finding_in told)) (broken || is_broken told) after before now
-by-more false input files names unfound broken end after before mid now name told audits tells written =
-    let known = text_given input files (Some name) in
-    subst (λ (differs : Bool). AuditsFiles input files (names ++ name ∷ []) (unfound || is_unfound (finding_in told)) (broken || differs) before now)
-    (broken-alone known end after told tells)
-    (audits-more input files names unfound broken before mid now name (finding_in told) audits (found-alone input files name end after told tells)
-    (subst (λ (lines : List ℕ). Appends mid now lines) (lines-alone known end after name told tells) written))
-by-more true input files names unfound broken end after before mid now name told audits tells written =
-    joins-more input files names unfound broken end after before mid now name told audits (joins-told input files name end after told tells) written
+    → AuditsFiles joined input files (names ++ name ∷ []) (unfound || is_unfound told) (broken || is_broken told) after before now
+audits-more joined input files names unfound broken end after before mid now name told audits tells written = record {
+  told = audits.told ++ (name, told) ∷ [];
+  in_order = map-append (λ (t : Told). t.0) audits.told ((name, told) ∷ []) ∙ ap (λ (all : List Text). all ++ name ∷ []) audits.in_order;
+  are_told = told-more joined input files None audits.told end (name, told) after audits.are_told tells;
+  written = rw (lines-more audits.told (name, told)) (Appends-trans before mid now (flat_map told_lines audits.told) (lines_of name told)
+      audits.written written);
+  any_unfound = any-more (λ (t : Told). is_unfound t.1) audits.told (name, told) unfound audits.any_unfound;
+  any_broken = any-more (λ (t : Told). is_broken t.1) audits.told (name, told) broken audits.any_broken;
+}
 
 -- the names so far
-pub by-taken : (joined : Bool) (input : Option (List ℕ)) (files : Text → Option (List ℕ)) (names : List Text) (place : ℕ) (name : Text)
+pub audits-taken : (joined : Bool) (input : Option (List ℕ)) (files : Text → Option (List ℕ)) (names : List Text) (place : ℕ) (name : Text)
     (unfound broken : Bool) (end : Option EndView) (before now : Option (List ℕ)) → place < length names
-    → name ≡ get_or names place [] → AuditsBy joined input files (take place names ++ name ∷ []) unfound broken end before now
-    → AuditsBy joined input files (take (place + 1) names) unfound broken end before now
-by-taken joined input files names place name unfound broken end before now within is audits =
-    rw (add-one place, take-suc names place [] within) (subst (λ (n : Text). AuditsBy joined input files (take place names ++ n ∷ []) unfound broken
+    → name ≡ get_or names place [] → AuditsFiles joined input files (take place names ++ name ∷ []) unfound broken end before now
+    → AuditsFiles joined input files (take (place + 1) names) unfound broken end before now
+audits-taken joined input files names place name unfound broken end before now within is audits =
+    rw (add-one place, take-suc names place [] within) (subst (λ (n : Text). AuditsFiles joined input files (take place names ++ n ∷ []) unfound broken
     end before now) is audits)
 
 -- ---- the end
 
 pub ends-audited : (joined : Bool) (input : Option (List ℕ)) (files : Text → Option (List ℕ)) (names : List Text) (unfound broken : Bool)
-    (end : Option EndView) (before now : Option (List ℕ)) → AuditsBy joined input files names unfound broken end before now
+    (end : Option EndView) (before now : Option (List ℕ)) → AuditsFiles joined input files names unfound broken end before now
     → EndsOfFiles joined input files names (worst unfound broken) before now
-ends-audited false input files names unfound broken end before now audits = inr (inr (unfound, broken, refl, audits))
-ends-audited true input files names unfound broken end before now audits = inr (inr (unfound, broken, end, refl, audits))
+ends-audited joined input files names unfound broken end before now audits = inr (inr (unfound, broken, end, refl, audits))
 
 pub ends-unwritten : (joined : Bool) (input : Option (List ℕ)) (files : Text → Option (List ℕ)) (names : List Text) (before now : Option (List ℕ))
     → EndsOfFiles joined input files names (Fault trace_fault.Write) before now
-ends-unwritten false input files names before now = inl refl
-ends-unwritten true input files names before now = inl refl
+ends-unwritten joined input files names before now = inl refl
+
+pub ends-of-files : (joined asked : Bool) (input : Option (List ℕ)) (files : Text → Option (List ℕ)) (given : List Text) (name : Text)
+    (names : List Text) (end : End) (before now : Option (List ℕ)) → joined ≡ asked → given ≡ name ∷ names
+    → EndsEither joined input files given end before now → EndsOfFiles asked input files (name ∷ names) end before now
+ends-of-files joined asked input files given name names end before now same are ended = rw (same, are) at ended

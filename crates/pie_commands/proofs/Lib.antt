@@ -1,12 +1,10 @@
 mod Names
-mod AuditFacts
 mod CutFacts
 mod EndFacts
 mod ExamplesChoice
 mod ExamplesJoined
 mod ExplainFacts
 mod FileAuditFacts
-mod JointFacts
 mod MomentFacts
 mod OutputFacts
 mod StormEndFacts

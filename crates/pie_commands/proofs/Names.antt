@@ -4,10 +4,9 @@ pub use Rattle.std.proofs.Common.{refl, rules, string_bytes, subst, sym, take, t
 pub use Rattle.std.proofs.KnownBytes.{Appends-nil, Appends-trans}
 pub use Rattle.std.proofs.lemmas.Grind.{flat_map-append}
 pub use Rattle.std.proofs.lemmas.List.{append-nil, length-map, map-append}
-pub use Rattle.std.proofs.lemmas.List.Elements.{All-nil, All-push, All-weaker}
 pub use Rattle.std.specs.Io.KnownBytes.{Appends}
 pub use Rattle.std.specs.List.{flat_map, list_any}
-pub use Rattle.std.specs.Prelude.{Err, IfErr, IfOk, IfSome, IsSome, Ok, Result, if◌then◌else◌, unwrap_or, ◌||◌, ◌⊎◌}
+pub use Rattle.std.specs.Prelude.{Err, IfErr, IfOk, IfSome, IsSome, Ok, Result, if◌then◌else◌, not, unwrap_or, ◌&&◌, ◌||◌, ◌⊎◌}
 pub use Rattle.std.specs.Str.{bytes_eq}
 pub use Rattle.clap.proofs.WalkLemmas.{first_value-rows, one_text-rows, raw_values-rows}
 pub use Rattle.clap.specs.Words.{App, HasMatchesOf, Text, app_of, first_of, found_of, kind_of, one_text, rows_of, subcommand_name_of}
@@ -15,18 +14,16 @@ pub use Rattle.clap.specs.Words.{subcommand_rows_of, takes}
 pub use Rattle.either.specs.Either.{either}
 pub use Rattle.pie_audit.specs.Text.{FindsEither, finding_line}
 pub use Rattle.pie_audit.specs.declared.auditor.Finding.{Finding}
-pub use Rattle.pie_commands.specs.AuditEnds.{AuditsFiles, EndsFiles, IsFound, Told, is_different, is_unfound, line_of, named_line, told_line, worst}
-pub use Rattle.pie_commands.specs.Choice.{bound_read, bound_written, moment_read, tale_of, told_by, units_of, written}
+pub use Rattle.pie_commands.specs.Choice.{read_by, tale_of, told_by, units_of, written}
 unfoldable pub use Rattle.pie_commands.specs.Choice.{choice_of}
 pub use Rattle.pie_commands.specs.CutEnds.{CutsInto, CutsLast, EndsCut, around, between, cut_ends, end_of_cut, is_named, last_of}
 unfoldable pub use Rattle.pie_commands.specs.CutEnds.{wanted_of}
 pub use Rattle.pie_commands.specs.Ends.{EndsAudit, EndsBy, EndsMigrate, EndsRun, TellsFound, audit_ends, end_found, end_of, run_ends, run_ends_by}
-pub use Rattle.pie_commands.specs.Ends.{settled, status_of}
+pub use Rattle.pie_commands.specs.Ends.{status_of}
 pub use Rattle.pie_commands.specs.ExplainEnds.{EndsExplain, end_of_explain, explain_ends}
-pub use Rattle.pie_commands.specs.FileAudits.{TellsRead, TellsText}
-pub use Rattle.pie_commands.specs.JointEnds.{AreJoined, EndsEither, EndsJoined, EndsOfFiles, JoinsFile, JoinsFiles, ToldJoined, finding_in, is_broken}
-pub use Rattle.pie_commands.specs.JointEnds.{lines_of, told_lines}
-pub use Rattle.pie_commands.specs.Outputs.{EndsAt, EndsIn, is_whole}
+pub use Rattle.pie_commands.specs.FileAudits.{AreTold, AuditsFiles, EndsEither, EndsOfFiles, TellsRead, TellsText, Told, is_broken, is_unfound}
+pub use Rattle.pie_commands.specs.FileAudits.{lines_of, told_lines, worst}
+pub use Rattle.pie_commands.specs.Outputs.{EndsAt, EndsIn, is_whole, settled}
 pub use Rattle.pie_commands.specs.StormEnds.{EndsStorm, choice_by, elements_in, numbers_in, storm_ends}
 pub use Rattle.pie_commands.specs.Subcommands.{Answers, EndsAs, EndsRead, EndsTo, Finds, may_differ, output_for}
 pub use Rattle.pie_commands.specs.declared.cut.Wanted.TheVariants.{Every, Last, Part}

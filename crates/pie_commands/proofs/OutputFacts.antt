@@ -1,6 +1,6 @@
 -- What a subcommand writes, where the words name a file for it and where they don't, and what becomes of files.
 use Rattle.pie_commands.proofs.Names.{◌≡◌, ℕ, List, Bool, true, false, Option, Some, None, refl, sym, subst, inl, inr, IsSome, Text, file_of, Held}
-use Rattle.pie_commands.proofs.Names.{IsEmpty, Keeps, Places, Settles, End, Done, Fault, Unable, Failed, settled, status_of, EndsAt, EndsIn, is_whole}
+use Rattle.pie_commands.proofs.Names.{IsEmpty, Keeps, Places, Settles, End, Done, Fault, Unable, Failed, ◌&&◌, if◌then◌else◌, not, settled, status_of, EndsAt, EndsIn, is_whole}
 use Rattle.pie_commands.specs.declared.end.End.TheVariants.{Differs}
 
 pub keeps-same : (held : Held) → Keeps held held
@@ -28,26 +28,15 @@ pub ends-settled : (read : Option Text) (forced : Bool) (name : Text) (old mid n
     (ends : End → Option (List ℕ) → Option (List ℕ) → Type 0) (end : End) (there : Bool) (fresh left : Option (List ℕ)) → IsEmpty fresh → Keeps old mid
     → (IsSome (old name) → read ≡ Some name → ⊥) → Settles there None forced name left mid new → (is_whole end ≡ false → there ≡ false)
     → ends end fresh left → EndsAt read forced name fresh old new ends (settled end there)
-ends-settled read forced name old mid new ends Done true fresh left empty kept another settles whole ended =
-    inr (left, empty, ended, places-since read forced name left old mid new kept another settles)
-ends-settled read forced name old mid new ends Differs true fresh left empty kept another settles whole ended =
-    inr (left, empty, ended, places-since read forced name left old mid new kept another settles)
-ends-settled read forced name old mid new ends Done false fresh left empty kept another settles whole ended =
-    inl (refl, keeps-both old mid new kept settles)
-ends-settled read forced name old mid new ends Differs false fresh left empty kept another settles whole ended =
-    inl (refl, keeps-both old mid new kept settles)
-ends-settled read forced name old mid new ends (Fault why) true fresh left empty kept another settles whole ended =
-    let wrong : true ≡ false = whole refl in cc
-ends-settled read forced name old mid new ends (Fault why) false fresh left empty kept another settles whole ended =
-    inr (left, empty, ended, keeps-both old mid new kept settles)
-ends-settled read forced name old mid new ends Unable true fresh left empty kept another settles whole ended =
-    let wrong : true ≡ false = whole refl in cc
-ends-settled read forced name old mid new ends Unable false fresh left empty kept another settles whole ended =
-    inl (refl, keeps-both old mid new kept settles)
-ends-settled read forced name old mid new ends Failed true fresh left empty kept another settles whole ended =
-    let wrong : true ≡ false = whole refl in cc
-ends-settled read forced name old mid new ends Failed false fresh left empty kept another settles whole ended =
-    inr (left, empty, ended, keeps-both old mid new kept settles)
+ends-settled read forced name old mid new ends end there fresh left empty kept another settles whole ended = go (is_whole end) there refl settles whole
+  where
+    go : (all placed : Bool) → all ≡ is_whole end → Settles placed None forced name left mid new → (all ≡ false → placed ≡ false)
+        → EndsAt read forced name fresh old new ends (if all && not placed then Unable else end)
+    go true true is settles whole =
+        inr (left, empty, ended, rw (sym is) (places-since read forced name left old mid new kept another settles))
+    go true false is settles whole = inl (refl, keeps-both old mid new kept settles)
+    go false true is settles whole = let wrong : true ≡ false = whole refl in cc
+    go false false is settles whole = inr (left, empty, ended, rw (sym is) (keeps-both old mid new kept settles))
 
 -- with the status 1 each file holds what it held
 settles-keeps : (read : Option Text) (forced : Bool) (name : Text) (left : Option (List ℕ)) (old new : Held) (end : End) → status_of end ≡ 1

@@ -1,14 +1,15 @@
 -- What each subcommand promises, where it never began, where files hold more than they did, and where its words are found.
 use Rattle.pie_commands.proofs.Names.{◌≡◌, ◌∙◌, ℕ, List, [], ◌∷◌, Option, Some, None, Bool, true, false, codes, refl, inl, inr, subst, sym, IfErr}
-use Rattle.pie_commands.proofs.Names.{IfOk, IfSome, ◌⊎◌, Result, Ok, Err, if◌then◌else◌, option_map, bytes_eq, All-weaker, App, HasMatchesOf, Text}
-use Rattle.pie_commands.proofs.Names.{kind_of, subcommand_name_of, subcommand_rows_of, takes, records_of, FindsEither, Finding, End, Unable, Failed}
+use Rattle.pie_commands.proofs.Names.{IfOk, IfSome, ◌⊎◌, Result, Ok, Err, if◌then◌else◌, option_map, bytes_eq, App, HasMatchesOf, Text}
+use Rattle.pie_commands.proofs.Names.{kind_of, subcommand_name_of, subcommand_rows_of, takes, records_of, FindsEither, End, Unable, Failed}
 use Rattle.pie_commands.proofs.Names.{Run, Audit, Explain, Cut, Migrate, Storm, Params, file_in, files_in, is_forced, is_joined, options_in, pie_app}
 use Rattle.pie_commands.proofs.Names.{name-found, options-in, same-word, subcommand-found, Joined, EndView, JoinsText, text_given, Held, Keeps}
-use Rattle.pie_commands.proofs.Names.{EndsFiles, IsFound, Told, EndsCut, EndsMigrate, EndsRun, EndsExplain, AreJoined, EndsEither, EndsJoined}
-use Rattle.pie_commands.proofs.Names.{EndsOfFiles, JoinsFile, ToldJoined, elements_in, Answers, EndsAs, EndsRead, EndsTo, Finds, may_differ}
+use Rattle.pie_commands.proofs.Names.{AreTold, Told, TellsText, EndsCut, EndsMigrate, EndsRun, EndsExplain, EndsEither, EndsOfFiles, elements_in, EndsAudit}
+use Rattle.pie_commands.proofs.Names.{choice_of, tale_of, wanted_of, is_named}
+use Rattle.pie_commands.proofs.Names.{Answers, EndsAs, EndsRead, EndsTo, Finds, may_differ}
 use Rattle.pie_commands.proofs.Names.{output_for}
-use Rattle.std.specs.Prelude.{All}
 use Rattle.clap.specs.Words.{Row}
+use Rattle.pie_excerpt.specs.Beginning.{is_resumed}
 use Rattle.clap.specs.declared.error.Error.{Error}
 use Rattle.clap.specs.declared.error.kind.ErrorKind.TheVariants.{OutOfMemory}
 use Rattle.clap.specs.declared.parser.matches.ArgMatches.{ArgMatches}
@@ -17,27 +18,35 @@ use Rattle.pie_commands.specs.declared.perform.Reads.{Reads}
 use Rattle.pie_commands.specs.declared.perform.Reads.TheVariants as reads
 use Rattle.pie_options.specs.declared.subcommand.Subcommand.{Subcommand}
 use Rattle.pie_options.specs.Subcommands.{word_of}
-use Rattle.pie_commands.proofs.CutFacts.{EndsCut-unable}
-use Rattle.pie_commands.proofs.EndFacts.{EndsEither-unable, EndsMigrate-unable, EndsRun-unable}
-use Rattle.pie_commands.proofs.ExplainFacts.{EndsExplain-unable}
+use Rattle.pie_commands.proofs.CutFacts.{cut-unable}
+use Rattle.pie_commands.proofs.EndFacts.{if-known, run-unable}
+use Rattle.pie_commands.proofs.ExplainFacts.{explain-unable}
 use Rattle.pie_commands.proofs.StormEndFacts.{storm-unable}
 use Rattle.pie_commands.proofs.OutputFacts.{ends-unable, ends-keep, keeps-same}
 
 -- a subcommand that could not begin wrote nothing
-pub EndsRead-unable : (reads : Reads) (options : List Row) (known before now : Option (List ℕ)) → now ≡ before
-    → IfSome known (λ text. EndsRead reads options text Unable before now)
-EndsRead-unable reads.Run options known before now same = EndsRun-unable known before now same
-EndsRead-unable reads.Explain options known before now same = EndsExplain-unable options known before now same
-EndsRead-unable reads.Migrate options known before now same = EndsMigrate-unable known before now same
+pub EndsRead-unable : (reads : Reads) (options : List Row) (text : List ℕ) (before now : Option (List ℕ)) → now ≡ before
+    → EndsRead reads options text Unable before now
+EndsRead-unable reads.Run options text before now same = run-unable (is_resumed (records_of text)) (records_of text) before now same
+EndsRead-unable reads.Explain options text before now same = explain-unable (choice_of options) (tale_of options) text before now same
+EndsRead-unable reads.Migrate options text before now same = same
 
 EndsAs-unable : (subcommand : Subcommand) (options : List Row) (input : Option (List ℕ)) (files : Held) (before now : Option (List ℕ)) → now ≡ before
     → EndsAs subcommand options input files Unable before now
-EndsAs-unable Run options input files before now same = EndsRun-unable (text_given input files (file_in options)) before now same
-EndsAs-unable Audit options input files before now same = EndsEither-unable (is_joined options) input files (files_in options) before now same
-EndsAs-unable Explain options input files before now same =
-    EndsExplain-unable options (text_given input files (file_in options)) before now same
-EndsAs-unable Cut options input files before now same = EndsCut-unable options (file_in options) (text_given input files (file_in options)) before now same
-EndsAs-unable Migrate options input files before now same = EndsMigrate-unable (text_given input files (file_in options)) before now same
+EndsAs-unable Run options input files before now same = if-known (text_given input files (file_in options))
+    (λ text. EndsRun text Unable before now) (λ text. EndsRead-unable reads.Run options text before now same)
+EndsAs-unable Audit options input files before now same = go (files_in options)
+  where
+    go : (names : List Text) → EndsEither (is_joined options) input files names Unable before now
+    go [] = if-known input (λ text. EndsAudit text Unable before now) (λ text. same)
+    go (name ∷ names) = inr (inl (refl, same))
+EndsAs-unable Explain options input files before now same = if-known (text_given input files (file_in options))
+    (λ text. EndsExplain options text Unable before now) (λ text. EndsRead-unable reads.Explain options text before now same)
+EndsAs-unable Cut options input files before now same = if-known (text_given input files (file_in options))
+    (λ text. EndsCut options (file_in options) text Unable before now)
+    (λ text. cut-unable (wanted_of options) (is_named (file_in options)) (records_of text) before now same)
+EndsAs-unable Migrate options input files before now same = if-known (text_given input files (file_in options))
+    (λ text. EndsMigrate text Unable before now) (λ text. same)
 EndsAs-unable Storm options input files before now same = storm-unable (elements_in options) options before now same
 EndsAs-unable Params options input files before now same = same
 
@@ -62,76 +71,44 @@ text-kept input old new (Some name) P keeps so = go (bytes_eq name (codes "-")) 
     go true so = so
     go false so = known-kept (old name) (new name) P (keeps name) so
 
-found-kept : (input : Option (List ℕ)) (old new : Held) → Keeps old new → (name : Text) (found : Option Finding) → IsFound input new (name, found)
-    → IsFound input old (name, found)
-found-kept input old new keeps name None is = tt
-found-kept input old new keeps name (Some found) is =
-    text-kept input old new (Some name) (λ text. FindsEither (records_of text) (Ok found)) keeps is
+told-kept : (joined : Bool) (input : Option (List ℕ)) (old new : Held) → Keeps old new → (name : Text) (before : Option EndView)
+    (told : Option Joined) (after : Option EndView) → TellsText joined (text_given input new (Some name)) before told after
+    → TellsText joined (text_given input old (Some name)) before told after
+told-kept joined input old new keeps name before None after tells = tells
+told-kept true input old new keeps name before (Some told) after tells =
+    (tells.0, text-kept input old new (Some name) (λ text. JoinsText (records_of text) before told after) keeps tells.1)
+told-kept false input old new keeps name before (Some told) after tells =
+    (tells.0, text-kept input old new (Some name) (λ text. FindsEither (records_of text) (Ok told.finding)) keeps tells.1)
 
-all-kept : (input : Option (List ℕ)) (old new : Held) → Keeps old new → (told : List Told) → All (IsFound input new) told → All (IsFound input old) told
-all-kept input old new keeps told all =
-    All-weaker (IsFound input new) (IsFound input old) (λ (one : Told) is. found-kept input old new keeps one.0 one.1 is) told all
-
-audits-kept : (input : Option (List ℕ)) (old new : Held) (names : List Text) (end : End) (before now : Option (List ℕ)) → Keeps old new
-    → EndsFiles input new names end before now → EndsFiles input old names end before now
-audits-kept input old new names end before now keeps (inl unwritten) = inl unwritten
-audits-kept input old new names end before now keeps (inr (inl failed)) = inr (inl failed)
-audits-kept input old new names end before now keeps (inr (inr worst)) =
-    let audits = worst.3 in
-    inr (inr (
-      worst.0,
-      worst.1,
-      worst.2,
-      record {
-        told = audits.told;
-        in_order = audits.in_order;
-        found = all-kept input old new keeps audits.told audits.found;
-        written = audits.written;
-        any_unfound = audits.any_unfound;
-        any_different = audits.any_different;
-      },
-    ))
-
-joint-kept : (input : Option (List ℕ)) (old new : Held) → Keeps old new → (name : Text) (before : Option EndView) (told : Option Joined)
-    (after : Option EndView) → JoinsFile input new name before told after → JoinsFile input old name before told after
-joint-kept input old new keeps name before None after joins = joins
-joint-kept input old new keeps name before (Some joined) after joins =
-    (joins.0, text-kept input old new (Some name) (λ text. JoinsText (records_of text) before joined after) keeps joins.1)
-
-all-joined-kept : (input : Option (List ℕ)) (old new : Held) → Keeps old new → (before : Option EndView) (told : List ToldJoined)
-    (after : Option EndView) → AreJoined input new before told after → AreJoined input old before told after
-all-joined-kept input old new keeps before [] after joined = joined
-all-joined-kept input old new keeps before (one ∷ more) after joined = (
-  joined.0,
-  joint-kept input old new keeps one.0 before one.1 joined.0 joined.1,
-  all-joined-kept input old new keeps joined.0 more after joined.2,
+all-kept : (joined : Bool) (input : Option (List ℕ)) (old new : Held) → Keeps old new → (before : Option EndView) (told : List Told)
+    (after : Option EndView) → AreTold joined input new before told after → AreTold joined input old before told after
+all-kept joined input old new keeps before [] after told = told
+all-kept joined input old new keeps before (one ∷ more) after told = (
+  told.0,
+  told-kept joined input old new keeps one.0 before one.1 told.0 told.1,
+  all-kept joined input old new keeps told.0 more after told.2,
 )
 
-joins-kept : (input : Option (List ℕ)) (old new : Held) (names : List Text) (end : End) (before now : Option (List ℕ)) → Keeps old new
-    → EndsJoined input new names end before now → EndsJoined input old names end before now
-joins-kept input old new names end before now keeps (inl unwritten) = inl unwritten
-joins-kept input old new names end before now keeps (inr (inl failed)) = inr (inl failed)
-joins-kept input old new names end before now keeps (inr (inr worst)) =
-    let joins = worst.4 in
+files-kept : (joined : Bool) (input : Option (List ℕ)) (old new : Held) (names : List Text) (end : End) (before now : Option (List ℕ))
+    → Keeps old new → EndsOfFiles joined input new names end before now → EndsOfFiles joined input old names end before now
+files-kept joined input old new names end before now keeps (inl unwritten) = inl unwritten
+files-kept joined input old new names end before now keeps (inr (inl failed)) = inr (inl failed)
+files-kept joined input old new names end before now keeps (inr (inr worst)) =
+    let audits = worst.4 in
     inr (inr (
       worst.0,
       worst.1,
       worst.2,
       worst.3,
       record {
-        told = joins.told;
-        in_order = joins.in_order;
-        joined = all-joined-kept input old new keeps None joins.told worst.2 joins.joined;
-        written = joins.written;
-        any_unfound = joins.any_unfound;
-        any_broken = joins.any_broken;
+        told = audits.told;
+        in_order = audits.in_order;
+        are_told = all-kept joined input old new keeps None audits.told worst.2 audits.are_told;
+        written = audits.written;
+        any_unfound = audits.any_unfound;
+        any_broken = audits.any_broken;
       },
     ))
-
-files-kept : (joined : Bool) (input : Option (List ℕ)) (old new : Held) (names : List Text) (end : End) (before now : Option (List ℕ))
-    → Keeps old new → EndsOfFiles joined input new names end before now → EndsOfFiles joined input old names end before now
-files-kept false input old new names end before now keeps ended = audits-kept input old new names end before now keeps ended
-files-kept true input old new names end before now keeps ended = joins-kept input old new names end before now keeps ended
 
 either-kept : (joined : Bool) (input : Option (List ℕ)) (old new : Held) (names : List Text) (end : End) (before now : Option (List ℕ))
     → Keeps old new → EndsEither joined input new names end before now → EndsEither joined input old names end before now

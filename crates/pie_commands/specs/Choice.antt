@@ -28,33 +28,23 @@ units_of (Ok None) = Ok None
 units_of (Ok (Some moment)) = Ok (Some moment.0)
 units_of (Err why) = Err why
 
--- a moment that was written
-abbrev pub written : Result ℕ MomentFault → Result (Option ℕ) MomentFault
-written (Ok moment) = Ok (Some moment)
+-- what was written, where something was
+abbrev pub written : {A E : Type 0} → Result A E → Result (Option A) E
+written (Ok read) = Ok (Some read)
 written (Err why) = Err why
 
--- the moment that a text writes, if there is one
-abbrev pub moment_read : Option Text → Result (Option ℕ) MomentFault
-moment_read None = Ok None
-moment_read (Some text) = written (moment_in text)
+-- what a text is read as, if there is one
+abbrev pub read_by : {A E : Type 0} → (Text → Result A E) → Option Text → Result (Option A) E
+read_by reads None = Ok None
+read_by reads (Some text) = written (reads text)
 
 -- the moment that an option is given
 abbrev pub moment_given : Text → List Row → Result (Option ℕ) MomentFault
-moment_given name options = moment_read (one_of name options)
-
--- a bound that was written
-abbrev pub bound_written : Result When WhenFault → Result (Option When) WhenFault
-bound_written (Ok bound) = Ok (Some bound)
-bound_written (Err why) = Err why
-
--- the bound that a text writes, if there is one
-abbrev pub bound_read : Option Text → Result (Option When) WhenFault
-bound_read None = Ok None
-bound_read (Some text) = bound_written (when_in text)
+moment_given name options = read_by moment_in (one_of name options)
 
 -- the bound that an option is given
 abbrev pub bound_given : Text → List Row → Result (Option When) WhenFault
-bound_given name options = bound_read (one_of name options)
+bound_given name options = read_by when_in (one_of name options)
 
 -- ---- the choice
 

@@ -34,16 +34,6 @@ is_unwritten _ = false
 abbrev pub told_status : Bool → End → ℕ
 told_status closed end = if closed && is_unwritten end then 141 else status_of end
 
--- the end where what was written had to be put in its place, and is there or not
-abbrev pub settled : End → Bool → End
-settled Done true = Done
-settled Done false = Unable
-settled Differs true = Differs
-settled Differs false = Unable
-settled (Fault why) there = Fault why
-settled Unable there = Unable
-settled Failed there = Failed
-
 -- ---- any subcommand
 
 -- it has failed, or could not begin, and nothing was written

@@ -1,15 +1,88 @@
--- What is told of one file of several that are audited, of one history or of any.
-use Rattle.std.specs.Prelude.{ℕ, ◌≡◌, List, Bool, true, false, Option, Some, None, Ok, IfSome}
+-- How an audit of files ends, of any or of those of one history, and what it writes.
+use Rattle.std.specs.Prelude.{ℕ, ◌≡◌, ◌⊎◌, ◌++◌, ◌||◌, List, [], ◌∷◌, Bool, true, false, Option, Some, None, Ok, IfSome, codes, map}
+use Rattle.std.specs.List.{flat_map, list_any}
+use Rattle.std.specs.Fmt.{decimal}
+use Rattle.std.specs.Io.KnownBytes.{Appends}
+use Rattle.clap.specs.Words.{Text}
+use Rattle.pie_record.specs.declared.fault.TraceFault.TheVariants as trace_fault
 use Rattle.pie_record.specs.Text.{records_of}
+use Rattle.pie_audit.specs.declared.auditor.Finding.{Finding}
+use Rattle.pie_audit.specs.declared.auditor.Finding.TheVariants as finding
 use Rattle.pie_audit.specs.Text.{FindsEither}
 use Rattle.pie_cut.specs.declared.joined.Joined.{Joined}
-use Rattle.pie_cut.specs.Joined.{EndView}
-use Rattle.pie_commands.specs.JointEnds.{JoinsKnown}
+use Rattle.pie_cut.specs.declared.joined.Joint.{Joint}
+use Rattle.pie_cut.specs.declared.joined.Joint.TheVariants.{Follows, Gap, Unlike}
+use Rattle.pie_cut.specs.Joined.{EndView, IsLeftBy, JoinsText}
+use Rattle.pie_files.specs.Files.{text_given}
+use Rattle.pie_commands.specs.declared.end.End.{End}
+use Rattle.pie_commands.specs.declared.end.End.TheVariants.{Done, Differs, Fault, Unable, Failed}
+use Rattle.pie_commands.specs.Ends.{EndsAudit}
 
--- this is told of a text: of one history, how it joins such an end, and that end is left; of any, what an audit finds of it, and no joint
+-- ---- the lines
+
+-- the line of a finding, behind the name of its file
+abbrev pub named_line : Text → Finding → List ℕ
+named_line name (finding.Clean events) = name ++ (codes ": clean," ++ (decimal events ++ codes "\n"))
+named_line name (finding.Differs event) = name ++ (codes ": differs," ++ (decimal event ++ codes "\n"))
+
+-- the line of a joint, behind the name of the second of the two files
+abbrev pub joint_line : Text → Joint → List ℕ
+joint_line name Follows = name ++ codes ": follows\n"
+joint_line name (Gap last first) = name ++ (codes ": gap," ++ (decimal last ++ (codes "," ++ (decimal first ++ codes "\n"))))
+joint_line name (Unlike last) = name ++ (codes ": unlike," ++ (decimal last ++ codes "\n"))
+
+abbrev pub line_of_joint : Text → Option Joint → List ℕ
+line_of_joint name None = []
+line_of_joint name (Some joint) = joint_line name joint
+
+-- the line of what was found of a file, and then that of its joint
+abbrev pub lines_of : Text → Option Joined → List ℕ
+lines_of name None = []
+lines_of name (Some joined) = named_line name joined.finding ++ line_of_joint name joined.joint
+
+-- a file's name, and what was found of it and its joint; or none, where it has a fault, or could not be opened or read
+abbrev pub Told : Type 0
+Told = Text × Option Joined
+
+abbrev pub told_lines : Told → List ℕ
+told_lines told = lines_of told.0 told.1
+
+-- ---- the status
+
+-- a file of which nothing was found
+abbrev pub is_unfound : Option Joined → Bool
+is_unfound None = true
+is_unfound (Some joined) = false
+
+abbrev pub is_different : Finding → Bool
+is_different (finding.Differs event) = true
+is_different (finding.Clean events) = false
+
+-- events are missing at a joint, or are in both files, or something else is not the same
+abbrev pub is_apart : Option Joint → Bool
+is_apart None = false
+is_apart (Some Follows) = false
+is_apart (Some (Gap last first)) = true
+is_apart (Some (Unlike last)) = true
+
+-- an event of a file differs, or the file does not go on where the one before it ended
+abbrev pub is_broken : Option Joined → Bool
+is_broken None = false
+is_broken (Some joined) = is_different joined.finding || is_apart joined.joint
+
+-- the worst of all: something could not be audited, and else an event differs
+abbrev pub worst : Bool → Bool → End
+worst true broken = Failed
+worst false true = Differs
+worst false false = Done
+
+-- ---- the files
+
+-- this is told of a text after such an end, and that end is left. Of one history it is what is found, and how the text joins that end; none is left
+-- where it has a fault, or an event of it differs. Of any files it is what is found, and no joint
 abbrev pub TellsText : Bool → Option (List ℕ) → Option EndView → Option Joined → Option EndView → Type 0
 TellsText joined known before None after = joined ≡ true → after ≡ None
-TellsText true known before (Some told) after = JoinsKnown known before (Some told) after
+TellsText true known before (Some told) after = IsLeftBy told.finding after × IfSome known (λ text. JoinsText (records_of text) before told after)
 TellsText false known before (Some told) after =
     (told.joint ≡ None) × IfSome known (λ text. FindsEither (records_of text) (Ok told.finding))
 
@@ -17,3 +90,38 @@ TellsText false known before (Some told) after =
 abbrev pub TellsRead : Bool → (Option (List ℕ) → Type 0) → Option EndView → Option Joined → Option EndView → Type 0
 TellsRead joined reads before None after = joined ≡ true → after ≡ None
 TellsRead joined reads before (Some told) after = (known : Option (List ℕ)) × reads known × TellsText joined known before (Some told) after
+
+-- .. of the text of one file after another
+abbrev pub AreTold : Bool → Option (List ℕ) → (Text → Option (List ℕ)) → Option EndView → List Told → Option EndView → Type 0
+AreTold joined input files before [] after = after ≡ before
+AreTold joined input files before (told ∷ more) after = (between : Option EndView)
+    × TellsText joined (text_given input files (Some told.0)) before told.1 between × AreTold joined input files between more after
+
+-- each of these files was looked at in turn, and the lines of each were written; no end stands before the first
+pub record AuditsFiles (joined : Bool) (input : Option (List ℕ)) (files : Text → Option (List ℕ)) (names : List Text) (unfound broken : Bool)
+    (end : Option EndView) (before now : Option (List ℕ)) : Type 0 where
+  pub told : List Told
+  pub in_order : map (λ t. t.0) told ≡ names
+  pub are_told : AreTold joined input files None told end
+  pub written : Appends before now (flat_map told_lines told)
+  pub any_unfound : unfound ≡ list_any (λ t. is_unfound t.1) told
+  pub any_broken : broken ≡ list_any (λ t. is_broken t.1) told
+
+-- .. and the end is the worst of all; or a line could not be written; or memory was wanting, and nothing was written
+abbrev pub EndsOfFiles : Bool → Option (List ℕ) → (Text → Option (List ℕ)) → List Text → End → Option (List ℕ) → Option (List ℕ) → Type 0
+EndsOfFiles joined input files names end before now =
+    (end ≡ Fault trace_fault.Write) ⊎ ((end ≡ Unable) × (now ≡ before))
+    ⊎ ((unfound : Bool) × (broken : Bool) × (last : Option EndView) × (end ≡ worst unfound broken)
+    × AuditsFiles joined input files names unfound broken last before now)
+
+-- .. of any files, and of those of one history
+abbrev pub EndsFiles : Option (List ℕ) → (Text → Option (List ℕ)) → List Text → End → Option (List ℕ) → Option (List ℕ) → Type 0
+EndsFiles = EndsOfFiles false
+
+abbrev pub EndsJoined : Option (List ℕ) → (Text → Option (List ℕ)) → List Text → End → Option (List ℕ) → Option (List ℕ) → Type 0
+EndsJoined = EndsOfFiles true
+
+-- with no file it is the audit of the reader that is handed in, which has no joint
+abbrev pub EndsEither : Bool → Option (List ℕ) → (Text → Option (List ℕ)) → List Text → End → Option (List ℕ) → Option (List ℕ) → Type 0
+EndsEither joined input files [] end before now = IfSome input (λ text. EndsAudit text end before now)
+EndsEither joined input files (name ∷ names) end before now = EndsOfFiles joined input files (name ∷ names) end before now

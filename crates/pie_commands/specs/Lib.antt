@@ -1,10 +1,8 @@
-pub mod AuditEnds
 pub mod Choice
 pub mod CutEnds
 pub mod Ends
 pub mod ExplainEnds
 pub mod FileAudits
-pub mod JointEnds
 pub mod Outputs
 pub mod StormEnds
 pub mod Subcommands

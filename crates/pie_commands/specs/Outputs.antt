@@ -1,5 +1,5 @@
 -- What a subcommand writes that may write to a file, and what becomes of files meanwhile.
-use Rattle.std.specs.Prelude.{ℕ, ◌≡◌, ◌⊎◌, List, Bool, true, false, Option, Some, None}
+use Rattle.std.specs.Prelude.{ℕ, ◌≡◌, ◌⊎◌, ◌&&◌, if◌then◌else◌, not, List, Bool, true, false, Option, Some, None}
 use Rattle.clap.specs.Words.{Text}
 use Rattle.pie_files.specs.Files.{file_of}
 use Rattle.pie_files.specs.Output.{Held, IsEmpty, Keeps, Settles}
@@ -13,6 +13,10 @@ is_whole Differs = true
 is_whole (Fault why) = false
 is_whole Unable = false
 is_whole Failed = false
+
+-- the end where what was written had to be put in its place, and is there or not
+abbrev pub settled : End → Bool → End
+settled end there = if is_whole end && not there then Unable else end
 
 -- a subcommand ends so by what it writes to a new file, of which this is known: that it is empty, or nothing. The file is then in the place of this
 -- name where all was written, and else in none; or it could not be made, or moved there, and nothing is in another place

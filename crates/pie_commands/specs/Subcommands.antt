@@ -17,7 +17,7 @@ use Rattle.pie_commands.specs.declared.end.End.TheVariants.{Differs}
 use Rattle.pie_commands.specs.CutEnds.{EndsCut}
 use Rattle.pie_commands.specs.Ends.{EndsMigrate, EndsRun, status_of}
 use Rattle.pie_commands.specs.ExplainEnds.{EndsExplain}
-use Rattle.pie_commands.specs.JointEnds.{EndsEither}
+use Rattle.pie_commands.specs.FileAudits.{EndsEither}
 use Rattle.pie_commands.specs.Outputs.{EndsIn}
 use Rattle.pie_commands.specs.StormEnds.{EndsStorm}
 use Rattle.pie_commands.specs.Tuning.{EndsParams}

@@ -2,13 +2,14 @@
 ghost use Rattle.std.specs.Prelude.{◌≡◌, IfSome, map};
 ghost use Rattle.clap.specs.Words.{found_of, rows_of};
 ghost use Rattle.pie_commands.specs.Ends.{EndsAudit, TellsFound, end_found};
-ghost use Rattle.pie_commands.specs.JointEnds.{EndsEither};
+ghost use Rattle.pie_commands.specs.FileAudits.{EndsEither};
 ghost use Rattle.pie_options.specs.Words.{files_in, is_joined};
 
 use crate::end::{End, faulted};
 use crate::file_audits::audit_files;
 use crate::screen::{Screen, shows_progress};
 use clap::ArgMatches;
+use either::{Either, Left};
 use pie_audit::{Finding, write_finding};
 use pie_files::{NamedFiles, Watched};
 use pie_options::flag;
@@ -76,7 +77,9 @@ fn audit_any<H: NamedFiles + Clock, R: Read + Drop, W: Write, E: Write>(
         (W.contents output.new) }
 {
     if names.is_empty() {
-        return audit_input(rt, alloc, is_shown, input, output, errors);
+        // Of the same type as what is read of a file, so that an audit is compiled once.
+        let given: Either<R, H::File> = Left(input);
+        return audit_input(rt, alloc, is_shown, given, output, errors);
     }
     audit_files(
         rt, alloc, is_shown, are_joined, names, input, output, errors,
@@ -101,6 +104,6 @@ pub(crate) fn audit<H: NamedFiles + Screen, R: Read + Drop, W: Write, E: Write>(
         Some(names) => audit_any(
             rt, alloc, is_shown, are_joined, names, input, output, errors,
         ),
-        None => audit_input(rt, alloc, is_shown, input, output, errors),
+        None => audit_any(rt, alloc, is_shown, are_joined, &[], input, output, errors),
     }
 }

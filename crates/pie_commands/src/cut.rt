@@ -11,9 +11,10 @@ ghost use Rattle.pie_commands.specs.Ends.{EndsBy};
 ghost use Rattle.pie_commands.specs.CutEnds.{ends_last, is_named, segments, wanted_by, wanted_of};
 
 use crate::end::{End, failed, faulted};
-use crate::moments::{NO_ORDER, bound_of, in_order};
+use crate::moments::{NO_ORDER, bound, in_order, said};
 use crate::screen::{Screen, shows_progress};
 use clap::ArgMatches;
+use either::{Either, Right};
 use pie_cut::{CutFault, Span, cut_every, last_number};
 use pie_files::{NamedFiles, Watched, fault, named_fault, reader_of};
 use pie_options::{file, number};
@@ -101,10 +102,10 @@ fn wanted_of<E: Write>(options: &ArgMatches<'_>, errors: &mut E) -> Option<Wante
     ensures chosen { result ≡ wanted_of (rows_of (found_of options.now)) }
     ensures some { IfSome result HasSome }
 {
-    let Ok(from) = bound_of(options, "from", errors) else {
+    let Ok(from) = said(bound(options, "from"), "from", errors) else {
         return None;
     };
-    let Ok(to) = bound_of(options, "to", errors) else {
+    let Ok(to) = said(bound(options, "to"), "to", errors) else {
         return None;
     };
     if !in_order(from, to) {
@@ -207,7 +208,7 @@ fn last_in<H: Clock, R: Read + Drop, E: Write>(
 
 /// The number of the last event of the text in the file of this name, or its fault; or none, with a line on `errors`, where the file can't be
 /// opened.
-fn last_named<H: NamedFiles + Clock, E: Write>(
+fn last_named<H: NamedFiles + Clock, R: Read + Drop, E: Write>(
     rt: &H,
     alloc: Global,
     is_shown: bool,
@@ -217,7 +218,11 @@ fn last_named<H: NamedFiles + Clock, E: Write>(
     ensures { IfSome result (λ last. IfSome (H.holds rt.now name.now) (λ text. LastEither (records_of text) last)) }
 {
     match rt.open_named(name) {
-        Ok(reader) => Some(last_in(rt, alloc, is_shown, reader, errors)),
+        Ok(file) => {
+            // Of the same type as what the cut reads, so that reading is compiled once.
+            let reader: Either<R, H::File> = Right(file);
+            Some(last_in(rt, alloc, is_shown, reader, errors))
+        }
         Err(why) => {
             named_fault(errors, name, why);
             None
@@ -239,7 +244,7 @@ fn cut_last<H: NamedFiles + Clock, R: Read + Drop, W: Write, E: Write>(
     ensures { bytes_eq name.now (codes "-") ≡ false → IfSome (H.holds rt.now name.now)
         (λ text. EndsBy end_of_cut (CutsLast many (records_of text)) result (W.contents output.old) (W.contents output.new)) }
 {
-    match last_named(rt, alloc, is_shown, name, errors) {
+    match last_named::<H, R, E>(rt, alloc, is_shown, name, errors) {
         None => End::Unable,
         Some(Err(why)) => faulted(errors, why),
         Some(Ok(number)) => {

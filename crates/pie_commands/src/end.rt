@@ -1,7 +1,7 @@
 //! How the program ends, and the exit status that says so.
 ghost use Rattle.std.specs.Prelude.{◌≡◌, false, true};
-ghost use Rattle.pie_commands.specs.Ends.{end_of, is_unwritten, settled, status_of, told_status};
-ghost use Rattle.pie_commands.specs.Outputs.{is_whole};
+ghost use Rattle.pie_commands.specs.Ends.{end_of, is_unwritten, status_of, told_status};
+ghost use Rattle.pie_commands.specs.Outputs.{is_whole, settled};
 
 use pie_files::fault;
 use pie_trace::TraceFault;

@@ -3,12 +3,12 @@ ghost use Rattle.std.specs.Prelude.{◌≡◌, IfSome, Some, true};
 ghost use Rattle.clap.specs.Words.{found_of, rows_of};
 ghost use Rattle.pie_record.specs.Text.{records_of};
 ghost use Rattle.pie_explain.specs.Either.{ExplainsEither};
-ghost use Rattle.pie_commands.specs.Choice.{choice_of, chosen, every_of, flows_of, form_of, is_by_wall, is_digest, is_either, is_summary, lasts};
+ghost use Rattle.pie_commands.specs.Choice.{choice_of, chosen, every_of, form_of, is_either, is_summary, lasts};
 ghost use Rattle.pie_commands.specs.Choice.{tale_by, tale_of, told_by, which_of};
 ghost use Rattle.pie_commands.specs.ExplainEnds.{EndsExplain, end_of_explain, explain_ends};
 
 use crate::end::{End, failed, faulted};
-use crate::moments::{NO_ORDER, bound_of, in_order, moment, moment_of};
+use crate::moments::{NO_ORDER, bound, in_order, moment, said};
 use clap::ArgMatches;
 use pie_explain::{Choice, ExplainFault, Form, Which};
 use pie_files::{Watched, fault};
@@ -60,25 +60,11 @@ fn every_of(options: &ArgMatches<'_>) -> Option<u64>
     }
 }
 
-/// Whether these options ask for what is said of lost and marked packets between summaries.
-fn is_digest(options: &ArgMatches<'_>) -> bool
-    ensures { result ≡ is_digest (rows_of (found_of options.now)) }
-{
-    flag(options, "digest")
-}
-
-/// How many flows have a row of their own, where these options ask for sums by flow.
-fn flows_of(options: &ArgMatches<'_>) -> Option<u64>
-    ensures { result ≡ flows_of (rows_of (found_of options.now)) }
-{
-    number(options, "flows")
-}
-
 /// Whether these options ask for summaries, of all chosen events, of each period or by flow.
 fn is_summary(options: &ArgMatches<'_>) -> bool
     ensures { result ≡ is_summary (rows_of (found_of options.now)) }
 {
-    let (digest, flows) = (is_digest(options), flows_of(options).is_some());
+    let (digest, flows) = (flag(options, "digest"), number(options, "flows").is_some());
     (flag(options, "summary") || every_of(options).is_some()) || (digest || flows)
 }
 
@@ -97,13 +83,6 @@ fn lasts(every: Option<u64>) -> bool
         Some(every) => every != 0,
         None => true,
     }
-}
-
-/// Whether these options ask for times of day.
-fn is_by_wall(options: &ArgMatches<'_>) -> bool
-    ensures { result ≡ is_by_wall (rows_of (found_of options.now)) }
-{
-    flag(options, "wall")
 }
 
 /// The events that these options choose.
@@ -126,20 +105,20 @@ fn choice_of<E: Write>(options: &ArgMatches<'_>, errors: &mut E) -> Option<Choic
         fault(errors, NO_CHOICE);
         return None;
     };
-    let Ok(from) = bound_of(options, "from", errors) else {
+    let Ok(from) = said(bound(options, "from"), "from", errors) else {
         return None;
     };
-    let Ok(to) = bound_of(options, "to", errors) else {
+    let Ok(to) = said(bound(options, "to"), "to", errors) else {
         return None;
     };
-    let Ok(every) = moment_of(options, "every", errors) else {
+    let Ok(every) = said(moment(options, "every"), "every", errors) else {
         return None;
     };
     if !lasts(every) {
         fault(errors, NO_PERIOD);
         return None;
     }
-    if !is_either(is_digest(options), flows_of(options)) {
+    if !is_either(flag(options, "digest"), number(options, "flows")) {
         fault(errors, NOT_BOTH);
         return None;
     }
@@ -154,7 +133,7 @@ fn choice_of<E: Write>(options: &ArgMatches<'_>, errors: &mut E) -> Option<Choic
 fn form_of(options: &ArgMatches<'_>) -> Form
     ensures { result ≡ form_of (rows_of (found_of options.now)) }
 {
-    match (flag(options, "csv"), is_by_wall(options)) {
+    match (flag(options, "csv"), flag(options, "wall")) {
         (true, true) => Form::CsvByWall,
         (true, false) => Form::Csv,
         (false, true) => Form::TextByWall,
@@ -179,11 +158,11 @@ pub(crate) struct Tale {
 fn tale_of(options: &ArgMatches<'_>) -> Tale
     ensures { told_by result ≡ tale_of (rows_of (found_of options.now)) }
 {
-    let (summary, digest) = (is_summary(options), is_digest(options));
+    let (summary, digest) = (is_summary(options), flag(options, "digest"));
     Tale {
         summary,
         digest,
-        flows: flows_of(options),
+        flows: number(options, "flows"),
         every: every_of(options),
         form: form_of(options),
     }

@@ -1,9 +1,8 @@
 //! `pie audit FILE..`: of files, each in turn; with `--joined` of those of one history, in its order.
 ghost use Rattle.std.specs.Prelude.{◌≡◌, ◌<◌, ◌||◌, [], IfOk, None, OnErr, OnOk, Some, get_or, length, map, true};
 ghost use Rattle.std.specs.Io.KnownBytes.{Appends};
-ghost use Rattle.pie_commands.specs.AuditEnds.{is_unfound, named_line, worst};
-ghost use Rattle.pie_commands.specs.FileAudits.{TellsRead, TellsText};
-ghost use Rattle.pie_commands.specs.JointEnds.{EndsOfFiles, finding_in, is_broken, joint_line, line_of_joint, lines_of};
+ghost use Rattle.pie_commands.specs.FileAudits.{EndsOfFiles, TellsRead, TellsText, is_broken, is_unfound, joint_line, line_of_joint, lines_of};
+ghost use Rattle.pie_commands.specs.FileAudits.{named_line, worst};
 ghost use Rattle.pie_files.specs.Files.{ReadsNamed, left_for};
 
 use crate::end::{End, faulted};
@@ -152,16 +151,6 @@ fn audit_named<H: NamedFiles + Clock, R: Read + Drop, W: Write, E: Write>(
     }
 }
 
-/// What was found of a file.
-fn finding_in(told: Option<Joined>) -> Option<Finding>
-    ensures { result ≡ finding_in told }
-{
-    match told {
-        Some(joined) => Some(joined.finding),
-        None => None,
-    }
-}
-
 /// Whether an event of a file differs, or it does not go on where the one before it ended.
 fn is_broken(told: Option<Joined>) -> bool
     ensures { result ≡ is_broken told }
@@ -186,7 +175,7 @@ fn any_broken(before: bool, told: Option<Joined>) -> bool
 }
 
 /// Whether nothing was found of one of the files before, or of this one.
-fn any_unfound(before: bool, told: Option<Finding>) -> bool
+fn any_unfound(before: bool, told: Option<Joined>) -> bool
     ensures { result ≡ (before || is_unfound told) }
 {
     before || told.is_none()
@@ -242,7 +231,7 @@ pub(crate) fn audit_files<H: NamedFiles + Clock, R: Read + Drop, W: Write, E: Wr
                 return faulted(errors, TraceFault::Write);
             }
         };
-        unfound = any_unfound(unfound, finding_in(told));
+        unfound = any_unfound(unfound, told);
         broken = any_broken(broken, told);
     }
     drop(end);

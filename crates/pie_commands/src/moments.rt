@@ -5,6 +5,7 @@ ghost use Rattle.pie_commands.specs.Choice.{bound_given, in_order, moment_given,
 
 use clap::ArgMatches;
 use pie_units::{Moment, MomentFault, When, WhenFault};
+use std::fmt::Display;
 use std::io::Write;
 
 /// The nanoseconds of a moment that was read, if there was one to read.
@@ -25,16 +26,23 @@ pub(crate) fn moment(options: &ArgMatches<'_>, name: &str) -> Result<Option<u64>
     units_of(options.try_get_one::<Moment>(name))
 }
 
-/// The moment that an option is given, with a line on `errors` where its text is none.
-pub(crate) fn moment_of<E: Write>(
-    options: &ArgMatches<'_>,
+/// The bound that an option is given.
+pub(crate) fn bound(options: &ArgMatches<'_>, name: &str) -> Result<Option<When>, WhenFault>
+    ensures { result ≡ bound_given name.now (rows_of (found_of options.now)) }
+{
+    options.try_get_one::<When>(name)
+}
+
+/// What was read of an option, with a line on `errors` where its text is none of its kind.
+pub(crate) fn said<T: Copy, F: Copy + Display, E: Write>(
+    read: Result<T, F>,
     name: &str,
     errors: &mut E,
-) -> Result<Option<u64>, MomentFault>
-    ensures { result ≡ moment_given name.now (rows_of (found_of options.now)) }
+) -> Result<T, F>
+    ensures { result ≡ read }
 {
-    match moment(options, name) {
-        Ok(moment) => Ok(moment),
+    match read {
+        Ok(given) => Ok(given),
         Err(why) => {
             let _ = writeln!(errors, "pie: --{name}: {why}");
             Err(why)
@@ -53,29 +61,5 @@ pub(crate) fn in_order(from: Option<When>, to: Option<When>) -> bool
         (Some(When::Moment(from)), Some(When::Moment(to))) => from <= to,
         (Some(When::Unix(from)), Some(When::Unix(to))) => from <= to,
         _ => true,
-    }
-}
-
-/// The bound that an option is given.
-fn bound(options: &ArgMatches<'_>, name: &str) -> Result<Option<When>, WhenFault>
-    ensures { result ≡ bound_given name.now (rows_of (found_of options.now)) }
-{
-    options.try_get_one::<When>(name)
-}
-
-/// The same, with a line on `errors` where its text is none.
-pub(crate) fn bound_of<E: Write>(
-    options: &ArgMatches<'_>,
-    name: &str,
-    errors: &mut E,
-) -> Result<Option<When>, WhenFault>
-    ensures { result ≡ bound_given name.now (rows_of (found_of options.now)) }
-{
-    match bound(options, name) {
-        Ok(bound) => Ok(bound),
-        Err(why) => {
-            let _ = writeln!(errors, "pie: --{name}: {why}");
-            Err(why)
-        }
     }
 }

@@ -9,11 +9,10 @@ ghost use Rattle.pie_options.specs.Words.{AskFor, Asks, file_in, files_in, is_fo
 ghost use Rattle.pie_files.specs.Files.{text_given};
 ghost use Rattle.pie_files.specs.Output.{Keeps};
 ghost use Rattle.pie_commands.specs.declared.end.End.{End};
-ghost use Rattle.pie_commands.specs.AuditEnds.{EndsFiles};
 ghost use Rattle.pie_commands.specs.CutEnds.{EndsCut};
 ghost use Rattle.pie_commands.specs.Ends.{EndsAudit, EndsMigrate, EndsRun, status_of};
 ghost use Rattle.pie_commands.specs.ExplainEnds.{EndsExplain};
-ghost use Rattle.pie_commands.specs.JointEnds.{EndsJoined};
+ghost use Rattle.pie_commands.specs.FileAudits.{EndsFiles, EndsJoined};
 ghost use Rattle.pie_commands.specs.Outputs.{EndsIn};
 ghost use Rattle.pie_commands.specs.StormEnds.{EndsStorm};
 ghost use Rattle.pie_commands.specs.Subcommands.{Answers, Finds};

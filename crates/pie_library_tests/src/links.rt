@@ -20,17 +20,7 @@ pub(crate) enum How {
     Waits,
 }
 
-/// Whether a command is taken.
-fn asks<R: Wait>(rt: &R, link: &Link, caller: &mut Caller, how: How, command: Command) -> bool
-    requires own { caller.old.lock ≡ link.now }
-    ensures stays { StaysOne caller.old caller.new }
-{
-    match how {
-        How::Tries => tries(link, caller, command),
-        How::Waits => waits(rt, link, caller, command),
-    }
-}
-
+/// Whether a command is taken, by the call that never blocks. (That a call which waits answers so is proved.)
 fn tries(link: &Link, caller: &mut Caller, command: Command) -> bool
     requires own { caller.old.lock ≡ link.now }
     ensures stays { StaysOne caller.old caller.new }
@@ -46,25 +36,6 @@ fn tries(link: &Link, caller: &mut Caller, command: Command) -> bool
         Command::Reset { moment } => link.try_reset(caller, moment).is_ok(),
         Command::SetParams { moment, params } => {
             link.try_set_params(caller, moment, params).is_ok()
-        }
-    }
-}
-
-fn waits<R: Wait>(rt: &R, link: &Link, caller: &mut Caller, command: Command) -> bool
-    requires own { caller.old.lock ≡ link.now }
-    ensures stays { StaysOne caller.old caller.new }
-{
-    match command {
-        Command::Arrive {
-            moment,
-            packet,
-            word,
-        } => link.arrive(rt, caller, moment, packet, word).is_ok(),
-        Command::Depart { moment } => link.depart(rt, caller, moment).is_ok(),
-        Command::Update { moment } => link.update(rt, caller, moment).is_ok(),
-        Command::Reset { moment } => link.reset(rt, caller, moment).is_ok(),
-        Command::SetParams { moment, params } => {
-            link.set_params(rt, caller, moment, params).is_ok()
         }
     }
 }
@@ -87,16 +58,13 @@ fn fold_two<R: Wait>(rt: &R, link: &Link, caller: &mut Caller, how: How) -> Resu
 }
 
 /// How many events the book of a link has, as a caller reads it; 0 where the lock is not free.
-fn count<R: Wait>(rt: &R, link: &Link, caller: &mut Caller, how: How) -> u64
+fn count(link: &Link, caller: &mut Caller) -> u64
     requires own { caller.old.lock ≡ link.now }
     ensures stays { StaysOne caller.old caller.new }
 {
-    match how {
-        How::Tries => match link.try_registers(caller) {
-            Ok(told) => told.answer.count,
-            Err(_) => 0,
-        },
-        How::Waits => link.registers(rt, caller).answer.count,
+    match link.try_registers(caller) {
+        Ok(told) => told.answer.count,
+        Err(_) => 0,
     }
 }
 
@@ -133,7 +101,7 @@ fn fold_at<R: Wait + Print>(rt: &R, link: &Link, caller: &mut Caller, how: How, 
     begin(rt, name);
     match fold_two(rt, link, caller, how) {
         Ok((many, number)) => Seen::done(many, number),
-        Err(is_memory) => Seen::refused(is_memory, count(rt, link, caller, How::Tries)),
+        Err(is_memory) => Seen::refused(is_memory, count(link, caller)),
     }
 }
 
@@ -162,19 +130,19 @@ fn commands() -> [Command; 5] {
 }
 
 /// How many of them are taken.
-fn taken<R: Wait>(rt: &R, link: &Link, caller: &mut Caller, how: How) -> u64
+fn taken(link: &Link, caller: &mut Caller) -> u64
     requires own { caller.old.lock ≡ link.now }
     ensures { StaysOne caller.old caller.new }
 {
     let mut taken = 0u64;
     for command in commands() {
-        taken = taken.saturating_add(u64::from(asks(rt, link, caller, how, command)));
+        taken = taken.saturating_add(u64::from(tries(link, caller, command)));
     }
     taken
 }
 
 /// How many answers there are to a burst of two packets, and to departures until none is left.
-fn burst<R: Wait>(rt: &R, alloc: Global, link: &Link, caller: &mut Caller, how: How) -> u64
+fn burst<R: Wait>(rt: &R, alloc: Global, link: &Link, caller: &mut Caller) -> u64
     requires own { caller.old.lock ≡ link.now }
     ensures stays { StaysOne caller.old caller.new }
 {
@@ -185,54 +153,47 @@ fn burst<R: Wait>(rt: &R, alloc: Global, link: &Link, caller: &mut Caller, how: 
     };
     let mut answers: Vec<Result<Told<Answer>, Refusal>> = Vec::new(alloc);
     let _ = answers.reserve(5);
-    match how {
-        How::Tries => {
-            let _ = link.try_arrive_all(caller, &[one, one], &mut answers);
-        }
-        How::Waits => {
-            let _ = link.arrive_all(rt, caller, &[one, one], &mut answers);
-        }
-    }
+    let _ = link.try_arrive_all(caller, &[one, one], &mut answers);
     let _ = link.depart_all(rt, caller, 15_000_000, 3, &mut answers);
     answers.len() as u64
 }
 
-/// Whether the statistics and the book's last events are told.
-fn reads<R: Wait>(rt: &R, alloc: Global, link: &Link, caller: &mut Caller, how: How) -> bool
+/// How long packets waited in all, as a caller reads it; 0 where the lock is not free.
+fn waited(link: &Link, caller: &mut Caller) -> u128
+    requires own { caller.old.lock ≡ link.now }
+    ensures stays { StaysOne caller.old caller.new }
+{
+    match link.try_stats(caller) {
+        Ok(told) => told.answer.waited,
+        Err(_) => 0,
+    }
+}
+
+/// How many of the book's last events a caller is told.
+fn told(alloc: Global, link: &Link, caller: &mut Caller) -> usize
     requires own { caller.old.lock ≡ link.now }
     ensures stays { StaysOne caller.old caller.new }
 {
     let opening = Opening::usual(limits(16), Params::default_profile(), 0);
     let Ok(mut excerpt) = Excerpt::with_room(alloc, opening) else {
-        return false;
+        return 0;
     };
-    let (waited, is_filled) = match how {
-        How::Tries => match link.try_stats(caller) {
-            Ok(told) => (
-                told.answer.waited,
-                link.try_excerpt(caller, &mut excerpt).is_ok(),
-            ),
-            Err(_) => (0, false),
-        },
-        How::Waits => (
-            link.stats(rt, caller).answer.waited,
-            link.excerpt(rt, caller, &mut excerpt).is_ok(),
-        ),
-    };
-    waited == 10 && is_filled && excerpt.tail().len() == 10
+    let _ = link.try_excerpt(caller, &mut excerpt);
+    excerpt.tail().len()
 }
 
 /// Whether ten events are made, read and folded.
-fn is_done<R: Wait>(rt: &R, alloc: Global, link: &Link, caller: &mut Caller, how: How) -> bool
+fn is_done<R: Wait>(rt: &R, alloc: Global, link: &Link, caller: &mut Caller) -> bool
     requires own { caller.old.lock ≡ link.now }
     ensures stays { StaysOne caller.old caller.new }
 {
-    let taken = taken(rt, link, caller, how);
-    let answers = burst(rt, alloc, link, caller, how);
-    let count = count(rt, link, caller, how);
-    let is_read = reads(rt, alloc, link, caller, how);
-    let folded = fold_two(rt, link, caller, how);
-    taken == 5 && answers == 5 && count == 10 && is_read && folded == Ok((2, 2))
+    let taken = taken(link, caller);
+    let answers = burst(rt, alloc, link, caller);
+    let count = count(link, caller);
+    let waited = waited(link, caller);
+    let told = told(alloc, link, caller);
+    let folded = fold_two(rt, link, caller, How::Tries);
+    taken == 5 && answers == 5 && count == 10 && waited == 10 && told == 10 && folded == Ok((2, 2))
 }
 
 /// Whether this caller closes the link, with a book that holds the other eight.
@@ -246,22 +207,18 @@ fn closes(link: Link, caller: Caller) -> bool
 }
 
 /// Whether the uppermost of all callers is answered, and closes the link.
-fn shares<R: Wait>(rt: &R, alloc: Global, link: Link, mut caller: Caller, how: How) -> bool
+fn shares<R: Wait>(rt: &R, alloc: Global, link: Link, mut caller: Caller) -> bool
     requires own { caller.lock ≡ link }
 {
     match link.share(&mut caller) {
-        Ok(mut upper) => is_done(rt, alloc, &link, &mut upper, how) & closes(link, upper),
-        Err(_) => false,
-    }
-}
-
-fn is_answered_so<R: Wait>(rt: &R, alloc: Global, how: How) -> bool {
-    match Link::open(alloc, limits(16), Params::default_profile(), 0, 65535) {
-        Ok((link, caller)) => shares(rt, alloc, link, caller, how),
+        Ok(mut upper) => is_done(rt, alloc, &link, &mut upper) & closes(link, upper),
         Err(_) => false,
     }
 }
 
 pub(crate) fn is_answered<R: Wait>(rt: &R, alloc: Global) -> bool {
-    is_answered_so(rt, alloc, How::Tries) && is_answered_so(rt, alloc, How::Waits)
+    match Link::open(alloc, limits(16), Params::default_profile(), 0, 65535) {
+        Ok((link, caller)) => shares(rt, alloc, link, caller),
+        Err(_) => false,
+    }
 }

@@ -1,10 +1,9 @@
-use Rattle.pie_commands.proofs.Names.{map, take, Stays}
-use Rattle.pie_commands.proofs.FileAuditFacts.{AuditsBy}
+use Rattle.pie_commands.proofs.Names.{map, take, AuditsFiles, Stays}
 use Rattle.pie_commands.proofs.file_audits.audit_files.Given as goal
 
 abbrev pub invariant-loop-place : goal.invariant-loop-place
 invariant-loop-place g l = record {
   stays : Stays l.fn.input l.given;
-  audits : AuditsBy l.are_joined (g.R.Read.remaining l.fn.input) (g.H.NamedFiles.holds l.fn.rt) (take l.place (map (λ name. name.now) l.names))
+  audits : AuditsFiles l.are_joined (g.R.Read.remaining l.fn.input) (g.H.NamedFiles.holds l.fn.rt) (take l.place (map (λ name. name.now) l.names))
       l.unfound l.broken l.end (g.W.Write.contents l.fn.output) (g.W.Write.contents l.output);
 }

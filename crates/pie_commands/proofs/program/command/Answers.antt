@@ -3,7 +3,7 @@ use Rattle.pie_commands.proofs.Names.{Params, file_in, files_in, is_forced, is_j
 use Rattle.pie_commands.proofs.Names.{migrate-asks, migrate-file, migrate-output, run-asks, run-file, run-output, text_given, EndsMigrate, EndsRun}
 use Rattle.pie_commands.proofs.Names.{EndsEither, EndsIn, EndsAs}
 use Rattle.pie_commands.proofs.EndFacts.{status-most}
-use Rattle.pie_commands.proofs.JointFacts.{ends-of-files}
+use Rattle.pie_commands.proofs.FileAuditFacts.{ends-of-files}
 use Rattle.pie_commands.proofs.SubcommandFacts.{may-differ}
 use Rattle.pie_commands.proofs.program.command.Goals as goal
 
@@ -23,34 +23,18 @@ returns-clause-differs g c is =
 pub returns-clause-runs : goal.returns-clause-runs
 returns-clause-runs g c asks =
     let words = map string_bytes c.args.words.now in
-    let held = g.H.NamedFiles.holds c.args.rt.now in
-    let input = g.R.Read.remaining c.args.input in
-    let before = g.W.Write.contents c.args.output.now in
-    let now = g.W.Write.contents c.answer-end.new.output in
-    subst (λ (file : Option Text). IfSome (text_given input held file) (λ text. EndsRun text c.answer-end.result before now)) (run-file words asks)
-    (subst (λ (output : Option Text). EndsIn output (file_in (options_in words)) (is_forced (options_in words)) g.H.NamedFiles.fresh held
-    (g.H.NamedFiles.holds c.answer-end.new.rt) (EndsAs Run (options_in words) input held) c.answer-end.result before now)
-    (run-output words asks) ((c.answer-end.ensures words c.matches_of-found.ensures).ends Run (run-asks words asks))).1
+    (rw (run-output words asks, run-file words asks) at ((c.answer-end.ensures words c.matches_of-found.ensures).ends Run (run-asks words asks))).1
 
 pub returns-clause-audits : goal.returns-clause-audits
 returns-clause-audits g c asks =
     let words = map string_bytes c.args.words.now in
-    subst (λ (files : List Text). EndsEither (is_joined (options_in words)) (g.R.Read.remaining c.args.input) (g.H.NamedFiles.holds c.args.rt.now)
-    files c.answer-end.result (g.W.Write.contents c.args.output.now) (g.W.Write.contents c.answer-end.new.output))
-    (audit-files words asks) ((c.answer-end.ensures words c.matches_of-found.ensures).ends Audit (audit-asks words asks)).1
+    rw (audit-files words asks) at ((c.answer-end.ensures words c.matches_of-found.ensures).ends Audit (audit-asks words asks)).1
 
 pub returns-clause-migrates : goal.returns-clause-migrates
 returns-clause-migrates g c asks =
     let words = map string_bytes c.args.words.now in
-    let held = g.H.NamedFiles.holds c.args.rt.now in
-    let input = g.R.Read.remaining c.args.input in
-    let before = g.W.Write.contents c.args.output.now in
-    let now = g.W.Write.contents c.answer-end.new.output in
-    subst (λ (file : Option Text). IfSome (text_given input held file) (λ text. EndsMigrate text c.answer-end.result before now))
-    (migrate-file words asks)
-    (subst (λ (output : Option Text). EndsIn output (file_in (options_in words)) (is_forced (options_in words)) g.H.NamedFiles.fresh held
-    (g.H.NamedFiles.holds c.answer-end.new.rt) (EndsAs Migrate (options_in words) input held) c.answer-end.result before now)
-    (migrate-output words asks) ((c.answer-end.ensures words c.matches_of-found.ensures).ends Migrate (migrate-asks words asks))).1
+    (rw (migrate-output words asks, migrate-file words asks) at
+    ((c.answer-end.ensures words c.matches_of-found.ensures).ends Migrate (migrate-asks words asks))).1
 
 -- ---- with files, and with options
 

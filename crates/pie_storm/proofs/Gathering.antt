@@ -1,7 +1,7 @@
 -- What is known of all workers of a storm together.
 use Rattle.pie_storm.proofs.Names.{◌≡◌, ℕ, ◌+◌, ◌-◌, ◌<◌, ◌≤◌, List, [], length, length-append, events_in, refl, ap, sym, ◌∙◌, subst, inl, inr, ⊎_elim, arith, dite, ℕ_discrete}
 use Rattle.pie_storm.proofs.Names.{own, is_within, GoesOn, within, Event, number_of, EntriesLookBack, Entry, CallerView, LinkView, Plan}
-use Rattle.pie_storm.proofs.Names.{Work, calls_of, commands_of, folder, opening_of, updater, Call, AreMade, CameOf, HasNoMore, IsAt, IsWell}
+use Rattle.pie_storm.proofs.Names.{Work, calls_of, folder, opening_of, updater, Call, AreMade, CameOf, HasNoMore, IsAt, IsWell}
 use Rattle.pie_storm.proofs.Names.{IsWorkBelow, WereHanded}
 use Rattle.pie_lock.specs.Promises.{IsBothOf}
 use Rattle.pie_lock.proofs.Owns.{same_either, within_high}
@@ -9,7 +9,6 @@ use Rattle.pie_storm.specs.declared.worker.Folding.{Folding}
 use Rattle.pie_storm.specs.Storms.{Begins, IsWorkOf}
 use Rattle.pie_storm.proofs.Handing.{handed_same}
 use Rattle.pie_storm.proofs.Making.{made_on, stays}
-use Rattle.pie_storm.proofs.PlanCommands.{other_calls}
 
 -- what came of a caller's calls in a history came of them in one that goes on with nothing more of it
 came_on : (law : EntriesLookBack) (plan : Plan) (caller : ℕ) (h k : List Entry) (passed : ℕ) → HasNoMore caller h k → CameOf plan caller h passed
@@ -17,6 +16,7 @@ came_on : (law : EntriesLookBack) (plan : Plan) (caller : ℕ) (h k : List Entry
 unfolding CameOf
 came_on law plan caller h k passed on (inl made) = inl (made_on (opening_of plan) caller [] (calls_of plan caller) h k passed on made)
 came_on law plan caller h k passed on (inr cut) = inr (record {
+  asks = cut.asks;
   full = omega (
     arith,
     cut.full,
@@ -101,10 +101,8 @@ together law link plan n work last whole both passed soon as_before events well 
 
 -- the starter asks for nothing
 nothing_asked : (plan : Plan) → CameOf plan 0 [] 0
-unfolding CameOf commands_of
-nothing_asked plan =
-    inl (subst (λ (calls : List Call). AreMade (opening_of plan) 0 [] calls [] 0) (sym (other_calls plan 0 (λ is. omega (arith, is))))
-    (stays (opening_of plan) 0 [], refl))
+unfolding CameOf calls_of
+nothing_asked plan = inl (stays (opening_of plan) 0 [], refl)
 
 -- .. and alone has made nothing
 pub starter_alone : (link : LinkView) (plan : Plan) (caller rest : CallerView) (folding : Folding) → Begins link plan caller → caller.first ≡ 0

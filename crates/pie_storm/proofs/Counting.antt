@@ -1,11 +1,11 @@
 -- A storm's history has no more events than there are commands, and so no caller was cut short; and so it is what the plan asks for.
-use Rattle.pie_storm.proofs.Names.{◌≡◌, ℕ, zero, suc, ◌+◌, ◌-◌, ◌<◌, ◌≤◌, ◌⊎◌, ◌==◌, nat_le, Bool, true, false, cond, List, [], ◌∷◌, ◌++◌, Option}
-use Rattle.pie_storm.proofs.Names.{Some, None, Vec, min, map, length, length-append, append_assoc, refl, ap, sym, ◌∙◌, subst, inl, inr, ⊎_elim, arith}
-use Rattle.pie_storm.proofs.Names.{if◌then◌else◌, All, Global, append-nil, length-map, All-nil, All-cons, All-head, All-tail, nat_tests, dite}
-use Rattle.pie_storm.proofs.Names.{ℕ_discrete, own, is_within, within, not_within, Command, Depart, Update, Event, Opening, Refusal, refusal_by_rule}
-use Rattle.pie_storm.proofs.Names.{due_after, effective_moment, arrive, entries_of, events_in, number_of, EntriesLookBack, Arrival, Entry, Made}
+use Rattle.pie_storm.proofs.Names.{◌≡◌, ℕ, zero, suc, ◌+◌, ◌<◌, ◌≤◌, ◌==◌, nat_le, Bool, true, false, cond, List, [], ◌∷◌, ◌++◌, Option}
+use Rattle.pie_storm.proofs.Names.{Some, None, length, refl, ap, sym, ◌∙◌, subst, inl, inr, arith}
+use Rattle.pie_storm.proofs.Names.{All, append-nil, All-nil, All-cons, All-head, All-tail, nat_tests, dite}
+use Rattle.pie_storm.proofs.Names.{ℕ_discrete, is_within, within, not_within, Command, Event, Opening, Refusal, refusal_by_rule}
+use Rattle.pie_storm.proofs.Names.{due_after, effective_moment, entries_of, events_in, number_of, EntriesLookBack, Entry, Made}
 use Rattle.pie_storm.proofs.Names.{Folded, Call, Ask, Fold, Plan, IsSound, calls_of, changing, departing, folder}
-use Rattle.pie_storm.proofs.Names.{opening_of, planned, senders, total, updater, AreMade, CameOf, HasNoMore, IsCutShort, IsMade, IsStorm}
+use Rattle.pie_storm.proofs.Names.{opening_of, total, updater, AreMade, CameOf, IsCutShort, IsMade, IsStorm}
 use Rattle.std.proofs.Common.{nat_lt}
 use Rattle.pie_event.specs.Opening.{last_moment}
 use Rattle.pie_event.specs.Deed.{handed_in}

@@ -1,8 +1,8 @@
 -- What a caller's calls come to, in a history that grows.
 use Rattle.pie_storm.proofs.Names.{◌≡◌, ℕ, zero, suc, ◌+◌, ◌<◌, ◌≤◌, ◌==◌, ◌⊎◌, List, [], ◌∷◌, ◌++◌, Bool, true, false, cond, Some, None, Ok, Err}
-use Rattle.pie_storm.proofs.Names.{Option, Result, Vec, take, drop, map, min, length, slice_get, refl, ap, sym, ◌∙◌, subst, inl, inr, ⊎_elim, arith}
-use Rattle.pie_storm.proofs.Names.{append_assoc, length-append, length-drop, All, Global, take-add, take-length, append-nil, length-take, All-head}
-use Rattle.pie_storm.proofs.Names.{All-tail, nat_tests, own, is_within, GoesOn, within, prefix_self, prefix_trans, Answer, Command, Event, Bounded}
+use Rattle.pie_storm.proofs.Names.{Option, Result, Vec, take, drop, min, length, slice_get, refl, ap, sym, ◌∙◌, subst, inl, inr, ⊎_elim, arith}
+use Rattle.pie_storm.proofs.Names.{length-append, length-drop, Global, take-add, take-length, length-take}
+use Rattle.pie_storm.proofs.Names.{nat_tests, own, is_within, GoesOn, within, prefix_self, prefix_trans, Answer, Command, Event, Bounded}
 use Rattle.pie_storm.proofs.Names.{Rolling, Opening, Refusal, is_refused_full, or_full, refusal_by_rule, refusal_with, due_after, effective_moment}
 use Rattle.pie_storm.proofs.Names.{event_of, entries_of, events_in, handed_to, left_in, number_of, tail_in, EntriesLookBack, Entry, Made, Folded}
 use Rattle.pie_storm.proofs.Names.{Told, CallerView, LinkView, Call, Ask, Fold, Plan, IsFair, calls_of, folder, opening_of, AreMade}

@@ -1,5 +1,5 @@
 -- What a sound plan says of the calls of its callers.
-use Rattle.pie_storm.proofs.Names.{◌≡◌, ℕ, zero, suc, ◌+◌, ◌-◌, ◌==◌, ◌<◌, ◌≤◌, nat_le, Bool, true, false, List, [], ◌∷◌, Some, Vec, map, length}
+use Rattle.pie_storm.proofs.Names.{◌≡◌, ℕ, zero, suc, ◌+◌, ◌-◌, ◌==◌, ◌≤◌, nat_le, Bool, true, false, List, [], ◌∷◌, Some, Vec, map}
 use Rattle.pie_storm.proofs.Names.{slice_get, ◌∙◌, ap, drop, refl, subst, sym, take, arith, if◌then◌else◌, All, drop-map, take-map, Global}
 use Rattle.pie_storm.proofs.Names.{nat_tests, All-nil, All-cons, All-head, All-tail, Command, Arrival, Call, Ask, Fold, Plan}
 use Rattle.pie_storm.proofs.Names.{IsFair, IsSound, arriving, calls_of, changing, departing, folder, senders, sent, updater, updating}

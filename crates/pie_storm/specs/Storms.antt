@@ -1,12 +1,10 @@
 -- What the callers of a storm did, and how it ends. A history is the list of all entries of the link: its events, and the folds between them.
 use Rattle.std.specs.Prelude.{◌≡◌, ◌==◌, ◌+◌, ◌<◌, ◌≤◌, ◌⊎◌, ℕ, Bool, false, All, List, [], ◌∷◌, ◌++◌, Option, Some, None, Result, Ok, Err}
-use Rattle.std.specs.Prelude.{IfSome, IsOk, Vec, min, map, length, take}
+use Rattle.std.specs.Prelude.{IfSome, IsOk, Vec, min, length, take}
 use Rattle.std.specs.declared.alloc.Global.{Global}
-use mathlib.Core.List.{IsPrefix}
 use Rattle.pie_lock.specs.Own.{own}
 use Rattle.pie_lock.specs.Steps.{GoesOn}
 use Rattle.pie_event.specs.declared.command.Command.{Command}
-use Rattle.pie_event.specs.declared.command.Command.TheVariants.{Depart, Update}
 use Rattle.pie_event.specs.declared.command.Event.{Event}
 use Rattle.pie_event.specs.declared.opening.Opening.{Opening}
 use Rattle.pie_event.specs.declared.command.Answer.{Answer}

@@ -1,4 +1,4 @@
-use Rattle.pie_storm.proofs.Names.{◌≡◌, ◌≤◌, ◌∙◌, ◌+◌, ℕ, length, refl, sym, subst, arith, calls_of, IsWell, MadeOrCut}
+use Rattle.pie_storm.proofs.Names.{◌≡◌, length, arith, calls_of, IsWell, MadeOrCut}
 use Rattle.pie_storm.proofs.Making.{came_cut, came_of_all, made_none}
 use Rattle.pie_storm.proofs.worker.make_all.Goals as goal
 

@@ -12,7 +12,7 @@ use Rattle.pie_event.specs.declared.refusal.Refusal.TheVariants.{TooSoon}
 use Rattle.pie_kept.specs.Bursts.{entries_by, entries_to, refused_or_told, replies_to, reply_in}
 use Rattle.pie_kept.specs.Commands.{refusal_in}
 use Rattle.pie_link.specs.Bursts.{AnswersAll, IsBurst}
-use Rattle.pie_storm.proofs.Making.{CameBy, full_after, goes, seen, stays, which}
+use Rattle.pie_storm.proofs.Making.{CameBy, full_after, goes, never_soon, seen, stays, which}
 use Rattle.pie_storm.proofs.PlanCommands.{IsFairCall, all_fair}
 
 -- why a command is refused, where its reply is a refusal
@@ -21,14 +21,11 @@ refused_why None told w e = absurd (cc e)
 refused_why (Some other) told w e = cc e
 
 -- an arrival is never too soon
-never_soon : (before due count events : ℕ) (a : Arrival) (d : ℕ) → refusal_with before due count events (arrive a) ≡ Some (TooSoon d) → ⊥
-never_soon before due count events a d e = grind (arith, nat_tests, e)
-
 arrives_in_time : (opening : Opening) (h : List Entry) (a : Arrival) (w : Refusal) → refusal_in opening h (arrive a) ≡ Some w
     → (d : ℕ) → w ≡ TooSoon d → ⊥
 arrives_in_time opening h a w e d is =
-    ⊎_elim (λ r. never_soon (effective_moment opening (events_in h)) (due_after opening (events_in h)) (length (events_in h)) opening.limits.events a d
-    (r ∙ ap Some is)) (λ r. absurd (cc (r.1, is)))
+    ⊎_elim (λ r. never_soon (effective_moment opening (events_in h)) (due_after opening (events_in h)) (length (events_in h)) opening.limits.events
+    (arrive a) d refl (r ∙ ap Some is)) (λ r. absurd (cc (r.1, is)))
     (which (refusal_by_rule opening (events_in h) (arrive a))
     (is_refused_full opening.choices.mode (length (tail_in opening h) == opening.limits.tail)) w e)
 

@@ -13,7 +13,7 @@ use Rattle.pie_book.specs.Decision.{has_bad_size, is_too_soon}
 use Rattle.std.proofs.lemmas.List.Elements.{All-append}
 use Rattle.pie_storm.specs.Storms.{IsEntryOf, WasPassedOver, events_of}
 use Rattle.pie_event.specs.declared.refusal.Refusal.TheVariants as refusal
-use Rattle.pie_storm.proofs.Making.{few_made, numbered, own_entry}
+use Rattle.pie_storm.proofs.Making.{few_made, never_soon, numbered, own_entry}
 use Rattle.pie_storm.proofs.PlanCommands.{IsAsk, IsFold, asks_alone, each, each_sent, folds_alone, no_calls, of_calls}
 
 -- ---- all callers together
@@ -112,31 +112,18 @@ entries_past n caller (e ∷ xs) past all =
 
 -- ---- what a caller's entries are
 
--- a command that is no update is never too soon
-abbrev IsNoUpdate : Command → Type 0
-IsNoUpdate command = (before due : ℕ) → is_too_soon before due command ≡ false
-
-chain : (a b d : Bool) (due : ℕ) → ◌≡◌ {A = Option Refusal}
-    (cond a (Some refusal.Moment) (cond b (Some refusal.Size) (cond d (Some refusal.Exhausted) None))) (Some (refusal.TooSoon due)) → ⊥
-chain true b d due e = cc e
-chain false true d due e = cc e
-chain false false true due e = cc e
-chain false false false due e = cc e
-
-never_too_soon : (opening : Opening) (h : List Event) (command : Command) (due : ℕ) → IsNoUpdate command
-    → refusal_by_rule opening h command ≡ Some (refusal.TooSoon due) → ⊥
-never_too_soon opening h command due calm e =
-    let on_time = calm (effective_moment opening h) (due_after opening h) in
-    chain (nat_lt last_moment (handed_in command)) (has_bad_size command) (length h == opening.limits.events) due (rw on_time at e)
-
+-- a call that can't come to nothing: a command that is never too soon
 abbrev IsCalm : Call → Type 0
-IsCalm (Ask command) = IsNoUpdate command
+IsCalm (Ask command) = (before due : ℕ) → is_too_soon before due command ≡ false
 IsCalm (Fold n) = ⊥
 
 module _ (opening : Opening) (caller : ℕ) where
   -- where no call can come to nothing, none is passed over
   not_passed : (before : List Entry) (call : Call) → IsCalm call → WasPassedOver opening before call → ⊥
-  not_passed before (Ask command) calm was = never_too_soon opening (events_in before) command was.due calm was.refused
+  not_passed before (Ask command) calm was =
+      let h = events_in before in
+      never_soon (effective_moment opening h) (due_after opening h) (length h) opening.limits.events command was.due
+      (calm (effective_moment opening h) (due_after opening h)) was.refused
   not_passed before (Fold n) calm was = calm
 
   none_passed : (front : List Entry) (calls : List Call) (h : List Entry) (passed : ℕ) → All IsCalm calls → AreMade opening caller front calls h passed

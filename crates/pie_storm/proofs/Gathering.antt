@@ -42,22 +42,12 @@ fronts : (plan : Plan) (p q r : CallerView) (n : ℕ) → p.first ≡ 0 → p.li
 fronts plan p q r n p_first p_limit q_first q_limit both =
     let P : List Entry → Type 0 = λ front. ((caller : ℕ) → caller < n → HasNoMore caller p.front front) × HasNoMore n q.front front in
     ⊎_elim
-    (λ behind. subst P (sym behind.1) (
-      (λ caller below. each_below caller n p.front q.front below (
-        behind.0.0,
-        subst (λ (m : ℕ). own number_of m n q.front ≡ own number_of m n p.front) p_first
-            (subst (λ (m : ℕ). own number_of p.first m q.front ≡ own number_of p.first m p.front) p_limit behind.0.1),
-      )),
-      stays (opening_of plan) n q.front,
-    ))
-    (λ behind. subst P (sym behind.1) (
-      (λ caller below. stays (opening_of plan) caller p.front),
-      (
-        behind.0.0,
-        subst (λ (m : ℕ). own number_of m (n + 1) p.front ≡ own number_of m (n + 1) q.front) q_first
-            (subst (λ (m : ℕ). own number_of q.first m p.front ≡ own number_of q.first m q.front) q_limit behind.0.1),
-      ),
-    ))
+    (λ behind.
+    let on : GoesOn number_of 0 n p.front q.front = rw (p_first, p_limit) at behind.0 in
+    subst P (sym behind.1) ((λ caller below. each_below caller n p.front q.front below on), stays (opening_of plan) n q.front))
+    (λ behind.
+    let on : HasNoMore n q.front p.front = rw (q_first, q_limit) at behind.0 in
+    subst P (sym behind.1) ((λ caller below. stays (opening_of plan) caller p.front), on))
     both.3
 
 -- what the worker behind the others did is gathered to what they did

@@ -13,6 +13,7 @@ use Rattle.pie_event.specs.declared.opening.Mode.{Mode}
 use Rattle.pie_event.specs.declared.refusal.FoldRefusal.{FoldRefusal}
 use Rattle.pie_event.specs.declared.refusal.FoldRefusal.TheVariants.{TooMany, Memory}
 use Rattle.pie_event.specs.declared.refusal.Refusal.TheVariants.{TooSoon, Moment, Size, Exhausted, HistoryFull}
+use Rattle.pie_book.specs.Decision.{is_too_soon}
 use Rattle.pie_kept.specs.Commands.{IsWhy}
 use Rattle.pie_link.specs.Commands.{Answers, IsRefused, IsTaken}
 use Rattle.pie_link.specs.Folds.{Folds, IsFoldMade, IsFoldRefused}
@@ -117,6 +118,11 @@ too_soon_by_rule opening history command due why =
     ⊎_elim (λ e. e) (λ e. absurd (cc (e.1)))
     (which (refusal_by_rule opening (events_in history) command)
     (is_refused_full opening.choices.mode (length (tail_in opening history) == opening.limits.tail)) (TooSoon due) why)
+
+-- where a command comes in time it isn't refused as too soon
+pub never_soon : (before due count events : ℕ) (command : Command) (d : ℕ) → is_too_soon before due command ≡ false
+    → refusal_with before due count events command ≡ Some (TooSoon d) → ⊥
+never_soon before due count events command d calm e = grind (arith, nat_tests, calm, e)
 
 -- a fair command that is refused, and not as too soon, came where there was no room for it
 no_room : (before due count events : ℕ) (command : Command) (why : Refusal) → IsFair command → refusal_with before due count events command ≡ Some why

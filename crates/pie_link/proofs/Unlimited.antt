@@ -1,5 +1,5 @@
 -- A burst without a budget.
-use Rattle.std.proofs.Common.{◌≡◌, ℕ, Bool, List, [], ◌∷◌, ◌++◌, None, ap, ◌∙◌}
+use Rattle.std.proofs.Common.{Bool, List, [], ◌∷◌, ◌++◌, None, ap, ◌∙◌}
 use Rattle.pie_event.specs.declared.command.Command.{Command}
 use Rattle.pie_event.specs.declared.opening.Opening.{Opening}
 use Rattle.pie_kept.specs.declared.entry.Entry.{Entry}

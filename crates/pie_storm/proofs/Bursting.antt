@@ -1,19 +1,19 @@
 -- What a burst of arrivals carries a sender to.
-use Rattle.pie_storm.proofs.Names.{◌≡◌, ◌<◌, ◌≤◌, ◌+◌, ℕ, not, List, [], ◌∷◌, ◌++◌, Some, None, Ok, Err, Option, Result, map, take, drop, length, min}
-use Rattle.pie_storm.proofs.Names.{refl, ap, sym, ◌∙◌, ◌==◌, subst, inl, inr, ◌⊎◌, ⊎_elim, arith, append_assoc, length-append, length-drop, All}
-use Rattle.pie_storm.proofs.Names.{drop-map, take-map, IfSome, IsOk, append-nil, length-map, All-cons, All-head, All-nil, All-tail, nat_tests}
-use Rattle.pie_storm.proofs.Names.{IsPrefix, is_within, Command, Event, Answer, Opening, Refusal, decision, is_refused_full, refusal_by_rule}
+use Rattle.pie_storm.proofs.Names.{◌≡◌, ◌<◌, ◌≤◌, ◌+◌, ℕ, not, List, [], ◌∷◌, ◌++◌, Some, None, Ok, Err, Option, map, take, drop, length, min}
+use Rattle.pie_storm.proofs.Names.{refl, ap, sym, ◌∙◌, ◌==◌, subst, inl, inr, ⊎_elim, arith, append_assoc, length-append, All}
+use Rattle.pie_storm.proofs.Names.{IfSome, IsOk, append-nil, length-map, All-cons, All-head, All-nil, All-tail, nat_tests}
+use Rattle.pie_storm.proofs.Names.{is_within, Command, Event, Answer, Opening, Refusal, decision, is_refused_full, refusal_by_rule}
 use Rattle.pie_storm.proofs.Names.{refusal_with, due_after, effective_moment, event_of, Arrival, Entry, Made, Told, Reply, always, arrive, entries_of}
-use Rattle.pie_storm.proofs.Names.{events_in, number_of, tail_in, CallerView, LinkView, Call, Ask, Plan, IsFair, calls_of, commands_of, folder}
-use Rattle.pie_storm.proofs.Names.{opening_of, senders, EntriesLookBack, AddedByAll, AreMade, HasMade, HasNoMore, IsAt, IsCutShort, IsFor, MadeOrCut}
+use Rattle.pie_storm.proofs.Names.{events_in, number_of, tail_in, CallerView, LinkView, Call, Ask, Plan, IsFair, arriving, calls_of, folder}
+use Rattle.pie_storm.proofs.Names.{opening_of, senders, EntriesLookBack, AddedByAll, AreMade, HasMade, HasNoMore, IsAt, IsFor, MadeOrCut}
 use Rattle.std.proofs.lemmas.List.Elements.{All-drop, All-take, filter-append}
 use Rattle.std.proofs.lemmas.List.Filters.{length-filter_both}
 use Rattle.pie_event.specs.declared.refusal.Refusal.TheVariants.{TooSoon}
 use Rattle.pie_kept.specs.Bursts.{entries_by, entries_to, refused_or_told, replies_to, reply_in}
 use Rattle.pie_kept.specs.Commands.{refusal_in}
 use Rattle.pie_link.specs.Bursts.{AnswersAll, IsBurst}
-use Rattle.pie_storm.proofs.Making.{CameBy, IsFull, full_after, goes, seen, stays, which}
-use Rattle.pie_storm.proofs.PlanCommands.{all_fair, other_calls}
+use Rattle.pie_storm.proofs.Making.{CameBy, full_after, goes, never_soon, seen, stays, which}
+use Rattle.pie_storm.proofs.PlanCommands.{IsFairCall, all_fair}
 
 -- why a command is refused, where its reply is a refusal
 refused_why : (why : Option Refusal) (told : Told Answer) (w : Refusal) → refused_or_told why told ≡ Err w → why ≡ Some w
@@ -21,20 +21,17 @@ refused_why None told w e = absurd (cc e)
 refused_why (Some other) told w e = cc e
 
 -- an arrival is never too soon
-never_soon : (before due count events : ℕ) (a : Arrival) (d : ℕ) → refusal_with before due count events (arrive a) ≡ Some (TooSoon d) → ⊥
-never_soon before due count events a d e = grind (arith, nat_tests, e)
-
 arrives_in_time : (opening : Opening) (h : List Entry) (a : Arrival) (w : Refusal) → refusal_in opening h (arrive a) ≡ Some w
     → (d : ℕ) → w ≡ TooSoon d → ⊥
 arrives_in_time opening h a w e d is =
-    ⊎_elim (λ r. never_soon (effective_moment opening (events_in h)) (due_after opening (events_in h)) (length (events_in h)) opening.limits.events a d
-    (r ∙ ap Some is)) (λ r. absurd (cc (r.1, is)))
+    ⊎_elim (λ r. never_soon (effective_moment opening (events_in h)) (due_after opening (events_in h)) (length (events_in h)) opening.limits.events
+    (arrive a) d refl (r ∙ ap Some is)) (λ r. absurd (cc (r.1, is)))
     (which (refusal_by_rule opening (events_in h) (arrive a))
     (is_refused_full opening.choices.mode (length (tail_in opening h) == opening.limits.tail)) w e)
 
 module _ (opening : Opening) (caller : ℕ) where
   abbrev asked : List Arrival → List Call
-  asked burst = map Ask (map arrive burst)
+  asked burst = map arriving burst
 
   -- the entries of the arrivals of a burst after this history, and what they are answered
   abbrev made_by : List Entry → List Arrival → List Entry
@@ -116,18 +113,18 @@ module _ (opening : Opening) (caller : ℕ) where
         omega (arith, few_made_by (h ++ []) later),
       )
 
-  was_full : (law : EntriesLookBack) (h : List Entry) (burst : List Arrival) → All IsFair (map arrive burst) → (All IsOk (answers_to h burst) → ⊥)
+  was_full : (law : EntriesLookBack) (h : List Entry) (burst : List Arrival) → All IsFairCall (map arriving burst) → (All IsOk (answers_to h burst) → ⊥)
       → WasFull h (made_by h burst) (length burst)
   unfolding entries_to replies_to
   was_full law h [] fair not_all = absurd (not_all (All-nil IsOk))
   was_full law h (a ∷ later) fair not_all =
       let reply = reply_in opening h (arrive a) in
       let g = h ++ entries_by caller (arrive a) reply in
-      full_first law h a later reply refl (All-head IsFair (arrive a) (map arrive later) fair) not_all
-      (was_full law g later (All-tail IsFair (arrive a) (map arrive later) fair))
+      full_first law h a later reply refl (All-head IsFairCall (arriving a) (map arriving later) fair) not_all
+      (was_full law g later (All-tail IsFairCall (arriving a) (map arriving later) fair))
 
   -- what comes of a burst after this history
-  burst_by : (law : EntriesLookBack) (h : List Entry) (burst : List Arrival) (passed : Option ℕ) → All IsFair (map arrive burst)
+  burst_by : (law : EntriesLookBack) (h : List Entry) (burst : List Arrival) (passed : Option ℕ) → All IsFairCall (map arriving burst)
       → AddedByAll (answers_to h burst) passed → CameBy opening caller h (asked burst) (h ++ made_by h burst) passed
   unfolding CameBy
   burst_by law h burst passed fair (inl all) =
@@ -143,15 +140,14 @@ module _ (opening : Opening) (caller : ℕ) where
           ap (λ (l : List Entry). length l) (filter-append mine h (made_by h burst)),
           length-append (entries_of caller h) (entries_of caller (made_by h burst)),
           length-filter_both mine (λ e. not (mine e)) (λ e. refl) (made_by h burst),
-          length-map (map arrive burst) Ask,
-          length-map burst arrive,
+          length-map burst arriving,
         );
       })
 
 pub burst_next : (law : EntriesLookBack) (plan : Plan) (number k n : ℕ) (link : LinkView) → IsFor plan link → (before after : CallerView)
     → IsAt link number before → (earlier : ℕ) (events : List Event) → HasMade plan number k before.front earlier events
-    → (burst : List Arrival) (replies : List Reply) → 1 ≤ n → number ≤ senders plan → k + n ≤ length (commands_of plan number)
-    → map arrive burst ≡ take n (drop k (commands_of plan number)) → length burst ≡ n
+    → (burst : List Arrival) (replies : List Reply) → 1 ≤ n → number ≤ senders plan → k + n ≤ length (calls_of plan number)
+    → map arriving burst ≡ take n (drop k (calls_of plan number)) → length burst ≡ n
     → AnswersAll always link before (map arrive burst) [] replies after
     → (passed : Option ℕ) → AddedByAll replies passed → MadeOrCut plan number (k + n) after.front earlier events passed
 unfolding AnswersAll
@@ -162,21 +158,16 @@ burst_next law plan number k n link link_for before after at earlier events had 
     let burst = a ∷ later in
     let answered : IsBurst always (opening_of plan) before (map arrive burst) [] replies after b.0 = b.1 in
     let no_folder : number ≡ folder plan → ⊥ = λ folds. absurd (omega (arith, folds, sends)) in
-    let asked_for : take n (drop k (calls_of plan number)) ≡ map Ask (map arrive burst) =
-    ap (λ (cs : List Call). take n (drop k cs)) (other_calls plan number no_folder)
-    ∙ (ap (λ (cs : List Call). take n cs) (drop-map Ask k (commands_of plan number))
-    ∙ (take-map Ask n (drop k (commands_of plan number)) ∙ ap (λ (cs : List Command). map Ask cs) (sym is))) in
-    let fair = subst (All IsFair) (sym is)
-    (All-take IsFair n (drop k (commands_of plan number)) (All-drop IsFair k (commands_of plan number) (all_fair plan link_for.sound number))) in
+    let fair = subst (All IsFairCall) (sym is)
+    (All-take IsFairCall n (drop k (calls_of plan number)) (All-drop IsFairCall k (calls_of plan number) (all_fair plan link_for.sound number))) in
     let front_is : after.front ≡ b.0 ++ entries_to always (opening_of plan) number b.0 (map arrive burst) =
     ap (λ (c : CallerView). c.front) answered.recorded
     ∙ ap (λ (first : ℕ). b.0 ++ entries_to always (opening_of plan) first b.0 (map arrive burst)) at.first in
     let replies_are : replies ≡ replies_to always (opening_of plan) number b.0 (map arrive burst) =
     answered.answered ∙ ap (λ (first : ℕ). replies_to always (opening_of plan) first b.0 (map arrive burst)) at.first in
-    goes plan number k link link_for before after at earlier events had n (map Ask (map arrive burst)) b.0 events passed
-    (length-map (map arrive burst) Ask ∙ (length-map burst arrive ∙ long)) asked_for (seen link number before b.0 at answered.from.goes_on)
-    (λ folds. absurd (no_folder folds)) (λ none. there)
-    (subst (λ (h : List Entry). CameBy (opening_of plan) number b.0 (map Ask (map arrive burst)) h passed) (sym front_is)
+    goes plan number k link link_for before after at earlier events had n (map arriving burst) b.0 events passed (length-map burst arriving ∙ long)
+    (sym is) (seen link number before b.0 at answered.from.goes_on) (λ folds. absurd (no_folder folds)) (λ none. (no_folder, there))
+    (subst (λ (h : List Entry). CameBy (opening_of plan) number b.0 (map arriving burst) h passed) (sym front_is)
     (burst_by (opening_of plan) number law b.0 burst passed fair (subst (λ (l : List Reply). AddedByAll l passed) replies_are added)))
 
 -- no arrival of a burst is passed over

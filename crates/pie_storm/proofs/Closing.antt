@@ -1,7 +1,7 @@
 -- How a storm ends, from the book that was closed.
-use Rattle.pie_storm.proofs.Names.{◌≡◌, ◌+◌, ◌<◌, ◌++◌, arith, ℕ, List, [], false, Some, Ok, Err, Result, ap, refl, sym, ◌∙◌, subst, All, Event}
-use Rattle.pie_storm.proofs.Names.{Bounded, Opening, IsLegal, entries_of, events_in, handed_out, number_of, EntriesLookBack, Entry, LinkView, Plan}
-use Rattle.pie_storm.proofs.Names.{Work, folder, opening_of, senders, updater, CameOf, IsEndOf, IsFor, IsStorm, IsWell, IsWorkBelow, WereHanded}
+use Rattle.pie_storm.proofs.Names.{◌≡◌, ◌+◌, ◌<◌, ◌++◌, arith, ℕ, List, [], Some, Ok, Err, Result, ap, sym, ◌∙◌, subst, All, Event}
+use Rattle.pie_storm.proofs.Names.{Bounded, Opening, IsLegal, events_in, handed_out, number_of, EntriesLookBack, Entry, LinkView, Plan}
+use Rattle.pie_storm.proofs.Names.{Work, folder, opening_of, senders, CameOf, IsEndOf, IsFor, IsStorm, IsWell, IsWorkBelow}
 use Rattle.std.specs.Result.{IfOk}
 use Rattle.pie_lock.specs.Views.{HoldsAll}
 use Rattle.pie_book.specs.Book.{BookView, Tells}

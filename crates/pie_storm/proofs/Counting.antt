@@ -1,27 +1,22 @@
 -- A storm's history has no more events than there are commands, and so no caller was cut short; and so it is what the plan asks for.
-use Rattle.pie_storm.proofs.Names.{◌≡◌, ℕ, zero, suc, ◌+◌, ◌-◌, ◌<◌, ◌≤◌, ◌⊎◌, ◌==◌, nat_le, Bool, true, false, cond, List, [], ◌∷◌, ◌++◌, Option}
-use Rattle.pie_storm.proofs.Names.{Some, None, Vec, min, map, length, length-append, append_assoc, refl, ap, sym, ◌∙◌, subst, inl, inr, ⊎_elim, arith}
-use Rattle.pie_storm.proofs.Names.{if◌then◌else◌, All, Global, append-nil, length-map, All-nil, All-cons, All-head, All-tail, nat_tests, dite}
-use Rattle.pie_storm.proofs.Names.{ℕ_discrete, own, is_within, within, not_within, Command, Depart, Update, Event, Opening, Refusal, refusal_by_rule}
-use Rattle.pie_storm.proofs.Names.{due_after, effective_moment, arrive, entries_of, events_in, number_of, EntriesLookBack, Arrival, Entry, Made}
-use Rattle.pie_storm.proofs.Names.{Folded, Call, Ask, Fold, Plan, IsSound, calls_of, change, commands_after_senders, commands_of, count_of, folder}
-use Rattle.pie_storm.proofs.Names.{opening_of, planned, senders, sent, updater, AreMade, CameOf, HasNoMore, IsCutShort, IsMade, IsStorm}
+use Rattle.pie_storm.proofs.Names.{◌≡◌, ℕ, zero, suc, ◌+◌, ◌<◌, ◌≤◌, ◌==◌, nat_le, Bool, true, false, cond, List, [], ◌∷◌, ◌++◌, Option}
+use Rattle.pie_storm.proofs.Names.{Some, None, length, refl, ap, sym, ◌∙◌, subst, inl, inr, arith}
+use Rattle.pie_storm.proofs.Names.{All, append-nil, All-nil, All-cons, All-head, All-tail, nat_tests, dite}
+use Rattle.pie_storm.proofs.Names.{ℕ_discrete, is_within, within, not_within, Command, Event, Opening, Refusal, refusal_by_rule}
+use Rattle.pie_storm.proofs.Names.{due_after, effective_moment, entries_of, events_in, number_of, EntriesLookBack, Entry, Made}
+use Rattle.pie_storm.proofs.Names.{Folded, Call, Ask, Fold, Plan, IsSound, calls_of, changing, departing, folder}
+use Rattle.pie_storm.proofs.Names.{opening_of, total, updater, AreMade, CameOf, IsCutShort, IsMade, IsStorm}
 use Rattle.std.proofs.Common.{nat_lt}
 use Rattle.pie_event.specs.Opening.{last_moment}
 use Rattle.pie_event.specs.Deed.{handed_in}
 use Rattle.pie_book.specs.Decision.{has_bad_size, is_too_soon}
 use Rattle.std.proofs.lemmas.List.Elements.{All-append}
-use Rattle.pie_storm.specs.Storms.{IsEntryOf, events_of}
+use Rattle.pie_storm.specs.Storms.{IsEntryOf, WasPassedOver, events_of}
 use Rattle.pie_event.specs.declared.refusal.Refusal.TheVariants as refusal
-use Rattle.pie_storm.proofs.Making.{few_made, numbered, own_entry}
-use Rattle.pie_storm.proofs.PlanCommands.{after_senders, folder_calls, of_either, of_sender, other_calls}
+use Rattle.pie_storm.proofs.Making.{few_made, never_soon, numbered, own_entry}
+use Rattle.pie_storm.proofs.PlanCommands.{IsAsk, IsFold, asks_alone, each, each_sent, folds_alone, no_calls, of_calls}
 
 -- ---- all callers together
-
--- the sum of f over the numbers below n
-abbrev total : (ℕ → ℕ) → ℕ → ℕ
-total f zero = 0
-total f (suc n) = total f n + f n
 
 total_less : (f g : ℕ → ℕ) (n : ℕ) → ((k : ℕ) → k < n → f k ≤ g k) → total f n ≤ total g n
 total_less f g zero less = omega arith
@@ -69,53 +64,9 @@ counted n (e ∷ xs) all = omega (
   counted n xs (All-tail (λ (x : Event). x.caller < n) e xs all),
 )
 
-shifted : (f : ℕ → ℕ) (n : ℕ) → total f (suc n) ≡ f 0 + total (λ k. f (suc k)) n
-shifted f zero = omega arith
-shifted f (suc n) = omega (arith, shifted f n)
-
-sent_none : (n : ℕ) → total (λ k. length (sent [] k)) n ≡ 0
-sent_none zero = refl
-sent_none (suc n) = omega (arith, sent_none n)
-
-sent_total : (lists : List (Vec Arrival Global)) (n : ℕ) → total (λ k. length (sent lists k)) n ≤ count_of lists
-sent_total [] n = omega (arith, sent_none n)
-sent_total (list ∷ lists) zero = omega arith
-sent_total (list ∷ lists) (suc n) = omega (arith, shifted (λ k. length (sent (list ∷ lists) k)) n, sent_total lists n, length-map list.items arrive)
-
--- how many commands the callers below n have
-abbrev commands_below : Plan → ℕ → ℕ
-commands_below plan n = total (λ c. length (commands_of plan c)) n
-
-of_senders : (plan : Plan) (n : ℕ) → n ≤ senders plan → commands_below plan (suc n) ≡ total (λ k. length (sent plan.arrivals.items k)) n
-unfolding commands_of
-of_senders plan zero few = refl
-of_senders plan (suc n) few =
-    let next : suc n ≡ n + 1 = omega arith in
-    let its : length (commands_of plan (suc n)) ≡ length (sent plan.arrivals.items n) =
-    ap (λ c. length (commands_of plan c)) next ∙ ap (λ (l : List Command). length l) (of_sender plan n (omega arith)) in
-    omega (arith, of_senders plan n (omega arith), its)
-
+-- one more than the last, which folds
 abbrev pub callers_of_plan : Plan → ℕ
-callers_of_plan plan = suc (suc (suc (suc (suc (senders plan)))))
-
--- all callers together have no more commands than the plan
-no_more : (plan : Plan) → commands_below plan (callers_of_plan plan) ≤ planned plan
-no_more plan =
-    let n = senders plan in
-    let size : List Command → ℕ = λ l. length l in
-    let at : ℕ → ℕ = λ c. length (commands_of plan c) in
-    let e1 : suc n ≡ n + 1 = omega arith in
-    let e2 : suc (suc n) ≡ n + 2 = omega arith in
-    let e3 : suc (suc (suc n)) ≡ n + 3 = omega arith in
-    let e4 : suc (suc (suc (suc n))) ≡ n + 4 = omega arith in
-    let one : length (commands_of plan (suc n)) ≡ length plan.departs.items = ap at e1 ∙ ap size (after_senders plan 1 (omega arith))
-    ∙ length-map plan.departs.items Depart in
-    let two : length (commands_of plan (suc (suc n))) ≡ length plan.updates.items = ap at e2 ∙ ap size (after_senders plan 2 (omega arith))
-    ∙ length-map plan.updates.items Update in
-    let three : length (commands_of plan (suc (suc (suc n)))) ≡ length plan.changes.items = ap at e3 ∙ ap size (after_senders plan 3 (omega arith))
-    ∙ length-map plan.changes.items change in
-    let four : length (commands_of plan (suc (suc (suc (suc n))))) ≡ 0 = ap at e4 ∙ ap size (after_senders plan 4 (omega arith)) in
-    omega (arith, of_senders plan n (omega arith), sent_total plan.arrivals.items n, one, two, three, four)
+callers_of_plan plan = suc (folder plan)
 
 -- ---- the events among entries
 
@@ -161,101 +112,65 @@ entries_past n caller (e ∷ xs) past all =
 
 -- ---- what a caller's entries are
 
--- a command that is no update is never too soon
-abbrev IsNoUpdate : Command → Type 0
-IsNoUpdate command = (before due : ℕ) → is_too_soon before due command ≡ false
-
-chain : (a b d : Bool) (due : ℕ) → ◌≡◌ {A = Option Refusal}
-    (cond a (Some refusal.Moment) (cond b (Some refusal.Size) (cond d (Some refusal.Exhausted) None))) (Some (refusal.TooSoon due)) → ⊥
-chain true b d due e = cc e
-chain false true d due e = cc e
-chain false false true due e = cc e
-chain false false false due e = cc e
-
-never_too_soon : (opening : Opening) (h : List Event) (command : Command) (due : ℕ) → IsNoUpdate command
-    → refusal_by_rule opening h command ≡ Some (refusal.TooSoon due) → ⊥
-never_too_soon opening h command due calm e =
-    let on_time = calm (effective_moment opening h) (due_after opening h) in
-    chain (nat_lt last_moment (handed_in command)) (has_bad_size command) (length h == opening.limits.events) due (rw on_time at e)
+-- a call that can't come to nothing: a command that is never too soon
+abbrev IsCalm : Call → Type 0
+IsCalm (Ask command) = (before due : ℕ) → is_too_soon before due command ≡ false
+IsCalm (Fold n) = ⊥
 
 module _ (opening : Opening) (caller : ℕ) where
-  -- where no command can be too soon, none is passed over
-  none_passed : (front : List Entry) (commands : List Command) (h : List Entry) (passed : ℕ) → All IsNoUpdate commands
-      → AreMade opening caller front (map Ask commands) h passed → passed ≡ 0
+  -- where no call can come to nothing, none is passed over
+  not_passed : (before : List Entry) (call : Call) → IsCalm call → WasPassedOver opening before call → ⊥
+  not_passed before (Ask command) calm was =
+      let h = events_in before in
+      never_soon (effective_moment opening h) (due_after opening h) (length h) opening.limits.events command was.due
+      (calm (effective_moment opening h) (due_after opening h)) was.refused
+  not_passed before (Fold n) calm was = calm
+
+  none_passed : (front : List Entry) (calls : List Call) (h : List Entry) (passed : ℕ) → All IsCalm calls → AreMade opening caller front calls h passed
+      → passed ≡ 0
   none_passed front [] h passed calm m = m.1
-  none_passed front (command ∷ commands) h passed calm (inl m) =
-      none_passed (m.0 ++ m.1 ∷ []) commands h passed (All-tail IsNoUpdate command commands calm) m.4
-  none_passed front (command ∷ commands) h passed calm (inr m) =
-      absurd (never_too_soon opening (events_in m.0) command m.3.due (All-head IsNoUpdate command commands calm) m.3.refused)
+  none_passed front (call ∷ calls) h passed calm (inl m) = none_passed (m.0 ++ m.1 ∷ []) calls h passed (All-tail IsCalm call calls calm) m.4
+  none_passed front (call ∷ calls) h passed calm (inr m) = absurd (not_passed m.0 call (All-head IsCalm call calls calm) m.3)
 
   -- one that asks for commands has no folds
-  one_made : (command : Command) (entry : Entry) → IsEntryOf caller (Ask command) entry → All IsMade (entry ∷ [])
-  one_made command (Made event) is = All-cons IsMade (Made event) [] tt (All-nil IsMade)
-  one_made command (Folded who n) is = absurd is
+  one_made : (call : Call) (entry : Entry) → IsAsk call → IsEntryOf caller call entry → All IsMade (entry ∷ [])
+  one_made (Ask command) (Made event) asks is = All-cons IsMade (Made event) [] tt (All-nil IsMade)
+  one_made (Ask command) (Folded who n) asks is = absurd is
+  one_made (Fold n) entry asks is = absurd asks
 
-  only_made : (front : List Entry) (commands : List Command) (h : List Entry) (passed : ℕ) → AreMade opening caller front (map Ask commands) h passed
+  only_made : (front : List Entry) (calls : List Call) (h : List Entry) (passed : ℕ) → All IsAsk calls → AreMade opening caller front calls h passed
       → All IsMade (entries_of caller front) → All IsMade (entries_of caller h)
-  only_made front [] h passed m all = subst (All IsMade) (sym m.0.1) all
-  only_made front (command ∷ commands) h passed (inl m) all =
-      only_made (m.0 ++ m.1 ∷ []) commands h passed m.4
-      (subst (All IsMade) (sym (own_entry opening caller m.0 m.1 (numbered opening caller (Ask command) m.1 m.3)
-      ∙ ap (λ (l : List Entry). l ++ m.1 ∷ []) m.2.1))
-      (All-append IsMade (entries_of caller front) (m.1 ∷ []) all (one_made command m.1 m.3)))
-  only_made front (command ∷ commands) h passed (inr m) all =
-      only_made m.0 commands h m.1 m.5 (subst (All IsMade) (sym m.2.1) all)
+  only_made front [] h passed asks m all = subst (All IsMade) (sym m.0.1) all
+  only_made front (call ∷ calls) h passed asks (inl m) all =
+      only_made (m.0 ++ m.1 ∷ []) calls h passed (All-tail IsAsk call calls asks) m.4
+      (subst (All IsMade) (sym (own_entry opening caller m.0 m.1 (numbered opening caller call m.1 m.3) ∙ ap (λ (l : List Entry). l ++ m.1 ∷ []) m.2.1))
+      (All-append IsMade (entries_of caller front) (m.1 ∷ []) all (one_made call m.1 (All-head IsAsk call calls asks) m.3)))
+  only_made front (call ∷ calls) h passed asks (inr m) all =
+      only_made m.0 calls h m.1 (All-tail IsAsk call calls asks) m.5 (subst (All IsMade) (sym m.2.1) all)
 
   -- one that asks for folds has no event
-  no_event : (law : EntriesLookBack) (xs : List Entry) (n : ℕ) (entry : Entry) → IsEntryOf caller (Fold n) entry
+  no_event : (law : EntriesLookBack) (xs : List Entry) (call : Call) (entry : Entry) → IsFold call → IsEntryOf caller call entry
       → events_in (xs ++ entry ∷ []) ≡ events_in xs
-  no_event law xs n (Made event) is = absurd is
-  no_event law xs n (Folded who count) is = law.events xs (Folded who count ∷ []) ∙ append-nil (events_in xs)
+  no_event law xs (Fold n) (Made event) folds is = absurd is
+  no_event law xs (Fold n) (Folded who count) folds is = law.events xs (Folded who count ∷ []) ∙ append-nil (events_in xs)
+  no_event law xs (Ask command) entry folds is = absurd folds
 
-  folded : (law : EntriesLookBack) (front : List Entry) (folds : List ℕ) (h : List Entry) (passed : ℕ)
-      → AreMade opening caller front (map Fold folds) h passed → events_in (entries_of caller h) ≡ events_in (entries_of caller front)
-  folded law front [] h passed m = ap events_in m.0.1
-  folded law front (n ∷ folds) h passed (inl m) =
-      folded law (m.0 ++ m.1 ∷ []) folds h passed m.4
-      ∙ (ap events_in (own_entry opening caller m.0 m.1 (numbered opening caller (Fold n) m.1 m.3))
-      ∙ (no_event law (entries_of caller m.0) n m.1 m.3 ∙ ap events_in m.2.1))
-  folded law front (n ∷ folds) h passed (inr m) = folded law m.0 folds h m.1 m.5 ∙ ap events_in m.2.1
+  folded : (law : EntriesLookBack) (front : List Entry) (calls : List Call) (h : List Entry) (passed : ℕ) → All IsFold calls
+      → AreMade opening caller front calls h passed → events_in (entries_of caller h) ≡ events_in (entries_of caller front)
+  folded law front [] h passed folds m = ap events_in m.0.1
+  folded law front (call ∷ calls) h passed folds (inl m) =
+      folded law (m.0 ++ m.1 ∷ []) calls h passed (All-tail IsFold call calls folds) m.4
+      ∙ (ap events_in (own_entry opening caller m.0 m.1 (numbered opening caller call m.1 m.3))
+      ∙ (no_event law (entries_of caller m.0) call m.1 (All-head IsFold call calls folds) m.3 ∙ ap events_in m.2.1))
+  folded law front (call ∷ calls) h passed folds (inr m) =
+      folded law m.0 calls h m.1 (All-tail IsFold call calls folds) m.5 ∙ ap events_in m.2.1
 
-calm_of : {A : Type 0} (xs : List A) (f : A → Command) → ((x : A) → IsNoUpdate (f x)) → All IsNoUpdate (map f xs)
-calm_of [] f calm = All-nil IsNoUpdate
-calm_of (x ∷ xs) f calm = All-cons IsNoUpdate (f x) (map f xs) (calm x) (calm_of xs f calm)
-
-of_if : {A : Type 0} (P : A → Type 0) (b : Bool) (x y : A) → (b ≡ true → P x) → P y → P (if b then x else y)
-of_if P true x y p q = p refl
-of_if P false x y p q = q
-
-sent_calm : (lists : List (Vec Arrival Global)) (k : ℕ) → All IsNoUpdate (sent lists k)
-sent_calm [] k = All-nil IsNoUpdate
-sent_calm (list ∷ lists) zero = calm_of list.items arrive (λ x before due. refl)
-sent_calm (list ∷ lists) (suc k) = sent_calm lists k
-
--- the caller of the updates alone has some
-calm : (plan : Plan) (caller : ℕ) → (caller ≡ updater plan → ⊥) → All IsNoUpdate (commands_of plan caller)
-unfolding commands_of
-calm plan caller other =
-    let n = caller - senders plan in
-    let F : List Command → Type 0 = All IsNoUpdate in
-    of_either F (caller == 0) _ _ (All-nil IsNoUpdate)
-    (of_either F (nat_le caller (senders plan)) _ _ (sent_calm plan.arrivals.items (caller - 1))
-    (of_either F (n == 1) _ _ (calm_of plan.departs.items Depart (λ x before due. refl))
-    (of_if F (n == 2) _ _ (λ two. let is : n ≡ 2 = grind (arith, nat_tests, two) in absurd (other (omega (arith, is))))
-    (of_either F (n == 3) _ _ (calm_of plan.changes.items change (λ x before due. refl)) (All-nil IsNoUpdate)))))
-
--- other callers ask for nothing
-no_calls : (plan : Plan) (caller : ℕ) → senders plan + 5 ≤ caller → calls_of plan caller ≡ []
-unfolding calls_of commands_of
-no_calls plan caller over =
-    let n = caller - senders plan in
-    let no_folder : (caller == folder plan) ≡ false = grind (arith, nat_tests, over) in
-    let not_first : (caller == 0) ≡ false = grind (arith, nat_tests, over) in
-    let no_sender : nat_le caller (senders plan) ≡ false = grind (arith, nat_tests, over) in
-    let one : (n == 1) ≡ false = grind (arith, nat_tests, over) in
-    let two : (n == 2) ≡ false = grind (arith, nat_tests, over) in
-    let three : (n == 3) ≡ false = grind (arith, nat_tests, over) in
-    rw (no_folder, not_first, no_sender, one, two, three) refl
+-- the callers of the updates and of the folds alone have calls that can come to nothing
+calm : (plan : Plan) (caller : ℕ) → (caller ≡ updater plan → ⊥) → (caller ≡ folder plan → ⊥) → All IsCalm (calls_of plan caller)
+calm plan caller no_updates no_folds =
+    of_calls IsCalm plan caller (λ k. each_sent IsCalm plan.arrivals.items k (λ a before due. refl))
+    (each IsCalm departing plan.departs.items (λ m before due. refl)) (λ is. absurd (no_updates is))
+    (each IsCalm changing plan.changes.items (λ c before due. refl)) (λ is. absurd (no_folds is))
 
 -- ---- a whole storm
 
@@ -264,41 +179,36 @@ module _ (law : EntriesLookBack) (plan : Plan) (h : List Entry) (sound : IsSound
   abbrev events : ℕ → List Event
   events caller = events_of caller (events_in h)
 
-  few_of : (caller passed : ℕ) → CameOf plan caller h passed → length (events caller) ≤ length (commands_of plan caller)
+  -- no caller of commands has more events than calls, and the one that folds has none
+  few_own : (caller : ℕ) → length (events caller) ≤ length (entries_of caller h)
+  few_own caller = omega (arith, ap (λ (l : List Event). length l) (own_events caller h), few_events (entries_of caller h))
+
+  few_of : (caller passed : ℕ) → CameOf plan caller h passed → length (events caller) ≤ length (calls_of plan caller)
   unfolding CameOf
-  few_of caller passed (inl made) =
-      dite (ℕ_discrete caller (folder plan))
-      (λ is.
-      let folds = subst (λ (calls : List Call). AreMade (opening_of plan) caller [] calls h passed)
-      (ap (λ (c : ℕ). calls_of plan c) is ∙ folder_calls plan) made in
-      let none : length (events caller) ≡ 0 = ap (λ (l : List Event). length l)
-      (own_events caller h ∙ folded (opening_of plan) caller law [] plan.folds.items h passed folds) in
-      omega (arith, none))
-      (λ other.
-      let its = subst (λ (calls : List Call). AreMade (opening_of plan) caller [] calls h passed) (other_calls plan caller other) made in
-      omega (
-        arith,
-        few_made (opening_of plan) caller [] (map Ask (commands_of plan caller)) h passed its,
-        length-map (commands_of plan caller) Ask,
-        ap (λ (l : List Event). length l) (own_events caller h),
-        few_events (entries_of caller h),
-      ))
-  few_of caller passed (inr cut) =
-      omega (arith, cut.fewer, ap (λ (l : List Event). length l) (own_events caller h), few_events (entries_of caller h))
+  few_of caller passed (inl made) = omega (arith, few_made (opening_of plan) caller [] (calls_of plan caller) h passed made, few_own caller)
+  few_of caller passed (inr cut) = omega (arith, cut.fewer, few_own caller)
+
+  none_of_folder : (passed : ℕ) → CameOf plan (folder plan) h passed → length (events (folder plan)) ≡ 0
+  unfolding CameOf
+  none_of_folder passed (inl made) = ap (λ (l : List Event). length l)
+      (own_events (folder plan) h ∙ folded (opening_of plan) (folder plan) law [] (calls_of plan (folder plan)) h passed (folds_alone plan) made)
+  none_of_folder passed (inr cut) = absurd (cut.asks refl)
 
   -- no caller was cut short
-  never_cut : (caller : ℕ) → caller < callers_of_plan plan → IsCutShort (opening_of plan) caller (commands_of plan caller) h → ⊥
+  never_cut : (caller : ℕ) → caller < callers_of_plan plan → IsCutShort plan caller h → ⊥
   never_cut caller less cut =
-      let fewer : length (events caller) < length (commands_of plan caller) =
-      omega (arith, cut.fewer, ap (λ (l : List Event). length l) (own_events caller h), few_events (entries_of caller h)) in
-      let all = total_fewer (λ c. length (events c)) (λ c. length (commands_of plan c)) (callers_of_plan plan) caller
-      (λ c lower. few_of c (came c lower).0 (came c lower).1) less fewer in
+      let n = folder plan in
+      let below_n : caller < n = dite (ℕ_discrete caller n) (λ is. absurd (cut.asks is)) (λ other. omega (arith, less, other)) in
+      let fewer : length (events caller) < length (calls_of plan caller) = omega (arith, cut.fewer, few_own caller) in
+      let all = total_fewer (λ c. length (events c)) (λ c. length (calls_of plan c)) n caller
+      (λ c lower. let came_so = came c (omega (arith, lower)) in few_of c came_so.0 came_so.1) below_n fewer in
+      let last = came n (omega arith) in
       omega (
         arith,
         all,
         cut.full,
         counted (callers_of_plan plan) (events_in h) (all_events (callers_of_plan plan) h below),
-        no_more plan,
+        none_of_folder last.0 last.1,
         sound.tail,
         sound.events,
       )
@@ -324,16 +234,11 @@ module _ (law : EntriesLookBack) (plan : Plan) (h : List Entry) (sound : IsSound
           let c = came caller lower in
           (c.0, all_made caller c.0 lower c.1)
 
-  commands_made : (caller : ℕ) → (caller ≡ folder plan → ⊥) → (passed : ℕ)
-      × AreMade (opening_of plan) caller [] (map Ask (commands_of plan caller)) h passed
-  commands_made caller other =
-      subst (λ (calls : List Call). (passed : ℕ) × AreMade (opening_of plan) caller [] calls h passed) (other_calls plan caller other) (each_made caller)
-
   -- no caller has folds but the one that makes them
   pub other_made : (caller : ℕ) → (caller ≡ folder plan → ⊥) → All IsMade (entries_of caller h)
   other_made caller other =
-      let m = commands_made caller other in
-      only_made (opening_of plan) caller [] (commands_of plan caller) h m.0 m.1 (All-nil IsMade)
+      let m = each_made caller in
+      only_made (opening_of plan) caller [] (calls_of plan caller) h m.0 (asks_alone plan caller other) m.1 (All-nil IsMade)
 
   -- the history of a storm is what its plan asks for
   pub is_storm : (too_soon too_many : ℕ) → CameOf plan (updater plan) h too_soon → CameOf plan (folder plan) h too_many
@@ -344,8 +249,7 @@ module _ (law : EntriesLookBack) (plan : Plan) (h : List Entry) (sound : IsSound
     updates = all_made (updater plan) too_soon (omega arith) updates;
     folds = all_made (folder plan) too_many (omega arith) folds;
     others = λ caller no_updates no_folds.
-        let m = commands_made caller no_folds in
-        let none = none_passed (opening_of plan) caller [] (commands_of plan caller) h m.0 (calm plan caller no_updates) m.1 in
-        subst (λ (calls : List Call). AreMade (opening_of plan) caller [] calls h 0) (sym (other_calls plan caller no_folds))
-        (subst (λ (passed : ℕ). AreMade (opening_of plan) caller [] (map Ask (commands_of plan caller)) h passed) none m.1);
+        let m = each_made caller in
+        let none = none_passed (opening_of plan) caller [] (calls_of plan caller) h m.0 (calm plan caller no_updates no_folds) m.1 in
+        subst (λ (passed : ℕ). AreMade (opening_of plan) caller [] (calls_of plan caller) h passed) none m.1;
   }

@@ -1,7 +1,7 @@
 -- What is known of all workers of a storm together.
-use Rattle.pie_storm.proofs.Names.{◌≡◌, ℕ, ◌+◌, ◌-◌, ◌<◌, ◌≤◌, List, [], length, length-append, events_in, refl, ap, sym, ◌∙◌, subst, inl, inr, ⊎_elim, arith, dite, ℕ_discrete}
+use Rattle.pie_storm.proofs.Names.{◌≡◌, ℕ, ◌+◌, ◌<◌, List, [], length, length-append, events_in, refl, ap, sym, ◌∙◌, subst, inl, inr, ⊎_elim, arith, dite, ℕ_discrete}
 use Rattle.pie_storm.proofs.Names.{own, is_within, GoesOn, within, Event, number_of, EntriesLookBack, Entry, CallerView, LinkView, Plan}
-use Rattle.pie_storm.proofs.Names.{Work, calls_of, commands_of, folder, opening_of, updater, Call, AreMade, CameOf, HasNoMore, IsAt, IsWell}
+use Rattle.pie_storm.proofs.Names.{Work, calls_of, folder, opening_of, updater, CameOf, HasNoMore, IsWell}
 use Rattle.pie_storm.proofs.Names.{IsWorkBelow, WereHanded}
 use Rattle.pie_lock.specs.Promises.{IsBothOf}
 use Rattle.pie_lock.proofs.Owns.{same_either, within_high}
@@ -9,7 +9,6 @@ use Rattle.pie_storm.specs.declared.worker.Folding.{Folding}
 use Rattle.pie_storm.specs.Storms.{Begins, IsWorkOf}
 use Rattle.pie_storm.proofs.Handing.{handed_same}
 use Rattle.pie_storm.proofs.Making.{made_on, stays}
-use Rattle.pie_storm.proofs.PlanCommands.{other_calls}
 
 -- what came of a caller's calls in a history came of them in one that goes on with nothing more of it
 came_on : (law : EntriesLookBack) (plan : Plan) (caller : ℕ) (h k : List Entry) (passed : ℕ) → HasNoMore caller h k → CameOf plan caller h passed
@@ -17,6 +16,7 @@ came_on : (law : EntriesLookBack) (plan : Plan) (caller : ℕ) (h k : List Entry
 unfolding CameOf
 came_on law plan caller h k passed on (inl made) = inl (made_on (opening_of plan) caller [] (calls_of plan caller) h k passed on made)
 came_on law plan caller h k passed on (inr cut) = inr (record {
+  asks = cut.asks;
   full = omega (
     arith,
     cut.full,
@@ -42,22 +42,12 @@ fronts : (plan : Plan) (p q r : CallerView) (n : ℕ) → p.first ≡ 0 → p.li
 fronts plan p q r n p_first p_limit q_first q_limit both =
     let P : List Entry → Type 0 = λ front. ((caller : ℕ) → caller < n → HasNoMore caller p.front front) × HasNoMore n q.front front in
     ⊎_elim
-    (λ behind. subst P (sym behind.1) (
-      (λ caller below. each_below caller n p.front q.front below (
-        behind.0.0,
-        subst (λ (m : ℕ). own number_of m n q.front ≡ own number_of m n p.front) p_first
-            (subst (λ (m : ℕ). own number_of p.first m q.front ≡ own number_of p.first m p.front) p_limit behind.0.1),
-      )),
-      stays (opening_of plan) n q.front,
-    ))
-    (λ behind. subst P (sym behind.1) (
-      (λ caller below. stays (opening_of plan) caller p.front),
-      (
-        behind.0.0,
-        subst (λ (m : ℕ). own number_of m (n + 1) p.front ≡ own number_of m (n + 1) q.front) q_first
-            (subst (λ (m : ℕ). own number_of q.first m p.front ≡ own number_of q.first m q.front) q_limit behind.0.1),
-      ),
-    ))
+    (λ behind.
+    let on : GoesOn number_of 0 n p.front q.front = rw (p_first, p_limit) at behind.0 in
+    subst P (sym behind.1) ((λ caller below. each_below caller n p.front q.front below on), stays (opening_of plan) n q.front))
+    (λ behind.
+    let on : HasNoMore n q.front p.front = rw (q_first, q_limit) at behind.0 in
+    subst P (sym behind.1) ((λ caller below. stays (opening_of plan) caller p.front), on))
     both.3
 
 -- what the worker behind the others did is gathered to what they did
@@ -101,10 +91,8 @@ together law link plan n work last whole both passed soon as_before events well 
 
 -- the starter asks for nothing
 nothing_asked : (plan : Plan) → CameOf plan 0 [] 0
-unfolding CameOf commands_of
-nothing_asked plan =
-    inl (subst (λ (calls : List Call). AreMade (opening_of plan) 0 [] calls [] 0) (sym (other_calls plan 0 (λ is. omega (arith, is))))
-    (stays (opening_of plan) 0 [], refl))
+unfolding CameOf calls_of
+nothing_asked plan = inl (stays (opening_of plan) 0 [], refl)
 
 -- .. and alone has made nothing
 pub starter_alone : (link : LinkView) (plan : Plan) (caller rest : CallerView) (folding : Folding) → Begins link plan caller → caller.first ≡ 0

@@ -1,7 +1,7 @@
 -- What the folds of one caller handed out.
-use Rattle.pie_storm.proofs.Names.{◌≡◌, ℕ, ◌+◌, ◌<◌, Bool, true, false, cond, List, [], ◌∷◌, ◌++◌, take, refl, ap, sym, ◌∙◌, subst, arith, eq-eqb}
+use Rattle.pie_storm.proofs.Names.{◌≡◌, ℕ, ◌+◌, Bool, true, false, cond, List, [], ◌∷◌, ◌++◌, take, refl, ap, sym, ◌∙◌, subst, arith, eq-eqb}
 use Rattle.pie_storm.proofs.Names.{if◌then◌else◌, All, nat_tests, append-nil, All-head, All-tail, IsPrefix, dite, ℕ_discrete, is_within, quiet_rest}
-use Rattle.pie_storm.proofs.Names.{within, Event, Opening, entries_of, handed_out, handed_to, number_of, tail_in, EntriesLookBack, Entry, Made}
+use Rattle.pie_storm.proofs.Names.{within, Event, Opening, entries_of, handed_to, number_of, tail_in, EntriesLookBack, Entry, Made}
 use Rattle.pie_storm.proofs.Names.{Folded, IsMade, is_number}
 
 if_true : {A : Type 0} (b : Bool) (x y : A) → b ≡ true → (if b then x else y) ≡ x

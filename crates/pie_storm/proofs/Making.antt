@@ -1,11 +1,11 @@
 -- What a caller's calls come to, in a history that grows.
 use Rattle.pie_storm.proofs.Names.{◌≡◌, ℕ, zero, suc, ◌+◌, ◌<◌, ◌≤◌, ◌==◌, ◌⊎◌, List, [], ◌∷◌, ◌++◌, Bool, true, false, cond, Some, None, Ok, Err}
-use Rattle.pie_storm.proofs.Names.{Option, Result, Vec, take, drop, map, min, length, slice_get, refl, ap, sym, ◌∙◌, subst, inl, inr, ⊎_elim, arith}
-use Rattle.pie_storm.proofs.Names.{append_assoc, length-append, length-drop, All, Global, take-add, take-length, append-nil, length-take, All-head}
-use Rattle.pie_storm.proofs.Names.{All-tail, nat_tests, own, is_within, GoesOn, within, prefix_self, prefix_trans, Answer, Command, Event, Bounded}
+use Rattle.pie_storm.proofs.Names.{Option, Result, Vec, take, drop, min, length, slice_get, refl, ap, sym, ◌∙◌, subst, inl, inr, ⊎_elim, arith}
+use Rattle.pie_storm.proofs.Names.{length-append, length-drop, Global, take-add, take-length, length-take}
+use Rattle.pie_storm.proofs.Names.{nat_tests, own, is_within, GoesOn, within, prefix_self, prefix_trans, Answer, Command, Event, Bounded}
 use Rattle.pie_storm.proofs.Names.{Rolling, Opening, Refusal, is_refused_full, or_full, refusal_by_rule, refusal_with, due_after, effective_moment}
 use Rattle.pie_storm.proofs.Names.{event_of, entries_of, events_in, handed_to, left_in, number_of, tail_in, EntriesLookBack, Entry, Made, Folded}
-use Rattle.pie_storm.proofs.Names.{Told, CallerView, LinkView, Call, Ask, Fold, Plan, IsFair, calls_of, commands_of, folder, opening_of, AreMade}
+use Rattle.pie_storm.proofs.Names.{Told, CallerView, LinkView, Call, Ask, Fold, Plan, IsFair, calls_of, folder, opening_of, AreMade}
 use Rattle.pie_storm.proofs.Names.{CameOf, HasMade, HasNoMore, IsAt, IsCutShort, IsFor, MadeOrCut, WereHanded, is_number}
 use Rattle.std.proofs.lemmas.List.Elements.{filter-append}
 use Rattle.std.proofs.lemmas.Option.{slice_get_within}
@@ -13,12 +13,13 @@ use Rattle.pie_event.specs.declared.opening.Mode.{Mode}
 use Rattle.pie_event.specs.declared.refusal.FoldRefusal.{FoldRefusal}
 use Rattle.pie_event.specs.declared.refusal.FoldRefusal.TheVariants.{TooMany, Memory}
 use Rattle.pie_event.specs.declared.refusal.Refusal.TheVariants.{TooSoon, Moment, Size, Exhausted, HistoryFull}
+use Rattle.pie_book.specs.Decision.{is_too_soon}
 use Rattle.pie_kept.specs.Commands.{IsWhy}
 use Rattle.pie_link.specs.Commands.{Answers, IsRefused, IsTaken}
 use Rattle.pie_link.specs.Folds.{Folds, IsFoldMade, IsFoldRefused}
 use Rattle.pie_storm.specs.Storms.{IsEntryOf, TakenIn, WasPassedOver, added_by}
 use Rattle.pie_storm.proofs.Handing.{handed_more, handed_same}
-use Rattle.pie_storm.proofs.PlanCommands.{after_senders, command_at, fair_at, folder_asks_nothing}
+use Rattle.pie_storm.proofs.PlanCommands.{IsFairCall, all_at, all_fair, folder_asks_nothing}
 
 module _ (opening : Opening) (caller : ℕ) where
   pub stays : (h : List Entry) → HasNoMore caller h h
@@ -118,6 +119,11 @@ too_soon_by_rule opening history command due why =
     (which (refusal_by_rule opening (events_in history) command)
     (is_refused_full opening.choices.mode (length (tail_in opening history) == opening.limits.tail)) (TooSoon due) why)
 
+-- where a command comes in time it isn't refused as too soon
+pub never_soon : (before due count events : ℕ) (command : Command) (d : ℕ) → is_too_soon before due command ≡ false
+    → refusal_with before due count events command ≡ Some (TooSoon d) → ⊥
+never_soon before due count events command d calm e = grind (arith, nat_tests, calm, e)
+
 -- a fair command that is refused, and not as too soon, came where there was no room for it
 no_room : (before due count events : ℕ) (command : Command) (why : Refusal) → IsFair command → refusal_with before due count events command ≡ Some why
     → ((d : ℕ) → why ≡ TooSoon d → ⊥) → events ≤ count
@@ -176,7 +182,8 @@ module _ (plan : Plan) (number k : ℕ) (link : LinkView) (link_for : IsFor plan
   -- the next calls, after a history that goes on from what the caller had been shown
   pub goes : (n : ℕ) (calls : List Call) (history : List Entry) (new : List Event) (passed : Option ℕ) → length calls ≡ n
       → take n (drop k (calls_of plan number)) ≡ calls → HasNoMore number before.front history
-      → (number ≡ folder plan → WereHanded plan number new after.front) → (passed ≡ None → k + n ≤ length (commands_of plan number))
+      → (number ≡ folder plan → WereHanded plan number new after.front)
+      → (passed ≡ None → (number ≡ folder plan → ⊥) × (k + n ≤ length (calls_of plan number)))
       → CameBy (opening_of plan) number history calls after.front passed → MadeOrCut plan number (k + n) after.front earlier new passed
   unfolding CameBy MadeOrCut
   goes n calls history new (Some more) size is on handed there came =
@@ -188,12 +195,13 @@ module _ (plan : Plan) (number k : ℕ) (link : LinkView) (link_for : IsFor plan
         handed = handed;
       }
   goes n calls history new None size is on handed there came = record {
+    asks = (there refl).0;
     full = came.full;
     fewer = omega (
       arith,
       came.fewer,
       size,
-      there refl,
+      (there refl).1,
       few_made (opening_of plan) number [] (take k (calls_of plan number)) before.front earlier had.made,
       length-take k (calls_of plan number),
       ap (λ (l : List Entry). length l) on.1,
@@ -207,13 +215,17 @@ module _ (plan : Plan) (number k : ℕ) (link : LinkView) (link_for : IsFor plan
     asked history passed on came =
         goes 1 (Ask command ∷ []) history old passed refl (one_at (calls_of plan number) k (Ask command) there)
         (seen link number before history at on) (λ folds. absurd (folder_asks_nothing plan number k command folds there))
-        (λ none. omega (arith, slice_get_within (commands_of plan number) k command (command_at plan number k command there))) came
+        (λ none. (
+          (λ folds. folder_asks_nothing plan number k command folds there),
+          omega (arith, slice_get_within (calls_of plan number) k (Ask command) there),
+        ))
+        came
 
     cut_short : (why : Refusal) → (history : List Entry) × IsRefused (opening_of plan) before command why after history
         → ((d : ℕ) → why ≡ TooSoon d → ⊥) → MadeOrCut plan number (k + 1) after.front earlier old None
     unfolding CameBy
     cut_short why refused not_soon =
-        let fair = fair_at plan link_for.sound number k command (command_at plan number k command there) in
+        let fair = all_at IsFairCall (calls_of plan number) k (Ask command) (all_fair plan link_for.sound number) there in
         asked refused.0 None refused.1.from.goes_on
         (subst (λ (h : List Entry). IsFull (opening_of plan) number refused.0 (Ask command ∷ []) h) (sym (ap (λ (c : CallerView). c.front) refused.1.seen))
         (record { full = full_after (opening_of plan) refused.0 command why fair refused.1.because not_soon; fewer = omega arith }))
@@ -294,15 +306,6 @@ came_of_all plan number k front passed events had all =
     inl (subst (λ (calls : List Call). AreMade (opening_of plan) number [] calls front passed)
     (ap (λ (n : ℕ). take n (calls_of plan number)) all ∙ take-length (calls_of plan number)) had.made)
 
-pub came_cut : (plan : Plan) (number : ℕ) (front : List Entry) (passed : ℕ) → IsCutShort (opening_of plan) number (commands_of plan number) front
-    → CameOf plan number front passed
+pub came_cut : (plan : Plan) (number : ℕ) (front : List Entry) (passed : ℕ) → IsCutShort plan number front → CameOf plan number front passed
 unfolding CameOf
 came_cut plan number front passed cut = inr cut
-
--- the caller that folds is never cut short
-pub folder_not_cut : (plan : Plan) (number : ℕ) (front : List Entry) → IsCutShort (opening_of plan) number (commands_of plan number) front
-    → number ≡ folder plan → ⊥
-folder_not_cut plan number front cut folds =
-    let none : length (commands_of plan number) ≡ 0 = ap (λ (cs : List Command). length cs)
-    (ap (λ (n : ℕ). commands_of plan n) folds ∙ after_senders plan 4 (omega arith)) in
-    omega (arith, cut.fewer, none)

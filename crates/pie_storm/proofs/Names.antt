@@ -32,8 +32,8 @@ pub use Rattle.pie_lock.proofs.Owns.{not_within, quiet_rest, within}
 pub use Rattle.pie_lock.proofs.Prefixes.{prefix_self, prefix_trans}
 pub use Rattle.pie_lock.specs.Own.{is_within, own}
 pub use Rattle.pie_lock.specs.Steps.{GoesOn}
-pub use Rattle.pie_storm.specs.Plans.{IsFair, IsSound, change, commands_after_senders, count_of, folder, opening_of, planned, senders, sent, updater}
-unfoldable pub use Rattle.pie_storm.specs.Plans.{calls_of, commands_of}
+pub use Rattle.pie_storm.specs.Plans.{IsFair, IsSound, arriving, changing, departing, folder, opening_of, planned, senders, sent, total, updater, updating}
+unfoldable pub use Rattle.pie_storm.specs.Plans.{calls_of}
 pub use Rattle.pie_storm.specs.StormPlan.{arrivals_of, change_at, held_by, planned_arrival, sender_words, words_of}
 unfoldable pub use Rattle.pie_storm.specs.StormPlan.{words_after}
 pub use Rattle.pie_storm.specs.Storms.{AddedByAll, AreMade, HasMade, HasNoMore, IsAt, IsCutShort, IsEndOf, IsFor, IsMade, IsStorm, IsWell}

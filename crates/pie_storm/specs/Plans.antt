@@ -1,5 +1,5 @@
 -- What a storm's plan asks of each caller, and which plans are sound.
-use Rattle.std.specs.Prelude.{◌≡◌, ◌+◌, ◌-◌, ◌==◌, ◌≤◌, nat_le, ℕ, false, List, [], ◌∷◌, Option, Some, None, Vec, map, length, All, slice_get}
+use Rattle.std.specs.Prelude.{◌≡◌, ◌+◌, ◌-◌, ◌==◌, ◌≤◌, nat_le, ℕ, zero, suc, false, List, [], Option, Some, None, Vec, map, length, All, slice_get}
 use Rattle.std.specs.Prelude.{if◌then◌else◌}
 use Rattle.std.specs.declared.alloc.Global.{Global}
 use Rattle.pie_event.specs.declared.command.Command.{Command}
@@ -29,34 +29,43 @@ opening_of plan = record {
 abbrev pub senders : Plan → ℕ
 senders plan = length plan.arrivals.items
 
--- the command of a change
-abbrev pub change : Change → Command
-change new = SetParams new.moment new.params
+-- what one arrival, departure, update or change asks for
+abbrev pub arriving : Arrival → Call
+arriving arrival = Ask (arrive arrival)
 
--- the commands of one of these senders, counted from 0
-abbrev pub sent_by : Option (Vec Arrival Global) → List Command
-sent_by (Some arrivals) = map arrive arrivals.items
+abbrev pub departing : ℕ → Call
+departing moment = Ask (Depart moment)
+
+abbrev pub updating : ℕ → Call
+updating moment = Ask (Update moment)
+
+abbrev pub changing : Change → Call
+changing new = Ask (SetParams new.moment new.params)
+
+-- the calls of one of these senders, counted from 0
+abbrev pub sent_by : Option (Vec Arrival Global) → List Call
+sent_by (Some arrivals) = map arriving arrivals.items
 sent_by None = []
 
-abbrev pub sent : List (Vec Arrival Global) → ℕ → List Command
+abbrev pub sent : List (Vec Arrival Global) → ℕ → List Call
 sent lists sender = sent_by (slice_get lists sender)
 
--- the commands of the caller that comes so many after the last sender
-abbrev pub commands_after_senders : Plan → ℕ → List Command
-commands_after_senders plan n =
-    if n == 1 then map Depart plan.departs.items
-    else if n == 2 then map Update plan.updates.items
-    else if n == 3 then map change plan.changes.items
+-- the calls of the caller that comes so many after the last sender
+abbrev pub calls_after_senders : Plan → ℕ → List Call
+calls_after_senders plan n =
+    if n == 1 then map departing plan.departs.items
+    else if n == 2 then map updating plan.updates.items
+    else if n == 3 then map changing plan.changes.items
+    else if n == 4 then map Fold plan.folds.items
     else []
 
--- the commands of a caller, in order: callers 1 to N, for N senders, send the arrivals of their lists, caller N + 1 makes the
--- departures, N + 2 the updates, and N + 3 the changes. The starter is caller 0, and caller N + 4 makes the folds: these
--- have no commands
-unfoldable pub commands_of : Plan → ℕ → List Command
-commands_of plan caller =
+-- what a caller asks the link for, in order: callers 1 to N, for N senders, send the arrivals of their lists, caller N + 1 makes the
+-- departures, N + 2 the updates, N + 3 the changes, and N + 4 the folds. The starter is caller 0, and asks for nothing
+unfoldable pub calls_of : Plan → ℕ → List Call
+calls_of plan caller =
     if caller == 0 then []
     else if nat_le caller (senders plan) then sent plan.arrivals.items (caller - 1)
-    else commands_after_senders plan (caller - senders plan)
+    else calls_after_senders plan (caller - senders plan)
 
 -- the caller that makes the updates, and the one that makes the folds
 abbrev pub updater : Plan → ℕ
@@ -65,10 +74,6 @@ updater plan = senders plan + 2
 abbrev pub folder : Plan → ℕ
 folder plan = senders plan + 4
 
--- what a caller asks the link for, in order: one for the folds, and another for its commands
-unfoldable pub calls_of : Plan → ℕ → List Call
-calls_of plan caller = if caller == folder plan then map Fold plan.folds.items else map Ask (commands_of plan caller)
-
 -- how many commands a caller makes in one turn at the link: a sender those of a burst
 abbrev pub turn_of : Plan → ℕ → ℕ
 turn_of plan caller =
@@ -76,14 +81,14 @@ turn_of plan caller =
     else if nat_le caller (senders plan) then plan.burst
     else 1
 
--- how many arrivals these lists have
-abbrev pub count_of : List (Vec Arrival Global) → ℕ
-count_of [] = 0
-count_of (list ∷ lists) = length list.items + count_of lists
+-- the sum of so many numbers of a row
+abbrev pub total : (ℕ → ℕ) → ℕ → ℕ
+total f zero = 0
+total f (suc n) = total f n + f n
 
--- how many commands there are in all
+-- how many commands there are in all: the calls of all callers but the last, which folds
 abbrev pub planned : Plan → ℕ
-planned plan = count_of plan.arrivals.items + length plan.departs.items + length plan.updates.items + length plan.changes.items
+planned plan = total (λ caller. length (calls_of plan caller)) (folder plan)
 
 abbrev pub IsMoment : ℕ → Type 0
 IsMoment moment = moment ≤ last_moment

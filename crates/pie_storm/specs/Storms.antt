@@ -1,12 +1,10 @@
 -- What the callers of a storm did, and how it ends. A history is the list of all entries of the link: its events, and the folds between them.
 use Rattle.std.specs.Prelude.{◌≡◌, ◌==◌, ◌+◌, ◌<◌, ◌≤◌, ◌⊎◌, ℕ, Bool, false, All, List, [], ◌∷◌, ◌++◌, Option, Some, None, Result, Ok, Err}
-use Rattle.std.specs.Prelude.{IfSome, IsOk, Vec, min, map, length, take}
+use Rattle.std.specs.Prelude.{IfSome, IsOk, Vec, min, length, take}
 use Rattle.std.specs.declared.alloc.Global.{Global}
-use mathlib.Core.List.{IsPrefix}
 use Rattle.pie_lock.specs.Own.{own}
 use Rattle.pie_lock.specs.Steps.{GoesOn}
 use Rattle.pie_event.specs.declared.command.Command.{Command}
-use Rattle.pie_event.specs.declared.command.Command.TheVariants.{Depart, Update}
 use Rattle.pie_event.specs.declared.command.Event.{Event}
 use Rattle.pie_event.specs.declared.opening.Opening.{Opening}
 use Rattle.pie_event.specs.declared.command.Answer.{Answer}
@@ -28,7 +26,7 @@ use Rattle.pie_storm.specs.declared.plan.Call.{Call}
 use Rattle.pie_storm.specs.declared.plan.Call.TheVariants.{Ask, Fold}
 use Rattle.pie_storm.specs.declared.worker.Folding.{Folding}
 use Rattle.pie_storm.specs.declared.worker.Work.{Work}
-use Rattle.pie_storm.specs.Plans.{IsSound, calls_of, change, commands_of, folder, opening_of, senders, sent, updater}
+use Rattle.pie_storm.specs.Plans.{IsSound, calls_of, folder, opening_of, updater}
 
 -- the events of a caller
 abbrev pub events_of : ℕ → List Event → List Event
@@ -70,16 +68,17 @@ AreMade opening caller front (call ∷ calls) history passed =
     ⊎ ((before : List Entry) × (fewer : ℕ) × HasNoMore caller front before × WasPassedOver opening before call × (passed ≡ fewer + 1)
     × AreMade opening caller before calls history fewer)
 
--- the caller stopped where the book was full, and before it had an entry for each command
-pub record IsCutShort (opening : Opening) (caller : ℕ) (commands : List Command) (history : List Entry) : Type 0 where
-  pub full : min opening.limits.tail opening.limits.events ≤ length (events_in history)
-  pub fewer : length (entries_of caller history) < length commands
+-- a caller of commands stopped where the book was full, and before it had an entry for each
+pub record IsCutShort (plan : Plan) (caller : ℕ) (history : List Entry) : Type 0 where
+  pub asks : caller ≡ folder plan → ⊥
+  pub full : min plan.limits.tail plan.limits.events ≤ length (events_in history)
+  pub fewer : length (entries_of caller history) < length (calls_of plan caller)
 
 -- what came of a caller's calls in this history
 unfoldable pub CameOf : Plan → ℕ → List Entry → ℕ → Type 0
 CameOf plan caller history passed =
     AreMade (opening_of plan) caller [] (calls_of plan caller) history passed
-    ⊎ IsCutShort (opening_of plan) caller (commands_of plan caller) history
+    ⊎ IsCutShort plan caller history
 
 -- a number is this one
 abbrev pub is_number : ℕ → ℕ → Bool
@@ -137,7 +136,7 @@ pub record HasMade (plan : Plan) (number k : ℕ) (front : List Entry) (passed :
 -- it went on so to k calls, or was cut short
 unfoldable pub MadeOrCut : Plan → ℕ → ℕ → List Entry → ℕ → List Event → Option ℕ → Type 0
 MadeOrCut plan number k front passed events (Some more) = HasMade plan number k front (passed + more) events
-MadeOrCut plan number k front passed events None = IsCutShort (opening_of plan) number (commands_of plan number) front
+MadeOrCut plan number k front passed events None = IsCutShort plan number front
 
 -- in one turn a caller made its calls after the first k, up to this number of them, or was cut short; so many were passed over
 pub record TakesTurn (link : LinkView) (plan : Plan) (number k next : ℕ) (before after : CallerView) (old new : Folding) (passed : Option ℕ)

@@ -1,10 +1,8 @@
 //! What a storm is asked to do.
 ghost use Rattle.std.specs.Prelude.{◌≡◌, ◌≤◌, ◌^◌, ◌-◌, ◌↔◌, IsTrue, All, Option, drop, length, map, min, slice_get, take, ◌+◌};
-ghost use Rattle.pie_kept.specs.Bursts.{arrive};
-ghost use Rattle.pie_storm.specs.Plans.{IsMoment, IsSoundArrival, IsSound, calls_of, change, commands_of, count_of, opening_of, planned, senders};
-ghost use Rattle.pie_storm.specs.Plans.{turn_of};
-ghost use Rattle.pie_event.specs.declared.command.Command.TheVariants.{Depart, Update};
-ghost use Rattle.pie_storm.specs.declared.plan.Call.TheVariants.{Ask, Fold};
+ghost use Rattle.pie_storm.specs.Plans.{IsMoment, IsSoundArrival, IsSound, arriving, calls_of, changing, departing, opening_of, planned, senders};
+ghost use Rattle.pie_storm.specs.Plans.{turn_of, updating};
+ghost use Rattle.pie_storm.specs.declared.plan.Call.TheVariants.{Fold};
 
 use pie_book::{Choices, Command, Elements, Limits, Mode, Opening, Profile};
 use pie_fixed::MAX_NANOS;
@@ -82,30 +80,22 @@ fn are_moments(moments: &[u64]) -> bool
     moments.iter().all(|moment| *moment <= MAX_NANOS)
 }
 
-// How many arrivals these lists have, as far as a u64 can count.
-fn count(lists: &[Vec<Arrival>]) -> u64
-    ensures { result ≡ min (count_of lists.now) (2 ^ 64 - 1) }
-{
-    let mut count = 0u64;
-    for list in lists {
-        count = count.saturating_add(list.len() as u64);
-    }
-    count
-}
-
 impl Plan {
     // How many commands there are in all, as far as a u64 can count.
     fn planned(&self) -> u64
+        requires { senders self.now ≤ 8 }
         ensures { result ≡ min (planned self.now) (2 ^ 64 - 1) }
     {
-        count(self.arrivals.as_slice())
-            .saturating_add(self.departs.len() as u64)
-            .saturating_add(self.updates.len() as u64)
-            .saturating_add(self.changes.len() as u64)
+        let mut count = 0u64;
+        for caller in 0..self.arrivals.len() as u16 + 4 {
+            count = count.saturating_add(self.calls(caller) as u64);
+        }
+        count
     }
 
     // Whether tail and events have room for all commands.
     fn has_room(&self) -> bool
+        requires { senders self.now ≤ 8 }
         ensures { IsTrue result ↔ (planned self.now ≤ self.now.limits.tail) × (planned self.now ≤ self.now.limits.events) }
     {
         let planned = self.planned();
@@ -158,18 +148,6 @@ impl Plan {
     pub(crate) fn calls(&self, caller: u16) -> usize
         ensures { result ≡ length (calls_of self.now caller) }
     {
-        if usize::from(caller) == self.arrivals.len() + 4 {
-            self.folds.len()
-        } else {
-            self.commands(caller)
-        }
-    }
-
-    // How many commands a caller has to make.
-    #[tactic(auto, unfolding(crate::specs::Plans::commands_of))]
-    fn commands(&self, caller: u16) -> usize
-        ensures { result ≡ length (commands_of self.now caller) }
-    {
         let senders = self.arrivals.len();
         let place = usize::from(caller);
         if place == 0 {
@@ -182,6 +160,8 @@ impl Plan {
             self.updates.len()
         } else if place - senders == 3 {
             self.changes.len()
+        } else if place - senders == 4 {
+            self.folds.len()
         } else {
             0
         }
@@ -201,12 +181,12 @@ impl Plan {
     }
 
     /// The `count` arrivals of a sender that come after `k` others.
-    #[tactic(auto, unfolding(crate::specs::Plans::commands_of))]
+    #[tactic(auto, unfolding(crate::specs::Plans::calls_of))]
     pub(crate) fn burst(&self, caller: u16, k: usize, count: usize) -> &[Arrival]
         requires sender { (1 ≤ caller) × (caller ≤ senders self.now) }
-        requires there { k + count ≤ length (commands_of self.now caller) }
+        requires there { k + count ≤ length (calls_of self.now caller) }
         ensures long { length result.now ≡ count }
-        ensures value { map arrive result.now ≡ take count (drop k (commands_of self.now caller)) }
+        ensures value { map arriving result.now ≡ take count (drop k (calls_of self.now caller)) }
     {
         part(self.arrivals[usize::from(caller) - 1].as_slice(), k, count)
     }
@@ -215,20 +195,6 @@ impl Plan {
     #[tactic(auto, unfolding(crate::specs::Plans::calls_of))]
     pub(crate) fn call(&self, caller: u16, k: usize) -> Option<Call>
         ensures { result ≡ slice_get (calls_of self.now caller) k }
-    {
-        if usize::from(caller) == self.arrivals.len() + 4 {
-            let n = *self.folds.as_slice().get(k)?;
-            Some(Call::Fold(n))
-        } else {
-            let command = self.command(caller, k)?;
-            Some(Call::Ask(command))
-        }
-    }
-
-    // The command that a caller makes after `k` others.
-    #[tactic(auto, unfolding(crate::specs::Plans::commands_of))]
-    fn command(&self, caller: u16, k: usize) -> Option<Command>
-        ensures { result ≡ slice_get (commands_of self.now caller) k }
     {
         let senders = self.arrivals.len();
         let place = usize::from(caller);
@@ -242,6 +208,8 @@ impl Plan {
             update_at(self.updates.as_slice(), k)
         } else if place - senders == 3 {
             change_at(self.changes.as_slice(), k)
+        } else if place - senders == 4 {
+            fold_at(self.folds.as_slice(), k)
         } else {
             None
         }
@@ -256,33 +224,40 @@ fn part(arrivals: &[Arrival], k: usize, count: usize) -> &[Arrival]
     &arrivals[k..k + count]
 }
 
-fn arrival_at(arrivals: &[Arrival], k: usize) -> Option<Command>
-    ensures { result ≡ slice_get (map arrive arrivals.now) k }
+fn arrival_at(arrivals: &[Arrival], k: usize) -> Option<Call>
+    ensures { result ≡ slice_get (map arriving arrivals.now) k }
 {
     let arrival = arrivals.get(k)?;
-    Some(arrival.command())
+    Some(Call::Ask(arrival.command()))
 }
 
-fn departure_at(moments: &[u64], k: usize) -> Option<Command>
-    ensures { result ≡ slice_get (map Depart moments.now) k }
+fn departure_at(moments: &[u64], k: usize) -> Option<Call>
+    ensures { result ≡ slice_get (map departing moments.now) k }
 {
     let moment = *moments.get(k)?;
-    Some(Command::Depart { moment })
+    Some(Call::Ask(Command::Depart { moment }))
 }
 
-fn update_at(moments: &[u64], k: usize) -> Option<Command>
-    ensures { result ≡ slice_get (map Update moments.now) k }
+fn update_at(moments: &[u64], k: usize) -> Option<Call>
+    ensures { result ≡ slice_get (map updating moments.now) k }
 {
     let moment = *moments.get(k)?;
-    Some(Command::Update { moment })
+    Some(Call::Ask(Command::Update { moment }))
 }
 
-fn change_at(changes: &[Change], k: usize) -> Option<Command>
-    ensures { result ≡ slice_get (map change changes.now) k }
+fn change_at(changes: &[Change], k: usize) -> Option<Call>
+    ensures { result ≡ slice_get (map changing changes.now) k }
 {
     let change = changes.get(k)?;
-    Some(Command::SetParams {
+    Some(Call::Ask(Command::SetParams {
         moment: change.moment,
         params: change.params,
-    })
+    }))
+}
+
+fn fold_at(folds: &[u64], k: usize) -> Option<Call>
+    ensures { result ≡ slice_get (map Fold folds.now) k }
+{
+    let n = *folds.get(k)?;
+    Some(Call::Fold(n))
 }

@@ -212,7 +212,7 @@ pub fn storm<R: Threads + Wait + Sync, G: Gate + Sync>(
         return Err(StormFault::BadPlan);
     }
     let callers = plan.arrivals.len() as u16 + 5;
-    match open_link(alloc, plan, callers) {
+    match Link::open_with(alloc, plan.opening(), callers) {
         Ok((link, starter)) => run(rt, alloc, plan, gate, link, starter),
         Err(why) => Err(StormFault::Opening(why)),
     }
@@ -253,17 +253,6 @@ fn run<R: Threads + Wait + Sync, G: Gate + Sync>(
     drop(book);
     drop(folding);
     end
-}
-
-// The link of a plan, and a caller with all its numbers.
-fn open_link(alloc: Global, plan: &Plan, callers: u16) -> Result<(Link, Caller), LinkRefusal>
-    ensures refused { IfErr result (IsRefusedFor (link_refusal plan.now.limits plan.now.moment callers)) }
-    ensures allowed { OnOk result (link_refusal plan.now.limits plan.now.moment callers ≡ None) }
-    ensures opening { IfOk result (λ opened. opened.0.origin ≡ Some (opening_of plan.now)) }
-    ensures callers { IfOk result (λ opened. opened.0.numbers ≡ callers) }
-    ensures caller { IfOk result (λ opened. opened.1 ≡ first_pass opened.0 callers) }
-{
-    Link::open_with(alloc, plan.opening(), callers)
 }
 
 // What the storm ended with: the folded events, and then the tail of the closed book. It has both by reference, since each way out would let

@@ -2,7 +2,7 @@
 ghost use Rattle.std.specs.Prelude.{◌≡◌, ◌+◌, ◌^◌, ◌<◌, ◌≤◌, ◌-◌, ◌++◌, [], false, Some, IfSome, length};
 ghost use Rattle.pie_link.specs.Commands.{Answers};
 ghost use Rattle.pie_link.specs.Views.{StaysOne};
-ghost use Rattle.pie_storm.specs.Plans.{calls_of, commands_of, senders, turn_of};
+ghost use Rattle.pie_storm.specs.Plans.{calls_of, senders, turn_of};
 ghost use Rattle.pie_storm.specs.Storms.{AddedByAll, Begins, IsAt, IsFor, IsWell, IsWorkOf, TakenIn, TakesTurn, added_by};
 
 use crate::gate::Gate;
@@ -179,7 +179,7 @@ fn send_next<R: Wait>(
     requires at { IsAt link.now number caller.old }
     requires sender { (1 ≤ number) × (number ≤ senders plan.now) }
     requires some { 1 ≤ count }
-    requires there { k + count ≤ length (commands_of plan.now number) }
+    requires there { k + count ≤ length (calls_of plan.now number) }
     ensures { TakesTurn link.now plan.now number k (k + count) caller.old caller.new folding.old folding.new result }
 {
     entries_look_back();

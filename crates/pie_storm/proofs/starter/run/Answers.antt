@@ -1,4 +1,4 @@
-use Rattle.pie_storm.proofs.Names.{◌≡◌, ℕ, ap, subst, CallerView, IsWorkBelow}
+use Rattle.pie_storm.proofs.Names.{ℕ, ap, subst, CallerView, IsWorkBelow}
 use Rattle.pie_storm.proofs.Closing.{ended}
 use Rattle.pie_storm.proofs.starter.run.Goals as goal
 

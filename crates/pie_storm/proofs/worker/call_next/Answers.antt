@@ -1,4 +1,4 @@
-use Rattle.pie_storm.proofs.Names.{◌≡◌, ◌+◌, ◌∙◌, ℕ, Option, Some, ap, sym, subst, MadeOrCut}
+use Rattle.pie_storm.proofs.Names.{◌+◌, ◌∙◌, ℕ, Option, Some, ap, sym, subst, MadeOrCut}
 use Rattle.pie_storm.proofs.Making.{asked_next, folded_next}
 use Rattle.pie_storm.proofs.worker.call_next.Goals as goal
 

@@ -1,5 +1,5 @@
-use Rattle.pie_storm.proofs.Names.{◌≡◌, ◌≤◌, ◌∙◌, ◌+◌, ℕ, length, refl, sym, subst, arith, calls_of, IsWell, MadeOrCut}
-use Rattle.pie_storm.proofs.Making.{came_cut, came_of_all, folder_not_cut, made_none}
+use Rattle.pie_storm.proofs.Names.{◌≡◌, length, arith, calls_of, IsWell, MadeOrCut}
+use Rattle.pie_storm.proofs.Making.{came_cut, came_of_all, made_none}
 use Rattle.pie_storm.proofs.worker.make_all.Goals as goal
 
 pub loop-k-init : goal.loop-k-init
@@ -31,7 +31,7 @@ returns-in-None g c =
     let cut = λ (well : IsWell c.make_turn.new.folding). turn.goes c.loop-k.passed well (l.made (turn.well well)) in record {
       at = turn.at;
       came = λ well. came_cut c.args.plan.now c.args.number c.make_turn.new.caller.front c.loop-k.passed (cut well);
-      handed = λ well folds. absurd (folder_not_cut c.args.plan.now c.args.number c.make_turn.new.caller.front (cut well) folds);
+      handed = λ well folds. absurd ((cut well).asks folds);
     }
 
 pub returns : goal.returns

@@ -1,4 +1,4 @@
-use Rattle.pie_storm.proofs.Names.{◌≡◌, ◌≤◌, ◌-◌, HasMade, IsAt, IsWell}
+use Rattle.pie_storm.proofs.Names.{◌≤◌, ◌-◌, HasMade, IsAt, IsWell}
 use Rattle.pie_storm.proofs.worker.make_all.Given as goal
 
 abbrev pub invariant-loop-k : goal.invariant-loop-k

@@ -1,4 +1,4 @@
-use Rattle.pie_storm.proofs.Names.{◌≡◌, ◌∙◌, List, map, subst, Reply, always, arrive, AddedByAll}
+use Rattle.pie_storm.proofs.Names.{◌∙◌, List, map, subst, Reply, always, arrive, AddedByAll}
 use Rattle.pie_link.specs.Bursts.{AnswersAll}
 use Rattle.pie_storm.proofs.Bursting.{burst_next, few_by_all}
 use Rattle.pie_storm.proofs.worker.send_next.Goals as goal

@@ -14,12 +14,12 @@ pub use Rattle.pie_excerpt.specs.Beginning.{Beginning}
 pub use Rattle.pie_excerpt.specs.{ExcerptView, Flaw, GoesOn, HasField, IfSome, IsWritten, Later, None, Ok, Opening, Option, Packet, QueueAt}
 pub use Rattle.pie_excerpt.specs.{QueueRefusal, RawCycle, Result, Resume, ResumeFits, ResumeRefusal, ResumingView, Row, SetterFits, Some, Standing}
 pub use Rattle.pie_excerpt.specs.{StandsFor, StatsFit, TraceFault, Waiting, WaitingFits, and_then, append_known, are_plain, are_registers, begun_at}
-pub use Rattle.pie_excerpt.specs.{begun_by, begun_with, checked_opening, choices_of, chosen_row, codes, core_by, core_of, counted, cycle_bytes}
+pub use Rattle.pie_excerpt.specs.{begun_by, begun_with, checked_opening, choices_of, chosen_row, codes, core_by, core_of, cycle_bytes}
 pub use Rattle.pie_excerpt.specs.{cycle_start, draft_of, ecn_word, end_refusal, ended_by, event_row, excerpt_rows, fault_at, fields_of, fields_read}
-pub use Rattle.pie_excerpt.specs.{first_bad, first_fields, flag, held_row, is_device, is_kind, is_resumed, measuring, missing, most_u128, most_u64}
+pub use Rattle.pie_excerpt.specs.{first_bad, first_fields, flag, held_numbers, is_device, is_kind, is_resumed, measuring, missing, most_u128, most_u64}
 pub use Rattle.pie_excerpt.specs.{nat_le, needs_quotes, nine_of, number_at, numbers_fault, onto, opened_numbers, opening_refusal, opening_row}
-pub use Rattle.pie_excerpt.specs.{or_fault, placed_row, queue_refusal, queued_after, queued_by, records_of, registers_of, resume_in}
-pub use Rattle.pie_excerpt.specs.{resume_of_excerpt, resume_refusal, resume_with, resumed_by, rows_setup, setter_at, setter_field, setter_of, text_of}
+pub use Rattle.pie_excerpt.specs.{or_fault, placed_numbers, queue_refusal, queued_after, queued_by, records_of, resume_in}
+pub use Rattle.pie_excerpt.specs.{resume_of_excerpt, resume_refusal, resume_with, resumed_by, rows_setup, setter_at, setter_field, setter_of, standing_row, text_of}
 pub use Rattle.pie_excerpt.specs.{with_packet, ⊤}
 unfoldable pub use Rattle.pie_excerpt.specs.{core_from, field_at, later_at, number, numbers_from, packet_at, params_at, queued_of, queued_row}
 unfoldable pub use Rattle.pie_excerpt.specs.{resume_of, resume_row, resumed_of, rows_text, waiting_after, with_queue}

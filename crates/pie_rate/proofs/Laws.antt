@@ -1,9 +1,9 @@
 -- How each definition changes when one more departure joins the list at its end.
 use Rattle.std.proofs.Common.{◌≡◌, ℕ, zero, suc, ◌+◌, ◌-◌, ◌<◌, ◌≤◌, Bool, true, false, cond, List, [], ◌∷◌, ◌++◌, length, take, drop, Option, Some}
 use Rattle.std.proofs.Common.{None, refl, ap, ◌∙◌, arith, length-drop, map}
-use Rattle.std.specs.Prelude.{find, option_map, option_and_then, nat_le, IfSome}
+use Rattle.std.specs.Prelude.{find, nat_le, IfSome}
 use Rattle.std.specs.List.{range_with_len}
-use Rattle.std.specs.Option.{option_map_or, option_or}
+use Rattle.std.specs.Option.{option_or}
 use Rattle.std.proofs.lemmas.List.{append-nil, map-append, drop-append-le, get_or_append_left, get_or_push, length_push, take_all, take-append-le}
 use Rattle.std.proofs.lemmas.List.Sums.{sum_by_push}
 use Rattle.std.proofs.lemmas.List.Folds.{find-append}
@@ -30,22 +30,15 @@ find-range-same p q a (suc n) same =
     rw (here, rest) refl
 
 -- a number that is found lies in the range
-Within : ℕ → ℕ → ℕ → Type 0
-Within a b k = (a ≤ k) × (k < b)
+found_here : (b : Bool) (low a e : ℕ) (o : Option ℕ) → low ≤ a → a < e → IfSome o (λ k. (low ≤ k) × (k < e))
+    → IfSome (cond {A = Option ℕ} b (Some a) o) (λ k. (low ≤ k) × (k < e))
+found_here true low a e o l h found = (l, h)
+found_here false low a e o l h found = found
 
-found_here : (b : Bool) (a e : ℕ) (o : Option ℕ) → a < e → IfSome o (λ k. (a ≤ k) × (k < e))
-    → IfSome (cond {A = Option ℕ} b (Some a) o) (λ k. (a ≤ k) × (k < e))
-found_here true a e o l h = (omega arith, l)
-found_here false a e o l h = h
-
-IfSome-weaken : (o : Option ℕ) (a b e : ℕ) → b ≤ a → IfSome o (λ k. (a ≤ k) × (k < e)) → IfSome o (λ k. (b ≤ k) × (k < e))
-IfSome-weaken None a b e l h = tt
-IfSome-weaken (Some k) a b e l h = (omega arith, h.1)
-
-find-range-within : (p : ℕ → Bool) (a n e : ℕ) → a + n ≤ e → IfSome (find p (range_with_len a n)) (λ k. (a ≤ k) × (k < e))
-find-range-within p a zero e h = tt
-find-range-within p a (suc n) e h =
-    found_here (p a) a e _ (omega arith) (IfSome-weaken _ (a + 1) a e (omega arith) (find-range-within p (a + 1) n e (omega arith)))
+find-range-within : (p : ℕ → Bool) (low a n e : ℕ) → low ≤ a → a + n ≤ e → IfSome (find p (range_with_len a n)) (λ k. (low ≤ k) × (k < e))
+find-range-within p low a zero e l h = tt
+find-range-within p low a (suc n) e l h =
+    found_here (p a) low a e _ l (omega arith) (find-range-within p low (a + 1) n e (omega arith) (omega arith))
 
 -- the same of first positions
 first_position-push : (p q : ℕ → Bool) (from end : ℕ) → from ≤ end → ((k : ℕ) → from ≤ k → k < end → p k ≡ q k)
@@ -64,7 +57,7 @@ first_position-past p from end l = let n : end - from ≡ 0 = omega arith in rw 
 
 first_position-within : (p : ℕ → Bool) (from end : ℕ) → from ≤ end → IfSome (first_position p from end) (λ k. (from ≤ k) × (k < end))
 unfolding first_position
-first_position-within p from end l = find-range-within p from (end - from) end (omega arith)
+first_position-within p from end l = find-range-within p from from (end - from) end (omega arith) (omega arith)
 
 module _ (threshold : ℕ) (ds : List Departure) (d : Departure) where
   -- departures and sums, with one more departure
@@ -156,100 +149,78 @@ module _ (threshold : ℕ) (ds : List Departure) (d : Departure) where
   one_begun most from i true e f = rw (e, f) (ap (λ cs. record { opened = i; closed = length ds } ∷ cs) (cycles_from-last most))
   one_begun most from i false e f = rw (e, f) refl
 
-  -- the cycles with one more departure: those before, and the one that it closes
-  abbrev pub Grows : ℕ → ℕ → Type 0
-  Grows most from = cycles_from threshold (ds ++ d ∷ []) (suc most) from
-      ≡ cycles_from threshold ds most from ++ added (first_opening threshold ds (last_closed from (cycles_from threshold ds most from)))
-
-  grows_closed : (most from i j : ℕ) → first_opening threshold ds from ≡ Some i → first_closing threshold ds i ≡ Some j
-      → first_opening threshold (ds ++ d ∷ []) from ≡ Some i → first_closing threshold (ds ++ d ∷ []) i ≡ Some j
-      → Grows most j → Grows (suc most) from
-  unfolding cycles_from first_cycle
-  grows_closed most from i j a b e f rest = rw (a, b, e, f) (ap (λ cs. record { opened = i; closed = j } ∷ cs) rest)
-
-  none_cycles : (most from : ℕ) → first_opening threshold ds from ≡ None → cycles_from threshold ds most from ≡ []
-  unfolding cycles_from first_cycle
-  none_cycles zero from e = refl
-  none_cycles (suc most) from e = rw e refl
-
-  open_cycles : (most from i : ℕ) → first_opening threshold ds from ≡ Some i → first_closing threshold ds i ≡ None
-      → cycles_from threshold ds most from ≡ []
-  unfolding cycles_from first_cycle
-  open_cycles zero from i e f = refl
-  open_cycles (suc most) from i e f = rw (e, f) refl
-
   abbrev pub opens : Option ℕ
   opens = cond (nat_le threshold d.bytes_left) (Some (length ds)) None
 
   abbrev pub closes : ℕ → Option ℕ
   closes i = cond (nat_le threshold (bytes_after ds i + d.size)) (Some (length ds)) None
 
-  grows_none : (most from : ℕ) → first_opening threshold ds from ≡ None → first_opening threshold (ds ++ d ∷ []) from ≡ opens → Grows most from
-  grows_none most from a e =
-      rw (none_begun most from (nat_le threshold d.bytes_left) e, none_cycles most from a, a) refl
+  -- what holds of the cycles from each later position on
+  abbrev Later : (ℕ → ℕ → List Cycle → Type 0) → ℕ → ℕ → Type 0
+  Later P most from = (j : ℕ) → from + 1 ≤ j → j < length ds → P most j (cycles_from threshold ds most j)
 
-  grows_open : (most from i : ℕ) → first_opening threshold ds from ≡ Some i → first_closing threshold ds i ≡ None
-      → first_opening threshold (ds ++ d ∷ []) from ≡ Some i → first_closing threshold (ds ++ d ∷ []) i ≡ closes i → Grows (suc most) from
-  grows_open most from i a b e f =
-      rw (one_begun most from i (nat_le threshold (bytes_after ds i + d.size)) e f, open_cycles (suc most) from i a b, a) refl
+  -- what holds where no cycle opens, or none closes what opens, and of a cycle where it holds of those behind it, holds of all cycles from a
+  -- position on
+  walk : (P : ℕ → ℕ → List Cycle → Type 0)
+      → ((most from : ℕ) → from ≤ length ds → first_opening threshold ds from ≡ None → P most from [])
+      → ((most from i : ℕ) → from ≤ i → i < length ds → first_opening threshold ds from ≡ Some i → first_closing threshold ds i ≡ None
+      → P (suc most) from [])
+      → ((most from i j : ℕ) (later : List Cycle) → from ≤ i → i < length ds → j < length ds → first_opening threshold ds from ≡ Some i
+      → first_closing threshold ds i ≡ Some j → P most j later → P (suc most) from (record { opened = i; closed = j } ∷ later))
+      → (most from : ℕ) → from ≤ length ds → length ds ≤ from + most → P most from (cycles_from threshold ds most from)
+  unfolding cycles_from first_cycle
+  walk P none begins closed zero from l room = by (first_opening threshold ds from) refl (first_opening-within from l)
+    where
+      by : (o : Option ℕ) → first_opening threshold ds from ≡ o → IfSome o (λ i. (from ≤ i) × (i < length ds)) → P 0 from []
+      by None a w = none 0 from l a
+      by (Some i) a w = absurd (omega arith)
+  walk P none begins closed (suc most) from l room =
+      opening (first_opening threshold ds from) refl (first_opening-within from l)
+      (λ j low high. walk P none begins closed most j (omega arith) (omega arith))
+    where
+      closing : (i : ℕ) (c : Option ℕ) → (from ≤ i) × (i < length ds) → first_opening threshold ds from ≡ Some i → first_closing threshold ds i ≡ c
+          → IfSome c (λ j. (i + 1 ≤ j) × (j < length ds)) → Later P most from → P (suc most) from (cycles_from threshold ds (suc most) from)
+      closing i None w a b v later = rw (a, b) (begins most from i w.0 w.1 a b)
+      closing i (Some j) w a b v later =
+          rw (a, b) (closed most from i j (cycles_from threshold ds most j) w.0 w.1 v.1 a b (later j (omega (arith, w.0, v.0)) v.1))
 
-  grows_at_closing : (most from i : ℕ) (c : Option ℕ) → length ds ≤ from + suc most → from ≤ i → i < length ds
-      → first_opening threshold ds from ≡ Some i → first_opening threshold (ds ++ d ∷ []) from ≡ Some i
-      → first_closing threshold ds i ≡ c → IfSome c (λ j. (i + 1 ≤ j) × (j < length ds))
-      → first_closing threshold (ds ++ d ∷ []) i ≡ option_or c (closes i)
-      → ((j : ℕ) → i + 1 ≤ j → j < length ds → Grows most j)
-      → Grows (suc most) from
-  grows_at_closing most from i None room h l a e b w f rest = grows_open most from i a b e f
-  grows_at_closing most from i (Some j) room h l a e b w f rest = grows_closed most from i j a b e f (rest j w.0 w.1)
+      opening : (o : Option ℕ) → first_opening threshold ds from ≡ o → IfSome o (λ i. (from ≤ i) × (i < length ds)) → Later P most from
+          → P (suc most) from (cycles_from threshold ds (suc most) from)
+      opening None a w later = rw a (none (suc most) from l a)
+      opening (Some i) a w later = closing i (first_closing threshold ds i) w a refl (first_closing-within i w.1) later
 
-  grows_at_opening : (most from : ℕ) (o : Option ℕ) → length ds ≤ from + most → from ≤ length ds
-      → first_opening threshold ds from ≡ o → IfSome o (λ i. (from ≤ i) × (i < length ds))
+  -- the cycles with one more departure: those before, and the one that it closes
+  abbrev pub Grows : ℕ → ℕ → List Cycle → Type 0
+  Grows most from before = cycles_from threshold (ds ++ d ∷ []) (suc most) from ≡ before ++ added (first_opening threshold ds (last_closed from before))
+
+  grows_closed : (most from i j : ℕ) (later : List Cycle) → first_opening threshold (ds ++ d ∷ []) from ≡ Some i
+      → first_closing threshold (ds ++ d ∷ []) i ≡ Some j → Grows most j later → Grows (suc most) from (record { opened = i; closed = j } ∷ later)
+  unfolding cycles_from first_cycle
+  grows_closed most from i j later e f rest = rw (e, f) (ap (λ cs. record { opened = i; closed = j } ∷ cs) rest)
+
+  opening-with : (from : ℕ) (o : Option ℕ) → from ≤ length ds → first_opening threshold ds from ≡ o
       → first_opening threshold (ds ++ d ∷ []) from ≡ option_or o opens
-      → ((j fewer : ℕ) → most ≡ suc fewer → from + 1 ≤ j → j < length ds → Grows fewer j)
-      → Grows most from
-  grows_at_opening most from None room l a w e rest = grows_none most from a e
-  grows_at_opening zero from (Some i) room l a w e rest = absurd (omega arith)
-  grows_at_opening (suc most) from (Some i) room l a w e rest =
-      grows_at_closing most from i (first_closing threshold ds i) room w.0 w.1 a e refl (first_closing-within i w.1) (first_closing-push i w.1)
-      (λ j low high. rest j most refl (omega arith) high)
+  opening-with from o l e = first_opening-push from l ∙ ap (λ o. option_or o opens) e
 
-  grows : (most from : ℕ) → from ≤ length ds → length ds ≤ from + most → Grows most from
-  grows zero from l room =
-      grows_at_opening zero from (first_opening threshold ds from) room l refl (first_opening-within from l) (first_opening-push from l)
-      (λ j fewer e. absurd (omega arith))
-  grows (suc most) from l room =
-      grows_at_opening (suc most) from (first_opening threshold ds from) room l refl (first_opening-within from l) (first_opening-push from l)
-      (λ j fewer e low high. let same : fewer ≡ most = omega arith in rw same (grows most j (omega arith) (omega arith)))
+  closing-with : (i : ℕ) (c : Option ℕ) → i < length ds → first_closing threshold ds i ≡ c
+      → first_closing threshold (ds ++ d ∷ []) i ≡ option_or c (closes i)
+  closing-with i c l e = first_closing-push i l ∙ ap (λ c. option_or c (closes i)) e
+
+  grows : (most from : ℕ) → from ≤ length ds → length ds ≤ from + most → Grows most from (cycles_from threshold ds most from)
+  grows = walk Grows
+      (λ most from l a. rw (none_begun most from (nat_le threshold d.bytes_left) (opening-with from None l a), a) refl)
+      (λ most from i low l a b. rw (
+        one_begun most from i (nat_le threshold (bytes_after ds i + d.size))
+            (opening-with from (Some i) (omega arith) a) (closing-with i None l b),
+        a,
+      ) refl)
+      (λ most from i j later low l high a b rest. grows_closed most from i j later (opening-with from (Some i) (omega arith) a)
+      (closing-with i (Some j) l b) rest)
 
   -- the cycles lie within the list
   abbrev pub AllWithin : List Cycle → Type 0
   AllWithin [] = Unit {0}
   AllWithin (cycle ∷ rest) = (cycle.opened < length ds) × (cycle.closed < length ds) × AllWithin rest
-
-  within_at_closing : (most i : ℕ) (c : Option ℕ) → i < length ds → IfSome c (λ j. (i + 1 ≤ j) × (j < length ds))
-      → ((j : ℕ) → j < length ds → AllWithin (cycles_from threshold ds most j))
-      → AllWithin (option_map_or (λ cycle. cycle ∷ cycles_from threshold ds most cycle.closed)
-      (option_map (λ j. record { opened = i; closed = j }) c) [])
-  within_at_closing most i None l w rest = tt
-  within_at_closing most i (Some j) l w rest = (l, w.1, rest j w.1)
-
-  within_at_opening : (most : ℕ) (o : Option ℕ) → IfSome o (λ i. i < length ds)
-      → ((j : ℕ) → j < length ds → AllWithin (cycles_from threshold ds most j))
-      → AllWithin (option_map_or (λ cycle. cycle ∷ cycles_from threshold ds most cycle.closed)
-      (option_and_then (λ i. option_map (λ j. record { opened = i; closed = j }) (first_closing threshold ds i)) o) [])
-  within_at_opening most None w rest = tt
-  within_at_opening most (Some i) w rest = within_at_closing most i (first_closing threshold ds i) w (first_closing-within i w) rest
-
-  below_end : (from : ℕ) (o : Option ℕ) → IfSome o (λ i. (from ≤ i) × (i < length ds)) → IfSome o (λ i. i < length ds)
-  below_end from None h = tt
-  below_end from (Some i) h = h.1
-
-  cycles_from-within : (most from : ℕ) → from ≤ length ds → AllWithin (cycles_from threshold ds most from)
-  unfolding cycles_from first_cycle
-  cycles_from-within zero from l = tt
-  cycles_from-within (suc most) from l =
-      within_at_opening most (first_opening threshold ds from) (below_end from _ (first_opening-within from l))
-      (λ j h. cycles_from-within most j (omega arith))
 
   last_closed-within : (from : ℕ) (cs : List Cycle) → from ≤ length ds → AllWithin cs → last_closed from cs ≤ length ds
   last_closed-within from [] l w = l
@@ -266,7 +237,12 @@ module _ (threshold : ℕ) (ds : List Departure) (d : Departure) where
 
   pub cycles-within : AllWithin (cycles threshold ds)
   unfolding cycles
-  cycles-within = cycles_from-within (length ds) 0 (omega arith)
+  cycles-within = walk (λ most from cs. AllWithin cs) (λ most from l a. tt) (λ most from i low l a b. tt)
+      (λ most from i j later low l high a b rest. (l, high, rest)) (length ds) 0 (omega arith) (omega arith)
+
+  below_end : (from : ℕ) (o : Option ℕ) → IfSome o (λ i. (from ≤ i) × (i < length ds)) → IfSome o (λ i. i < length ds)
+  below_end from None h = tt
+  below_end from (Some i) h = h.1
 
   pub begun-within : IfSome (begun threshold ds) (λ i. i < length ds)
   unfolding begun
@@ -319,33 +295,7 @@ module _ (threshold : ℕ) (ds : List Departure) (d : Departure) where
   abbrev Unclosed : Option ℕ → Type 0
   Unclosed o = IfSome o (λ i. first_closing threshold ds i ≡ None)
 
-  unclosed_at_closing : (most from i : ℕ) (c : Option ℕ) → first_opening threshold ds from ≡ Some i → first_closing threshold ds i ≡ c
-      → IfSome c (λ j. (i + 1 ≤ j) × (j < length ds))
-      → ((j : ℕ) → i + 1 ≤ j → j < length ds → Unclosed (first_opening threshold ds (last_closed j (cycles_from threshold ds most j))))
-      → Unclosed (first_opening threshold ds (last_closed from (cycles_from threshold ds (suc most) from)))
-  unfolding cycles_from first_cycle
-  unclosed_at_closing most from i None a b w rest = rw (a, b, a) b
-  unclosed_at_closing most from i (Some j) a b w rest = rw (a, b) (rest j w.0 w.1)
-
-  unclosed_at_opening : (most from : ℕ) (o : Option ℕ) → length ds ≤ from + most → first_opening threshold ds from ≡ o
-      → IfSome o (λ i. (from ≤ i) × (i < length ds))
-      → ((j fewer : ℕ) → most ≡ suc fewer → from + 1 ≤ j → j < length ds
-      → Unclosed (first_opening threshold ds (last_closed j (cycles_from threshold ds fewer j))))
-      → Unclosed (first_opening threshold ds (last_closed from (cycles_from threshold ds most from)))
-  unclosed_at_opening most from None room a w rest = rw (none_cycles most from a, a) tt
-  unclosed_at_opening zero from (Some i) room a w rest = absurd (omega arith)
-  unclosed_at_opening (suc most) from (Some i) room a w rest =
-      unclosed_at_closing most from i (first_closing threshold ds i) a refl (first_closing-within i w.1)
-      (λ j low high. rest j most refl (omega arith) high)
-
-  unclosed_from : (most from : ℕ) → from ≤ length ds → length ds ≤ from + most
-      → Unclosed (first_opening threshold ds (last_closed from (cycles_from threshold ds most from)))
-  unclosed_from zero from l room =
-      unclosed_at_opening zero from (first_opening threshold ds from) room refl (first_opening-within from l) (λ j fewer e. absurd (omega arith))
-  unclosed_from (suc most) from l room =
-      unclosed_at_opening (suc most) from (first_opening threshold ds from) room refl (first_opening-within from l)
-      (λ j fewer e low high. let same : fewer ≡ most = omega arith in rw same (unclosed_from most j (omega arith) (omega arith)))
-
   pub begun-unclosed : Unclosed (begun threshold ds)
   unfolding begun cycles
-  begun-unclosed = unclosed_from (length ds) 0 (omega arith) (omega arith)
+  begun-unclosed = walk (λ most from cs. Unclosed (first_opening threshold ds (last_closed from cs))) (λ most from l a. rw a tt)
+      (λ most from i low l a b. rw a b) (λ most from i j later low l high a b rest. rest) (length ds) 0 (omega arith) (omega arith)

@@ -38,41 +38,18 @@ module _ (threshold : ℕ) (ds : List Departure) (d : Departure) where
       ≡ record { start = (departure_at ds i).moment; count = bytes_after ds i + d.size }
   begun_at-push i h = rw (departure_at-push_old threshold ds d i h, bytes_after-push threshold ds d i h) refl
 
-  -- no cycle was begun
-  idle_by : (o : Option ℕ) (e : Estimate) → begun threshold ds ≡ o → option_map (begun_at ds) o ≡ None → Shows threshold ds e
-      → Shows threshold (ds ++ d ∷ []) (record { average = e.average; begun = opened })
-  idle_by (Some i) e b n s = absurd (cc)
-  idle_by None e b n s = record {
-    average = s.average ∙ sym (average-kept None b refl);
-    begun = sym (map_opens (nat_le threshold d.bytes_left))
-        ∙ ap (option_map (begun_at (ds ++ d ∷ []))) (sym (begun-push threshold ds d ∙ ap (begins threshold ds d) b));
-  }
+  -- the cycle that is begun afterwards, where the departure may open one
+  begun-opened : begun threshold (ds ++ d ∷ []) ≡ opens threshold ds d → opened ≡ option_map (begun_at (ds ++ d ∷ [])) (begun threshold (ds ++ d ∷ []))
+  begun-opened e = sym (ap (option_map (begun_at (ds ++ d ∷ []))) e ∙ map_opens (nat_le threshold d.bytes_left))
 
-  pub idle : (e : Estimate) → e.begun ≡ None → Shows threshold ds e → Shows threshold (ds ++ d ∷ []) (record { average = e.average; begun = opened })
-  idle e n s = idle_by (begun threshold ds) e refl (sym s.begun ∙ n) s
+  opened-is : (b : Bool) → nat_lt d.bytes_left threshold ≡ b → (if b then None else Some (record { start = d.moment; count = 0 })) ≡ opened
+  opened-is true e =
+      let less : d.bytes_left < threshold = grind (arith, nat_tests) in
+      rw (lt-leb threshold d.bytes_left less) refl
+  opened-is false e =
+      let enough : threshold ≤ d.bytes_left = grind (arith, nat_tests) in
+      rw (le-leb threshold d.bytes_left enough) refl
 
-  -- a cycle was begun, and counts the departure without closing
-  counts_by : (o : Option ℕ) (e : Estimate) (cycle : Begun) → begun threshold ds ≡ o → IfSome o (λ i. i < length ds)
-      → option_map (begun_at ds) o ≡ Some cycle
-      → cycle.count + d.size < threshold → Shows threshold ds e
-      → Shows threshold (ds ++ d ∷ []) (record { average = e.average; begun = Some (record { start = cycle.start; count = cycle.count + d.size }) })
-  counts_by None e cycle b w n less s = absurd (cc)
-  counts_by (Some i) e cycle b w n less s =
-      let same : begun_at ds i ≡ cycle = cc in
-      let short : nat_le threshold (bytes_after ds i + d.size) ≡ false = lt-leb _ _ (rw (ap (λ x. x.count) same) less) in
-      record {
-        average = s.average ∙ sym (average-kept (Some i) b (rw short refl));
-        begun =
-            let after : begun threshold (ds ++ d ∷ []) ≡ Some i = begun-push threshold ds d ∙ ap (begins threshold ds d) b
-            ∙ ap (λ t. cond t (opens threshold ds d) (Some i)) short in
-            rw (after, ← same) (ap Some (sym (begun_at-push i w)));
-      }
-
-  pub counts : (e : Estimate) (cycle : Begun) → e.begun ≡ Some cycle → cycle.count + d.size < threshold → Shows threshold ds e
-      → Shows threshold (ds ++ d ∷ []) (record { average = e.average; begun = Some (record { start = cycle.start; count = cycle.count + d.size }) })
-  counts e cycle n less s = counts_by (begun threshold ds) e cycle refl (begun-within threshold ds d) (sym s.begun ∙ n) less s
-
-  -- a cycle was begun, and the departure closes it
   average-closed : (i : ℕ) → threshold ≤ 65536 → i < length ds → begun threshold ds ≡ Some i → nat_le threshold (bytes_after ds i + d.size) ≡ true
       → average threshold (ds ++ d ∷ []) ≡ with_sample threshold (average threshold ds) (max 1 (d.moment - (departure_at ds i).moment))
   unfolding average
@@ -86,54 +63,40 @@ module _ (threshold : ℕ) (ds : List Departure) (d : Departure) where
       ∙ ap (λ xs. samples threshold ds ++ xs) sample)
       ∙ average_of-push threshold t (samples threshold ds) (max 1 (d.moment - (departure_at ds i).moment)) (NoneZero-samples threshold ds)
 
-  closes_by : (o : Option ℕ) (e : Estimate) (cycle : Begun) → threshold ≤ 65536 → begun threshold ds ≡ o → IfSome o (λ i. i < length ds)
-      → option_map (begun_at ds) o ≡ Some cycle
-      → threshold ≤ cycle.count + d.size → Shows threshold ds e
-      → Shows threshold (ds ++ d ∷ []) (record { average = with_sample threshold e.average (max 1 (d.moment - cycle.start)); begun = opened })
-  closes_by None e cycle t b w n full s = absurd (cc)
-  closes_by (Some i) e cycle t b w n full s =
-      let same : begun_at ds i ≡ cycle = cc in
-      let closed : nat_le threshold (bytes_after ds i + d.size) ≡ true = le-leb _ _ (rw (ap (λ x. x.count) same) full) in
-      let start : (departure_at ds i).moment ≡ cycle.start = ap (λ x. x.start) same in
-      record {
-        average = rw (s.average, ← start) (sym (average-closed i t w b closed));
-        begun = sym (map_opens (nat_le threshold d.bytes_left))
-            ∙ ap (option_map (begun_at (ds ++ d ∷ []))) (sym (begun-push threshold ds d ∙ ap (begins threshold ds d) b
-            ∙ ap (λ t. cond t (opens threshold ds d) (Some i)) closed));
-      }
-
-  pub closes : (e : Estimate) (cycle : Begun) → threshold ≤ 65536 → e.begun ≡ Some cycle → threshold ≤ cycle.count + d.size → Shows threshold ds e
-      → Shows threshold (ds ++ d ∷ []) (record { average = with_sample threshold e.average (max 1 (d.moment - cycle.start)); begun = opened })
-  closes e cycle t n full s = closes_by (begun threshold ds) e cycle t refl (begun-within threshold ds d) (sym s.begun ∙ n) full s
-
   -- the step from an estimate shows the list with the departure
-  opened-is : (b : Bool) → nat_lt d.bytes_left threshold ≡ b → (if b then None else Some (record { start = d.moment; count = 0 })) ≡ opened
-  opened-is true e =
-      let less : d.bytes_left < threshold = grind (arith, nat_tests) in
-      rw (lt-leb threshold d.bytes_left less) refl
-  opened-is false e =
-      let enough : threshold ≤ d.bytes_left = grind (arith, nat_tests) in
-      rw (le-leb threshold d.bytes_left enough) refl
-
-  counting : (average : ℕ) (cycle : Begun) (b : Bool) → threshold ≤ 65536 → nat_lt (cycle.count + d.size) threshold ≡ b
-      → Shows threshold ds (record { average = average; begun = Some cycle })
-      → Shows threshold (ds ++ d ∷ []) (if b
-      then record { average = average; begun = Some (record { start = cycle.start; count = cycle.count + d.size }) }
-      else record { average = with_sample threshold average (max 1 (d.moment - cycle.start)); begun = opened_by threshold d })
-  counting average cycle true t e s =
-      let less : cycle.count + d.size < threshold = grind (arith, nat_tests) in
-      counts (record { average = average; begun = Some cycle }) cycle refl less s
-  counting average cycle false t e s =
-      let full : threshold ≤ cycle.count + d.size = grind (arith, nat_tests) in
-      rw (opened-is (nat_lt d.bytes_left threshold) refl) (closes (record { average = average; begun = Some cycle }) cycle t refl full s)
-
-  after : (average : ℕ) (o : Option Begun) → threshold ≤ 65536 → Shows threshold ds (record { average = average; begun = o })
-      → Shows threshold (ds ++ d ∷ []) (step_from threshold average d o)
-  after average None t s = rw (opened-is (nat_lt d.bytes_left threshold) refl) (idle (record { average = average; begun = None }) refl s)
-  after average (Some cycle) t s = counting average cycle (nat_lt (cycle.count + d.size) threshold) t refl s
-
   pub shows_after : (e : Estimate) → threshold ≤ 65536 → Shows threshold ds e → Shows threshold (ds ++ d ∷ []) (after_departure threshold e d)
-  shows_after e t s = after e.average e.begun t s
+  shows_after e t s = by (begun threshold ds) refl (begun-within threshold ds d) s.begun
+    where
+      -- a cycle was begun, and counts the departure without closing; or the departure closes it
+      counting : (i : ℕ) (less : Bool) → begun threshold ds ≡ Some i → i < length ds → nat_lt (bytes_after ds i + d.size) threshold ≡ less
+          → Shows threshold (ds ++ d ∷ []) (if less
+          then record { average = e.average; begun = Some (record { start = (departure_at ds i).moment; count = bytes_after ds i + d.size }) }
+          else record { average = with_sample threshold e.average (max 1 (d.moment - (departure_at ds i).moment)); begun = opened_by threshold d })
+      counting i true b w l =
+          let less : bytes_after ds i + d.size < threshold = grind (arith, nat_tests) in
+          let short = lt-leb threshold (bytes_after ds i + d.size) less in
+          let after : begun threshold (ds ++ d ∷ []) ≡ Some i = begun-push threshold ds d ∙ ap (begins threshold ds d) b
+          ∙ ap (λ t. cond t (opens threshold ds d) (Some i)) short in
+          record {
+            average = s.average ∙ sym (average-kept (Some i) b (rw short refl));
+            begun = rw after (ap Some (sym (begun_at-push i w)));
+          }
+      counting i false b w l =
+          let full : threshold ≤ bytes_after ds i + d.size = grind (arith, nat_tests) in
+          let closed = le-leb threshold (bytes_after ds i + d.size) full in
+          record {
+            average = rw s.average (sym (average-closed i t w b closed));
+            begun = opened-is (nat_lt d.bytes_left threshold) refl ∙ begun-opened (begun-push threshold ds d ∙ ap (begins threshold ds d) b
+                ∙ ap (λ t. cond t (opens threshold ds d) (Some i)) closed);
+          }
+
+      by : (o : Option ℕ) → begun threshold ds ≡ o → IfSome o (λ i. i < length ds) → e.begun ≡ option_map (begun_at ds) o
+          → Shows threshold (ds ++ d ∷ []) (step_from threshold e.average d e.begun)
+      by None b w is = rw is (record {
+        average = s.average ∙ sym (average-kept None b refl);
+        begun = opened-is (nat_lt d.bytes_left threshold) refl ∙ begun-opened (begun-push threshold ds d ∙ ap (begins threshold ds d) b);
+      })
+      by (Some i) b w is = rw is (counting i (nat_lt (bytes_after ds i + d.size) threshold) b w refl)
 
 -- .. and stays in its ranges
 averaged-within : (threshold average sample : ℕ) → threshold ≤ 65536 → average < 2 ^ 60 → sample < 2 ^ 60 → averaged threshold average sample < 2 ^ 60

@@ -16,6 +16,7 @@ use Rattle.pie_record.specs.declared.fault.TraceFault.TheVariants as fault
 use Rattle.pie_trace.proofs.EndFacts.{part-opened}
 use Rattle.pie_trace.proofs.RunBack.{Opens, Sound, before-few, rows-few, rows-told, text-begun}
 use Rattle.pie_trace.proofs.RunFindings.{AreRuns, before-all, lines-legal}
+use Rattle.pie_audit.proofs.ToldFacts.{one-value}
 
 -- what is wanted of the crates below
 pub record Below : Type 0 where
@@ -49,9 +50,6 @@ within most rows b e = by (resumed_of rows) refl e
     by (Ok c) is e = so c is (nat_lt most c.read) refl e
     by (Err why) is e = cc
 
-same-beginning : (read : Result Beginning TraceFault) (a b : Beginning) → read ≡ Ok a → read ≡ Ok b → a ≡ b
-same-beginning read a b e f = cc
-
 -- ---- its text
 
 text-resumed : (most : ℕ) (past : List Event) (rows : List Row) (b : Beginning) → resumed_within most rows ≡ Ok b
@@ -79,7 +77,7 @@ pub resumed-clean : Below → (most : ℕ) (rows : List Row) (opening : Opening)
     → IsFound (resumed_text most past rows) opening past (Clean (length (progress_resumed most past b).history))
 resumed-clean law most rows opening past b few goes fit e =
     let at = within most rows b e in
-    let same = same-beginning (resumed_of rows) goes.beginning b goes.resumed at.begun in
+    let same = one-value (resumed_of rows) goes.beginning b goes.resumed at.begun in
     let opened : b.opening ≡ opening = subst (λ (it : Beginning). it.opening ≡ opening) same goes.opened in
     let shows : Shows opening b.core past = subst (λ (it : Beginning). Shows opening it.core past) same goes.shown in
     let legal : IsLegal b.opening past = subst (λ (o : Opening). IsLegal o past) (sym opened) shows.legal in
@@ -97,7 +95,7 @@ resumed-clean law most rows opening past b few goes fit e =
     let fewer = rows-few Three (b.read + 1) good given in
     let tells : TellsPart (rows_text (take b.read rows ++ more)) opening past (lines_told asked given) =
     law.behind rows more b opening past (lines_told asked given) at.begun goes told (omega (arith, count, fewer, few)) in
-    let runs = lines-legal law.held.legal_with_one_more b.opening (going_on past) (map Made past) asked (law.events.made past)
+    let runs = lines-legal law.held b.opening (going_on past) (map Made past) asked (law.events.made past)
     (law.events.events past) legal in
     subst (λ (text : List ℕ). IsFound text opening past (Clean (length (progress_resumed most past b).history)))
     (sym (text-resumed most past rows b e))

@@ -21,6 +21,7 @@ use Rattle.pie_trace.proofs.HistoryFacts.{before_fault-later, flawed-record, lon
 use Rattle.pie_trace.specs.Laws.{Held}
 use Rattle.pie_trace.proofs.MigrateFirst.{first-word}
 use Rattle.pie_trace.proofs.MigrateFacts.{told_rows-line, told_rows-none}
+use Rattle.pie_trace.specs.Reply.{answered, refused}
 
 abbrev AllFit : List Event → Type 0
 AllFit history = All (λ event. CommandFits event.command) history
@@ -49,22 +50,33 @@ code-small refusal.HistoryFull = omega arith
 
 -- ---- one record
 
+-- what a command comes to: an event that the rules give, or a refusal
+pub asked-by : (P : Reply → Progress → Type 0) (opening : Opening) (progress : Progress) (caller : ℕ) (command : Command)
+    → (refusal_by_rule opening progress.history command ≡ None → P (answered (decision opening progress.history command))
+    (recorded opening progress caller command (Ok (decision opening progress.history command))))
+    → ((why : Refusal) → P (refused (code_of why)) progress)
+    → P (reply opening progress (Ask caller command)) (after opening progress (Ask caller command))
+asked-by P opening progress caller command taken refuses =
+    by (refusal_by_rule opening progress.history command) (is_refused_full opening.choices.mode (progress.held == opening.limits.tail)) refl
+  where
+    by : (o : Option Refusal) (full : Bool) → refusal_by_rule opening progress.history command ≡ o
+        → P (reply_to_command (refused_or (or_full o full) (decision opening progress.history command)))
+        (recorded opening progress caller command (refused_or (or_full o full) (decision opening progress.history command)))
+    by None false free = taken free
+    by None true free = refuses refusal.HistoryFull
+    by (Some why) full free = refuses why
+
 ask-told : (version : Version) (held : Held) (number : ℕ) (row : Row) (caller : ℕ) (command : Command) (opening : Opening) (progress : Progress)
     → number < 2 ^ 64 → Opens opening → Sound opening progress → request_of version row ≡ Ok (Ask caller command)
     → line_of version (history_row version number row (reply opening progress (Ask caller command)))
     ≡ Ok (line_told (Ask caller command) (reply opening progress (Ask caller command)))
 ask-told version held number row caller command opening progress small opens sound reads =
-    by (refusal_by_rule opening progress.history command) (is_refused_full opening.choices.mode (progress.held == opening.limits.tail)) refl
-  where
-    by : (o : Option Refusal) (full : Bool) → refusal_by_rule opening progress.history command ≡ o
-        → line_of version (history_row version number row (reply_to_command
-        (refused_or (or_full o full) (decision opening progress.history command))))
-        ≡ Ok (line_told (Ask caller command) (reply_to_command (refused_or (or_full o full) (decision opening progress.history command))))
-    by None false free =
-        held.back.answered version row caller command (decision opening progress.history command) reads (held.kinds opening progress.history command)
-        (held.answers opening progress.history command opens.accepted opens.params sound.legal sound.fit free)
-    by None true free = held.back.refused version number 5 small (omega arith)
-    by (Some why) full free = held.back.refused version number (code_of why) small (code-small why)
+    asked-by (λ given later. line_of version (history_row version number row given) ≡ Ok (line_told (Ask caller command) given)) opening progress
+    caller command
+    (λ free. held.back.answered version row caller command (decision opening progress.history command) reads
+    (held.kinds opening progress.history command)
+    (held.answers opening progress.history command opens.accepted opens.params sound.legal sound.fit free))
+    (λ why. held.back.refused version number (code_of why) small (code-small why))
 
 fold-enough : (progress : Progress) (n : ℕ) (events : List Event) → fold_outcome progress n ≡ Ok events → n ≤ progress.held
 fold-enough progress n events = by (nat_lt progress.held n) refl
@@ -119,24 +131,18 @@ after-fold false held n = omega arith
 
 pub asked-sound : (held : Held) (opening : Opening) (progress : Progress) (caller : ℕ) (command : Command) → CommandFits command
     → Sound opening progress → Sound opening (after opening progress (Ask caller command))
-asked-sound held opening progress caller command fit sound =
-    by (refusal_by_rule opening progress.history command) (is_refused_full opening.choices.mode (progress.held == opening.limits.tail)) refl
-  where
-    by : (o : Option Refusal) (full : Bool) → refusal_by_rule opening progress.history command ≡ o
-        → Sound opening (recorded opening progress caller command (refused_or (or_full o full) (decision opening progress.history command)))
-    by None false free =
-        let event : Event = event_of caller command (decision opening progress.history command) in
-        let more = length-append progress.history (event ∷ []) in
-        let within = sound.held in
-        let one = with-one opening.choices.mode opening.limits.tail progress.held in
-        record {
-          legal = held.legal_with_one_more opening progress.history caller command sound.legal free;
-          fit = All-append (λ (e : Event). CommandFits e.command) progress.history (event ∷ []) sound.fit
-              (All-cons (λ (e : Event). CommandFits e.command) event [] fit (All-nil (λ (e : Event). CommandFits e.command)));
-          held = omega (arith, more);
-        }
-    by None true free = sound
-    by (Some why) full free = sound
+asked-sound held opening progress caller command fit sound = asked-by (λ given later. Sound opening later) opening progress caller command
+    (λ free.
+    let event : Event = event_of caller command (decision opening progress.history command) in
+    let more = length-append progress.history (event ∷ []) in
+    let within = sound.held in
+    let one = with-one opening.choices.mode opening.limits.tail progress.held in
+    record {
+      legal = held.legal_with_one_more opening progress.history caller command sound.legal free;
+      fit = All-append (λ (e : Event). CommandFits e.command) progress.history (event ∷ []) sound.fit
+          (All-cons (λ (e : Event). CommandFits e.command) event [] fit (All-nil (λ (e : Event). CommandFits e.command)));
+      held = omega (arith, more);
+    }) (λ why. sound)
 
 after-sound : (version : Version) (held : Held) (opening : Opening) (progress : Progress) (row : Row) (request : Request)
     → request_of version row ≡ Ok request

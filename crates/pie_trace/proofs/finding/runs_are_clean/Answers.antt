@@ -6,7 +6,4 @@ returns c =
     let told = c.history_texts_are_read_back.ensures in
     let clean = c.clean_is_legal.ensures.legal_is_clean in
     let held = c.all_is_held.ensures in
-    record {
-      whole = whole-clean told clean held.legal_with_one_more held.legal_at_first;
-      up_to_fault = run-clean told clean held.legal_with_one_more held.legal_at_first;
-    }
+    record { whole = whole-clean told clean held; up_to_fault = run-clean told clean held }

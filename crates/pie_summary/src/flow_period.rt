@@ -1,15 +1,14 @@
 //! The period that is being summed up by flow.
 ghost use Rattle.std.specs.Prelude.{◌≡◌, ◌++◌, ◌∷◌, [], ℕ, List, None, OnOk, Option, Some};
 ghost use Rattle.pie_explain.specs.declared.explanation.Explained.{Explained};
-ghost use Rattle.pie_summary.specs.ByFlow.{span_of};
+ghost use Rattle.pie_summary.specs.Spans.{span_of};
 ghost use Rattle.pie_summary.specs.Flows.{HasFlows};
 ghost use Rattle.pie_summary.specs.Period.{last_events, last_period, period_at, since};
 
 use crate::flow::FlowTable;
-use crate::flow_words::Span;
-use crate::period::{begins, period_of};
-use crate::series::Series;
-use pie_explain::{Explained, time_of};
+use crate::period::{period_of, starts};
+use crate::spans::Span;
+use pie_explain::Explained;
 use std::alloc::{AllocError, Global};
 
 /// The flows of the last events, as far back as they are in the same period.
@@ -23,27 +22,6 @@ pub struct FlowPeriod {
     pub table: FlowTable,
 }
 
-/// When no event was.
-fn no_span() -> Span
-    ensures { result ≡ span_of [] }
-{
-    Span {
-        moments: Series::empty(),
-        times: Series::empty(),
-    }
-}
-
-/// When events were, with one more.
-fn span_with(span: Span, told: &Explained) -> Span
-    ensures { (shown : List Explained) → span ≡ span_of shown → result ≡ span_of (shown ++ told.now ∷ []) }
-{
-    let moment = told.told.moment;
-    Span {
-        moments: span.moments.with(moment),
-        times: span.times.with_some(time_of(told.told.clock, moment)),
-    }
-}
-
 impl FlowPeriod {
     /// No event yet.
     pub(crate) fn empty(alloc: Global) -> FlowPeriod
@@ -53,7 +31,7 @@ impl FlowPeriod {
     {
         FlowPeriod {
             number: None,
-            span: no_span(),
+            span: Span::empty(),
             table: FlowTable::empty(alloc),
         }
     }
@@ -66,8 +44,8 @@ impl FlowPeriod {
             → HasFlows self.old.table.rows.entries (last_events every shown)
             → HasFlows self.new.table.rows.entries (since every (Some period) shown) }
     {
-        if begins(self.number, period) {
-            self.span = no_span();
+        if starts(self.number, period) {
+            self.span = Span::empty();
             self.table.clear();
         }
     }
@@ -88,7 +66,7 @@ impl FlowPeriod {
         let number = period_of(every, told.told.moment);
         self.begin(number);
         self.number = Some(number);
-        self.span = span_with(self.span, told);
+        self.span.take(told);
         self.table.take(told)
     }
 }

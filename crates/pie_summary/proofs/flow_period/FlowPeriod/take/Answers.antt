@@ -1,7 +1,7 @@
 use Rattle.std.proofs.Common.{◌≡◌, ℕ, List, ◌∙◌, ap, Some, sym, subst}
 use Rattle.std.specs.Prelude.{OnOk}
 use Rattle.pie_explain.specs.declared.explanation.Explained.{Explained}
-use Rattle.pie_summary.specs.ByFlow.{span_of}
+use Rattle.pie_summary.specs.Spans.{span_of}
 use Rattle.pie_summary.specs.Flows.{HasFlows}
 use Rattle.pie_summary.specs.Period.{period_at, since}
 use Rattle.pie_summary.proofs.PeriodFacts.{last_events-push, last_period-push}
@@ -16,7 +16,7 @@ returns-clause-span c = λ shown number span.
     let kept : c.begin.new.self.span ≡ span_of (since c.args.every (Some period) shown) =
     c.begin.ensures.span shown c.args.every number span
     ∙ ap (λ (p : ℕ). span_of (since c.args.every (Some p) shown)) c.period_of-number.ensures in
-    c.span_with-self.ensures (since c.args.every (Some period) shown) kept ∙ ap span_of (sym (last_events-push c.args.every shown c.args.told.now))
+    c.take.ensures (since c.args.every (Some period) shown) kept ∙ ap span_of (sym (last_events-push c.args.every shown c.args.told.now))
 
 pub returns-clause-flows : goal.returns-clause-flows
 returns-clause-flows c = λ shown number has.
@@ -24,5 +24,5 @@ returns-clause-flows c = λ shown number has.
     let kept : HasFlows c.begin.new.self.table.rows.entries (since c.args.every (Some period) shown) =
     subst (λ (p : ℕ). HasFlows c.begin.new.self.table.rows.entries (since c.args.every (Some p) shown)) c.period_of-number.ensures
     (c.begin.ensures.flows shown c.args.every number has) in
-    subst (λ (all : List Explained). OnOk c.take.result (HasFlows c.take.new.self.rows.entries all))
-    (sym (last_events-push c.args.every shown c.args.told.now)) (c.take.ensures (since c.args.every (Some period) shown) kept)
+    subst (λ (all : List Explained). OnOk c.take-2.result (HasFlows c.take-2.new.self.rows.entries all))
+    (sym (last_events-push c.args.every shown c.args.told.now)) (c.take-2.ensures (since c.args.every (Some period) shown) kept)

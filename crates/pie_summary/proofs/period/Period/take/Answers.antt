@@ -14,13 +14,14 @@ returns-clause-sums c = λ shown number sums.
     let kept : c.begin.new.self.sums ≡ sums_of (since c.args.every (Some period) shown) =
     c.begin.ensures.sums shown c.args.every number sums
     ∙ ap (λ (p : ℕ). sums_of (since c.args.every (Some p) shown)) c.period_of-number.ensures in
-    c.with-self.ensures (since c.args.every (Some period) shown) kept ∙ ap sums_of (sym (last_events-push c.args.every shown c.args.told.now))
+    c.take.ensures (since c.args.every (Some period) shown) kept ∙ ap sums_of (sym (last_events-push c.args.every shown c.args.told.now))
 
 pub returns-clause-waits : goal.returns-clause-waits
 returns-clause-waits c = λ shown number waits.
     let period = period_at c.args.every c.args.told.now in
-    let kept : c.begin.new.self.waits ≡ waits_of (since c.args.every (Some period) shown) =
+    let kept : c.begin.new.self.waits.value ≡ waits_of (since c.args.every (Some period) shown) =
     c.begin.ensures.waits shown c.args.every number waits
     ∙ ap (λ (p : ℕ). waits_of (since c.args.every (Some p) shown)) c.period_of-number.ensures in
-    waits-push (since c.args.every (Some period) shown) c.args.told.now c.where_left.result c.begin.new.self.waits c.take_some.new.self
-    c.take_some.ensures c.where_left.ensures kept ∙ ap waits_of (sym (last_events-push c.args.every shown c.args.told.now))
+    waits-push (since c.args.every (Some period) shown) c.args.told.now
+    (λ numbers held. c.count_some.ensures numbers (c.deref_mut.ensures.value ∙ held)) c.where_left-wait.ensures kept
+    ∙ ap waits_of (sym (last_events-push c.args.every shown c.args.told.now))

@@ -11,7 +11,7 @@ use Rattle.pie_summary.specs.declared.flow_period.FlowPeriod.{FlowPeriod}
 use Rattle.pie_summary.specs.declared.spans.Span.{Span}
 use Rattle.pie_summary.specs.Flows.{HasFlows, flows_of}
 use Rattle.pie_summary.specs.FlowWords.{flow_names, flows_said}
-use Rattle.pie_summary.specs.Period.{begins, last_events, last_period, period_at}
+use Rattle.pie_summary.specs.Period.{Keeps, begins, last_events, last_period, period_at}
 use Rattle.pie_summary.specs.Spans.{span_of}
 
 -- what stands before the first period: for CSV the header row
@@ -41,8 +41,10 @@ flows_so_far by_flow all = flow_header by_flow.form ++ flat_map (flows_at by_flo
 abbrev pub flows_whole : ByFlow → List Explained → List ℕ
 flows_whole by_flow all = flows_so_far by_flow all ++ said_by_flow by_flow (last_events by_flow.every all)
 
--- what is kept is the period of the last of these events, and when the last events in it were, and their flows
-pub record KeepsFlows (by_flow : ByFlow) (period : FlowPeriod) (all : List Explained) : Type 0 where
-  pub number : period.number ≡ last_period by_flow.every all
-  pub span : period.span ≡ span_of (last_events by_flow.every all)
-  pub flows : HasFlows period.table.rows.entries (last_events by_flow.every all)
+-- what a period has of these events: when they were, and their flows
+pub record HoldsFlows (period : FlowPeriod) (all : List Explained) : Type 0 where
+  pub span : period.span ≡ span_of all
+  pub flows : HasFlows period.table.rows.entries all
+
+abbrev pub keeps_flows : ByFlow → FlowPeriod → List Explained → Type 0
+keeps_flows by_flow period all = Keeps (HoldsFlows period) by_flow.every period.number all

@@ -1,5 +1,5 @@
 -- Periods of equal length: which of the explained events are summed up together.
-use Rattle.std.specs.Prelude.{ℕ, ◌/◌, ◌==◌, max, Bool, true, false, not, List, [], map, Option, Some, None}
+use Rattle.std.specs.Prelude.{ℕ, ◌≡◌, ◌/◌, ◌==◌, max, Bool, true, false, not, List, [], map, Option, Some, None}
 use Rattle.std.specs.List.{after_last}
 use Rattle.pie_aqm.specs.Places.{last_or}
 use Rattle.pie_explain.specs.declared.explanation.Explained.{Explained}
@@ -40,3 +40,8 @@ begins (Some before) period = not (before == period)
 abbrev pub starts : Option ℕ → ℕ → Bool
 starts None period = true
 starts (Some before) period = not (before == period)
+
+-- where the period with this number, if any, is that of the last of these events, this is so of the last events as far back as they are in it
+pub record Keeps (of : List Explained → Type 0) (every under_way : Option ℕ) (all : List Explained) : Type 0 where
+  pub last : under_way ≡ last_period every all
+  pub kept : of (last_events every all)

@@ -13,7 +13,7 @@ use Rattle.pie_record.specs.declared.clock.Clock.{Clock}
 use Rattle.pie_summary.specs.declared.period.Period.{Period}
 use Rattle.pie_summary.specs.declared.summary.Summary.{Summary}
 use Rattle.pie_summary.specs.declared.sums.Sums.{Sums}
-use Rattle.pie_summary.specs.Period.{begins, last_events, last_period, period_at}
+use Rattle.pie_summary.specs.Period.{Keeps, begins, last_events, last_period, period_at}
 use Rattle.pie_summary.specs.Record.{field_names, record_of}
 use Rattle.pie_summary.specs.Sums.{sums_of, waits_of}
 use Rattle.pie_summary.specs.Words.{wait_99, words}
@@ -80,8 +80,10 @@ summaries summary all = header summary.form ++ flat_map (written_at summary) (pl
 abbrev pub summary_of : Summary → List Explained → List ℕ
 summary_of summary all = summaries summary all ++ said_of summary.form (last_events summary.every all)
 
--- what is kept is the period of the last of these events, and the numbers and the waits of the last events in it
+-- what a period has of these events: their numbers, and their waits
+pub record HoldsSums (period : Period) (all : List Explained) : Type 0 where
+  pub sums : period.sums ≡ sums_of all
+  pub waits : period.waits.value ≡ waits_of all
+
 abbrev pub keeps : Summary → Period → List Explained → Type 0
-keeps summary period all =
-    (period.number ≡ last_period summary.every all) × (period.sums ≡ sums_of (last_events summary.every all))
-    × (period.waits.value ≡ waits_of (last_events summary.every all))
+keeps summary period all = Keeps (HoldsSums period) summary.every period.number all

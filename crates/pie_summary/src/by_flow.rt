@@ -69,9 +69,9 @@ fn push_ended(
 impl Report for ByFlow {
     type State = FlowPeriod;
 
-    ghost use Rattle.pie_summary.specs.ByFlow.{KeepsFlows, flows_so_far, flows_whole};
+    ghost use Rattle.pie_summary.specs.ByFlow.{flows_so_far, flows_whole, keeps_flows};
 
-    ghost shows = { KeepsFlows };
+    ghost shows = { keeps_flows };
 
     ghost so_far = { flows_so_far };
 

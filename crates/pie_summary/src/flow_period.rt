@@ -1,9 +1,10 @@
 //! The period that is being summed up by flow.
 ghost use Rattle.std.specs.Prelude.{◌≡◌, ◌++◌, ◌∷◌, [], ℕ, List, None, OnOk, Option, Some};
 ghost use Rattle.pie_explain.specs.declared.explanation.Explained.{Explained};
-ghost use Rattle.pie_summary.specs.Spans.{span_of};
+ghost use Rattle.pie_summary.specs.ByFlow.{HoldsFlows};
 ghost use Rattle.pie_summary.specs.Flows.{HasFlows};
-ghost use Rattle.pie_summary.specs.Period.{last_events, last_period, period_at, since};
+ghost use Rattle.pie_summary.specs.Period.{Keeps, since};
+ghost use Rattle.pie_summary.specs.Spans.{span_of};
 
 use crate::flow::FlowTable;
 use crate::period::{period_of, starts};
@@ -38,11 +39,8 @@ impl FlowPeriod {
 
     /// Forgets the events before one that is in this period, where they are in another.
     fn begin(&mut self, period: u64)
-        ensures span { (shown : List Explained) (every : Option ℕ) → self.old.number ≡ last_period every shown
-            → self.old.span ≡ span_of (last_events every shown) → self.new.span ≡ span_of (since every (Some period) shown) }
-        ensures flows { (shown : List Explained) (every : Option ℕ) → self.old.number ≡ last_period every shown
-            → HasFlows self.old.table.rows.entries (last_events every shown)
-            → HasFlows self.new.table.rows.entries (since every (Some period) shown) }
+        ensures { (shown : List Explained) (every : Option ℕ) → Keeps (HoldsFlows self.old) every self.old.number shown
+            → HoldsFlows self.new (since every (Some period) shown) }
     {
         if starts(self.number, period) {
             self.span = Span::empty();
@@ -56,12 +54,8 @@ impl FlowPeriod {
     ///
     /// `AllocError` where there is no memory for its flow.
     pub(crate) fn take(&mut self, every: Option<u64>, told: &Explained) -> Result<(), AllocError>
-        ensures number { (shown : List Explained) → self.new.number ≡ last_period every (shown ++ told.now ∷ []) }
-        ensures span { (shown : List Explained) → self.old.number ≡ last_period every shown
-            → self.old.span ≡ span_of (last_events every shown) → self.new.span ≡ span_of (last_events every (shown ++ told.now ∷ [])) }
-        ensures flows { (shown : List Explained) → self.old.number ≡ last_period every shown
-            → HasFlows self.old.table.rows.entries (last_events every shown)
-            → OnOk result (HasFlows self.new.table.rows.entries (last_events every (shown ++ told.now ∷ []))) }
+        ensures { (shown : List Explained) → Keeps (HoldsFlows self.old) every self.old.number shown
+            → OnOk result (Keeps (HoldsFlows self.new) every self.new.number (shown ++ told.now ∷ [])) }
     {
         let number = period_of(every, told.told.moment);
         self.begin(number);

@@ -1,8 +1,8 @@
 //! The period that is being summed up.
 ghost use Rattle.std.specs.Prelude.{◌≡◌, ◌++◌, ◌∷◌, [], ℕ, List, IfOk, Option, None, Some};
 ghost use Rattle.pie_explain.specs.declared.explanation.Explained.{Explained};
-ghost use Rattle.pie_summary.specs.Period.{begins, last_events, last_period, period_of, since, starts};
-ghost use Rattle.pie_summary.specs.Sums.{sums_of, waits_of};
+ghost use Rattle.pie_summary.specs.Period.{Keeps, begins, period_of, since, starts};
+ghost use Rattle.pie_summary.specs.Summary.{HoldsSums};
 
 use crate::ranges::{RANGES, clear_counts, count_some};
 use crate::sums::{Sums, where_left};
@@ -58,7 +58,7 @@ impl Period {
     ///
     /// `AllocError` where there is none.
     pub(crate) fn empty(alloc: Global) -> Result<Period, AllocError>
-        ensures { IfOk result (λ period. (period.number ≡ None) × (period.sums ≡ sums_of []) × (period.waits.value ≡ waits_of [])) }
+        ensures { IfOk result (λ period. (period.number ≡ None) × HoldsSums period []) }
     {
         let waits = Box::new(alloc, [0; RANGES])?;
         Ok(Period {
@@ -70,11 +70,8 @@ impl Period {
 
     /// Forgets the events before one that is in this period, where they are in another.
     fn begin(&mut self, period: u64)
-        ensures number { self.new.number ≡ self.old.number }
-        ensures sums { (shown : List Explained) (every : Option ℕ) → self.old.number ≡ last_period every shown
-            → self.old.sums ≡ sums_of (last_events every shown) → self.new.sums ≡ sums_of (since every (Some period) shown) }
-        ensures waits { (shown : List Explained) (every : Option ℕ) → self.old.number ≡ last_period every shown
-            → self.old.waits.value ≡ waits_of (last_events every shown) → self.new.waits.value ≡ waits_of (since every (Some period) shown) }
+        ensures { (shown : List Explained) (every : Option ℕ) → Keeps (HoldsSums self.old) every self.old.number shown
+            → HoldsSums self.new (since every (Some period) shown) }
     {
         if starts(self.number, period) {
             self.sums = Sums::empty();
@@ -84,11 +81,8 @@ impl Period {
 
     /// Takes one more event.
     pub(crate) fn take(&mut self, every: Option<u64>, told: &Explained)
-        ensures number { (shown : List Explained) → self.new.number ≡ last_period every (shown ++ told.now ∷ []) }
-        ensures sums { (shown : List Explained) → self.old.number ≡ last_period every shown → self.old.sums ≡ sums_of (last_events every shown)
-            → self.new.sums ≡ sums_of (last_events every (shown ++ told.now ∷ [])) }
-        ensures waits { (shown : List Explained) → self.old.number ≡ last_period every shown → self.old.waits.value ≡ waits_of (last_events every shown)
-            → self.new.waits.value ≡ waits_of (last_events every (shown ++ told.now ∷ [])) }
+        ensures { (shown : List Explained) → Keeps (HoldsSums self.old) every self.old.number shown
+            → Keeps (HoldsSums self.new) every self.new.number (shown ++ told.now ∷ []) }
     {
         let number = period_of(every, told.told.moment);
         self.begin(number);

@@ -1,12 +1,13 @@
 use Rattle.std.proofs.Common.{ap, ℕ, ◌∙◌}
 use Rattle.pie_book.specs.History.{waiting_after}
-use Rattle.pie_book.specs.Statistics.{wait_of}
+use Rattle.pie_book.specs.Statistics.{stats_after, wait_of}
 use Rattle.pie_event.specs.Deed.{deed_of}
+use Rattle.pie_event.specs.declared.stats.Stats.{Stats}
 use Rattle.pie_explain.specs.Explanation.{explanation}
 use Rattle.pie_explain.proofs.explanation.Explanation.of.Goals as goal
 
 pub returns : goal.returns
-unfolding explanation
+unfolding explanation stats_after
 returns c opening history shows =
     let now = c.moment_of-now.ensures opening history shows in
     let wait = λ (at : ℕ). wait_of (deed_of c.args.event.now) at (waiting_after opening history) in
@@ -19,6 +20,6 @@ returns c opening history shows =
       cause = c.cause.ensures.cause opening history shows i;
       waited = (c.waited.ensures opening history shows ∙ ap wait now) i;
       set_by = c.args.set_by;
-      updates = c.updates.ensures opening history shows i;
+      updates = ap (λ (s : Stats). s.updates) (c.stats.ensures opening history shows) i;
       clock = c.args.clock;
     }

@@ -6,4 +6,4 @@ use Rattle.pie_summary.proofs.period.Period.empty.Goals as goal
 
 pub returns : goal.returns
 unfolding waits_of ranges_of
-returns c = (refl, c.empty.ensures, c.in_ok-waits.ensures.ok ∙ none-counted range_of 0 1720)
+returns c = (refl, record { sums = c.empty.ensures; waits = c.in_ok-waits.ensures.ok ∙ none-counted range_of 0 1720 })

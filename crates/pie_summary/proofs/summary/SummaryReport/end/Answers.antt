@@ -8,4 +8,4 @@ returns c = λ all kept.
     let summary = c.args.self.now in
     let period = c.args.state.now in
     written-end c.push_said.result (summaries summary all) (said_of summary.form (last_events summary.every all)) c.args.page.now
-    c.push_said.new.page (said summary.form period.sums period.waits.value) (λ i. said summary.form (kept.1 i) (kept.2 i)) c.push_said.ensures
+    c.push_said.new.page (said summary.form period.sums period.waits.value) (λ i. said summary.form (kept.kept.sums i) (kept.kept.waits i)) c.push_said.ensures

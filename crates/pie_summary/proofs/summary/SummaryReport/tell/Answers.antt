@@ -11,12 +11,12 @@ returns c = λ all kept.
     let one = c.args.told.now in
     let next = c.period_of-next in
     let at_end = ended summary.form (begins period.number next.result) period.sums period.waits.value in (
-      (c.take.ensures.number all, c.take.ensures.sums all kept.0 kept.1, c.take.ensures.waits all kept.0 kept.2),
+      c.take.ensures all kept,
       record {
         more = at_end ++ noted summary one;
         grown = c.in_ok-push_noted.ensures ∙ ap (λ page. page ++ noted summary one) c.in_ok-push_ended.ensures
             ∙ append_assoc c.args.page.now at_end (noted summary one);
         turned = written-push (header summary.form) (written_at summary) all one (at_end ++ noted summary one)
-            (λ i. ended summary.form (begins (kept.0 i) (next.ensures i)) (kept.1 i) (kept.2 i) ++ noted summary one);
+            (λ i. ended summary.form (begins (kept.last i) (next.ensures i)) (kept.kept.sums i) (kept.kept.waits i) ++ noted summary one);
       },
     )

@@ -4,7 +4,6 @@ pub mod HeldFacts
 pub mod RecordFacts
 pub mod WordFacts
 pub mod ReportFacts
-pub mod ExplanationFacts
 pub mod EndFacts
 pub mod ExplainFacts
 pub mod LineFacts

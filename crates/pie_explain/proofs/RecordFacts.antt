@@ -22,28 +22,6 @@ onto-append (f ∷ fs) front rest = append_assoc f (44 ∷ onto fs front) rest �
 abbrev pub front_of : Explained → List (List ℕ)
 front_of all = head_fields all.told ++ packet_fields (packet_of all.told.event) ++ met_fields all.told ++ more_fields all.told
 
-pub record-is : (all : Explained) (old : List ℕ)
-    → ((old ++ onto (front_of all) []) ++ onto (held_fields all.after all.delay) []) ++ (active_field all.after.active ++ codes "\n")
-    ≡ old ++ line_of (record_of all)
-record-is all old =
-    let held : List (List ℕ) = held_fields all.after all.delay in
-    let last : List ℕ = active_field all.after.active ++ codes "\n" in
-    append_assoc (old ++ onto (front_of all) []) (onto held []) last ∙ append_assoc old (onto (front_of all) []) (onto held [] ++ last)
-    ∙ ap (λ (l : List ℕ). old ++ l)
-    (ap (λ (l : List ℕ). onto (front_of all) [] ++ l) (onto-append held [] last) ∙ onto-append (front_of all) [] (onto held last)
-    ∙ sym (line-onto (front_of all ++ held) (active_field all.after.active)))
-
--- where the three were written, the record was
-pub record-written : {A E : Type 0} (result : Result A E) (all : Explained) (old with_front with_held new : List ℕ)
-    → with_front ≡ old ++ onto (front_of all) []
-    → with_held ≡ with_front ++ onto (held_fields all.after all.delay) []
-    → OnOk result (new ≡ with_held ++ (active_field all.after.active ++ codes "\n"))
-    → OnOk result (new ≡ old ++ line_of (record_of all))
-record-written (Err why) all old with_front with_held new front-is held-is is = tt
-record-written (Ok done) all old with_front with_held new front-is held-is is =
-    let last : List ℕ = active_field all.after.active ++ codes "\n" in
-    is ∙ ap (λ (l : List ℕ). l ++ last) (held-is ∙ ap (λ (l : List ℕ). l ++ onto (held_fields all.after all.delay) []) front-is) ∙ record-is all old
-
 -- where its first fields were written, and those after the event
 pub most-written : {A E : Type 0} (result : Result A E) (all : Explained) (old with_front new : List ℕ)
     → with_front ≡ old ++ onto (front_of all) []
@@ -55,7 +33,18 @@ most-written (Ok done) all old with_front new front-is is =
     is ∙ ap (λ (l : List ℕ). l ++ held) front-is ∙ append_assoc old (onto (front_of all) []) held
     ∙ ap (λ (l : List ℕ). old ++ l) (onto-append (front_of all) [] held)
 
--- .. and then the last of them and the time of day
+-- .. and then the last of them
+pub last-written : {A E : Type 0} (result : Result A E) (all : Explained) (old with_most new : List ℕ)
+    → with_most ≡ old ++ onto (most_fields all) []
+    → OnOk result (new ≡ with_most ++ (active_field all.after.active ++ codes "\n"))
+    → OnOk result (new ≡ old ++ line_of (record_of all))
+last-written (Err why) all old with_most new most-is is = tt
+last-written (Ok done) all old with_most new most-is is =
+    let last : List ℕ = active_field all.after.active ++ codes "\n" in
+    is ∙ ap (λ (l : List ℕ). l ++ last) most-is ∙ append_assoc old (onto (most_fields all) []) last
+    ∙ ap (λ (l : List ℕ). old ++ l) (onto-append (most_fields all) [] last ∙ sym (line-onto (most_fields all) (active_field all.after.active)))
+
+-- .. or the last and the time of day
 pub wall-written : {A E : Type 0} (result : Result A E) (all : Explained) (wall old with_most with_active with_wall new : List ℕ)
     → with_most ≡ old ++ onto (most_fields all) []
     → with_active ≡ with_most ++ (active_field all.after.active ++ codes ",")

@@ -21,11 +21,6 @@ said-none form = refl
 pub pages-none : (form : Form) → pages form [] ≡ header form
 pages-none form = ap (λ (text : List ℕ). header form ++ text) (said-none form) ∙ append-nil (header form)
 
-pub pages-begun : {E : Type 0} (result : Result (Unit {0}) E) (form : Form) (old now : List ℕ) → OnOk result (now ≡ old ++ header form)
-    → OnOk result (now ≡ old ++ pages form [])
-pages-begun (Err why) form old now is = tt
-pages-begun (Ok done) form old now is = is ∙ ap (λ (text : List ℕ). old ++ text) (sym (pages-none form))
-
 pub pages-told : {E : Type 0} (result : Result (Unit {0}) E) (form : Form) (all : List Explained) (told : Explained) (old now : List ℕ)
     → OnOk result (now ≡ old ++ said_of form told)
     → OnOk result (⊤ × Grows (pages form all) (pages form (all ++ told ∷ [])) old now)

@@ -18,12 +18,15 @@ field_names =
     ∷ codes "bytes_after" ∷ codes "packets_after" ∷ codes "delay_after" ∷ codes "probability_after" ∷ codes "accumulated_probability_after"
     ∷ codes "burst_allowance_after" ∷ codes "active_after" ∷ []
 
--- what stands before the first explanation: for CSV the header row
+-- what stands before the first row: for CSV the header row of these names
+abbrev pub header_of : List (List ℕ) → Form → List ℕ
+header_of names Text = []
+header_of names Csv = line_of names
+header_of names TextByWall = []
+header_of names CsvByWall = line_of (names ++ codes "wall" ∷ [])
+
 unfoldable pub header : Form → List ℕ
-header Text = []
-header Csv = line_of field_names
-header TextByWall = []
-header CsvByWall = line_of (field_names ++ codes "wall" ∷ [])
+header form = header_of field_names form
 
 -- what is written of an explanation
 unfoldable pub said_of : Form → Explained → List ℕ

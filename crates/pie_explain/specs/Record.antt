@@ -86,16 +86,31 @@ abbrev pub active_field : Bool → List ℕ
 active_field true = codes "1"
 active_field false = codes "0"
 
+-- when an event was handed in, and when it was
+abbrev pub moment_fields : ℕ → ℕ → List (List ℕ)
+moment_fields handed effective = decimal handed ∷ decimal effective ∷ []
+
 -- the event and when it was
 abbrev pub head_fields : Explanation → List (List ℕ)
 head_fields told =
-    decimal told.number ∷ kind_word told.event.command ∷ decimal told.event.caller ∷ decimal (handed_in told.event.command) ∷ decimal told.moment ∷ []
+    decimal told.number ∷ kind_word told.event.command ∷ decimal told.event.caller ∷ moment_fields (handed_in told.event.command) told.moment
 
--- what became of it, what decided it, and the numbers that it met
+abbrev pub packet_fields : Option Packet → List (List ℕ)
+packet_fields packet = tag_field packet ∷ size_field packet ∷ []
+
+-- what a controller holds: what mostly changes from one event to the next, how much waits and how long, and what often stays as it is
+abbrev pub moving_fields : ℕ → ℕ → ℕ → List (List ℕ)
+moving_fields bytes packets delay = decimal bytes ∷ decimal packets ∷ decimal delay ∷ []
+
+abbrev pub steady_fields : ℕ → ℕ → ℕ → List (List ℕ)
+steady_fields prob accu burst = decimal prob ∷ decimal accu ∷ decimal burst ∷ []
+
+abbrev pub held_fields : Registers → ℕ → List (List ℕ)
+held_fields held delay = moving_fields held.bytes held.packets delay ++ steady_fields held.prob held.accu held.burst
+
+-- what became of the event, what decided it, and the numbers that it met
 abbrev pub met_fields : Explanation → List (List ℕ)
-met_fields told =
-    verdict_word told.event.answer ∷ cause_word told.cause ∷ decimal told.before.bytes ∷ decimal told.before.packets ∷ decimal told.delay
-    ∷ decimal told.before.prob ∷ decimal told.before.accu ∷ decimal told.before.burst ∷ []
+met_fields told = verdict_word told.event.answer ∷ cause_word told.cause ∷ held_fields told.before told.delay
 
 -- what else there is to say of it, and of the controller before it
 abbrev pub more_fields : Explanation → List (List ℕ)
@@ -103,19 +118,14 @@ more_fields told =
     ecn_field (packet_of told.event) ∷ number_field (word_of told.event.command) ∷ number_field (wait_where told.event.answer told.waited)
     ∷ active_field told.before.active ∷ number_field (setter_number told.set_by) ∷ []
 
--- the numbers after it
-abbrev pub after_fields : Explained → List (List ℕ)
-after_fields all =
-    decimal all.after.bytes ∷ decimal all.after.packets ∷ decimal all.delay ∷ decimal all.after.prob ∷ decimal all.after.accu
-    ∷ decimal all.after.burst
-    ∷ active_field all.after.active ∷ []
+-- the twenty-seven fields, and all but the last, whether the controller is active after it
+abbrev pub most_fields : Explained → List (List ℕ)
+most_fields all =
+    head_fields all.told ++ packet_fields (packet_of all.told.event) ++ met_fields all.told ++ more_fields all.told
+    ++ held_fields all.after all.delay
 
--- the twenty-seven fields
 abbrev pub record_of : Explained → List (List ℕ)
-record_of all =
-    head_fields all.told ++ (tag_field (packet_of all.told.event) ∷ size_field (packet_of all.told.event) ∷ []) ++ met_fields all.told
-    ++ more_fields all.told
-    ++ after_fields all
+record_of all = most_fields all ++ active_field all.after.active ∷ []
 
 -- the time of day, empty where it is not known
 abbrev pub wall_field : Option ℕ → List ℕ
@@ -134,30 +144,3 @@ line_of (field ∷ (next ∷ fields)) = field ++ codes "," ++ line_of (next ∷ 
 abbrev pub onto : List (List ℕ) → List ℕ → List ℕ
 onto [] end = end
 onto (field ∷ fields) end = field ++ (44 ∷ onto fields end)
-
--- when an event was handed in, and when it was
-abbrev pub moment_fields : ℕ → ℕ → List (List ℕ)
-moment_fields handed effective = decimal handed ∷ decimal effective ∷ []
-
--- what mostly changes from one event to the next: how much waits, and how long
-abbrev pub moving_fields : ℕ → ℕ → ℕ → List (List ℕ)
-moving_fields bytes packets delay = decimal bytes ∷ decimal packets ∷ decimal delay ∷ []
-
--- what often stays as it is
-abbrev pub steady_fields : ℕ → ℕ → ℕ → List (List ℕ)
-steady_fields prob accu burst = decimal prob ∷ decimal accu ∷ decimal burst ∷ []
-
--- what a controller holds
-abbrev pub held_fields : Registers → ℕ → List (List ℕ)
-held_fields held delay =
-    decimal held.bytes ∷ decimal held.packets ∷ decimal delay ∷ decimal held.prob ∷ decimal held.accu ∷ decimal held.burst ∷ []
-
--- all but the last of the twenty-seven
-abbrev pub most_fields : Explained → List (List ℕ)
-most_fields all =
-    head_fields all.told ++ (tag_field (packet_of all.told.event) ∷ size_field (packet_of all.told.event) ∷ []) ++ met_fields all.told
-    ++ more_fields all.told
-    ++ held_fields all.after all.delay
-
-abbrev pub packet_fields : Option Packet → List (List ℕ)
-packet_fields packet = tag_field packet ∷ size_field packet ∷ []

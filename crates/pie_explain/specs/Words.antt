@@ -1,6 +1,6 @@
 -- An explanation in words, of some lines: what the event did, what decided it, and the numbers that it met.
-use Rattle.std.specs.Prelude.{ℕ, ◌+◌, ◌-◌, ◌*◌, ◌/◌, ◌%◌, ◌^◌, ◌==◌, Bool, true, false, if◌then◌else◌, min, max, List, [], ◌∷◌, ◌++◌, length}
-use Rattle.std.specs.Prelude.{replicate, Option, Some, None, codes}
+use Rattle.std.specs.Prelude.{ℕ, ◌+◌, ◌-◌, ◌*◌, ◌/◌, ◌%◌, ◌^◌, ◌==◌, Bool, true, false, if◌then◌else◌, min, max, List, [], ◌∷◌, ◌++◌}
+use Rattle.std.specs.Prelude.{Option, Some, None, codes}
 use Rattle.std.specs.Fmt.{decimal}
 use Rattle.pie_queue.specs.declared.ecn.Ecn.{Ecn}
 use Rattle.pie_queue.specs.declared.ecn.Ecn.TheVariants.{NotEct, Ect1, Ect0, Ce}
@@ -101,10 +101,6 @@ deed_words number active (Update moment) answer waited = update_words number act
 deed_words number active (Reset moment) answer waited = joined (codes "event " ∷ decimal number ∷ codes ": a reset\n" ∷ [])
 deed_words number active (SetParams moment params) answer waited = joined (codes "event " ∷ decimal number ∷ codes ": new parameters\n" ∷ [])
 
--- when, and by whom
-unfoldable pub when_words : Option Clock → ℕ → ℕ → List ℕ
-when_words clock moment caller = joined (codes "  at " ∷ moment_words clock moment ∷ codes ", by caller " ∷ decimal caller ∷ codes "\n" ∷ [])
-
 -- ---- what decided an arrival
 
 -- why a picked packet was marked or dropped
@@ -120,12 +116,10 @@ scaled_words prob counted =
     if counted == prob then []
     else joined (codes "  the probability, " ∷ per_cent prob ∷ codes ", comes to " ∷ per_cent counted ∷ codes " for a packet of this size\n" ∷ [])
 
--- what was accumulated, with what the probability counts as for this arrival
-unfoldable pub total_words : ℕ → ℕ → List ℕ
-total_words accu counted = joined (codes "  the accumulated probability, with this one, is " ∷ per_cent (min (accu + counted) (2 ^ 64 - 1)) ∷ [])
-
+-- what was accumulated, with what the probability counts as for this arrival, below what that comes to
 unfoldable pub sum_words : ℕ → ℕ → ℕ → List ℕ
-sum_words prob accu counted = joined (scaled_words prob counted ∷ total_words accu counted ∷ [])
+sum_words prob accu counted =
+    joined (scaled_words prob counted ∷ codes "  the accumulated probability, with this one, is " ∷ per_cent (min (accu + counted) (2 ^ 64 - 1)) ∷ [])
 
 -- what the random word is compared with
 unfoldable pub counted_name : ℕ → ℕ → List ℕ
@@ -169,29 +163,23 @@ cause_words shown (ShortQueue bytes mean_pkt) =
 cause_words shown NoProbability = never_words shown
 cause_words shown cause = considered_words shown cause
 
--- nothing of an event that is no arrival
-unfoldable pub reason_words : ℕ → Option Cause → List ℕ
-reason_words prob None = codes ""
-reason_words prob (Some cause) = cause_words prob cause
-
 -- ---- how long what decided it goes on, by the laws of docs/GUARANTEES.md
 
--- while a burst is allowed: what is left of it is used up by updates after the last one (`bursts_are_let_in_so_long`)
-unfoldable pub not_before_words : Option Clock → ℕ → ℕ → List ℕ
-not_before_words clock last burst =
+-- while a burst is allowed: what is left of it is used up by updates after the last one (`bursts_are_let_in_so_long`); while little is accumulated: how
+-- many considered packets come to 0.85 (`picks_are_far_apart`)
+unfoldable pub lasting_words : Option Clock → ℕ → Cause → List ℕ
+lasting_words clock last (BurstAllowed burst) =
     joined (codes "  with unchanged parameters nothing is marked or dropped early before " ∷ moment_words clock (min (last + burst) (2 ^ 64 - 1))
     ∷ codes "\n" ∷ [])
-
--- while little is accumulated: how many considered packets come to 0.85 (`picks_are_far_apart`)
-unfoldable pub seldom_words : ℕ → List ℕ
-seldom_words counted =
+lasting_words clock last (LittleAccumulated accu counted) =
     joined (codes "  where each counts as this one, at most one of " ∷ decimal (849_999_999_999 / max counted 1 + 1)
     ∷ codes " considered packets in a row is picked\n" ∷ [])
-
-unfoldable pub lasting_words : Option Clock → ℕ → Option Cause → List ℕ
-lasting_words clock last (Some (BurstAllowed burst)) = not_before_words clock last burst
-lasting_words clock last (Some (LittleAccumulated accu counted)) = seldom_words counted
 lasting_words clock last _ = codes ""
+
+-- why an event was decided so, and how long that goes on, by what was held before it; nothing of one that is no arrival
+unfoldable pub reason_words : Option Clock → Registers → Option Cause → List ℕ
+reason_words clock before None = codes ""
+reason_words clock before (Some cause) = joined (cause_words before.prob cause ∷ lasting_words clock before.last cause ∷ [])
 
 -- ---- whether the event turned the controller on or off
 
@@ -215,19 +203,11 @@ setter_words (setter.Event event) before =
     joined (codes "  probability " ∷ per_cent before.prob ∷ codes ", set by event " ∷ decimal event ∷ codes ";" ∷ [])
 setter_words setter.Untold before = joined (codes "  probability " ∷ per_cent before.prob ∷ codes ", set before this text begins;" ∷ [])
 
-unfoldable pub queue_words : ℕ → ℕ → ℕ → List ℕ
-queue_words packets bytes delay =
-    joined (codes "  before it: " ∷ decimal packets ∷ codes " packets, " ∷ decimal bytes ∷ codes " bytes, a delay of " ∷ millis delay ∷ codes "\n"
-    ∷ [])
-
-unfoldable pub burst_words : ℕ → List ℕ
-burst_words burst = joined (codes " burst allowance " ∷ millis burst ∷ codes "\n" ∷ [])
-
 unfoldable pub before_words : Option Clock → Explanation → List ℕ
 before_words clock told =
-    joined (queue_words told.before.packets told.before.bytes told.delay ∷ setter_words told.set_by told.before
-    ∷ last_words clock told.updates told.before.last
-    ∷ burst_words told.before.burst ∷ [])
+    joined (codes "  before it: " ∷ decimal told.before.packets ∷ codes " packets, " ∷ decimal told.before.bytes ∷ codes " bytes, a delay of "
+    ∷ millis told.delay ∷ codes "\n" ∷ setter_words told.set_by told.before ∷ last_words clock told.updates told.before.last
+    ∷ codes " burst allowance " ∷ millis told.before.burst ∷ codes "\n" ∷ [])
 
 -- ---- the whole
 
@@ -235,8 +215,8 @@ before_words clock told =
 unfoldable pub words_by : Option Clock → Explained → List ℕ
 words_by clock all =
     joined (deed_words all.told.number all.told.before.active all.told.event.command all.told.event.answer all.told.waited
-    ∷ when_words clock all.told.moment all.told.event.caller ∷ reason_words all.told.before.prob all.told.cause
-    ∷ lasting_words clock all.told.before.last all.told.cause ∷ turned_words all.told.before.active all.after.active
+    ∷ codes "  at " ∷ moment_words clock all.told.moment ∷ codes ", by caller " ∷ decimal all.told.event.caller ∷ codes "\n"
+    ∷ reason_words clock all.told.before all.told.cause ∷ turned_words all.told.before.active all.after.active
     ∷ before_words clock all.told ∷ [])
 
 -- .. by the trace's clock

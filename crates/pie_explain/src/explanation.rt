@@ -3,9 +3,9 @@ ghost use Rattle.std.specs.Prelude.{◌≡◌, List};
 ghost use Rattle.pie_event.specs.declared.command.Event.{Event};
 ghost use Rattle.pie_event.specs.declared.opening.Opening.{Opening};
 ghost use Rattle.pie_book.specs.Core.{Shows};
-ghost use Rattle.pie_event.specs.Deed.{deed_of, is_update};
+ghost use Rattle.pie_event.specs.Deed.{deed_of};
 ghost use Rattle.pie_book.specs.History.{waiting_after};
-ghost use Rattle.pie_book.specs.Statistics.{count_of, wait_of};
+ghost use Rattle.pie_book.specs.Statistics.{wait_of};
 ghost use Rattle.pie_explain.specs.Explanation.{moment_of};
 
 use pie_book::{Answer, Cause, Command, Core, Event, Registers};
@@ -67,13 +67,6 @@ fn waited(core: &Core, event: &Event, now: u64) -> u64
     }
 }
 
-/// How many updates a core has made.
-fn updates(core: &Core) -> u64
-    ensures { (opening : Opening) (history : List Event) → Shows opening core.now history → result ≡ count_of is_update history }
-{
-    core.stats().updates
-}
-
 /// The effective moment of an event that a core is about to decide.
 pub fn moment_of(core: &Core, event: &Event) -> u64
     ensures { (opening : Opening) (history : List Event) → Shows opening core.now history → result ≡ moment_of opening history event.now }
@@ -110,7 +103,7 @@ impl Explanation {
             cause: core.cause(&event.command),
             waited: waited(core, event, now),
             set_by,
-            updates: updates(core),
+            updates: core.stats().updates,
             clock,
         }
     }

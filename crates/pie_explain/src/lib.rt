@@ -30,6 +30,6 @@ pub use fault::ExplainFault;
 pub use form::Form;
 pub use law::{excerpts_are_explained_as_the_whole, explaining_is_auditing};
 pub use pie_event::Setter;
-pub use report::{Report, push_words};
+pub use report::{Report, push_header, push_words};
 pub use units::{Millis, PerCent, Share};
 pub use which::Which;

@@ -1,13 +1,14 @@
 //! What is written of the explained events.
-ghost use Rattle.std.specs.Prelude.{◌≡◌, ◌++◌, ◌∷◌, [], ℕ, List, IfOk, OnOk};
+ghost use Rattle.std.specs.Prelude.{◌≡◌, ◌++◌, ◌∷◌, [], ℕ, List, IfOk, OnOk, codes};
 ghost use Rattle.pie_explain.specs.declared.explanation.Explained.{Explained};
-ghost use Rattle.pie_explain.specs.Output.{header, said_of};
+ghost use Rattle.pie_explain.specs.Output.{header_of, said_of};
+ghost use Rattle.pie_explain.specs.Record.{line_of};
 ghost use Rattle.pie_explain.specs.Report.{Grows};
 ghost use Rattle.pie_explain.specs.Words.{words_by};
 
 use crate::explanation::Explained;
 use crate::form::Form;
-use crate::record::{HEADER, HEADER_BY_WALL, RecordWriter};
+use crate::record::{NAMES, RecordWriter};
 use crate::text::push_text;
 use pie_page::Page;
 use pie_record::Clock;
@@ -49,15 +50,27 @@ pub trait Report: Drop {
             → OnOk result (Grows (so_far self.now all) (whole self.now all) page.old page.new) };
 }
 
-/// Writes what stands before the first explanation: for CSV the header row.
-#[tactic(auto, unfolding(crate::specs::Output::header))]
-fn push_header(page: &mut Page, form: Form) -> Result<(), AllocError>
-    ensures { OnOk result (page.new ≡ page.old ++ header form) }
+/// Writes these names and the end of their line.
+fn push_names(page: &mut Page, names: &str, end: &str) -> Result<(), AllocError>
+    ensures { OnOk result (page.new ≡ page.old ++ (names.now ++ end.now)) }
+{
+    page.push(names.as_bytes())?;
+    page.push(end.as_bytes())
+}
+
+/// Writes what stands before the first row of a report: for CSV the header row of these names, with commas between them.
+///
+/// # Errors
+///
+/// `AllocError` where there is no memory.
+pub fn push_header(page: &mut Page, names: &str, form: Form) -> Result<(), AllocError>
+    ensures { (fields : List (List ℕ)) → line_of fields ≡ names.now ++ codes "\n"
+        → line_of (fields ++ codes "wall" ∷ []) ≡ names.now ++ codes ",wall\n" → OnOk result (page.new ≡ page.old ++ header_of fields form) }
 {
     match form {
         Form::Text | Form::TextByWall => Ok(()),
-        Form::Csv => page.push(HEADER.as_bytes()),
-        Form::CsvByWall => page.push(HEADER_BY_WALL.as_bytes()),
+        Form::Csv => push_names(page, names, "\n"),
+        Form::CsvByWall => push_names(page, names, ",wall\n"),
     }
 }
 
@@ -105,7 +118,7 @@ impl Report for Form {
     ghost whole = { pages };
 
     fn begin(&self, page: &mut Page) -> Result<RecordWriter, AllocError> {
-        push_header(page, *self)?;
+        push_header(page, NAMES, *self)?;
         Ok(RecordWriter::new())
     }
 

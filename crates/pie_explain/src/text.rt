@@ -1,13 +1,10 @@
 //! An explanation in words, of four to nine lines.
 ghost use Rattle.std.specs.Prelude.{◌≡◌, ◌++◌, ◌∷◌, [], OnOk, codes, string_bytes, true};
 ghost use Rattle.std.specs.Fmt.{decimal};
-ghost use Rattle.pie_event.specs.declared.cause.Cause.TheVariants.{BurstAllowed, LowDelay, NoRoomInBytes, NoRoomInPackets, ShortQueue};
 ghost use Rattle.pie_event.specs.declared.command.Answer.TheVariants.{Updated};
-ghost use Rattle.pie_explain.specs.Words.{before_words, burst_words, cause_words, compared_words, considered_words, counted_name, deed_words};
-ghost use Rattle.pie_explain.specs.Words.{departure_words, joined, never_words, per_cent, scaled_words, total_words};
-ghost use Rattle.pie_explain.specs.Words.{lasting_words, not_before_words, seldom_words};
-ghost use Rattle.pie_explain.specs.Words.{ecn_name, last_words, packet_words, picked_words, queue_words, reason_words, setter_words};
-ghost use Rattle.pie_explain.specs.Words.{sum_words, turned_words, update_words, verdict_text, when_words, words_by};
+ghost use Rattle.pie_explain.specs.Words.{before_words, cause_words, compared_words, considered_words, counted_name, deed_words, departure_words};
+ghost use Rattle.pie_explain.specs.Words.{ecn_name, joined, last_words, lasting_words, never_words, packet_words, picked_words, reason_words};
+ghost use Rattle.pie_explain.specs.Words.{scaled_words, setter_words, sum_words, turned_words, update_words, verdict_text, words_by};
 
 use crate::explanation::{Explained, Explanation};
 use crate::units::{Millis, MomentWords, PerCent, Word};
@@ -157,45 +154,27 @@ fn push_deed(
     }
 }
 
-/// When the event was, and whose it was.
-#[tactic(auto, unfolding(crate::specs::Words::when_words))]
-fn push_when(
-    page: &mut String,
-    clock: Option<Clock>,
-    moment: u64,
-    caller: u16,
-) -> Result<(), AllocError>
-    ensures { OnOk result (string_bytes page.new ≡ string_bytes page.old ++ when_words clock moment caller) }
-{
-    let now = MomentWords { clock, moment };
-    write!(page, "  at {now}, by caller {caller}\n")
-}
-
-/// A line that ends with the threshold of marking.
-fn push_threshold(page: &mut String, text: &str, threshold: u64) -> Result<(), AllocError>
-    ensures { OnOk result (string_bytes page.new ≡ string_bytes page.old ++ joined (text.now ∷ per_cent threshold ∷ codes "\n" ∷ [])) }
-{
-    let threshold = PerCent(threshold);
-    write!(page, "{text}{threshold}\n")
-}
-
 /// Why a picked packet was marked or dropped.
 #[tactic(auto, unfolding(crate::specs::Words::picked_words))]
 fn push_fate(page: &mut String, fate: Fate) -> Result<(), AllocError>
     ensures { OnOk result (string_bytes page.new ≡ string_bytes page.old ++ picked_words fate) }
 {
     match fate {
-        Fate::Marked { threshold } => push_threshold(
-            page,
-            "  marked: its endpoints understand a mark, and the probability is below ",
-            threshold,
-        ),
+        Fate::Marked { threshold } => {
+            let threshold = PerCent(threshold);
+            write!(
+                page,
+                "  marked: its endpoints understand a mark, and the probability is below {threshold}\n"
+            )
+        }
         Fate::NotCapable => write!(page, "  dropped: its endpoints do not understand a mark\n"),
-        Fate::NotBelow { threshold } => push_threshold(
-            page,
-            "  dropped, not marked: the probability is not below ",
-            threshold,
-        ),
+        Fate::NotBelow { threshold } => {
+            let threshold = PerCent(threshold);
+            write!(
+                page,
+                "  dropped, not marked: the probability is not below {threshold}\n"
+            )
+        }
     }
 }
 
@@ -214,25 +193,17 @@ fn push_scaled(page: &mut String, prob: u64, counted: u64) -> Result<(), AllocEr
     )
 }
 
-/// What was accumulated, with what the probability counts as for this arrival.
-#[tactic(auto, unfolding(crate::specs::Words::total_words))]
-fn push_total(page: &mut String, accu: u64, counted: u64) -> Result<(), AllocError>
-    ensures { OnOk result (string_bytes page.new ≡ string_bytes page.old ++ total_words accu counted) }
-{
-    let sum = PerCent(accu.saturating_add(counted));
-    write!(
-        page,
-        "  the accumulated probability, with this one, is {sum}"
-    )
-}
-
-/// The same, below what the probability comes to, where that is not the probability itself.
+/// What was accumulated, with what the probability counts as for this arrival, below what that comes to.
 #[tactic(auto, unfolding(crate::specs::Words::sum_words))]
 fn push_sum(page: &mut String, prob: u64, accu: u64, counted: u64) -> Result<(), AllocError>
     ensures { OnOk result (string_bytes page.new ≡ string_bytes page.old ++ sum_words prob accu counted) }
 {
     push_scaled(page, prob, counted)?;
-    push_total(page, accu, counted)
+    let sum = PerCent(accu.saturating_add(counted));
+    write!(
+        page,
+        "  the accumulated probability, with this one, is {sum}"
+    )
 }
 
 /// What the random word is compared with.
@@ -247,25 +218,6 @@ fn counted_name(prob: u64, counted: u64) -> &'static str
     }
 }
 
-/// How the random word compares with what the probability, by this name, counts as.
-#[tactic(auto, unfolding(crate::specs::Words::compared_words))]
-fn push_word(
-    page: &mut String,
-    name: &str,
-    word: u64,
-    counted: u64,
-    outcome: &str,
-    compares: &str,
-) -> Result<(), AllocError>
-    ensures { OnOk result (string_bytes page.new ≡ string_bytes page.old ++ compared_words name.now word counted outcome.now compares.now) }
-{
-    let (word, counted) = (Word(word), PerCent(counted));
-    write!(
-        page,
-        "\n  {outcome}: its random word, {word}, {compares} {name}, {counted}\n"
-    )
-}
-
 /// Why nothing could pick an arrival: the probability is 0, or comes to it.
 #[tactic(auto, unfolding(crate::specs::Words::never_words))]
 fn push_never(page: &mut String, prob: u64) -> Result<(), AllocError>
@@ -277,79 +229,42 @@ fn push_never(page: &mut String, prob: u64) -> Result<(), AllocError>
     push_scaled(page, prob, 0)
 }
 
-/// Why an arrival met no room in bytes.
-#[tactic(auto, unfolding(crate::specs::Words::cause_words))]
-fn push_no_room(page: &mut String, bytes: u64, size: u32, limit: u64) -> Result<(), AllocError>
-    ensures { OnOk result (string_bytes page.new ≡ string_bytes page.old ++ cause_words 0 (NoRoomInBytes bytes size limit)) }
-{
-    write!(
-        page,
-        "  the queue holds {bytes} bytes: with {size} more it would be above its limit of {limit}\n"
-    )
-}
-
-/// How low the delay and the probability were.
-#[tactic(auto, unfolding(crate::specs::Words::cause_words))]
-fn push_low_delay(
-    page: &mut String,
-    old_delay: u64,
-    target: u64,
-    prob: u64,
-) -> Result<(), AllocError>
-    ensures { OnOk result (string_bytes page.new ≡ string_bytes page.old ++ cause_words 0 (LowDelay old_delay target prob)) }
-{
-    let (old_delay, target, prob) = (Millis(old_delay), Millis(target), PerCent(prob));
-    write!(
-        page,
-        "  the old delay, {old_delay}, is below half the target of {target},\n  and the probability, {prob}, below 20 %\n"
-    )
-}
-
-/// How short the queue was.
-#[tactic(auto, unfolding(crate::specs::Words::cause_words))]
-fn push_short_queue(page: &mut String, bytes: u64, mean_pkt: u64) -> Result<(), AllocError>
-    ensures { OnOk result (string_bytes page.new ≡ string_bytes page.old ++ cause_words 0 (ShortQueue bytes mean_pkt)) }
-{
-    let two_packets = 2 * u128::from(mean_pkt);
-    write!(
-        page,
-        "  the queue is short: {bytes} bytes, at most two mean packets ({two_packets} bytes)\n"
-    )
-}
-
-/// What was left of a burst.
-#[tactic(auto, unfolding(crate::specs::Words::cause_words))]
-fn push_allowed(page: &mut String, burst: u64) -> Result<(), AllocError>
-    ensures { OnOk result (string_bytes page.new ≡ string_bytes page.old ++ cause_words 0 (BurstAllowed burst)) }
-{
-    let burst = Millis(burst);
-    write!(page, "  a burst is allowed: {burst} are left of it\n")
-}
-
-/// How many packets filled the ring.
-#[tactic(auto, unfolding(crate::specs::Words::cause_words))]
-fn push_full(page: &mut String, packets: u64) -> Result<(), AllocError>
-    ensures { OnOk result (string_bytes page.new ≡ string_bytes page.old ++ cause_words 0 (NoRoomInPackets packets)) }
-{
-    write!(page, "  the ring is full: it holds {packets} packets\n")
-}
-
 /// Why an arrival was decided so, at this probability.
 #[tactic(auto, unfolding(crate::specs::Words::cause_words))]
 fn push_cause(page: &mut String, shown: u64, cause: Cause) -> Result<(), AllocError>
     ensures { OnOk result (string_bytes page.new ≡ string_bytes page.old ++ cause_words shown cause) }
 {
     match cause {
-        Cause::NoRoomInBytes { bytes, size, limit } => push_no_room(page, bytes, size, limit),
-        Cause::NoRoomInPackets { packets } => push_full(page, packets),
+        Cause::NoRoomInBytes { bytes, size, limit } => write!(
+            page,
+            "  the queue holds {bytes} bytes: with {size} more it would be above its limit of {limit}\n"
+        ),
+        Cause::NoRoomInPackets { packets } => {
+            write!(page, "  the ring is full: it holds {packets} packets\n")
+        }
         Cause::Inactive => write!(page, "  the controller is turned off\n"),
-        Cause::BurstAllowed { burst } => push_allowed(page, burst),
+        Cause::BurstAllowed { burst } => {
+            let burst = Millis(burst);
+            write!(page, "  a burst is allowed: {burst} are left of it\n")
+        }
         Cause::LowDelay {
             old_delay,
             target,
             prob,
-        } => push_low_delay(page, old_delay, target, prob),
-        Cause::ShortQueue { bytes, mean_pkt } => push_short_queue(page, bytes, mean_pkt),
+        } => {
+            let (old_delay, target, prob) = (Millis(old_delay), Millis(target), PerCent(prob));
+            write!(
+                page,
+                "  the old delay, {old_delay}, is below half the target of {target},\n  and the probability, {prob}, below 20 %\n"
+            )
+        }
+        Cause::ShortQueue { bytes, mean_pkt } => {
+            let two_packets = 2 * u128::from(mean_pkt);
+            write!(
+                page,
+                "  the queue is short: {bytes} bytes, at most two mean packets ({two_packets} bytes)\n"
+            )
+        }
         Cause::NoProbability => push_never(page, shown),
         _ => push_considered(page, shown, cause),
     }
@@ -369,7 +284,8 @@ fn push_against(
     page.push_str(against)
 }
 
-/// What was accumulated, and how the random word compares.
+/// What was accumulated, and how the random word compares with what the probability counts as.
+#[tactic(auto, unfolding(crate::specs::Words::compared_words))]
 fn push_compared(
     page: &mut String,
     shown: u64,
@@ -383,8 +299,11 @@ fn push_compared(
         ++ joined (sum_words shown accu prob ∷ compared_words (counted_name shown prob) word prob outcome.now compares.now ∷ [])) }
 {
     push_sum(page, shown, accu, prob)?;
-    let name = counted_name(shown, prob);
-    push_word(page, name, word, prob, outcome, compares)
+    let (name, word, prob) = (counted_name(shown, prob), Word(word), PerCent(prob));
+    write!(
+        page,
+        "\n  {outcome}: its random word, {word}, {compares} {name}, {prob}\n"
+    )
 }
 
 /// Why an arrival was decided so that was considered, where the probability counted as one above 0.
@@ -416,72 +335,55 @@ fn push_considered(page: &mut String, shown: u64, cause: Cause) -> Result<(), Al
     }
 }
 
-/// Why an event was decided so, at this probability; nothing of one that is no arrival.
-#[tactic(auto, unfolding(crate::specs::Words::reason_words))]
-fn push_reason(page: &mut String, prob: u64, cause: Option<Cause>) -> Result<(), AllocError>
-    ensures { OnOk result (string_bytes page.new ≡ string_bytes page.old ++ reason_words prob cause) }
-{
-    match cause {
-        Some(cause) => push_cause(page, prob, cause),
-        None => Ok(()),
-    }
-}
-
-/// Until when nothing is marked or dropped early, by what is left of a burst after the last update.
-#[tactic(auto, unfolding(crate::specs::Words::not_before_words))]
-fn push_not_before(
-    page: &mut String,
-    clock: Option<Clock>,
-    last: u64,
-    burst: u64,
-) -> Result<(), AllocError>
-    ensures { OnOk result (string_bytes page.new ≡ string_bytes page.old ++ not_before_words clock last burst) }
-{
-    let moment = MomentWords {
-        clock,
-        moment: last.saturating_add(burst),
-    };
-    write!(
-        page,
-        "  with unchanged parameters nothing is marked or dropped early before {moment}\n"
-    )
-}
-
-/// How seldom packets are picked for which the probability counts so.
-#[tactic(auto, unfolding(crate::specs::Words::seldom_words))]
-fn push_seldom(page: &mut String, counted: u64) -> Result<(), AllocError>
-    ensures { OnOk result (string_bytes page.new ≡ string_bytes page.old ++ seldom_words counted) }
-{
-    let many = 849_999_999_999 / counted.max(1) + 1;
-    write!(
-        page,
-        "  where each counts as this one, at most one of {many} considered packets in a row is picked\n"
-    )
-}
-
 /// How long what decided an arrival goes on, where a bound says it, the last update having been at this moment.
 #[tactic(auto, unfolding(crate::specs::Words::lasting_words))]
 fn push_lasting(
     page: &mut String,
     clock: Option<Clock>,
     last: u64,
-    cause: Option<Cause>,
+    cause: Cause,
 ) -> Result<(), AllocError>
     ensures { OnOk result (string_bytes page.new ≡ string_bytes page.old ++ lasting_words clock last cause) }
 {
     match cause {
-        Some(Cause::BurstAllowed { burst }) => push_not_before(page, clock, last, burst),
-        Some(Cause::LittleAccumulated { prob, .. }) => push_seldom(page, prob),
+        Cause::BurstAllowed { burst } => {
+            let end = MomentWords {
+                clock,
+                moment: last.saturating_add(burst),
+            };
+            write!(
+                page,
+                "  with unchanged parameters nothing is marked or dropped early before {end}\n"
+            )
+        }
+        Cause::LittleAccumulated { prob, .. } => {
+            let many = 849_999_999_999 / prob.max(1) + 1;
+            write!(
+                page,
+                "  where each counts as this one, at most one of {many} considered packets in a row is picked\n"
+            )
+        }
         _ => Ok(()),
     }
 }
 
-/// The probability before the event, with these words about what set it.
-fn push_since(page: &mut String, prob: PerCent, since: &str) -> Result<(), AllocError>
-    ensures { OnOk result (string_bytes page.new ≡ string_bytes page.old
-        ++ joined (codes "  probability " ∷ per_cent prob.0 ∷ codes ", " ∷ since.now ∷ codes ";" ∷ [])) }
+/// Why an event was decided so, at this probability, and how long that goes on; nothing of one that is no arrival.
+#[tactic(auto, unfolding(crate::specs::Words::reason_words))]
+fn push_reason(
+    page: &mut String,
+    clock: Option<Clock>,
+    before: &Registers,
+    cause: Option<Cause>,
+) -> Result<(), AllocError>
+    ensures { OnOk result (string_bytes page.new ≡ string_bytes page.old ++ reason_words clock before.now cause) }
 {
-    write!(page, "  probability {prob}, {since};")
+    match cause {
+        Some(cause) => {
+            push_cause(page, before.prob, cause)?;
+            push_lasting(page, clock, before.last, cause)
+        }
+        None => Ok(()),
+    }
 }
 
 /// The probability before the event, and what set it.
@@ -491,9 +393,9 @@ fn push_setter(page: &mut String, set_by: Setter, before: &Registers) -> Result<
 {
     let prob = PerCent(before.prob);
     match set_by {
-        Setter::Opening => push_since(page, prob, "as at the opening"),
+        Setter::Opening => write!(page, "  probability {prob}, as at the opening;"),
         Setter::Event(event) => write!(page, "  probability {prob}, set by event {event};"),
-        Setter::Untold => push_since(page, prob, "set before this text begins"),
+        Setter::Untold => write!(page, "  probability {prob}, set before this text begins;"),
     }
 }
 
@@ -529,34 +431,6 @@ fn turned_text(was_active: bool, is_active: bool) -> &'static str
     }
 }
 
-/// The same, written onto a page.
-fn push_turned(page: &mut String, was_active: bool, is_active: bool) -> Result<(), AllocError>
-    ensures { OnOk result (string_bytes page.new ≡ string_bytes page.old ++ turned_words was_active is_active) }
-{
-    page.push_str(turned_text(was_active, is_active))
-}
-
-/// What waited before the event.
-#[tactic(auto, unfolding(crate::specs::Words::queue_words))]
-fn push_queue(page: &mut String, packets: u64, bytes: u64, delay: u64) -> Result<(), AllocError>
-    ensures { OnOk result (string_bytes page.new ≡ string_bytes page.old ++ queue_words packets bytes delay) }
-{
-    let delay = Millis(delay);
-    write!(
-        page,
-        "  before it: {packets} packets, {bytes} bytes, a delay of {delay}\n"
-    )
-}
-
-/// What was left of the burst allowance before the event.
-#[tactic(auto, unfolding(crate::specs::Words::burst_words))]
-fn push_burst(page: &mut String, burst: u64) -> Result<(), AllocError>
-    ensures { OnOk result (string_bytes page.new ≡ string_bytes page.old ++ burst_words burst) }
-{
-    let burst = Millis(burst);
-    write!(page, " burst allowance {burst}\n")
-}
-
 /// What the controller held before the event.
 #[tactic(auto, unfolding(crate::specs::Words::before_words))]
 fn push_before(
@@ -567,10 +441,15 @@ fn push_before(
     ensures { OnOk result (string_bytes page.new ≡ string_bytes page.old ++ before_words clock told.now) }
 {
     let before = &told.before;
-    push_queue(page, before.packets, before.bytes, told.delay)?;
+    let (packets, bytes, delay) = (before.packets, before.bytes, Millis(told.delay));
+    let burst = Millis(before.burst);
+    write!(
+        page,
+        "  before it: {packets} packets, {bytes} bytes, a delay of {delay}\n"
+    )?;
     push_setter(page, told.set_by, before)?;
     push_last(page, clock, told.updates, before.last)?;
-    push_burst(page, before.burst)
+    write!(page, " burst allowance {burst}\n")
 }
 
 /// Writes an explanation in words, its moments as times of day where this record tells them.
@@ -584,6 +463,11 @@ pub(crate) fn push_text(
 {
     let told = &all.told;
     let (event, was_active) = (&told.event, told.before.active);
+    let caller = event.caller;
+    let now = MomentWords {
+        clock,
+        moment: told.moment,
+    };
     push_deed(
         page,
         told.number,
@@ -592,9 +476,8 @@ pub(crate) fn push_text(
         event.answer,
         told.waited,
     )?;
-    push_when(page, clock, told.moment, event.caller)?;
-    push_reason(page, told.before.prob, told.cause)?;
-    push_lasting(page, clock, told.before.last, told.cause)?;
-    push_turned(page, was_active, all.after.active)?;
+    write!(page, "  at {now}, by caller {caller}\n")?;
+    push_reason(page, clock, &told.before, told.cause)?;
+    page.push_str(turned_text(was_active, all.after.active))?;
     push_before(page, clock, told)
 }

@@ -23,24 +23,23 @@ use Rattle.pie_explain.specs.declared.explanation.Explained.{Explained}
 use Rattle.pie_explain.specs.Words.{millis, per_cent, share}
 use Rattle.pie_units.specs.Date.{date_in, date_of, year_among, year_day}
 use Rattle.pie_units.specs.Utc.{utc_text}
-use Rattle.pie_summary.specs.declared.series.Series.{Series}
+use Rattle.pie_summary.specs.declared.spans.Bounds.{Bounds}
 use Rattle.pie_summary.specs.Period.{begins, last_events, last_period, period_of}
-use Rattle.pie_summary.specs.Record.{count_fields, first_fields, last_fields, record_of}
+use Rattle.pie_summary.specs.Record.{first_fields, last_fields, record_of}
 use Rattle.pie_summary.specs.Counts.{kept}
 use Rattle.pie_summary.specs.Ranges.{end_within, first_up_to, range_end, range_of, ranges_of}
-use Rattle.pie_summary.specs.Series.{series_of}
+use Rattle.pie_summary.specs.Spans.{bounds_of, mean_in, moment_at, peak_of, sum_in, total_in, total_of}
 use Rattle.pie_summary.specs.Summary.{header, noted, summary_of}
-use Rattle.pie_summary.specs.Sums.{above_by, answer_place, cause_place, excess_by, late_at, moment_at, sums_of, turned_at, waits_of}
-use Rattle.pie_summary.specs.Words.{above_words, arrival_words, arrived_words, cause_row, cause_words, disagree, disagree_words, dropped_words}
-use Rattle.pie_summary.specs.Words.{head_words, late_words, later_words, left_words, mean, time_words, turning_words}
-use Rattle.pie_summary.specs.Words.{queued_words, row_words, target_words, title, turned_words, update_words, verdict_words, words}
+use Rattle.pie_summary.specs.Sums.{above_by, answer_place, cause_place, excess_by, late_at, meter_of, sums_of, turned_at, waits_of}
+use Rattle.pie_summary.specs.Words.{arrival_words, arrived_words, cause_row, cause_words, disagree, disagree_words, head_words, late_words}
+use Rattle.pie_summary.specs.Words.{later_words, left_words, row_words, target_words, time_words, turned_words, turning_words, update_words}
+use Rattle.pie_summary.specs.Words.{verdict_words, words}
 
 -- all that a theorem on a worked list computes with
 unfoldable worked : Type 0
-unfolding greatest last_or places sums_of header digits millis per_cent share first_fields count_fields record_of row_words queued_words dropped_words
-    word_of_cause cause_row cause_words head_words arrived_words left_words update_words target_words range_of range_end ranges_of waits_of turned_words
-    verdict_words title arrival_words later_words words last_fields
-    noted late_words disagree_words above_words turning_words time_words utc_text date_of date_in year_among year_day
+unfolding greatest last_or places sums_of meter_of header digits millis per_cent share first_fields record_of row_words word_of_cause
+    cause_row cause_words head_words arrived_words left_words update_words target_words range_of range_end ranges_of waits_of turned_words verdict_words
+    arrival_words later_words words last_fields noted late_words disagree_words turning_words time_words utc_text date_of date_in year_among year_day
 worked = ⊤
 
 -- ---- two times
@@ -83,21 +82,22 @@ ends : (end_within (Some 104) 1000 ≡ 149) × (end_within (Some 104) 140 ≡ 14
 unfolding worked
 ends = (refl, refl, refl)
 
--- ---- series
+-- ---- numbers
 
-abbrev series : ℕ → ℕ → ℕ → ℕ → ℕ → Series
-series count first last greatest total = record { count = count; first = first; last = last; greatest = greatest; total = total }
+abbrev bounds : ℕ → ℕ → ℕ → Bounds
+bounds count first last = record { count = count; first = first; last = last }
 
-series-of-some : (series_of (5 ∷ 9 ∷ 2 ∷ []) ≡ series 3 5 2 9 16) × (series_of (7 ∷ []) ≡ series 1 7 7 7 7) × (series_of [] ≡ series 0 0 0 0 0)
+numbers : (bounds_of (5 ∷ 9 ∷ 2 ∷ []) ≡ bounds 3 5 2) × (bounds_of [] ≡ bounds 0 0 0)
+    × (peak_of (5 ∷ 9 ∷ 2 ∷ []) ≡ record { greatest = 9; last = 2 }) × (peak_of [] ≡ record { greatest = 0; last = 0 })
 unfolding worked
-series-of-some = (refl, refl, refl)
+numbers = (refl, refl, refl, refl)
 
 -- a sum stays at 2^128 - 1, a count at 2^64 - 1, and a mean is rounded down
-series-of-much : (series_of ((2 ^ 128 - 1) ∷ 3 ∷ []) ≡ series 2 (2 ^ 128 - 1) 3 (2 ^ 128 - 1) (2 ^ 128 - 1))
+much : (total_of (2 ^ 64 ∷ 3 ∷ []) ≡ record { high = 1; low = 3 }) × (sum_in (total_of ((2 ^ 128 - 1) ∷ 3 ∷ [])) ≡ 2 ^ 128 - 1)
     × (map kept ((2 ^ 64 - 1) ∷ 2 ^ 64 ∷ []) ≡ 18446744073709551615 ∷ 18446744073709551615 ∷ [])
-    × (map mean (series 3 111 15 140 266 ∷ series 0 0 0 0 0 ∷ []) ≡ 88 ∷ 0 ∷ [])
+    × (mean_in 3 (total_in 266) ≡ 88) × (mean_in 0 (total_in 0) ≡ 0)
 unfolding worked
-series-of-much = (refl, refl, refl)
+much = (refl, refl, refl, refl, refl)
 
 -- ---- one event
 
@@ -215,25 +215,32 @@ fourteen = first_period ++ second_period ++ third_period ++ fifth_period
 
 -- the update at 299 ns, which found the controller off, counts as an update, and its delay does not
 fourteen-sums : sums_of fourteen ≡ record {
-  answers = 2 ∷ 1 ∷ 1 ∷ 1 ∷ 1 ∷ 3 ∷ 1 ∷ 3 ∷ 1 ∷ [];
-  causes = 1 ∷ 1 ∷ 2 ∷ 0 ∷ 0 ∷ 0 ∷ 0 ∷ 0 ∷ 0 ∷ 0 ∷ 0 ∷ 1 ∷ 1 ∷ 0 ∷ 0 ∷ 8 ∷ [];
-  moments = series 14 40 499 499 3885;
-  arrived = series 6 1000 64 65535 68664;
-  waits = series 3 111 15 140 266;
-  departures = series 3 151 420 420 831;
-  excesses = series 0 0 0 0 0;
-  delays = series 2 30 4 30 34;
-  probs = series 14 0 0 200_000_000_000 800_000_000_000;
-  turned_on = series 2 40 405 405 445;
-  turned_off = series 1 250 250 250 250;
-  times = series 0 0 0 0 0;
-  on_times = series 0 0 0 0 0;
-  off_times = series 0 0 0 0 0;
-  carried = 2565;
-  above = 0;
-  late = 0;
-  target = 15_000_000;
-  burst = 0;
+  span = record { moments = bounds 14 40 499; times = bounds 0 0 0 };
+  meter = record {
+    answers = 2 ∷ 1 ∷ 1 ∷ 1 ∷ 1 ∷ 3 ∷ 1 ∷ 3 ∷ 1 ∷ [];
+    causes = 1 ∷ 1 ∷ 2 ∷ 0 ∷ 0 ∷ 0 ∷ 0 ∷ 0 ∷ 0 ∷ 0 ∷ 0 ∷ 1 ∷ 1 ∷ 0 ∷ 0 ∷ [];
+    first = 40;
+    last = 499;
+    since = 420;
+    arrivals = 6;
+    arrived = total_in 68664;
+    waits = total_in 266;
+    greatest_wait = 140;
+    delays = record { greatest = 30; last = 4 };
+    probs = record { greatest = fifth; last = 0 };
+    turned_on = bounds 2 40 405;
+    turned_off = bounds 1 250 250;
+    timed = 0;
+    time = 0;
+    carried = 2565;
+    above = 0;
+    longer = 0;
+    late = 0;
+    target = 15_000_000;
+    burst = 0;
+  };
+  on_times = bounds 0 0 0;
+  off_times = bounds 0 0 0;
 }
 unfolding worked
 fourteen-sums = refl
@@ -266,13 +273,6 @@ field_line =
 
 abbrev names : List ℕ
 names = field_line ++ codes "\n"
-
--- one record of all
-all-record : summary_of (record { form = Csv; every = None; packets = false }) fourteen
-    ≡ names ++ codes "14,40,499,6,68664,2,1,1,1,1,1,1,2,0,0,0,0,0,0,0,0,1,1,0,0,3,140,88,3,30,4,200000000000,0,2,40,405,1,250,250,"
-    ++ codes "140,2565,15000000,0,0,0,0\n"
-unfolding worked
-all-record = refl
 
 -- one of each period that has events
 period-records : summary_of (record { form = Csv; every = Some 100; packets = false }) fourteen
@@ -344,8 +344,8 @@ late-times : map late_at (places five) ≡ 0 ∷ 0 ∷ 3_000_000 ∷ 1_000_000 �
 unfolding worked
 late-times = refl
 
-late-sums : ((sums_of five).late ≡ 4_000_000) × ((sums_of five).excesses ≡ series 3 1_000_000 2_000_000 3_000_000 6_000_000)
-    × ((sums_of five).times.first ≡ 1_795_723_200_030_000_000) × ((sums_of five).times.count ≡ 4)
+late-sums : ((sums_of five).meter.late ≡ 4_000_000) × ((sums_of five).meter.longer ≡ 3)
+    × ((sums_of five).meter.time ≡ 1_795_723_200_030_000_000) × ((sums_of five).span.times.count ≡ 4)
 unfolding worked
 late-sums = (refl, refl, refl, refl)
 

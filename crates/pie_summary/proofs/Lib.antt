@@ -1,13 +1,12 @@
 pub mod CountFacts
 pub mod RangeFacts
 mod Examples
-pub mod SeriesFacts
+pub mod SpanFacts
 pub mod SumsFacts
 pub mod PeriodFacts
-pub mod SummaryFacts
+pub mod WrittenFacts
 pub mod LiveFacts
 pub mod NotedFacts
 pub mod FlowSumsFacts
 pub mod FlowFacts
-pub mod ByFlowFacts
 mod FlowExamples

@@ -7,7 +7,7 @@ use Rattle.pie_aqm.specs.Places.{last_or}
 use Rattle.pie_early.proofs.Laws.{after_last-push_no, after_last-push_yes}
 use Rattle.pie_aqm.proofs.Places.{last_or-push}
 use Rattle.pie_explain.specs.declared.explanation.Explained.{Explained}
-use Rattle.pie_summary.specs.Period.{begins, is_elsewhere, last_events, last_period, period_at, since}
+use Rattle.pie_summary.specs.Period.{is_elsewhere, last_events, last_period, period_at, since, starts}
 
 -- a list is empty, or has a last element
 abbrev Ends : {X : Type 0} → List X → Type 0
@@ -39,30 +39,23 @@ last_events-push every shown one =
     ap (λ p. since every p (shown ++ one ∷ [])) (last_period-push every shown one)
     ∙ after_last-push_no (is_elsewhere every (period_at every one)) shown one (in_its_own every one)
 
--- .. in the same period as the one before, in another, or where none was before
-pub since-same : (every : Option ℕ) (period : ℕ) (shown : List Explained) (before : Option ℕ) → before ≡ last_period every shown
-    → begins before period ≡ false
-    → since every (Some period) shown ≡ last_events every shown
-unfolding last_or
-since-same every period shown before is same = by_end (ends-of shown)
+-- an event that doesn't begin its period is in that which is under way
+pub under-way : (number : Option ℕ) (period : ℕ) → starts number period ≡ false → number ≡ Some period
+under-way None period same = cc
+under-way (Some before) period same = ap Some (eqb-true before period (twice (before == period) same))
   where
     twice : (b : Bool) → not b ≡ false → b ≡ true
     twice true e = refl
     twice false e = sym e
 
-    equal : (other : ℕ) → not (other == period) ≡ false → other ≡ period
-    equal other not_other = eqb-true other period (twice (other == period) not_other)
+-- .. so the last events before it are those in its period
+pub since-same : (every : Option ℕ) (period : ℕ) (shown : List Explained) (before : Option ℕ) → before ≡ last_period every shown
+    → starts before period ≡ false → since every (Some period) shown ≡ last_events every shown
+since-same every period shown before is same = ap (λ p. since every p shown) (sym (under-way before period same) ∙ is)
 
-    by_end : Ends shown → since every (Some period) shown ≡ last_events every shown
-    by_end (inl none) = rw none refl
-    by_end (inr (front, last, whole)) =
-        let known : before ≡ Some (period_at every last) = is ∙ ap (last_period every) whole ∙ last_period-push every front last in
-        let at : period_at every last ≡ period = equal (period_at every last) (ap (λ b. begins b period) (sym known) ∙ same) in
-        ap (λ p. since every p shown) (ap Some (sym at) ∙ sym known ∙ is)
-
+-- .. and of one that begins it none are
 pub since-begun : (every : Option ℕ) (period : ℕ) (shown : List Explained) (before : Option ℕ) → before ≡ last_period every shown
-    → begins before period ≡ true
-    → since every (Some period) shown ≡ []
+    → starts before period ≡ true → since every (Some period) shown ≡ []
 since-begun every period shown before is begun = by_end (ends-of shown)
   where
     by_end : Ends shown → since every (Some period) shown ≡ []
@@ -70,7 +63,7 @@ since-begun every period shown before is begun = by_end (ends-of shown)
     by_end (inr (front, last, whole)) =
         let known : before ≡ Some (period_at every last) = is ∙ ap (last_period every) whole ∙ last_period-push every front last in
         ap (λ all. since every (Some period) all) whole
-        ∙ after_last-push_yes (is_elsewhere every period) front last (ap (λ b. begins b period) (sym known) ∙ begun)
+        ∙ after_last-push_yes (is_elsewhere every period) front last (ap (λ b. starts b period) (sym known) ∙ begun)
 
 -- a list with a last element has a first
 abbrev pub Begins : {X : Type 0} → List X → Type 0

@@ -8,7 +8,7 @@ use Rattle.pie_summary.specs.declared.flow.Flow.{Flow}
 use Rattle.pie_summary.specs.declared.flow_sums.FlowSums.{FlowSums}
 use Rattle.pie_summary.specs.declared.flow_words.Name.{Name}
 use Rattle.pie_summary.specs.declared.flow_words.Name.TheVariants as name
-use Rattle.pie_summary.specs.declared.flow_words.Span.{Span}
+use Rattle.pie_summary.specs.declared.spans.Span.{Span}
 use Rattle.pie_summary.specs.Flows.{first_of, sums_beside}
 use Rattle.pie_summary.specs.Record.{last_fields, number_fields}
 use Rattle.pie_summary.specs.Words.{head_words, time_words}
@@ -76,7 +76,7 @@ flow_numbers sums = sums.arrivals ∷ sums.bytes ∷ sums.queued ∷ sums.marked
 unfoldable pub flow_record : Bool → Span → Name → FlowSums → List ℕ
 flow_record by_wall span name sums =
     joined (number_fields (span.moments.first ∷ span.moments.last ∷ []) ∷ name_field name ∷ codes "," ∷ number_fields (flow_numbers sums)
-    ∷ last_fields by_wall sums.held span.times ∷ [])
+    ∷ last_fields by_wall sums.held span.times.count span.times.first ∷ [])
 
 -- ---- in either form
 

@@ -1,6 +1,6 @@
 pub mod Counts
 pub mod Ranges
-pub mod Series
+pub mod Spans
 pub mod Sums
 pub mod Period
 pub mod Words

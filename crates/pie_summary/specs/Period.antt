@@ -1,5 +1,5 @@
 -- Periods of equal length: which of the explained events are summed up together.
-use Rattle.std.specs.Prelude.{ℕ, ◌/◌, ◌==◌, max, Bool, false, not, List, [], map, Option, Some, None}
+use Rattle.std.specs.Prelude.{ℕ, ◌≡◌, ◌/◌, ◌==◌, max, Bool, true, false, not, List, [], map, Option, Some, None}
 use Rattle.std.specs.List.{after_last}
 use Rattle.pie_aqm.specs.Places.{last_or}
 use Rattle.pie_explain.specs.declared.explanation.Explained.{Explained}
@@ -35,3 +35,13 @@ last_events every all = since every (last_period every all) all
 abbrev pub begins : Option ℕ → ℕ → Bool
 begins None period = false
 begins (Some before) period = not (before == period)
+
+-- .. or there is none before it: it is the first in its period
+abbrev pub starts : Option ℕ → ℕ → Bool
+starts None period = true
+starts (Some before) period = not (before == period)
+
+-- where the period with this number, if any, is that of the last of these events, this is so of the last events as far back as they are in it
+pub record Keeps (of : List Explained → Type 0) (every under_way : Option ℕ) (all : List Explained) : Type 0 where
+  pub last : under_way ≡ last_period every all
+  pub kept : of (last_events every all)

@@ -1,12 +1,14 @@
 -- A summary as a CSV record.
 use Rattle.std.specs.Prelude.{ℕ, ◌==◌, if◌then◌else◌, Bool, true, false, List, [], ◌∷◌, ◌++◌, map, slice_index, take, codes}
 use Rattle.std.specs.Fmt.{decimal}
+use Rattle.std.specs.List.{sum}
 use Rattle.pie_event.specs.CauseName.{cause_names, word_of_cause}
 use Rattle.pie_explain.specs.Words.{joined}
 use Rattle.pie_units.specs.Utc.{utc_text}
-use Rattle.pie_summary.specs.declared.series.Series.{Series}
-use Rattle.pie_summary.specs.declared.sums.Sums.{Sums}
-use Rattle.pie_summary.specs.Words.{mean}
+use Rattle.pie_summary.specs.declared.meter.Meter.{Meter}
+use Rattle.pie_summary.specs.Counts.{kept}
+use Rattle.pie_summary.specs.Spans.{mean_in, sum_in}
+use Rattle.pie_summary.specs.Words.{left_in}
 
 -- the names of the fields, in the middle of them the words of the causes
 abbrev pub field_names : List (List ℕ)
@@ -25,34 +27,31 @@ abbrev pub number_fields : List ℕ → List ℕ
 number_fields [] = []
 number_fields (number ∷ numbers) = decimal number ++ (codes "," ++ number_fields numbers)
 
--- when events were, and what arrived
-unfoldable pub first_fields : Series → Series → List ℕ
-first_fields moments arrived =
-    joined (number_fields (moments.count ∷ moments.first ∷ moments.last ∷ arrived.count ∷ []) ∷ decimal arrived.total ∷ codes "," ∷ [])
-
--- the arrivals by what became of them, and by what decided them
-unfoldable pub count_fields : List ℕ → List ℕ → List ℕ
-count_fields answers causes = number_fields (take 5 answers) ++ number_fields (take 15 causes)
+-- how many events there were, each by its answer, when, and what arrived
+unfoldable pub first_fields : Meter → List ℕ
+first_fields meter =
+    joined (number_fields (kept (sum meter.answers) ∷ meter.first ∷ meter.last ∷ meter.arrivals ∷ [])
+    ∷ decimal (sum_in meter.arrived) ∷ codes "," ∷ [])
 
 -- how long packets waited, what the updates made, and when the controller turned; with the wait of 99 of 100, the bytes carried, the target and
 -- the burst allowance at the end, the time above the target, and how many packets had waited longer
-abbrev pub later_numbers : Sums → ℕ → List ℕ
-later_numbers sums most =
-    sums.waits.count ∷ sums.waits.greatest ∷ mean sums.waits
-    ∷ slice_index sums.answers 7 ∷ sums.delays.greatest ∷ sums.delays.last ∷ sums.probs.greatest ∷ sums.probs.last
-    ∷ sums.turned_on.count ∷ sums.turned_on.first ∷ sums.turned_on.last
-    ∷ sums.turned_off.count ∷ sums.turned_off.first ∷ sums.turned_off.last
-    ∷ most ∷ sums.carried ∷ sums.target ∷ sums.burst ∷ sums.above ∷ sums.excesses.count ∷ []
+abbrev pub later_numbers : Meter → ℕ → List ℕ
+later_numbers meter most =
+    left_in meter ∷ meter.greatest_wait ∷ mean_in (left_in meter) meter.waits
+    ∷ slice_index meter.answers 7 ∷ meter.delays.greatest ∷ meter.delays.last ∷ meter.probs.greatest ∷ meter.probs.last
+    ∷ meter.turned_on.count ∷ meter.turned_on.first ∷ meter.turned_on.last
+    ∷ meter.turned_off.count ∷ meter.turned_off.first ∷ meter.turned_off.last
+    ∷ most ∷ meter.carried ∷ meter.target ∷ meter.burst ∷ meter.above ∷ meter.longer ∷ []
 
 -- how long these had waited longer at the head of the queue; and the first time of day, where these are asked for, empty where no record tells one
-unfoldable pub last_fields : Bool → ℕ → Series → List ℕ
-last_fields false late times = joined (decimal late ∷ codes "\n" ∷ [])
-last_fields true late times =
-    if times.count == 0 then joined (decimal late ∷ codes ",\n" ∷ [])
-    else joined (decimal late ∷ codes "," ∷ utc_text times.first ∷ codes "\n" ∷ [])
+unfoldable pub last_fields : Bool → ℕ → ℕ → ℕ → List ℕ
+last_fields false late timed time = joined (decimal late ∷ codes "\n" ∷ [])
+last_fields true late timed time =
+    if timed == 0 then joined (decimal late ∷ codes ",\n" ∷ [])
+    else joined (decimal late ∷ codes "," ∷ utc_text time ∷ codes "\n" ∷ [])
 
--- a record of these numbers, with a time of day or not
-unfoldable pub record_of : Bool → Sums → ℕ → List ℕ
-record_of by_wall sums most =
-    joined (first_fields sums.moments sums.arrived ∷ count_fields sums.answers sums.causes ∷ number_fields (later_numbers sums most)
-    ∷ last_fields by_wall sums.late sums.times ∷ [])
+-- a record of these numbers, with a time of day or not; in its middle the arrivals by what became of them, and by what decided them
+unfoldable pub record_of : Bool → Meter → ℕ → List ℕ
+record_of by_wall meter most =
+    joined (first_fields meter ∷ number_fields (take 5 meter.answers) ∷ number_fields meter.causes ∷ number_fields (later_numbers meter most)
+    ∷ last_fields by_wall meter.late meter.timed meter.time ∷ [])

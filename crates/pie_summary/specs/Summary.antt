@@ -1,36 +1,33 @@
 -- What is written for summaries of the explained events, and between them for lost and marked packets.
-use Rattle.std.specs.Prelude.{ℕ, ◌≡◌, Bool, true, false, ◌&&◌, ◌||◌, List, [], ◌∷◌, ◌++◌, Option, None, codes}
+use Rattle.std.specs.Prelude.{ℕ, ◌≡◌, Bool, true, false, ◌&&◌, ◌||◌, List, [], ◌∷◌, ◌++◌, Option, None}
 use Rattle.std.specs.List.{flat_map}
 use Rattle.pie_aqm.specs.Places.{Place, places}
 use Rattle.pie_explain.specs.declared.form.Form.{Form}
 use Rattle.pie_explain.specs.declared.form.Form.TheVariants.{Text, Csv, TextByWall, CsvByWall}
 use Rattle.pie_explain.specs.declared.explanation.Explained.{Explained}
 use Rattle.pie_explain.specs.declared.which.Which.TheVariants.{Lost, Marked}
-use Rattle.pie_explain.specs.Record.{line_of}
+use Rattle.pie_explain.specs.Output.{header_of}
 use Rattle.pie_explain.specs.Which.{chooses}
 use Rattle.pie_explain.specs.Words.{words_by}
 use Rattle.pie_record.specs.declared.clock.Clock.{Clock}
 use Rattle.pie_summary.specs.declared.period.Period.{Period}
 use Rattle.pie_summary.specs.declared.summary.Summary.{Summary}
 use Rattle.pie_summary.specs.declared.sums.Sums.{Sums}
-use Rattle.pie_summary.specs.Period.{begins, last_events, last_period, period_at}
+use Rattle.pie_summary.specs.Period.{Keeps, begins, last_events, last_period, period_at}
 use Rattle.pie_summary.specs.Record.{field_names, record_of}
 use Rattle.pie_summary.specs.Sums.{sums_of, waits_of}
 use Rattle.pie_summary.specs.Words.{wait_99, words}
 
 -- what stands before the first summary: for CSV the header row
 unfoldable pub header : Form → List ℕ
-header Text = []
-header Csv = line_of field_names
-header TextByWall = []
-header CsvByWall = line_of (field_names ++ codes "wall" ∷ [])
+header form = header_of field_names form
 
 -- these numbers in words, or as a CSV record
 abbrev pub said : Form → Sums → List ℕ → List ℕ
-said Text sums ranges = words false sums (wait_99 ranges sums.waits)
-said Csv sums ranges = record_of false sums (wait_99 ranges sums.waits)
-said TextByWall sums ranges = words true sums (wait_99 ranges sums.waits)
-said CsvByWall sums ranges = record_of true sums (wait_99 ranges sums.waits)
+said Text sums ranges = words false sums (wait_99 ranges sums.meter)
+said Csv sums ranges = record_of false sums.meter (wait_99 ranges sums.meter)
+said TextByWall sums ranges = words true sums (wait_99 ranges sums.meter)
+said CsvByWall sums ranges = record_of true sums.meter (wait_99 ranges sums.meter)
 
 -- .. of these events
 abbrev pub said_of : Form → List Explained → List ℕ
@@ -83,8 +80,10 @@ summaries summary all = header summary.form ++ flat_map (written_at summary) (pl
 abbrev pub summary_of : Summary → List Explained → List ℕ
 summary_of summary all = summaries summary all ++ said_of summary.form (last_events summary.every all)
 
--- what is kept is the period of the last of these events, and the numbers and the waits of the last events in it
+-- what a period has of these events: their numbers, and their waits
+pub record HoldsSums (period : Period) (all : List Explained) : Type 0 where
+  pub sums : period.sums ≡ sums_of all
+  pub waits : period.waits.value ≡ waits_of all
+
 abbrev pub keeps : Summary → Period → List Explained → Type 0
-keeps summary period all =
-    (period.number ≡ last_period summary.every all) × (period.sums ≡ sums_of (last_events summary.every all))
-    × (period.waits ≡ waits_of (last_events summary.every all))
+keeps summary period all = Keeps (HoldsSums period) summary.every period.number all

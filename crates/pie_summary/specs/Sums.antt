@@ -1,8 +1,8 @@
 -- The numbers of a summary, each over the whole list of the events that were explained.
-use Rattle.std.specs.Prelude.{ℕ, ◌-◌, nat_lt, min, if◌then◌else◌, Bool, true, false, List, map, slice_index, Option, Some, None}
+use Rattle.std.specs.Prelude.{ℕ, ◌-◌, ◌&&◌, nat_lt, min, if◌then◌else◌, Bool, true, false, List, [], ◌∷◌, ◌++◌, length, map, slice_index, Option, Some, None}
 use Rattle.std.specs.List.{filter_map, sum}
 use Rattle.pie_event.specs.declared.cause.Cause.{Cause}
-use Rattle.pie_aqm.specs.Places.{Place, last_or, places, up_to}
+use Rattle.pie_aqm.specs.Places.{Place, greatest, last_or, places, up_to}
 use Rattle.pie_event.specs.CauseName.{name_of, place_of_cause}
 use Rattle.pie_event.specs.declared.command.Command.{Command}
 use Rattle.pie_event.specs.declared.command.Command.TheVariants.{Arrive}
@@ -10,11 +10,11 @@ use Rattle.pie_event.specs.declared.command.Answer.{Answer}
 use Rattle.pie_event.specs.declared.command.Answer.TheVariants.{Enqueued, Marked, DroppedEarly, DroppedBytes, DroppedPackets, Empty, Left, Updated}
 use Rattle.pie_event.specs.declared.command.Answer.TheVariants.{Done}
 use Rattle.pie_explain.specs.declared.explanation.Explained.{Explained}
-use Rattle.pie_explain.specs.Choice.{time_of}
+use Rattle.pie_summary.specs.declared.meter.Meter.{Meter}
 use Rattle.pie_summary.specs.declared.sums.Sums.{Sums}
 use Rattle.pie_summary.specs.Counts.{counts_of, kept}
 use Rattle.pie_summary.specs.Ranges.{ranges_of}
-use Rattle.pie_summary.specs.Series.{series_of}
+use Rattle.pie_summary.specs.Spans.{bounds_of, moment_at, peak_of, span_of, time_at, total_of}
 
 -- ---- of one event
 
@@ -35,10 +35,6 @@ answer_place Done = 8
 abbrev pub cause_place : Option Cause → ℕ
 cause_place (Some cause) = place_of_cause (name_of cause)
 cause_place None = 15
-
--- the effective moment of an event
-abbrev pub moment_at : Explained → ℕ
-moment_at all = all.told.moment
 
 -- the size of the packet that arrived
 abbrev pub size_by : Command → Option ℕ
@@ -71,9 +67,8 @@ excess_in all = excess_by all.told.event.answer all.told.waited all.told.before.
 
 -- the delay that an update took, where the controller was active before it
 abbrev pub delay_by : Bool → Answer → Option ℕ
-delay_by true (Updated delay prob burst) = Some delay
-delay_by true _ = None
-delay_by false answer = None
+delay_by active (Updated delay prob burst) = if active then Some delay else None
+delay_by active _ = None
 
 abbrev pub delay_in : Explained → Option ℕ
 delay_in all = delay_by all.told.before.active all.told.event.answer
@@ -89,9 +84,8 @@ carried_in all = carried_by all.told.event.answer
 -- how long it was since the update before, where an update took a delay above the target; 0 of any other event, and while the controller is
 -- not active
 abbrev pub above_by : Bool → Answer → ℕ → ℕ → ℕ
-above_by true (Updated delay prob burst) target since = if nat_lt target delay then since else 0
-above_by true _ target since = 0
-above_by false answer target since = 0
+above_by active (Updated delay prob burst) target since = if active && nat_lt target delay then since else 0
+above_by active _ target since = 0
 
 abbrev pub above_in : Explained → ℕ
 above_in all = above_by all.told.before.active all.told.event.answer all.told.before.params.target (all.told.moment - all.told.before.last)
@@ -119,11 +113,7 @@ turned_on all = turned_at true all.told.before.active all.after.active all.told.
 abbrev pub turned_off : Explained → Option ℕ
 turned_off all = turned_at false all.told.before.active all.after.active all.told.moment
 
--- the time of day of an event, where a record before it tells it
-abbrev pub time_at : Explained → Option ℕ
-time_at all = time_of all.told.clock all.told.moment
-
--- .. where this moment is one
+-- a time of day, where this moment is one
 abbrev pub time_where : Option ℕ → Option ℕ → Option ℕ
 time_where None time = None
 time_where (Some moment) time = time
@@ -158,28 +148,53 @@ answer_of all = answer_place all.told.event.answer
 abbrev pub cause_of : Explained → ℕ
 cause_of all = cause_place all.told.cause
 
--- the numbers of a summary of these events
-unfoldable pub sums_of : List Explained → Sums
-sums_of all = record {
+-- the numbers that the record of these events is made of
+unfoldable pub meter_of : List Explained → Meter
+meter_of all = record {
   answers = counts_of answer_of 9 all;
-  causes = counts_of cause_of 16 all;
-  moments = series_of (map moment_at all);
-  arrived = series_of (filter_map size_in all);
-  waits = series_of (filter_map wait_in all);
-  departures = series_of (filter_map left_at all);
-  excesses = series_of (filter_map excess_in all);
-  delays = series_of (filter_map delay_in all);
-  probs = series_of (map prob_at all);
-  turned_on = series_of (filter_map turned_on all);
-  turned_off = series_of (filter_map turned_off all);
-  times = series_of (filter_map time_at all);
-  on_times = series_of (filter_map on_time all);
-  off_times = series_of (filter_map off_time all);
+  causes = counts_of cause_of 15 all;
+  first = slice_index (map moment_at all) 0;
+  last = last_or 0 (map moment_at all);
+  since = last_or (slice_index (map moment_at all) 0) (filter_map left_at all);
+  arrivals = kept (length (filter_map size_in all));
+  arrived = total_of (filter_map size_in all);
+  waits = total_of (filter_map wait_in all);
+  greatest_wait = greatest (filter_map wait_in all);
+  delays = peak_of (filter_map delay_in all);
+  probs = peak_of (map prob_at all);
+  turned_on = bounds_of (filter_map turned_on all);
+  turned_off = bounds_of (filter_map turned_off all);
+  timed = min (length (filter_map time_at all)) 1;
+  time = slice_index (filter_map time_at all) 0;
   carried = kept (sum (map carried_in all));
   above = kept (sum (map above_in all));
+  longer = kept (length (filter_map excess_in all));
   late = kept (sum (map late_at (places all)));
   target = last_or 0 (map target_at all);
   burst = last_or 0 (map burst_at all);
+}
+
+-- .. where one more is the next: the first moment is known that the record will have, and since when the first packet in the queue is that
+abbrev pub reached : List Explained → Explained → Meter
+reached shown one = record (meter_of shown) {
+  first = slice_index (map moment_at (shown ++ one ∷ [])) 0;
+  since = first_since (record { before = shown; event = one });
+}
+
+-- .. a meter that has noted the first of these times of day, if there is one
+abbrev pub timed_by : Meter → List ℕ → Meter
+timed_by meter times = record meter { timed = min (length times) 1; time = slice_index times 0 }
+
+abbrev pub awaiting : List Explained → Explained → Meter
+awaiting shown one = timed_by (reached shown one) (filter_map time_at (shown ++ one ∷ []))
+
+-- the numbers of a summary of these events
+unfoldable pub sums_of : List Explained → Sums
+sums_of all = record {
+  span = span_of all;
+  meter = meter_of all;
+  on_times = bounds_of (filter_map on_time all);
+  off_times = bounds_of (filter_map off_time all);
 }
 
 -- how many of the waits of packets that left lie in each range

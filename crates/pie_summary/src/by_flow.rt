@@ -1,15 +1,16 @@
 //! Sums of the explained events by flow.
 ghost use Rattle.std.specs.Prelude.{◌≡◌, ◌++◌, OnOk};
 ghost use Rattle.pie_explain.specs.declared.explanation.Explained.{Explained};
-ghost use Rattle.pie_summary.specs.ByFlow.{ended_by_flow, flow_header};
+ghost use Rattle.pie_summary.specs.ByFlow.{ended_by_flow};
 ghost use Rattle.pie_summary.specs.FlowWords.{flows_said};
 ghost use Rattle.pie_summary.specs.Period.{begins};
 
 use crate::flow::Flow;
 use crate::flow_period::FlowPeriod;
-use crate::flow_words::{NAMES, Span, push_flows};
+use crate::flow_words::{NAMES, push_flows};
 use crate::period::{begins, period_of};
-use pie_explain::{Explained, Form, Report};
+use crate::spans::Span;
+use pie_explain::{Explained, Form, Report, push_header};
 use pie_page::Page;
 use std::alloc::AllocError;
 
@@ -26,24 +27,6 @@ pub struct ByFlow {
     pub every: Option<u64>,
     /// How many flows have a row of their own: those with the most bytes that arrived, and of equal ones those with the least number.
     pub most: u64,
-}
-
-/// Writes what stands before the first period: for CSV the header row.
-#[tactic(auto, unfolding(crate::specs::ByFlow::flow_header))]
-fn push_header(page: &mut Page, form: Form) -> Result<(), AllocError>
-    ensures { OnOk result (page.new ≡ page.old ++ flow_header form) }
-{
-    match form {
-        Form::Text | Form::TextByWall => Ok(()),
-        Form::Csv => {
-            page.push(NAMES.as_bytes())?;
-            page.push(b"\n")
-        }
-        Form::CsvByWall => {
-            page.push(NAMES.as_bytes())?;
-            page.push(b",wall\n")
-        }
-    }
 }
 
 /// Writes these flows onto the page.
@@ -86,16 +69,16 @@ fn push_ended(
 impl Report for ByFlow {
     type State = FlowPeriod;
 
-    ghost use Rattle.pie_summary.specs.ByFlow.{KeepsFlows, flows_so_far, flows_whole};
+    ghost use Rattle.pie_summary.specs.ByFlow.{flows_so_far, flows_whole, keeps_flows};
 
-    ghost shows = { KeepsFlows };
+    ghost shows = { keeps_flows };
 
     ghost so_far = { flows_so_far };
 
     ghost whole = { flows_whole };
 
     fn begin(&self, page: &mut Page) -> Result<FlowPeriod, AllocError> {
-        push_header(page, self.form)?;
+        push_header(page, NAMES, self.form)?;
         Ok(FlowPeriod::empty(page.allocator()))
     }
 

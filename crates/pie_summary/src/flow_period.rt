@@ -1,15 +1,15 @@
 //! The period that is being summed up by flow.
 ghost use Rattle.std.specs.Prelude.{◌≡◌, ◌++◌, ◌∷◌, [], ℕ, List, None, OnOk, Option, Some};
 ghost use Rattle.pie_explain.specs.declared.explanation.Explained.{Explained};
-ghost use Rattle.pie_summary.specs.ByFlow.{span_of};
+ghost use Rattle.pie_summary.specs.ByFlow.{HoldsFlows};
 ghost use Rattle.pie_summary.specs.Flows.{HasFlows};
-ghost use Rattle.pie_summary.specs.Period.{last_events, last_period, period_at, since};
+ghost use Rattle.pie_summary.specs.Period.{Keeps, since};
+ghost use Rattle.pie_summary.specs.Spans.{span_of};
 
 use crate::flow::FlowTable;
-use crate::flow_words::Span;
-use crate::period::{begins, period_of};
-use crate::series::Series;
-use pie_explain::{Explained, time_of};
+use crate::period::{period_of, starts};
+use crate::spans::Span;
+use pie_explain::Explained;
 use std::alloc::{AllocError, Global};
 
 /// The flows of the last events, as far back as they are in the same period.
@@ -23,27 +23,6 @@ pub struct FlowPeriod {
     pub table: FlowTable,
 }
 
-/// When no event was.
-fn no_span() -> Span
-    ensures { result ≡ span_of [] }
-{
-    Span {
-        moments: Series::empty(),
-        times: Series::empty(),
-    }
-}
-
-/// When events were, with one more.
-fn span_with(span: Span, told: &Explained) -> Span
-    ensures { (shown : List Explained) → span ≡ span_of shown → result ≡ span_of (shown ++ told.now ∷ []) }
-{
-    let moment = told.told.moment;
-    Span {
-        moments: span.moments.with(moment),
-        times: span.times.with_some(time_of(told.told.clock, moment)),
-    }
-}
-
 impl FlowPeriod {
     /// No event yet.
     pub(crate) fn empty(alloc: Global) -> FlowPeriod
@@ -53,21 +32,18 @@ impl FlowPeriod {
     {
         FlowPeriod {
             number: None,
-            span: no_span(),
+            span: Span::empty(),
             table: FlowTable::empty(alloc),
         }
     }
 
     /// Forgets the events before one that is in this period, where they are in another.
     fn begin(&mut self, period: u64)
-        ensures span { (shown : List Explained) (every : Option ℕ) → self.old.number ≡ last_period every shown
-            → self.old.span ≡ span_of (last_events every shown) → self.new.span ≡ span_of (since every (Some period) shown) }
-        ensures flows { (shown : List Explained) (every : Option ℕ) → self.old.number ≡ last_period every shown
-            → HasFlows self.old.table.rows.entries (last_events every shown)
-            → HasFlows self.new.table.rows.entries (since every (Some period) shown) }
+        ensures { (shown : List Explained) (every : Option ℕ) → Keeps (HoldsFlows self.old) every self.old.number shown
+            → HoldsFlows self.new (since every (Some period) shown) }
     {
-        if begins(self.number, period) {
-            self.span = no_span();
+        if starts(self.number, period) {
+            self.span = Span::empty();
             self.table.clear();
         }
     }
@@ -78,17 +54,13 @@ impl FlowPeriod {
     ///
     /// `AllocError` where there is no memory for its flow.
     pub(crate) fn take(&mut self, every: Option<u64>, told: &Explained) -> Result<(), AllocError>
-        ensures number { (shown : List Explained) → self.new.number ≡ last_period every (shown ++ told.now ∷ []) }
-        ensures span { (shown : List Explained) → self.old.number ≡ last_period every shown
-            → self.old.span ≡ span_of (last_events every shown) → self.new.span ≡ span_of (last_events every (shown ++ told.now ∷ [])) }
-        ensures flows { (shown : List Explained) → self.old.number ≡ last_period every shown
-            → HasFlows self.old.table.rows.entries (last_events every shown)
-            → OnOk result (HasFlows self.new.table.rows.entries (last_events every (shown ++ told.now ∷ []))) }
+        ensures { (shown : List Explained) → Keeps (HoldsFlows self.old) every self.old.number shown
+            → OnOk result (Keeps (HoldsFlows self.new) every self.new.number (shown ++ told.now ∷ [])) }
     {
         let number = period_of(every, told.told.moment);
         self.begin(number);
         self.number = Some(number);
-        self.span = span_with(self.span, told);
+        self.span.take(told);
         self.table.take(told)
     }
 }

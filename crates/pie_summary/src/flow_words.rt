@@ -1,14 +1,15 @@
 //! Sums by flow in words, and as CSV records.
 ghost use Rattle.std.specs.Prelude.{◌≡◌, ◌++◌, OnOk, string_bytes};
+ghost use Rattle.pie_summary.specs.Record.{last_fields, number_fields};
 ghost use Rattle.pie_summary.specs.FlowWords.{amount_words, each_said, fate_words, flow_record, flow_said, flow_words, flows_said, head_said, mean_wait};
 ghost use Rattle.pie_summary.specs.FlowWords.{name_field, name_words, others_said, parts_said, total_words, wait_words};
 
 use crate::flow::{Flow, first_of, sums_beside};
 use crate::flow_sums::FlowSums;
-use crate::record::{push_last, push_numbers};
-use crate::series::Series;
+use crate::spans::{Bounds, Span};
 use crate::words::{push_head, push_times};
 use pie_explain::{Form, Millis, Share};
+use pie_units::Utc;
 use std::alloc::{AllocError, Global};
 use std::fmt;
 use std::fmt::Display;
@@ -20,15 +21,6 @@ pub enum Name {
     Of(u32),
     /// So many others.
     Others(u64),
-}
-
-/// When the summed events were.
-#[derive(Clone, Copy, Debug)]
-pub struct Span {
-    /// Their effective moments, in nanoseconds.
-    pub moments: Series,
-    /// Their times of day, where a record before them tells it, in nanoseconds after 1970-01-01T00:00:00Z.
-    pub times: Series,
 }
 
 /// The names of the fields, as the header row has them.
@@ -164,6 +156,34 @@ fn push_total(page: &mut String, count: u64, total: &FlowSums) -> Result<(), All
         page,
         "  {count} flows: {arrivals} arrivals, {bytes} bytes\n"
     )
+}
+
+/// Numbers, each with a comma after it.
+fn push_numbers(page: &mut String, numbers: &[u64]) -> Result<(), AllocError>
+    ensures { OnOk result (string_bytes page.new ≡ string_bytes page.old ++ number_fields numbers.now) }
+{
+    match numbers {
+        [] => Ok(()),
+        [first, rest @ ..] => {
+            write!(page, "{first},")?;
+            push_numbers(page, rest)
+        }
+    }
+}
+
+/// How long packets had waited longer than the target, and the first time of day, where these are asked for.
+#[tactic(auto, unfolding(crate::specs::Record::last_fields))]
+fn push_last(page: &mut String, by_wall: bool, late: u64, times: &Bounds) -> Result<(), AllocError>
+    ensures { OnOk result (string_bytes page.new ≡ string_bytes page.old ++ last_fields by_wall late times.now.count times.now.first) }
+{
+    if !by_wall {
+        return write!(page, "{late}\n");
+    }
+    if times.count == 0 {
+        return write!(page, "{late},\n");
+    }
+    let first = Utc(times.first);
+    write!(page, "{late},{first}\n")
 }
 
 /// A flow as a record, with a time of day or not.

@@ -1,18 +1,19 @@
 //! A period that is summed up as it goes, in memory that its owner has.
-ghost use Rattle.std.specs.Prelude.{◌≡◌, ◌<◌, ◌++◌, ◌∷◌, [], List, length, min, not, slice_index, if◌then◌else◌};
-ghost use Rattle.std.specs.List.{filter_map};
-ghost use Rattle.pie_explain.specs.declared.explanation.Explained.{Explained};
-ghost use Rattle.pie_summary.specs.Live.{Awaits, Holds, IsSet, clock_of, form_in, is_within, length_of, noted_of, number_in, starts, timed_by};
-ghost use Rattle.pie_summary.specs.Sums.{time_at};
-ghost use Rattle.pie_summary.specs.Period.{last_events};
+ghost use Rattle.std.specs.Prelude.{◌≡◌, ◌<◌, ◌++◌, ◌∷◌, [], ℕ, List, not, if◌then◌else◌};
+ghost use Rattle.std.specs.List.{cons_option};
+ghost use Rattle.pie_explain.specs.Choice.{time_of};
+ghost use Rattle.pie_summary.specs.Live.{Awaits, Holds, IsSet, clock_of, form_in, is_within, length_of, noted_of, number_in};
+ghost use Rattle.pie_summary.specs.Period.{last_events, starts};
 ghost use Rattle.pie_summary.specs.Summary.{header, said_of};
+ghost use Rattle.pie_summary.specs.Sums.{timed_by};
+ghost use Rattle.pie_explain.specs.declared.explanation.Explained.{Explained};
 
 use crate::line::Line;
-use crate::live_record::push_record;
 use crate::meter::Meter;
 use crate::noted::Noted;
 use crate::ranges::{RANGES, clear_counts, count_some, most_of};
-use crate::record::NAMES;
+use crate::record::{NAMES, push_record};
+use pie_explain::time_of;
 use pie_record::Clock;
 
 /// The numbers of the last events, as far back as they are in the same period, as `pie explain --every` sums them up.
@@ -74,11 +75,11 @@ impl LivePeriod {
         self.start <= moment && moment < self.end
     }
 
-    /// Whether the period with this number is under way.
-    fn is_under_way(&self, number: u64) -> bool
-        ensures { result ≡ not (starts (number_in self.now) number) }
+    /// Whether no event was in the period with this number, or one in another after them.
+    fn begins(&self, number: u64) -> bool
+        ensures { result ≡ starts (number_in self.now) number }
     {
-        self.begun != 0 && self.number == number
+        self.begun == 0 || self.number != number
     }
 
     /// Begins the period in which a moment lies, where another is under way.
@@ -89,15 +90,14 @@ impl LivePeriod {
     {
         let every = self.every.max(1);
         let number = moment / every;
-        if self.is_under_way(number) {
-            return;
+        if self.begins(number) {
+            self.number = number;
+            self.start = number * every;
+            self.end = self.start.saturating_add(every);
+            self.begun = self.begun.saturating_add(1);
+            self.meter = Meter::begun(moment);
+            clear_counts(&mut self.waits);
         }
-        self.number = number;
-        self.start = number * every;
-        self.end = self.start.saturating_add(every);
-        self.begun = self.begun.saturating_add(1);
-        self.meter = Meter::begun(moment);
-        clear_counts(&mut self.waits);
     }
 
     /// Has the period in which a moment lies under way. By its ends, since a division costs more.
@@ -112,14 +112,29 @@ impl LivePeriod {
         self.turn(moment);
     }
 
+    /// The time of day that was told last.
+    fn clock(&self) -> Option<Clock>
+        ensures { result ≡ clock_of self.now }
+    {
+        if self.told == 1 {
+            Some(Clock {
+                moment: self.clock_moment,
+                unix: self.clock_unix,
+            })
+        } else {
+            None
+        }
+    }
+
     /// Notes the time of day of an event at this moment, where it is the first that has one. Where as many are noted as are told, none or
     /// one, there is nothing to do.
     #[inline(always)]
     fn note_time(&mut self, moment: u64)
         ensures settings { IsSet self.old self.new }
-        ensures noted { (all : List Explained) (one : Explained) → one.told.moment ≡ moment → one.told.clock ≡ clock_of self.old
-            → self.old.meter.timed ≡ min (length (filter_map time_at all)) 1 → self.old.meter.time ≡ slice_index (filter_map time_at all) 0
-            → self.new ≡ timed_by self.old (filter_map time_at (all ++ one ∷ [])) }
+        ensures noted { (times : List ℕ) → self.old.meter ≡ timed_by self.old.meter times → self.new ≡ record self.old {
+          meter = timed_by self.old.meter
+              (times ++ cons_option (time_of (clock_of self.old) moment) []);
+        } }
     {
         if self.told == self.meter.timed {
             return;
@@ -132,19 +147,13 @@ impl LivePeriod {
     #[inline(never)]
     fn note_first_time(&mut self, moment: u64)
         ensures settings { IsSet self.old self.new }
-        ensures noted { (all : List Explained) (one : Explained) → one.told.moment ≡ moment → one.told.clock ≡ clock_of self.old
-            → self.old.meter.timed ≡ min (length (filter_map time_at all)) 1 → self.old.meter.time ≡ slice_index (filter_map time_at all) 0
-            → self.new ≡ timed_by self.old (filter_map time_at (all ++ one ∷ [])) }
+        ensures noted { (times : List ℕ) → self.old.meter ≡ timed_by self.old.meter times → self.new ≡ record self.old {
+          meter = timed_by self.old.meter
+              (times ++ cons_option (time_of (clock_of self.old) moment) []);
+        } }
     {
-        if self.told != 1 || self.meter.timed != 0 {
-            return;
-        }
-        let clock = Clock {
-            moment: self.clock_moment,
-            unix: self.clock_unix,
-        };
-        self.meter.timed = 1;
-        self.meter.time = clock.unix_at(moment);
+        let time = time_of(self.clock(), moment);
+        self.meter.note_time(time);
     }
 
     /// Takes one more event.

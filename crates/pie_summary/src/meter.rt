@@ -5,8 +5,9 @@ ghost use Rattle.std.specs.List.{cons_option};
 ghost use Rattle.pie_aqm.specs.Places.{greatest};
 ghost use Rattle.pie_explain.specs.declared.explanation.Explained.{Explained};
 ghost use Rattle.pie_summary.specs.Counts.{kept};
-ghost use Rattle.pie_summary.specs.Live.{awaiting, counted_some, meter_of, noted_of};
-ghost use Rattle.pie_summary.specs.Sums.{excess_within};
+ghost use Rattle.pie_summary.specs.Live.{noted_of};
+ghost use Rattle.pie_summary.specs.Spans.{counted_some};
+ghost use Rattle.pie_summary.specs.Sums.{awaiting, excess_within, meter_of, timed_by};
 
 use crate::noted::Noted;
 use crate::spans::{Bounds, Peak, Total, raise};
@@ -149,6 +150,20 @@ impl Meter {
             late: 0,
             target: 0,
             burst: 0,
+        }
+    }
+
+    /// Notes the time of day of an event, where it is the first that has one.
+    #[inline(always)]
+    pub(crate) fn note_time(&mut self, time: Option<u64>)
+        ensures { (times : List ℕ) → self.old ≡ timed_by self.old times → self.new ≡ timed_by self.old (times ++ cons_option time []) }
+    {
+        if self.timed != 0 {
+            return;
+        }
+        if let Some(time) = time {
+            self.timed = 1;
+            self.time = time;
         }
     }
 

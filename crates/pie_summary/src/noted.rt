@@ -5,7 +5,7 @@ ghost use Rattle.pie_queue.specs.declared.packet.Packet.{Packet};
 ghost use Rattle.pie_event.specs.declared.command.Answer.TheVariants.{Done, Empty, Left, Updated};
 ghost use Rattle.pie_event.specs.declared.verdict.Verdict.{Verdict};
 ghost use Rattle.pie_event.specs.Verdict.{answer_of};
-ghost use Rattle.pie_summary.specs.Live.{Meets, bare_noted, noted_of};
+ghost use Rattle.pie_summary.specs.Live.{Meets, noted_by, noted_of};
 ghost use Rattle.pie_summary.specs.Sums.{above_by, answer_place, cause_of, delay_by, excess_by, size_in};
 
 use crate::sums::turned_at;
@@ -99,7 +99,7 @@ impl Met {
     /// What there is of any event.
     #[inline(always)]
     fn bare(&self, answer: usize) -> Noted
-        ensures { result ≡ bare_noted self.now answer }
+        ensures { result ≡ record (noted_by self.now Done 15 None 0) { answer = answer } }
     {
         Noted {
             answer,

@@ -1,10 +1,10 @@
 //! The period that is being summed up.
 ghost use Rattle.std.specs.Prelude.{◌≡◌, ◌++◌, ◌∷◌, [], ℕ, List, IfOk, Option, None, Some};
 ghost use Rattle.pie_explain.specs.declared.explanation.Explained.{Explained};
-ghost use Rattle.pie_summary.specs.Period.{begins, last_events, last_period, period_of, since};
-ghost use Rattle.pie_summary.specs.Sums.{sums_of, waits_of};
+ghost use Rattle.pie_summary.specs.Period.{Keeps, begins, period_of, since, starts};
+ghost use Rattle.pie_summary.specs.Summary.{HoldsSums};
 
-use crate::ranges::Ranges;
+use crate::ranges::{RANGES, clear_counts, count_some};
 use crate::sums::{Sums, where_left};
 use pie_explain::Explained;
 use std::alloc::{AllocError, Global};
@@ -30,6 +30,16 @@ pub(crate) fn begins(before: Option<u64>, period: u64) -> bool
     }
 }
 
+/// Whether an event is the first in this period: there was none before it, or it was in another.
+pub(crate) fn starts(before: Option<u64>, period: u64) -> bool
+    ensures { result ≡ starts before period }
+{
+    match before {
+        Some(before) => before != period,
+        None => true,
+    }
+}
+
 /// The numbers of the last events, as far back as they are in the same period.
 #[derive(Drop)]
 pub struct Period {
@@ -38,7 +48,7 @@ pub struct Period {
     /// The numbers of these events.
     pub sums: Sums,
     /// How many of the waits of packets that left lie in each range.
-    pub waits: Ranges,
+    pub waits: Box<[u64; RANGES]>,
 }
 
 impl Period {
@@ -48,9 +58,9 @@ impl Period {
     ///
     /// `AllocError` where there is none.
     pub(crate) fn empty(alloc: Global) -> Result<Period, AllocError>
-        ensures { IfOk result (λ period. (period.number ≡ None) × (period.sums ≡ sums_of []) × (period.waits ≡ waits_of [])) }
+        ensures { IfOk result (λ period. (period.number ≡ None) × HoldsSums period []) }
     {
-        let waits = Ranges::empty(alloc)?;
+        let waits = Box::new(alloc, [0; RANGES])?;
         Ok(Period {
             number: None,
             sums: Sums::empty(),
@@ -58,40 +68,27 @@ impl Period {
         })
     }
 
-    /// Whether an event in this period is not in that of the events before it.
-    pub(crate) fn ends_before(&self, period: u64) -> bool
-        ensures { result ≡ begins self.now.number period }
-    {
-        begins(self.number, period)
-    }
-
     /// Forgets the events before one that is in this period, where they are in another.
     fn begin(&mut self, period: u64)
-        ensures number { self.new.number ≡ self.old.number }
-        ensures sums { (shown : List Explained) (every : Option ℕ) → self.old.number ≡ last_period every shown
-            → self.old.sums ≡ sums_of (last_events every shown) → self.new.sums ≡ sums_of (since every (Some period) shown) }
-        ensures waits { (shown : List Explained) (every : Option ℕ) → self.old.number ≡ last_period every shown
-            → self.old.waits ≡ waits_of (last_events every shown) → self.new.waits ≡ waits_of (since every (Some period) shown) }
+        ensures { (shown : List Explained) (every : Option ℕ) → Keeps (HoldsSums self.old) every self.old.number shown
+            → HoldsSums self.new (since every (Some period) shown) }
     {
-        if self.ends_before(period) {
+        if starts(self.number, period) {
             self.sums = Sums::empty();
-            self.waits.clear();
+            clear_counts(&mut self.waits);
         }
     }
 
     /// Takes one more event.
     pub(crate) fn take(&mut self, every: Option<u64>, told: &Explained)
-        ensures number { (shown : List Explained) → self.new.number ≡ last_period every (shown ++ told.now ∷ []) }
-        ensures sums { (shown : List Explained) → self.old.number ≡ last_period every shown → self.old.sums ≡ sums_of (last_events every shown)
-            → self.new.sums ≡ sums_of (last_events every (shown ++ told.now ∷ [])) }
-        ensures waits { (shown : List Explained) → self.old.number ≡ last_period every shown → self.old.waits ≡ waits_of (last_events every shown)
-            → self.new.waits ≡ waits_of (last_events every (shown ++ told.now ∷ [])) }
+        ensures { (shown : List Explained) → Keeps (HoldsSums self.old) every self.old.number shown
+            → Keeps (HoldsSums self.new) every self.new.number (shown ++ told.now ∷ []) }
     {
         let number = period_of(every, told.told.moment);
         self.begin(number);
         self.number = Some(number);
-        self.sums = self.sums.with(told);
-        self.waits
-            .take_some(where_left(told.told.event.answer, told.told.waited));
+        self.sums.take(told);
+        let wait = where_left(told.told.event.answer, told.told.waited);
+        count_some(&mut self.waits, wait);
     }
 }

@@ -1,27 +1,10 @@
 //! How many numbers lie in each of some ranges, for percentiles.
-ghost use Rattle.std.specs.Prelude.{◌≡◌, ◌+◌, ◌-◌, ◌/◌, ◌*◌, ◌^◌, ◌<◌, ◌≤◌, ◌++◌, ◌∷◌, [], ℕ, List, Option, IfOk, IfSome, Some, length, min};
+ghost use Rattle.std.specs.Prelude.{◌≡◌, ◌+◌, ◌-◌, ◌/◌, ◌*◌, ◌^◌, ◌<◌, ◌≤◌, ◌++◌, ◌∷◌, [], ℕ, List, Option, IfSome, Some, length, min};
 ghost use Rattle.std.specs.List.{cons_option};
 ghost use Rattle.pie_summary.specs.Ranges.{end_within, first_up_to, range_end, range_of, range_within, ranges_of};
 
-use std::alloc::{AllocError, Global};
-use std::marker::Model;
-
 /// How many ranges there are: one of each number below 100, and 90 of each further digit of a number of 64 bits.
 pub const RANGES: usize = 1720;
-
-/// How many numbers lie in each range of numbers with the same two first decimal digits: `ranges_of` them.
-#[derive(Drop)]
-pub struct Ranges {
-    counts: Box<[u64; RANGES]>,
-}
-
-impl Model for Ranges {
-    ghost use Rattle.std.specs.Prelude.{ℕ, List};
-
-    ghost Value = { List ℕ };
-
-    ghost view = { λ ranges. ranges.counts.value };
-}
 
 /// The range of a number that has at most so many digits more than two.
 fn range_within(digits: u8, number: u64) -> u64
@@ -130,52 +113,5 @@ pub(crate) fn most_of(counts: &[u64; RANGES], count: u64, greatest: u64) -> u64
     match first_up_to(counts, count - count / 100) {
         Some(range) => end_within(range, greatest),
         None => greatest,
-    }
-}
-
-impl Ranges {
-    /// No number yet. All memory is taken here.
-    ///
-    /// # Errors
-    ///
-    /// `AllocError` where there is none.
-    pub(crate) fn empty(alloc: Global) -> Result<Ranges, AllocError>
-        ensures { IfOk result (λ ranges. ranges ≡ ranges_of []) }
-    {
-        let counts = Box::new(alloc, [0; RANGES])?;
-        Ok(Ranges { counts })
-    }
-
-    /// Forgets all numbers.
-    pub(crate) fn clear(&mut self)
-        ensures { self.new ≡ ranges_of [] }
-    {
-        *self.counts = [0; RANGES];
-    }
-
-    /// Takes one more number.
-    pub(crate) fn take(&mut self, number: u64)
-        ensures { (numbers : List ℕ) → self.old ≡ ranges_of numbers → self.new ≡ ranges_of (numbers ++ number ∷ []) }
-    {
-        count_number(&mut self.counts, number);
-    }
-
-    /// Takes one more number, or none.
-    pub(crate) fn take_some(&mut self, number: Option<u64>)
-        ensures { (numbers : List ℕ) → self.old ≡ ranges_of numbers → self.new ≡ ranges_of (numbers ++ cons_option number []) }
-    {
-        if let Some(number) = number {
-            self.take(number);
-        }
-    }
-
-    /// The end of the first range up to which so many numbers lie, or the greatest number of all where it is less.
-    pub(crate) fn end_of(&self, rank: u64, greatest: u64) -> u64
-        ensures { result ≡ end_within (first_up_to self.now rank) greatest }
-    {
-        match first_up_to(&self.counts, rank) {
-            Some(range) => end_within(range, greatest),
-            None => greatest,
-        }
     }
 }

@@ -1,9 +1,10 @@
-//! What a meter keeps of a list of numbers: the parts of a `Series` that are written, as plain numbers of 64 bits.
+//! What is kept of a list of numbers, as plain numbers of 64 bits.
 ghost use Rattle.std.specs.Prelude.{◌≡◌, ◌+◌, ◌-◌, ◌*◌, ◌^◌, ◌++◌, ◌∷◌, [], ℕ, List, max};
 ghost use Rattle.std.specs.List.{cons_option};
-ghost use Rattle.pie_summary.specs.Live.{carried_over, sum_in};
+ghost use Rattle.pie_explain.specs.declared.explanation.Explained.{Explained};
+ghost use Rattle.pie_summary.specs.Spans.{carried_over, held_or, mean_in, span_of, sum_in};
 
-use crate::series::held_or;
+use pie_explain::{Explained, time_of};
 
 /// One more than the greatest number of 64 bits.
 const WORD: u128 = 1 << 64;
@@ -40,8 +41,24 @@ pub struct Total {
     pub low: u64,
 }
 
+/// When events were.
+#[derive(Clone, Copy, Debug)]
+pub struct Span {
+    /// Their effective moments, in nanoseconds.
+    pub moments: Bounds,
+    /// Their times of day, where a record before them tells it, in nanoseconds after 1970-01-01T00:00:00Z.
+    pub times: Bounds,
+}
+
+/// What is held of so many numbers, and this one where there are none.
+fn held_or(count: u64, held: u64, number: u64) -> u64
+    ensures { result ≡ held_or count held number }
+{
+    if count == 0 { number } else { held }
+}
+
 impl Bounds {
-    ghost use Rattle.pie_summary.specs.Live.{bounds_of};
+    ghost use Rattle.pie_summary.specs.Spans.{bounds_of};
 
     /// No number yet.
     pub(crate) fn empty() -> Bounds
@@ -78,7 +95,7 @@ impl Bounds {
 }
 
 impl Peak {
-    ghost use Rattle.pie_summary.specs.Live.{peak_of};
+    ghost use Rattle.pie_summary.specs.Spans.{peak_of};
 
     /// No number yet.
     pub(crate) fn empty() -> Peak
@@ -114,7 +131,7 @@ impl Peak {
 }
 
 impl Total {
-    ghost use Rattle.pie_summary.specs.Live.{total_of};
+    ghost use Rattle.pie_summary.specs.Spans.{total_of};
 
     /// No number yet.
     pub(crate) fn empty() -> Total
@@ -128,6 +145,13 @@ impl Total {
         ensures { result ≡ sum_in self }
     {
         u128::from(self.high) * WORD + u128::from(self.low)
+    }
+
+    /// The mean of so many numbers with this sum, rounded down; 0 where there is none.
+    pub(crate) fn mean(self, count: u64) -> u64
+        ensures { result ≡ mean_in count self }
+    {
+        (self.sum() / u128::from(count.max(1))).min(u128::from(u64::MAX)) as u64
     }
 
     /// Takes one more number.
@@ -173,5 +197,26 @@ pub(crate) fn raise(most: &mut u64, number: u64)
 {
     if *most < number {
         *most = number;
+    }
+}
+
+impl Span {
+    /// Of no event.
+    pub(crate) fn empty() -> Span
+        ensures { result ≡ span_of [] }
+    {
+        Span {
+            moments: Bounds::empty(),
+            times: Bounds::empty(),
+        }
+    }
+
+    /// Takes one more event.
+    pub(crate) fn take(&mut self, all: &Explained)
+        ensures { (shown : List Explained) → self.old ≡ span_of shown → self.new ≡ span_of (shown ++ all.now ∷ []) }
+    {
+        let moment = all.told.moment;
+        self.moments.take(moment);
+        self.times.take_some(time_of(all.told.clock, moment));
     }
 }

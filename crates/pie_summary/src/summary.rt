@@ -1,14 +1,18 @@
 //! Summaries of the explained events, and between them the words for each packet that was lost or marked.
-ghost use Rattle.std.specs.Prelude.{◌≡◌, ◌++◌, OnOk, string_bytes};
+ghost use Rattle.std.specs.Prelude.{◌≡◌, ◌++◌, OnOk};
 ghost use Rattle.pie_summary.specs.Period.{begins};
-ghost use Rattle.pie_summary.specs.Summary.{clock_for, ended, header, is_lost_or_marked, noted, said};
+ghost use Rattle.pie_summary.specs.Record.{record_of};
+ghost use Rattle.pie_summary.specs.Words.{words};
+ghost use Rattle.pie_summary.specs.Summary.{clock_for, ended, is_lost_or_marked, noted, said};
 
-use crate::period::{Period, period_of};
-use crate::ranges::Ranges;
+use crate::line::Line;
+use crate::meter::Meter;
+use crate::period::{Period, begins, period_of};
+use crate::ranges::most_of;
 use crate::record::{NAMES, push_record};
 use crate::sums::Sums;
-use crate::words::{push_words, wait_99};
-use pie_explain::{Explained, Form, Report, Which};
+use crate::words::push_words;
+use pie_explain::{Explained, Form, Report, Which, push_header};
 use pie_page::Page;
 use pie_record::Clock;
 use std::alloc::AllocError;
@@ -28,51 +32,52 @@ pub struct Summary {
     pub packets: bool,
 }
 
-/// Writes what stands before the first summary: for CSV the header row.
-#[tactic(auto, unfolding(crate::specs::Summary::header, pie_event::specs::CauseName::word_of_cause))]
-fn push_header(page: &mut Page, form: Form) -> Result<(), AllocError>
-    ensures { OnOk result (page.new ≡ page.old ++ header form) }
+/// Writes these numbers in words onto the page.
+fn push_in_words(page: &mut Page, by_wall: bool, sums: &Sums, most: u64) -> Result<(), AllocError>
+    ensures { OnOk result (page.new ≡ page.old ++ words by_wall sums.now most) }
 {
-    match form {
-        Form::Text | Form::TextByWall => Ok(()),
-        Form::Csv => {
-            page.push(NAMES.as_bytes())?;
-            page.push(b"\n")
-        }
-        Form::CsvByWall => {
-            page.push(NAMES.as_bytes())?;
-            page.push(b",wall\n")
-        }
-    }
+    let mut text = page.words();
+    push_words(&mut text, by_wall, sums, most)?;
+    page.put(text)
 }
 
-/// Writes these numbers in words, or as CSV, behind a text.
-fn push_sums(text: &mut String, form: Form, sums: &Sums, waits: &Ranges) -> Result<(), AllocError>
-    ensures { OnOk result (string_bytes text.new ≡ string_bytes text.old ++ said form sums.now waits.now) }
+/// Writes these numbers as a record onto the page.
+fn push_as_record(
+    page: &mut Page,
+    by_wall: bool,
+    meter: &Meter,
+    most: u64,
+) -> Result<(), AllocError>
+    ensures { OnOk result (page.new ≡ page.old ++ record_of by_wall meter.now most) }
 {
-    let most = wait_99(waits, &sums.waits);
-    match form {
-        Form::Text => push_words(text, false, sums, most),
-        Form::TextByWall => push_words(text, true, sums, most),
-        Form::Csv => push_record(text, false, sums, most),
-        Form::CsvByWall => push_record(text, true, sums, most),
-    }
+    let mut line = Line::new();
+    push_record(&mut line, by_wall, meter, most);
+    page.push(line.as_bytes())
 }
 
 /// Writes the numbers of a period onto the page.
 fn push_said(page: &mut Page, form: Form, period: &Period) -> Result<(), AllocError>
-    ensures { OnOk result (page.new ≡ page.old ++ said form period.now.sums period.now.waits) }
+    ensures { OnOk result (page.new ≡ page.old ++ said form period.now.sums period.now.waits.value) }
 {
-    let mut text = page.words();
-    push_sums(&mut text, form, &period.sums, &period.waits)?;
-    page.put(text)
+    let sums = &period.sums;
+    let most = most_of(
+        &period.waits,
+        sums.meter.answers[5],
+        sums.meter.greatest_wait,
+    );
+    match form {
+        Form::Text => push_in_words(page, false, sums, most),
+        Form::TextByWall => push_in_words(page, true, sums, most),
+        Form::Csv => push_as_record(page, false, &sums.meter, most),
+        Form::CsvByWall => push_as_record(page, true, &sums.meter, most),
+    }
 }
 
 /// Writes a summary of the events of a period, where the next event is in another one.
 fn push_ended(page: &mut Page, form: Form, period: &Period, next: u64) -> Result<(), AllocError>
-    ensures { OnOk result (page.new ≡ page.old ++ ended form (begins period.now.number next) period.now.sums period.now.waits) }
+    ensures { OnOk result (page.new ≡ page.old ++ ended form (begins period.now.number next) period.now.sums period.now.waits.value) }
 {
-    if !period.ends_before(next) {
+    if !begins(period.number, next) {
         return Ok(());
     }
     push_said(page, form, period)
@@ -120,7 +125,7 @@ impl Report for Summary {
     ghost whole = { summary_of };
 
     fn begin(&self, page: &mut Page) -> Result<Period, AllocError> {
-        push_header(page, self.form)?;
+        push_header(page, NAMES, self.form)?;
         let period = Period::empty(page.allocator())?;
         Ok(period)
     }

@@ -3,27 +3,27 @@ use Rattle.pie_explain.proofs.text.push_cause.Goals as goal
 
 pub returns-in-NoRoomInBytes : goal.returns-in-NoRoomInBytes
 unfolding cause_words
-returns-in-NoRoomInBytes c = rw c.in-NoRoomInBytes.is c.push_no_room.ensures
+returns-in-NoRoomInBytes c = rw c.in-NoRoomInBytes.is c.write.ensures.bytes
 
 pub returns-in-NoRoomInPackets : goal.returns-in-NoRoomInPackets
 unfolding cause_words
-returns-in-NoRoomInPackets c = rw c.in-NoRoomInPackets.is c.push_full.ensures
+returns-in-NoRoomInPackets c = rw c.in-NoRoomInPackets.is c.write-in-NoRoomInPackets.ensures.bytes
 
 pub returns-in-Inactive : goal.returns-in-Inactive
 unfolding cause_words
-returns-in-Inactive c = rw c.in-Inactive.is c.write.ensures.bytes
+returns-in-Inactive c = rw c.in-Inactive.is c.write-in-Inactive.ensures.bytes
 
 pub returns-in-BurstAllowed : goal.returns-in-BurstAllowed
 unfolding cause_words
-returns-in-BurstAllowed c = rw c.in-BurstAllowed.is c.push_allowed.ensures
+returns-in-BurstAllowed c = rw c.in-BurstAllowed.is c.write-in-BurstAllowed.ensures.bytes
 
 pub returns-in-LowDelay : goal.returns-in-LowDelay
 unfolding cause_words
-returns-in-LowDelay c = rw c.in-LowDelay.is c.push_low_delay.ensures
+returns-in-LowDelay c = rw c.in-LowDelay.is c.write-in-LowDelay.ensures.bytes
 
 pub returns-in-ShortQueue : goal.returns-in-ShortQueue
 unfolding cause_words
-returns-in-ShortQueue c = rw c.in-ShortQueue.is c.push_short_queue.ensures
+returns-in-ShortQueue c = rw (c.in-ShortQueue.is, ← c.from.ensures) c.write-in-ShortQueue.ensures.bytes
 
 pub returns-in-NoProbability : goal.returns-in-NoProbability
 unfolding cause_words

@@ -2,7 +2,7 @@ use Rattle.std.proofs.Common.{[], ℕ, ◌++◌, ◌∙◌, ap, sym}
 use Rattle.std.specs.List.{cons_option}
 use Rattle.std.specs.Prelude.{Option, max}
 use Rattle.pie_aqm.specs.Places.{greatest}
-use Rattle.pie_summary.proofs.SeriesFacts.{greatest-push}
+use Rattle.pie_aqm.proofs.Places.{greatest-push}
 use Rattle.pie_summary.proofs.meter.raise_some.Goals as goal
 
 pub returns-in-Some : goal.returns-in-Some

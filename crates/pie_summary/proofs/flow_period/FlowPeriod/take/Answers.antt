@@ -1,28 +1,29 @@
-use Rattle.std.proofs.Common.{◌≡◌, ℕ, List, ◌∙◌, ap, Some, sym, subst}
-use Rattle.std.specs.Prelude.{OnOk}
-use Rattle.pie_explain.specs.declared.explanation.Explained.{Explained}
-use Rattle.pie_summary.specs.ByFlow.{span_of}
+use Rattle.std.proofs.Common.{ℕ, ◌∙◌, ap, Some, subst, sym}
+use Rattle.std.specs.Prelude.{Err, Ok, OnOk, Result}
+use Rattle.pie_summary.specs.ByFlow.{HoldsFlows}
 use Rattle.pie_summary.specs.Flows.{HasFlows}
 use Rattle.pie_summary.specs.Period.{period_at, since}
+use Rattle.pie_summary.specs.Spans.{span_of}
 use Rattle.pie_summary.proofs.PeriodFacts.{last_events-push, last_period-push}
 use Rattle.pie_summary.proofs.flow_period.FlowPeriod.take.Goals as goal
 
-pub returns-clause-number : goal.returns-clause-number
-returns-clause-number c = λ shown. ap Some c.period_of-number.ensures ∙ sym (last_period-push c.args.every shown c.args.told.now)
+-- what follows from what went well
+then_so : {P Q : Type 0} {E : Type 0} (result : Result (Unit {0}) E) → (P → Q) → OnOk result P → OnOk result Q
+then_so (Ok done) f p = f p
+then_so (Err why) f p = tt
 
-pub returns-clause-span : goal.returns-clause-span
-returns-clause-span c = λ shown number span.
-    let period = period_at c.args.every c.args.told.now in
-    let kept : c.begin.new.self.span ≡ span_of (since c.args.every (Some period) shown) =
-    c.begin.ensures.span shown c.args.every number span
-    ∙ ap (λ (p : ℕ). span_of (since c.args.every (Some p) shown)) c.period_of-number.ensures in
-    c.span_with-self.ensures (since c.args.every (Some period) shown) kept ∙ ap span_of (sym (last_events-push c.args.every shown c.args.told.now))
-
-pub returns-clause-flows : goal.returns-clause-flows
-returns-clause-flows c = λ shown number has.
-    let period = period_at c.args.every c.args.told.now in
-    let kept : HasFlows c.begin.new.self.table.rows.entries (since c.args.every (Some period) shown) =
-    subst (λ (p : ℕ). HasFlows c.begin.new.self.table.rows.entries (since c.args.every (Some p) shown)) c.period_of-number.ensures
-    (c.begin.ensures.flows shown c.args.every number has) in
-    subst (λ (all : List Explained). OnOk c.take.result (HasFlows c.take.new.self.rows.entries all))
-    (sym (last_events-push c.args.every shown c.args.told.now)) (c.take.ensures (since c.args.every (Some period) shown) kept)
+pub returns : goal.returns
+returns c = λ shown keeps.
+    let every = c.args.every in
+    let one = c.args.told.now in
+    let before = since every (Some (period_at every one)) shown in
+    let begun : HoldsFlows c.begin.new.self before =
+    subst (λ (p : ℕ). HoldsFlows c.begin.new.self (since every (Some p) shown)) c.period_of-number.ensures (c.begin.ensures shown every keeps) in
+    let last = sym (last_events-push every shown one) in
+    then_so c.take-2.result (λ taken. record {
+      last = ap Some c.period_of-number.ensures ∙ sym (last_period-push every shown one);
+      kept = record {
+        span = c.take.ensures before begun.span ∙ ap span_of last;
+        flows = subst (HasFlows c.take-2.new.self.rows.entries) last taken;
+      };
+    }) (c.take-2.ensures before begun.flows)

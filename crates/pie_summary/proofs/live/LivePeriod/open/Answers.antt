@@ -1,6 +1,6 @@
 use Rattle.std.proofs.Common.{arith, refl}
 use Rattle.pie_aqm.specs.Places.{last_or, places}
-use Rattle.pie_summary.specs.Live.{meter_of}
+use Rattle.pie_summary.specs.Sums.{meter_of}
 use Rattle.pie_summary.specs.Ranges.{range_of, ranges_of}
 use Rattle.pie_summary.specs.Sums.{waits_of}
 use Rattle.pie_summary.proofs.CountFacts.{none-counted}

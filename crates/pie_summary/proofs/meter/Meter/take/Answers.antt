@@ -1,4 +1,4 @@
-use Rattle.std.proofs.Common.{◌≡◌, ◌-◌, ◌∷◌, [], ◌++◌, ◌∙◌, ap, map, sym}
+use Rattle.std.proofs.Common.{◌≡◌, ◌-◌, ◌∷◌, [], ◌++◌, ◌∙◌, ap, length, map, sym, List, ℕ}
 use Rattle.std.specs.List.{filter_map, sum}
 use Rattle.std.specs.Prelude.{slice_index, unwrap_or}
 use Rattle.std.proofs.lemmas.List.Elements.{filter_map-append}
@@ -6,11 +6,11 @@ use Rattle.pie_aqm.specs.Places.{greatest, last_or, places}
 use Rattle.pie_summary.specs.declared.meter.Meter.{Meter}
 use Rattle.pie_summary.specs.declared.noted.Noted.{Noted}
 use Rattle.pie_summary.specs.Counts.{kept}
-use Rattle.pie_summary.specs.Live.{bounds_of, meter_of, peak_of, total_of}
-use Rattle.pie_summary.specs.Sums.{above_in, answer_of, burst_at, carried_in, cause_of, delay_in, excess_in, excess_within, late_at}
-use Rattle.pie_summary.specs.Sums.{left_at, moment_at, prob_at, size_in, target_at, turned_off, turned_on, wait_in}
+use Rattle.pie_summary.specs.Spans.{bounds_of, moment_at, peak_of, total_of}
+use Rattle.pie_summary.specs.Sums.{above_in, answer_of, burst_at, carried_in, cause_of, delay_in, excess_in, excess_within, late_at, left_at, meter_of}
+use Rattle.pie_summary.specs.Sums.{prob_at, size_in, target_at, turned_off, turned_on, wait_in}
 use Rattle.pie_summary.proofs.CountFacts.{counted-among, counted-push}
-use Rattle.pie_summary.proofs.LiveFacts.{count-some, count_of, each-of-push, since-push, some-of-push}
+use Rattle.pie_summary.proofs.SpanFacts.{count-some, each-of-push, since-push, some-of-push}
 use Rattle.pie_summary.proofs.SumsFacts.{last-push, place_of, places-push, sum-push}
 use Rattle.pie_summary.proofs.meter.Meter.take.Goals as goal
 
@@ -20,6 +20,7 @@ returns c = λ shown one noted same.
     let old = c.args.self.now in
     let n = c.args.noted.now in
     let first = slice_index (map moment_at (shown ++ one ∷ [])) 0 in
+    let count : List ℕ → ℕ = λ numbers. kept (length numbers) in
     let moment-is : n.moment ≡ moment_at one = ap (λ (x : Noted). x.moment) noted in
     let since-is : old.since ≡ last_or first (filter_map left_at shown) = ap (λ (m : Meter). m.since) same in
     let read-late : excess_within n.excess c.saturating_sub-since.result ≡ late_at (place_of shown one) =
@@ -35,35 +36,31 @@ returns c = λ shown one noted same.
       since = (c.set_some.ensures ∙ (λ j. unwrap_or (ap (λ (x : Noted). x.left) noted j) (since-is j))
           ∙ since-push first (filter_map left_at shown) (left_at one)
           ∙ ap (last_or first) (sym (filter_map-append left_at shown (one ∷ [])))) i;
-      arrivals = some-of-push count_of size_in shown one n.arrived old.arrivals c.count_some-2.new.count
-          (λ numbers held. count-some numbers n.arrived old.arrivals c.count_some-2.new.count c.count_some-2.ensures held)
+      arrivals = some-of-push count size_in shown one (λ numbers. count-some numbers _ _ _ c.count_some-2.ensures)
           (ap (λ (x : Noted). x.arrived) noted) (ap (λ (m : Meter). m.arrivals) same) i;
-      arrived = some-of-push total_of size_in shown one n.arrived old.arrived c.take_some.new.self c.take_some.ensures
+      arrived = some-of-push total_of size_in shown one c.take_some.ensures
           (ap (λ (x : Noted). x.arrived) noted) (ap (λ (m : Meter). m.arrived) same) i;
-      waits = some-of-push total_of wait_in shown one n.wait old.waits c.take_some-2.new.self c.take_some-2.ensures
+      waits = some-of-push total_of wait_in shown one c.take_some-2.ensures
           (ap (λ (x : Noted). x.wait) noted) (ap (λ (m : Meter). m.waits) same) i;
-      greatest_wait = some-of-push greatest wait_in shown one n.wait old.greatest_wait c.raise_some.new.most c.raise_some.ensures
+      greatest_wait = some-of-push greatest wait_in shown one c.raise_some.ensures
           (ap (λ (x : Noted). x.wait) noted) (ap (λ (m : Meter). m.greatest_wait) same) i;
-      delays = some-of-push peak_of delay_in shown one n.delay old.delays c.take_some-3.new.self c.take_some-3.ensures
+      delays = some-of-push peak_of delay_in shown one c.take_some-3.ensures
           (ap (λ (x : Noted). x.delay) noted) (ap (λ (m : Meter). m.delays) same) i;
-      probs = each-of-push peak_of prob_at shown one n.prob old.probs c.take.new.self c.take.ensures
+      probs = each-of-push peak_of prob_at shown one c.take.ensures
           (ap (λ (x : Noted). x.prob) noted) (ap (λ (m : Meter). m.probs) same) i;
-      turned_on = some-of-push bounds_of turned_on shown one n.turned_on old.turned_on c.take_some-4.new.self c.take_some-4.ensures
+      turned_on = some-of-push bounds_of turned_on shown one c.take_some-4.ensures
           (ap (λ (x : Noted). x.turned_on) noted) (ap (λ (m : Meter). m.turned_on) same) i;
-      turned_off = some-of-push bounds_of turned_off shown one n.turned_off old.turned_off c.take_some-5.new.self c.take_some-5.ensures
+      turned_off = some-of-push bounds_of turned_off shown one c.take_some-5.ensures
           (ap (λ (x : Noted). x.turned_off) noted) (ap (λ (m : Meter). m.turned_off) same) i;
       timed = ap (λ (m : Meter). m.timed) same i;
       time = ap (λ (m : Meter). m.time) same i;
-      carried = sum-push carried_in shown one n.carried old.carried c.saturating_add-self.result c.saturating_add-self.ensures
+      carried = sum-push carried_in shown one c.saturating_add-self.ensures
           (ap (λ (x : Noted). x.carried) noted) (ap (λ (m : Meter). m.carried) same) i;
-      above = sum-push above_in shown one n.above old.above c.saturating_add-self-2.result c.saturating_add-self-2.ensures
+      above = sum-push above_in shown one c.saturating_add-self-2.ensures
           (ap (λ (x : Noted). x.above) noted) (ap (λ (m : Meter). m.above) same) i;
-      longer = some-of-push count_of excess_in shown one n.excess old.longer c.count_some.new.count
-          (λ numbers held. count-some numbers n.excess old.longer c.count_some.new.count c.count_some.ensures held)
+      longer = some-of-push count excess_in shown one (λ numbers. count-some numbers _ _ _ c.count_some.ensures)
           (ap (λ (x : Noted). x.excess) noted) (ap (λ (m : Meter). m.longer) same) i;
-      late = (sum-push late_at (places shown) (place_of shown one) (excess_within n.excess c.saturating_sub-since.result) old.late
-          c.add_excess.new.late
-          c.add_excess.ensures read-late (ap (λ (m : Meter). m.late) same)
+      late = (sum-push late_at (places shown) (place_of shown one) c.add_excess.ensures read-late (ap (λ (m : Meter). m.late) same)
           ∙ ap (λ ps. kept (sum (map late_at ps))) (sym (places-push shown one))) i;
       target = (ap (λ (x : Noted). x.target) noted ∙ last-push target_at shown one) i;
       burst = (ap (λ (x : Noted). x.burst) noted ∙ last-push burst_at shown one) i;

@@ -1,9 +1,7 @@
-use Rattle.std.proofs.Common.{◌∙◌, refl}
-use Rattle.std.specs.Prelude.{None}
+use Rattle.std.proofs.Common.{◌∙◌}
 use Rattle.pie_event.specs.declared.command.Answer.TheVariants.{Done}
-use Rattle.pie_summary.proofs.NotedFacts.{no_cause, still-done, still-noted}
+use Rattle.pie_summary.proofs.NotedFacts.{other-noted}
 use Rattle.pie_summary.proofs.noted.Met.done.Goals as goal
 
 pub returns-clause-noted : goal.returns-clause-noted
-returns-clause-noted c = λ one meets is cause none.
-    c.bare.ensures ∙ still-noted c.args.self.now one Done 8 15 None still-done meets is refl (no_cause one cause) none
+returns-clause-noted c = λ one meets is cause none. c.bare.ensures ∙ other-noted c.args.self.now one Done meets is cause none

@@ -1,15 +1,17 @@
-use Rattle.std.proofs.Common.{◌∙◌}
+use Rattle.std.proofs.Common.{ℕ, ◌∙◌, ap, sym}
 use Rattle.std.specs.Prelude.{Some}
-use Rattle.pie_summary.proofs.NotedFacts.{left-noted}
+use Rattle.pie_event.specs.declared.command.Answer.TheVariants.{Left}
+use Rattle.pie_summary.specs.Sums.{excess_by}
+use Rattle.pie_summary.proofs.NotedFacts.{other-noted}
 use Rattle.pie_summary.proofs.noted.Met.left.Goals as goal
 
 pub returns-clause-noted : goal.returns-clause-noted
 returns-clause-noted c = λ one packet meets is size waited cause none.
+    let met = c.args.self.now in
     (λ i. record (c.bare.ensures i) {
-      wait = Some c.args.waited;
-      left = Some c.args.self.now.moment;
-      excess = c.excess_over.result;
-      carried = c.from.ensures i;
+      wait = Some (sym waited i);
+      left = Some met.moment;
+      excess = (c.excess_over.ensures packet ∙ ap (λ (w : ℕ). excess_by (Left packet) w met.held) (sym waited)) i;
+      carried = (c.from.ensures ∙ sym size) i;
     })
-    ∙ left-noted c.args.self.now one packet c.args.size c.args.waited c.excess_over.result meets is size waited cause none
-    (c.excess_over.ensures packet)
+    ∙ other-noted met one (Left packet) meets is cause none

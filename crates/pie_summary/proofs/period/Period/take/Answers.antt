@@ -1,26 +1,24 @@
-use Rattle.std.proofs.Common.{◌≡◌, ℕ, ◌∙◌, ap, Some, sym}
+use Rattle.std.proofs.Common.{ℕ, ◌∙◌, ap, Some, subst, sym}
 use Rattle.pie_summary.specs.Period.{period_at, since}
+use Rattle.pie_summary.specs.Summary.{HoldsSums}
 use Rattle.pie_summary.specs.Sums.{sums_of, waits_of}
 use Rattle.pie_summary.proofs.PeriodFacts.{last_events-push, last_period-push}
 use Rattle.pie_summary.proofs.SumsFacts.{waits-push}
 use Rattle.pie_summary.proofs.period.Period.take.Goals as goal
 
-pub returns-clause-number : goal.returns-clause-number
-returns-clause-number c = λ shown. ap Some c.period_of-number.ensures ∙ sym (last_period-push c.args.every shown c.args.told.now)
-
-pub returns-clause-sums : goal.returns-clause-sums
-returns-clause-sums c = λ shown number sums.
-    let period = period_at c.args.every c.args.told.now in
-    let kept : c.begin.new.self.sums ≡ sums_of (since c.args.every (Some period) shown) =
-    c.begin.ensures.sums shown c.args.every number sums
-    ∙ ap (λ (p : ℕ). sums_of (since c.args.every (Some p) shown)) c.period_of-number.ensures in
-    c.with-self.ensures (since c.args.every (Some period) shown) kept ∙ ap sums_of (sym (last_events-push c.args.every shown c.args.told.now))
-
-pub returns-clause-waits : goal.returns-clause-waits
-returns-clause-waits c = λ shown number waits.
-    let period = period_at c.args.every c.args.told.now in
-    let kept : c.begin.new.self.waits ≡ waits_of (since c.args.every (Some period) shown) =
-    c.begin.ensures.waits shown c.args.every number waits
-    ∙ ap (λ (p : ℕ). waits_of (since c.args.every (Some p) shown)) c.period_of-number.ensures in
-    waits-push (since c.args.every (Some period) shown) c.args.told.now c.where_left.result c.begin.new.self.waits c.take_some.new.self
-    c.take_some.ensures c.where_left.ensures kept ∙ ap waits_of (sym (last_events-push c.args.every shown c.args.told.now))
+pub returns : goal.returns
+returns c = λ shown keeps.
+    let every = c.args.every in
+    let one = c.args.told.now in
+    let before = since every (Some (period_at every one)) shown in
+    let begun : HoldsSums c.begin.new.self before =
+    subst (λ (p : ℕ). HoldsSums c.begin.new.self (since every (Some p) shown)) c.period_of-number.ensures (c.begin.ensures shown every keeps) in
+    let last = sym (last_events-push every shown one) in
+    record {
+      last = ap Some c.period_of-number.ensures ∙ sym (last_period-push every shown one);
+      kept = record {
+        sums = c.take.ensures before begun.sums ∙ ap sums_of last;
+        waits = waits-push before one (λ numbers held. c.count_some.ensures numbers (c.deref_mut.ensures.value ∙ held)) c.where_left-wait.ensures
+            begun.waits ∙ ap waits_of last;
+      };
+    }

@@ -1,4 +1,4 @@
-use Rattle.pie_summary.proofs.LiveFacts.{bounds-push}
+use Rattle.pie_summary.proofs.SpanFacts.{bounds-push}
 use Rattle.pie_summary.proofs.spans.Bounds.take.Goals as goal
 
 pub returns : goal.returns

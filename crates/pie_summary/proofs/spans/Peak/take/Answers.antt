@@ -1,4 +1,4 @@
-use Rattle.pie_summary.proofs.LiveFacts.{peak-push, peak-same}
+use Rattle.pie_summary.proofs.SpanFacts.{peak-push, peak-same}
 use Rattle.pie_summary.proofs.spans.Peak.take.Goals as goal
 
 pub returns-then-self-number : goal.returns-then-self-number

@@ -1,7 +1,11 @@
-use Rattle.pie_summary.proofs.SummaryFacts.{summary-ends}
+use Rattle.pie_summary.specs.Period.{last_events}
+use Rattle.pie_summary.specs.Summary.{said, said_of, summaries}
+use Rattle.pie_summary.proofs.WrittenFacts.{written-end}
 use Rattle.pie_summary.proofs.summary.SummaryReport.end.Goals as goal
 
 pub returns : goal.returns
 returns c = λ all kept.
-    summary-ends c.push_said.result c.args.self.now all c.args.state.now.sums c.args.state.now.waits c.args.page.now
-    c.push_said.new.page kept.1 kept.2 c.push_said.ensures
+    let summary = c.args.self.now in
+    let period = c.args.state.now in
+    written-end c.push_said.result (summaries summary all) (said_of summary.form (last_events summary.every all)) c.args.page.now
+    c.push_said.new.page (said summary.form period.sums period.waits.value) (λ i. said summary.form (kept.kept.sums i) (kept.kept.waits i)) c.push_said.ensures

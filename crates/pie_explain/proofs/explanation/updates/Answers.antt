@@ -1,7 +1,0 @@
-use Rattle.std.proofs.Common.{ap, ◌∙◌}
-use Rattle.pie_event.specs.declared.stats.Stats.{Stats}
-use Rattle.pie_explain.proofs.ExplanationFacts.{updates-counted}
-use Rattle.pie_explain.proofs.explanation.updates.Goals as goal
-
-pub returns : goal.returns
-returns c = λ opening history shows. ap (λ (s : Stats). s.updates) (c.stats.ensures opening history shows) ∙ updates-counted opening history

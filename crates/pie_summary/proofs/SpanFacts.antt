@@ -1,0 +1,133 @@
+-- What is kept of a list of numbers, with one more.
+use Rattle.std.proofs.Common.{◌≡◌, ◌≤◌, ◌<◌, ◌+◌, ◌*◌, ◌/◌, ◌%◌, ◌==◌, arith, ℕ, suc, Bool, true, false, List, [], ◌∷◌, ◌++◌, append-nil, length, map}
+use Rattle.std.proofs.Common.{refl, subst, sym, ap, ◌∙◌}
+use Rattle.std.specs.Prelude.{max, min, slice_index, Option, Some, None, unwrap_or, if◌then◌else◌}
+use Rattle.std.specs.List.{cons_option, filter_map, sum}
+use Rattle.std.proofs.lemmas.Bool.{eq-eqb, eqb-true, false≢true}
+use Rattle.std.proofs.lemmas.List.{length_push, map_push}
+use Rattle.std.proofs.lemmas.List.Elements.{filter_map-append}
+use Rattle.std.proofs.lemmas.List.Sums.{sum_by_push}
+use Rattle.pie_aqm.specs.Places.{greatest, last_or}
+use Rattle.pie_aqm.proofs.Places.{greatest-push, last_or-push}
+use Rattle.pie_explain.specs.declared.explanation.Explained.{Explained}
+use Rattle.pie_summary.specs.declared.spans.Bounds.{Bounds}
+use Rattle.pie_summary.specs.declared.spans.Peak.{Peak}
+use Rattle.pie_summary.specs.declared.spans.Total.{Total}
+use Rattle.pie_summary.specs.Counts.{kept}
+use Rattle.pie_summary.specs.Spans.{bounds_of, carried_over, counted_some, held_or, peak_of, total_in, total_of}
+use Rattle.pie_summary.proofs.CountFacts.{kept-more}
+
+-- ---- numbers of events, where a list of numbers has its step
+
+-- .. of some of them
+pub some-of-push : {S : Type 0} (of : List ℕ → S) (number : Explained → Option ℕ) (shown : List Explained) (one : Explained) {read : Option ℕ}
+    {old now : S} → ((numbers : List ℕ) → old ≡ of numbers → now ≡ of (numbers ++ cons_option read [])) → read ≡ number one
+    → old ≡ of (filter_map number shown) → now ≡ of (filter_map number (shown ++ one ∷ []))
+some-of-push of number shown one step is old-is =
+    step (filter_map number shown) old-is
+    ∙ ap (λ (r : Option ℕ). of (filter_map number shown ++ cons_option r [])) is
+    ∙ ap of (sym (filter_map-append number shown (one ∷ [])))
+
+-- .. of each
+pub each-of-push : {S : Type 0} (of : List ℕ → S) (number : Explained → ℕ) (shown : List Explained) (one : Explained) {read : ℕ} {old now : S}
+    → ((numbers : List ℕ) → old ≡ of numbers → now ≡ of (numbers ++ read ∷ [])) → read ≡ number one
+    → old ≡ of (map number shown) → now ≡ of (map number (shown ++ one ∷ []))
+each-of-push of number shown one step is old-is =
+    step (map number shown) old-is ∙ ap (λ (r : ℕ). of (map number shown ++ r ∷ [])) is ∙ ap of (sym (map_push number shown one))
+
+-- ---- counts, bounds and greatest numbers
+
+-- the first number of a list with one more
+first-push : (numbers : List ℕ) (number : ℕ) → held_or (kept (length numbers)) (slice_index numbers 0) number
+    ≡ slice_index (numbers ++ number ∷ []) 0
+first-push [] number = refl
+first-push (first ∷ numbers) number = later (length numbers)
+  where
+    later : (n : ℕ) → (if kept (suc n) == 0 then number else first) ≡ first
+    later n = grind arith
+
+count-push : (numbers : List ℕ) (number : ℕ) → kept (kept (length numbers) + 1) ≡ kept (length (numbers ++ number ∷ []))
+count-push numbers number = kept-more (length numbers) 1 18446744073709551615 ∙ ap kept (sym (length_push numbers number))
+
+pub bounds-push : (numbers : List ℕ) (number : ℕ) (old : Bounds) (count first : ℕ) → old ≡ bounds_of numbers
+    → count ≡ kept (old.count + 1) → first ≡ held_or old.count old.first number
+    → record { count = count; first = first; last = number } ≡ bounds_of (numbers ++ number ∷ [])
+bounds-push numbers number old count first is count-is first-is = λ i. record {
+  count = (count-is ∙ ap (λ (s : Bounds). kept (s.count + 1)) is ∙ count-push numbers number) i;
+  first = (first-is ∙ ap (λ (s : Bounds). held_or s.count s.first number) is ∙ first-push numbers number) i;
+  last = sym (last_or-push 0 numbers number) i;
+}
+
+-- the last number is none greater than the greatest
+last-from : (number : ℕ) (numbers : List ℕ) → last_or number numbers ≤ max number (greatest numbers)
+unfolding last_or greatest
+last-from number [] = omega arith
+last-from number (first ∷ numbers) = let rest = last-from first numbers in omega (arith, rest)
+
+pub peak-push : (numbers : List ℕ) (number : ℕ) (old : Peak) (most : ℕ) → old ≡ peak_of numbers → most ≡ max old.greatest number
+    → record { greatest = most; last = number } ≡ peak_of (numbers ++ number ∷ [])
+peak-push numbers number old most is most-is = λ i. record {
+  greatest = (most-is ∙ ap (λ (s : Peak). max s.greatest number) is ∙ sym (greatest-push numbers number)) i;
+  last = sym (last_or-push 0 numbers number) i;
+}
+
+-- .. where it is the last one again
+pub peak-same : (numbers : List ℕ) (number : ℕ) (old : Peak) → old ≡ peak_of numbers → old.last ≡ number → old ≡ peak_of (numbers ++ number ∷ [])
+peak-same numbers number old is same =
+    let below : old.last ≤ max 0 old.greatest = subst (λ (p : Peak). p.last ≤ max 0 p.greatest) (sym is) (last-from 0 numbers) in
+    let most : old.greatest ≡ max old.greatest number = omega (arith, below, same) in
+    (λ i. record { greatest = most i; last = same i }) ∙ peak-push numbers number old (max old.greatest number) is refl
+
+pub count-some : (numbers : List ℕ) (read : Option ℕ) (old now : ℕ) → now ≡ counted_some old read → old ≡ kept (length numbers)
+    → now ≡ kept (length (numbers ++ cons_option read []))
+count-some numbers None old now is old-is = is ∙ old-is ∙ ap (λ (ns : List ℕ). kept (length ns)) (sym (append-nil numbers))
+count-some numbers (Some number) old now is old-is = is ∙ ap (λ (n : ℕ). kept (n + 1)) old-is ∙ count-push numbers number
+
+-- .. and the last of some, or another
+pub since-push : (before : ℕ) (numbers : List ℕ) (read : Option ℕ)
+    → unwrap_or read (last_or before numbers) ≡ last_or before (numbers ++ cons_option read [])
+since-push before numbers None = ap (last_or before) (sym (append-nil numbers))
+since-push before numbers (Some number) = sym (last_or-push before numbers number)
+
+-- ---- sums in two parts
+
+module _ (numbers : List ℕ) (number : ℕ) (old : Total) (new : ℕ) (is : old ≡ total_of numbers) where
+  -- the sum before, and the parts of the sum with one more
+  before : ℕ
+  before = min (sum numbers) 340282366920938463463374607431768211455
+
+  grown-by : {high low : ℕ} → high ≡ min (before + number) 340282366920938463463374607431768211455 / 18446744073709551616
+      → low ≡ min (before + number) 340282366920938463463374607431768211455 % 18446744073709551616
+      → record { high = high; low = low } ≡ total_of (numbers ++ number ∷ [])
+  unfolding before
+  grown-by high-is low-is =
+      (λ i. record { high = high-is i; low = low-is i })
+      ∙ ap total_in (kept-more (sum numbers) number 340282366920938463463374607431768211455
+      ∙ ap (λ (n : ℕ). min n 340282366920938463463374607431768211455) (sym (sum_by_push (λ (x : ℕ). x) numbers number)))
+
+  parts : (old.high ≡ before / 18446744073709551616) × (old.low ≡ before % 18446744073709551616)
+      × (before ≤ 340282366920938463463374607431768211455)
+  unfolding before
+  parts = (ap (λ (t : Total). t.high) is, ap (λ (t : Total). t.low) is, omega arith)
+
+  pub total-plain : old.low + number < 18446744073709551616 → new ≡ (old.low + number) % 18446744073709551616
+      → record { high = old.high; low = new } ≡ total_of (numbers ++ number ∷ [])
+  total-plain room new-is =
+      let high = parts.0 in let low = parts.1 in let most = parts.2 in
+      grown-by (omega (arith, high, low, most, room)) (omega (arith, high, low, most, room, new-is))
+
+  pub total-carried : 18446744073709551616 ≤ old.low + number → number < 18446744073709551616
+      → new ≡ (old.low + number) % 18446744073709551616 → carried_over (record { high = old.high; low = new }) ≡ total_of (numbers ++ number ∷ [])
+  total-carried none small new-is = by_test (old.high == 18446744073709551615) refl
+    where
+      by_test : (b : Bool) → (old.high == 18446744073709551615) ≡ b
+          → (if b then record { high = old.high; low = 18446744073709551615 } else record { high = old.high + 1; low = new })
+          ≡ total_of (numbers ++ number ∷ [])
+      by_test true test =
+          let high = parts.0 in let low = parts.1 in let most = parts.2 in
+          let full = eqb-true old.high 18446744073709551615 test in
+          grown-by (omega (arith, high, low, most, none, full)) (omega (arith, high, low, most, none, full))
+      by_test false test =
+          let high = parts.0 in let low = parts.1 in let most = parts.2 in
+          let room : old.high ≡ 18446744073709551615 → ⊥ = λ same. false≢true (sym test ∙ eq-eqb old.high 18446744073709551615 same) in
+          grown-by (omega (arith, high, low, most, none, small, room)) (omega (arith, high, low, most, none, small, new-is, room))

@@ -1,5 +1,0 @@
-use Rattle.std.proofs.Common.{length}
-use Rattle.pie_summary.proofs.live_record.+together.Given as goal
-
-abbrev pub decreases-together : goal.decreases-together
-decreases-together l = length l.counts.now

@@ -1,0 +1,5 @@
+use Rattle.std.proofs.Common.{length}
+use Rattle.pie_summary.proofs.record.+together.Given as goal
+
+abbrev pub decreases-together : goal.decreases-together
+decreases-together l = length l.counts.now

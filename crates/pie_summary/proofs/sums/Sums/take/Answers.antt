@@ -1,0 +1,25 @@
+use Rattle.std.proofs.Common.{ap, sym, refl, ◌∙◌}
+use Rattle.pie_explain.specs.Choice.{time_of}
+use Rattle.pie_summary.specs.declared.noted.Noted.{Noted}
+use Rattle.pie_summary.specs.declared.sums.Sums.{Sums}
+use Rattle.pie_summary.specs.Spans.{bounds_of}
+use Rattle.pie_summary.specs.Sums.{off_time, on_time, sums_of, time_where}
+use Rattle.pie_summary.proofs.SpanFacts.{some-of-push}
+use Rattle.pie_summary.proofs.SumsFacts.{awaited}
+use Rattle.pie_summary.proofs.sums.Sums.take.Goals as goal
+
+pub returns : goal.returns
+unfolding sums_of
+returns c = λ shown same.
+    let one = c.args.all.now in
+    let noted = c.noted-noted.ensures in
+    let time = c.time_of-time.ensures ∙ ap (λ (n : Noted). time_of one.told.clock n.moment) noted in
+    let reached = c.reach.ensures shown one (sym (ap (λ (n : Noted). n.moment) noted)) same in
+    λ i. record {
+      span = c.take-2.ensures shown (ap (λ (s : Sums). s.span) reached) i;
+      meter = c.take.ensures shown one noted (awaited shown one c.note_time.ensures time (ap (λ (s : Sums). s.meter) reached)) i;
+      on_times = some-of-push bounds_of on_time shown one c.take_some.ensures
+          (c.time_where.ensures ∙ (λ j. time_where (noted j).turned_on (time j))) (ap (λ (s : Sums). s.on_times) reached) i;
+      off_times = some-of-push bounds_of off_time shown one c.take_some-2.ensures
+          (c.time_where-2.ensures ∙ (λ j. time_where (noted j).turned_off (time j))) (ap (λ (s : Sums). s.off_times) reached) i;
+    }

@@ -150,16 +150,16 @@ kind-has row k e =
         → Has row 0 (word_for k)
     this one is e = let one_is : one ≡ k = cc in subst (λ (o : CommandKind). Has row 0 (word_for o)) one_is (word-has row (word_for one) is)
 
--- a record of a command begins with its word, and is as long as its kind says
-asked-shape : (asks : Asked) → (asked_fields asks ≡ word_for (asked_kind asks) ∷ drop 1 (asked_fields asks))
-    × (command_length (asked_kind asks) ≡ length (asked_fields asks))
-unfolding command_fields
-asked-shape (asked.Command caller (Arrive moment packet word)) = (refl, refl)
-asked-shape (asked.Command caller (Depart moment)) = (refl, refl)
-asked-shape (asked.Command caller (Update moment)) = (refl, refl)
-asked-shape (asked.Command caller (Reset moment)) = (refl, refl)
-asked-shape (asked.Command caller (SetParams moment params)) = (refl, refl)
-asked-shape (asked.BadParams change) = (refl, refl)
+-- a record of a command begins with its word, is as long as its kind says, and is of that kind, whatever follows
+pub asked-shape : (asks : Asked) (more : Row) → (asked_fields asks ≡ word_for (asked_kind asks) ∷ drop 1 (asked_fields asks))
+    × (command_length (asked_kind asks) ≡ length (asked_fields asks)) × (command_kind (asked_fields asks ++ more) ≡ Some (asked_kind asks))
+unfolding command_kind field_at command_fields
+asked-shape (asked.Command caller (Arrive moment packet word)) more = (refl, refl, refl)
+asked-shape (asked.Command caller (Depart moment)) more = (refl, refl, refl)
+asked-shape (asked.Command caller (Update moment)) more = (refl, refl, refl)
+asked-shape (asked.Command caller (Reset moment)) more = (refl, refl, refl)
+asked-shape (asked.Command caller (SetParams moment params)) more = (refl, refl, refl)
+asked-shape (asked.BadParams change) more = (refl, refl, refl)
 
 -- the record of a command alone
 pub record WrittenAs (row : Row) (asks : Asked) : Type 0 where
@@ -170,7 +170,7 @@ written-as : (row : Row) (k : CommandKind) (asks : Asked) → command_kind row �
     → WrittenAs row asks
 written-as row k asks known long says =
     let read = command-read row k asks says in
-    let shape = asked-shape asks in
+    let shape = asked-shape asks [] in
     let whole = long ∙ ap command_length read.kind ∙ shape.1 ∙ ap length shape.0 in
     record {
       is = has-all row 0 (word_for k ∷ drop 1 (asked_fields asks)) (omega (arith, whole)) (kind-has row k known, read.has)
@@ -266,15 +266,6 @@ same-before-three row = by (command_kind row)
     by None = refl
 
 -- ---- what is written is read
-
-pub kind-back : (asks : Asked) (more : Row) → command_kind (asked_fields asks ++ more) ≡ Some (asked_kind asks)
-unfolding command_kind field_at command_fields
-kind-back (asked.Command caller (Arrive moment packet word)) more = refl
-kind-back (asked.Command caller (Depart moment)) more = refl
-kind-back (asked.Command caller (Update moment)) more = refl
-kind-back (asked.Command caller (Reset moment)) more = refl
-kind-back (asked.Command caller (SetParams moment params)) more = refl
-kind-back (asked.BadParams change) more = refl
 
 back_u16 : (n : ℕ) → n ≤ most_u16 → number most_u16 (decimal n) ≡ Some n
 back_u16 n fits = number-back most_u16 n fits (omega arith)

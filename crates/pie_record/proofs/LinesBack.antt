@@ -20,7 +20,7 @@ use Rattle.pie_record.specs.declared.version.Version.TheVariants.{One, Two}
 use Rattle.pie_record.specs.declared.words.Said.TheVariants as said
 use Rattle.pie_record.specs.Answer.{answer_fields, flag, folded_row, refused_row, shown_row, tallied_row}
 use Rattle.pie_record.proofs.CommandFacts.{AskedFits, ChangeFits, ClockFits, asked-as-written, asked_fields, asked_kind, clock-as-written, clock-read}
-use Rattle.pie_record.proofs.CommandFacts.{command-back, command-read, kind-back, kind_of}
+use Rattle.pie_record.proofs.CommandFacts.{command-back, asked-shape, command-read, kind_of}
 use Rattle.pie_record.proofs.FieldFacts.{and_after, back_ecn, back_u32, back_u64, field-read, number-then, one-way, no-flaw, packet-read, tested}
 use Rattle.pie_record.proofs.FieldFacts.{Says, read-as}
 use Rattle.pie_record.proofs.HistoryFacts.{read-all}
@@ -186,7 +186,7 @@ line-back : (version : Version) (asks : Asked) (answer : Answer) → AskedFits a
 unfolding line_of event_line
 line-back version asks answer fits can numbers =
     let back = answer-back asks answer can numbers in
-    rw (kind-back asks (answer_fields answer), back.long, command-back asks (answer_fields answer) fits, back.reads) refl
+    rw ((asked-shape asks (answer_fields answer)).2, back.long, command-back asks (answer_fields answer) fits, back.reads) refl
 
 -- the record of a trace that asks a command, with an answer that the command can have
 pub answered-back : (version : Version) (row : Row) (caller : ℕ) (command : Command) (answer : Answer)

@@ -69,23 +69,7 @@ impl CauseName {
         ensures place { result ≡ place_of_cause self }
         ensures within { result < 15 }
     {
-        match self {
-            CauseName::NoRoomInBytes => 0,
-            CauseName::NoRoomInPackets => 1,
-            CauseName::Inactive => 2,
-            CauseName::BurstAllowed => 3,
-            CauseName::LowDelay => 4,
-            CauseName::ShortQueue => 5,
-            CauseName::NoProbability => 6,
-            CauseName::LittleAccumulated => 7,
-            CauseName::PickedBySum => 8,
-            CauseName::PickedBySumNotCapable => 9,
-            CauseName::PickedBySumNotBelow => 10,
-            CauseName::PickedByWord => 11,
-            CauseName::PickedByWordNotCapable => 12,
-            CauseName::PickedByWordNotBelow => 13,
-            CauseName::WordNotBelow => 14,
-        }
+        self as usize
     }
 }
 

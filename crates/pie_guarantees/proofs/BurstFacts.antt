@@ -237,12 +237,11 @@ module _ (opening : Opening) (before : List Event) (between : List Event) (event
 -- ---- where parameters never change
 
 -- no more is left than the parameters allow
-Within : Held → Type 0
+abbrev Within : Held → Type 0
 Within h = h.control.burst ≤ h.params.max_burst
 
 within-next : (h : Held) (waiting : List Waiting) (packets : ℕ) (command : Command) → Within h → KeepsParams command
     → Within (after_call h (call_of waiting packets command))
-unfolding Within
 within-next h waiting packets (Arrive moment packet word) old keep =
     after-arrival Within h (arrival_of waiting packets packet word) moment old (λ on. omega arith)
 within-next h [] packets (Depart moment) old keep = old
@@ -254,7 +253,6 @@ within-next h waiting packets (SetParams moment params) old keep = absurd keep
 
 pub allowed_where_kept : (opening : Opening) (before : List Event) (later : List Event) → IsLawful opening (before ++ later)
     → All (λ event. KeepsParams event.command) before → IsAllowed opening before
-unfolding Within
 allowed_where_kept opening before later lawful keep =
     let h : (first_core opening).held ≡ held_after opening [] = held-is opening (first_core opening) [] (first-shows opening) in
     along (λ history. Within (held_after opening history)) (λ (event : Event). KeepsParams event.command) opening

@@ -19,7 +19,7 @@ use Rattle.pie_guarantees.proofs.LawfulFacts.{IsStep, along, beginning, stands_a
 
 -- ---- counts
 
-Adds : List Event → Type 0
+abbrev Adds : List Event → Type 0
 Adds history = packets_handed_in history ≡ count_of is_queued history + count_of is_marked history + count_of is_dropped_early history
     + count_of is_dropped_bytes history + count_of is_dropped_packets history
 
@@ -48,7 +48,6 @@ once-more (Depart moment) _ e = cc
 once-more _ answer e = refl
 
 adds-next : (opening : Opening) (before : List Event) (event : Event) → IsStep opening before event → Adds before → Adds (before ++ event ∷ [])
-unfolding Adds
 adds-next opening before event step old =
     let kind : fits event.command event.answer ≡ true =
     ap (λ (a : Answer). fits event.command a) step.here.answered
@@ -63,19 +62,12 @@ adds-next opening before event step old =
       count-push is_dropped_packets before event,
     ) (omega (arith, one, old))
 
-adds-first : Adds []
-unfolding Adds
-adds-first = refl
-
-pub each_once : (opening : Opening) (history : List Event) → IsLawful opening history
-    → packets_handed_in history ≡ count_of is_queued history + count_of is_marked history + count_of is_dropped_early history
-    + count_of is_dropped_bytes history + count_of is_dropped_packets history
-unfolding Adds
-each_once opening history lawful = throughout Adds opening adds-first (adds-next opening) history lawful
+pub each_once : (opening : Opening) (history : List Event) → IsLawful opening history → Adds history
+each_once opening history lawful = throughout Adds opening refl (adds-next opening) history lawful
 
 -- ---- order
 
-packets-of : List Waiting → List Packet
+abbrev packets-of : List Waiting → List Packet
 packets-of waiting = map (λ (entry : Waiting). entry.packet) waiting
 
 queued-push : (before : List Event) (event : Event)
@@ -95,7 +87,6 @@ deed-is opening before event step = ap (λ (a : Answer). deed event.command a) s
 
 one-new : (gone all : List Packet) (waiting : List Waiting) (new : Waiting) → gone ++ packets-of waiting ≡ all
     → gone ++ packets-of (waiting ++ new ∷ []) ≡ all ++ new.packet ∷ []
-unfolding packets-of
 one-new gone all waiting new e =
     rw (map-append (λ (entry : Waiting). entry.packet) waiting (new ∷ []), ← append_assoc gone (packets-of waiting) (new.packet ∷ []))
     (ap (λ (ps : List Packet). ps ++ new.packet ∷ []) e)
@@ -105,7 +96,6 @@ in-order : (h : Held) (waiting : List Waiting) (packets : ℕ) (command : Comman
     → with_one gone (departure (deed command (answer_by h waiting packets command)))
     ++ packets-of (waiting_next waiting now (deed command (answer_by h waiting packets command)))
     ≡ with_one all (packet_queued (deed command (answer_by h waiting packets command)))
-unfolding packets-of
 in-order h waiting packets (Arrive moment packet word) now gone all e = by (Steps.verdict h (arrival_of waiting packets packet word))
   where
     by : (v : Verdict) → with_one gone (departure (deed (Arrive moment packet word) (answer_of v)))
@@ -118,26 +108,23 @@ in-order h [] packets (Depart moment) now gone all e = e
 in-order h (oldest ∷ others) packets (Depart moment) now gone all e = rw (append_assoc gone (oldest.packet ∷ []) (packets-of others)) e
 in-order h waiting packets _ now gone all e = e
 
-Ordered : Opening → List Event → Type 0
+abbrev Ordered : Opening → List Event → Type 0
 Ordered opening history = packets_departed history ++ packets_waiting opening history ≡ packets_queued history
 
 ordered-next : (opening : Opening) (before : List Event) (event : Event) → IsStep opening before event → Ordered opening before
     → Ordered opening (before ++ event ∷ [])
-unfolding Ordered packets-of
 ordered-next opening before event step old =
     rw (departed-push before event, queued-push before event, step.waiting, deed-is opening before event step)
     (in-order (held_after opening before) (waiting_after opening before) opening.limits.packets event.command
     (effective_moment opening (before ++ event ∷ [])) (packets_departed before) (packets_queued before) old)
 
 ordered-first : (opening : Opening) → waiting_after opening [] ≡ [] → Ordered opening []
-unfolding Ordered packets_departed packets_queued
+unfolding packets_departed packets_queued
 ordered-first opening none = rw none refl
 
-pub in_order : (opening : Opening) (history : List Event) → IsLawful opening history
-    → packets_departed history ++ packets_waiting opening history ≡ packets_queued history
-unfolding Ordered
-in_order opening history lawful = throughout (Ordered opening) opening (ordered-first opening (sym (first-shows opening).waiting))
-    (ordered-next opening) history lawful
+pub in_order : (opening : Opening) (history : List Event) → IsLawful opening history → Ordered opening history
+in_order opening history lawful =
+    throughout (Ordered opening) opening (ordered-first opening (sym (first-shows opening).waiting)) (ordered-next opening) history lawful
 
 -- ---- limits
 
@@ -164,9 +151,6 @@ bounded h waiting packets (Arrive moment packet word) now =
     by (nat_lt h.params.limit_bytes (bytes_of waiting + packet.size)) (length waiting == packets) refl
     (Steps.choice h (arrival_of waiting packets packet word))
   where
-    v : Bool → Bool → Choice → Verdict
-    v over full choice = if over then verdict.DroppedBytes else if full then verdict.DroppedPackets else Steps.chosen choice
-
     same : Bounded h.params.limit_bytes (bytes_of waiting) (bytes_of waiting) None
     same = record { or = inl (omega arith); queue = λ packet is. cc }
 
@@ -293,7 +277,6 @@ first_out opening before between later lawful many =
     same-beginning left waits rest new three length
 
 sizes-of : (waiting : List Waiting) → sum_by (λ (packet : Packet). packet.size) (packets-of waiting) ≡ bytes_of waiting
-unfolding packets-of
 sizes-of [] = refl
 sizes-of (oldest ∷ others) =
     sum_by-cons (λ (packet : Packet). packet.size) oldest.packet (packets-of others)
@@ -308,7 +291,6 @@ pub waits_bounded : (rate : ℕ) (opening : Opening) (before : List Event) (even
     → length (packets_departed between) ≡ length (waiting_after opening (before ++ event ∷ []))
     → Carries rate opening (before ++ event ∷ []) between
     → rate * time_of opening (before ++ event ∷ []) between ≤ 8 * 10 ^ 9 * (params_after opening before).limit_bytes
-unfolding packets-of
 waits_bounded rate opening before event between later packet lawful in_queue many carries =
     let b = before ++ event ∷ [] in
     let split : before ++ event ∷ [] ++ between ++ later ≡ before ++ (event ∷ (between ++ later)) =

@@ -32,16 +32,12 @@ free-by : (late bad soon full : Bool) (w x y z : Refusal) → (if late then Some
 free-by false false false false w x y z e = (refl, refl, refl)
 free-by _ _ _ _ w x y z e = cc
 
-free-with : (before due count events : ℕ) (command : Command) → refusal_with before due count events command ≡ None
-    → (nat_lt Opens.last_moment (handed_in command) ≡ false) × (has_bad_size command ≡ false) × (is_too_soon before due command ≡ false)
-free-with before due count events command e =
-    free-by (nat_lt Opens.last_moment (handed_in command)) (has_bad_size command) (is_too_soon before due command)
-    (count == events) refusal.Moment refusal.Size (refusal.TooSoon due) refusal.Exhausted e
-
 pub is_free : (opening : Opening) (before : List Event) (command : Command) → refusal_by_rule opening before command ≡ None
     → IsFree opening before command
 is_free opening before command e =
-    let facts = free-with (effective_moment opening before) (due_after opening before) (length before) opening.limits.events command e in
+    let facts = free-by (nat_lt Opens.last_moment (handed_in command)) (has_bad_size command)
+    (is_too_soon (effective_moment opening before) (due_after opening before) command) (length before == opening.limits.events)
+    refusal.Moment refusal.Size (refusal.TooSoon (due_after opening before)) refusal.Exhausted e in
     let late = ltb-false Opens.last_moment (handed_in command) facts.0 in
     record { moment = omega arith; size = facts.1; in_time = facts.2 }
 
@@ -55,13 +51,7 @@ pub record Stands (opening : Opening) (history : List Event) : Type 0 where
   pub room : length core.waiting ≤ opening.limits.packets
 
 start-moment : (opening : Opening) → Opens.opening_refusal opening.limits opening.moment ≡ None → opening.moment < 2 ^ 60
-start-moment opening = by (Opens.are_in_range opening.limits) (nat_le opening.moment Opens.last_moment) refl
-  where
-    by : (good within : Bool) → nat_le opening.moment Opens.last_moment ≡ within
-        → (if good then (if within then None else Some open_refusal.Moment) else Some open_refusal.BadLimits) ≡ None → opening.moment < 2 ^ 60
-    by true true w e = let start = leb-true opening.moment Opens.last_moment w in omega arith
-    by true false w e = cc
-    by false within w e = cc
+start-moment opening good = let within : opening.moment ≤ Opens.last_moment = grind (arith, good) in omega (arith, within)
 
 stands-first : (opening : Opening) → Opens.opening_refusal opening.limits opening.moment ≡ None → first_bad opening.params ≡ None → Stands opening []
 stands-first opening good params = record {
@@ -123,16 +113,13 @@ stands-next opening before event old here fit =
 
 -- an event of a lawful history: what the events before it leave, and what it makes of that
 pub record IsStep (opening : Opening) (before : List Event) (event : Event) : Type 0 where
-  pub stands : Stands opening before
   pub here : IsLegalAt opening (place_of before event)
   pub free : IsFree opening before event.command
-  pub set : SetsInRange event.command
   pub sound : IsSound (held_after opening before)
   pub held : held_after opening (before ++ event ∷ [])
       ≡ after_call (held_after opening before) (call_of (waiting_after opening before) opening.limits.packets event.command)
   pub waiting : waiting_after opening (before ++ event ∷ [])
       ≡ waiting_next (waiting_after opening before) (effective_moment opening (before ++ event ∷ [])) (deed_of event)
-  pub moment : effective_moment opening (before ++ event ∷ []) ≡ max (effective_moment opening before) (handed_in event.command)
   pub same_moment : (held_after opening before).moment ≡ effective_moment opening before
   pub next_moment : (held_after opening (before ++ event ∷ [])).moment ≡ effective_moment opening (before ++ event ∷ [])
 
@@ -144,10 +131,8 @@ step-of opening before event old here fit =
     let core = old.core in
     let is : core.held ≡ held_after opening before = held-is opening core before old.shows in
     record {
-      stands = old;
       here = here;
       free = is_free opening before event.command here.taken;
-      set = fit;
       sound = subst (λ (h : Held). IsSound h) is old.sound;
       held = sym (held-is opening next.core (before ++ event ∷ []) next.shows)
           ∙ ap (λ (h : Held). after_call h (call_of core.waiting core.packets event.command)) is
@@ -155,7 +140,6 @@ step-of opening before event old here fit =
           ∙ ap (λ (n : ℕ). after_call (held_after opening before) (call_of (waiting_after opening before) n event.command)) old.shows.packets;
       waiting = waiting_after-push opening before event (departed-of-legal opening before old.shows.legal)
           ∙ ap (λ (m : ℕ). waiting_next (waiting_after opening before) m (deed_of event)) (sym (effective_moment-push opening before event));
-      moment = effective_moment-push opening before event;
       same_moment = sym (ap (λ (h : Held). h.moment) is) ∙ old.shows.moment;
       next_moment = sym (ap (λ (h : Held). h.moment) (held-is opening next.core (before ++ event ∷ []) next.shows)) ∙ next.shows.moment;
     }
@@ -190,8 +174,7 @@ module _ (P : List Event → Type 0) (Q : Event → Type 0) (opening : Opening)
       record { stands = rw (← one) next.stands; so = rw (← one) next.so }
 
 all-true : (events : List Event) → All (λ event. ⊤) events
-all-true [] = All-nil (λ event. ⊤)
-all-true (event ∷ events) = All-cons (λ event. ⊤) event events tt (all-true events)
+all-true events = λ k d within. tt
 
 -- the events before a place of a lawful history are shown by a core
 pub stands_at : (opening : Opening) (before later : List Event) → IsLawful opening (before ++ later) → Stands opening before

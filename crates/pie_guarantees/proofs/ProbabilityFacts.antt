@@ -64,28 +64,24 @@ module _ (opening : Opening) (before : List Event) (event : Event) (later : List
     rises_above above risen =
         let sound = (step_at opening before event later lawful).sound in
         let target = (in-range (params_after opening before) sound.params).target in
-        rw is (next_up opening.choices.elements (params_after opening before) (probability_after opening before) (delay_after opening before)
-        (old_delay_after opening before) sound.prob (let least = target.0 in omega arith) above risen)
+        rw is (next_up _ _ _ _ _ sound.prob (let least = target.0 in omega arith) above risen)
 
     pub falls_below : delay_after opening before ≤ (params_after opening before).target
         → delay_after opening before ≤ old_delay_after opening before
         → probability_after opening (before ++ event ∷ []) ≤ probability_after opening before
     falls_below below fallen =
-        rw is (next_down opening.choices.elements (params_after opening before) (probability_after opening before) (delay_after opening before)
-        (old_delay_after opening before) below fallen)
+        rw is (next_down _ _ _ _ _ below fallen)
 
     pub capped_rise : is_capped opening.choices.elements.step ≡ true → 100_000_000_000 ≤ probability_after opening before
         → probability_after opening (before ++ event ∷ []) ≤ probability_after opening before + 20_000_000_000
     capped_rise capped large =
-        rw is (next_capped opening.choices.elements (params_after opening before) (probability_after opening before)
-        (delay_after opening before) (old_delay_after opening before) capped large)
+        rw is (next_capped _ _ _ _ _ capped large)
 
     pub decays_by_two : decays opening.choices.elements.decay (params_after opening before) (delay_after opening before)
         (old_delay_after opening before) ≡ true → delay_after opening before ≤ old_delay_after opening before
         → probability_after opening (before ++ event ∷ []) * 100 ≤ probability_after opening before * 98
     decays_by_two low fallen =
-        rw is (next_decays opening.choices.elements (params_after opening before) (probability_after opening before) (delay_after opening before)
-        (old_delay_after opening before) low fallen)
+        rw is (next_decays _ _ _ _ _ low fallen)
 
 -- ---- any other event
 
@@ -211,7 +207,7 @@ a_tenth_is_left n elements params delay prob is many =
     let low = decays_low elements.decay params delay delay is in
     let less : after_updates n elements params delay prob ≤ after_updates 114 elements params delay prob =
     subst (λ (k : ℕ). after_updates k elements params delay prob ≤ after_updates 114 elements params delay prob) split
-    (rw (after_both 114 (n - 114) elements params delay prob)
+    (rw (after_both elements params delay 114 (n - 114) prob)
     (stays_down elements params delay low (n - 114) (after_updates 114 elements params delay prob))) in
     let faded = faded-after 114 elements params delay prob is in
     let left = share (after_updates 114 elements params delay prob) prob (98 ^ 114) (100 ^ 114) (omega arith) faded hundred-fourteen in

@@ -9,30 +9,22 @@ use Rattle.pie_guarantees.proofs.LawfulFacts.{sound_at}
 apart : (n t u : ℕ) → n * (t + u) ≡ n * t + n * u
 apart n t u = grind arith
 
--- one more sample
-weighted-above : (t u least sample before : ℕ) → t + u ≡ 65536 → least ≤ sample → least ≤ before → least ≤ (sample * t + before * u) / 65536
-weighted-above t u least sample before whole s a =
-    le-div least (sample * t + before * u) 65536 (omega arith)
-    (let one = mul-le least t sample t s (omega arith) in
-    let two = mul-le least u before u a (omega arith) in
-    let sum : least * 65536 ≡ least * t + least * u = split whole in
-    omega (arith, one, two, sum))
-  where
-    split : t + u ≡ 65536 → least * 65536 ≡ least * t + least * u
-    split e = ap (λ (n : ℕ). least * n) (sym e) ∙ apart least t u
+parts : (n t u : ℕ) → t + u ≡ 65536 → n * 65536 ≡ n * t + n * u
+parts n t u whole = ap (λ (k : ℕ). n * k) (sym whole) ∙ apart n t u
 
-weighted-below : (t u most sample before : ℕ) → t + u ≡ 65536 → sample ≤ most → before ≤ most → (sample * t + before * u) / 65536 ≤ most
-weighted-below t u most sample before whole s a =
-    div-le_of_le-mul 65536
-    (let one = mul-le sample t most t s (omega arith) in
-    let two = mul-le before u most u a (omega arith) in
-    let sum : 65536 * most ≡ most * t + most * u = split whole in
-    let le : sample * t + before * u ≤ 65536 * most = omega (arith, one, two, sum) in le)
-  where
-    split : t + u ≡ 65536 → 65536 * most ≡ most * t + most * u
-    split e =
-        let turned : 65536 * most ≡ most * 65536 = omega arith in
-        turned ∙ ap (λ (n : ℕ). most * n) (sym e) ∙ apart most t u
+-- one more sample
+weighted : (t u least most sample before : ℕ) → t + u ≡ 65536 → IsBetween least most sample → IsBetween least most before
+    → IsBetween least most ((sample * t + before * u) / 65536)
+weighted t u least most sample before whole s b =
+    let low = parts least t u whole in
+    let high = parts most t u whole in
+    let a = mul-le least t sample t s.0 (omega arith) in
+    let c = mul-le least u before u b.0 (omega arith) in
+    let d = mul-le sample t most t s.1 (omega arith) in
+    let e = mul-le before u most u b.1 (omega arith) in (
+      le-div least (sample * t + before * u) 65536 (omega arith) (omega (arith, a, c, low)),
+      div-le_of_le-mul 65536 (let le : sample * t + before * u ≤ 65536 * most = omega (arith, d, e, high) in le),
+    )
 
 between-later : (t least most : ℕ) → t ≤ 65536 → (first : ℕ) (later : List ℕ) → IsBetween least most first → All (IsBetween least most) later
     → IsBetween least most (fold (averaged t) first later)
@@ -41,7 +33,7 @@ between-later t least most small first (sample ∷ later) so all =
     let here = All-head (IsBetween least most) sample later all in
     let whole : t + (65536 - t) ≡ 65536 = omega arith in
     between-later t least most small (averaged t first sample) later
-    (weighted-above t (65536 - t) least sample first whole here.0 so.0, weighted-below t (65536 - t) most sample first whole here.1 so.1)
+    (weighted t (65536 - t) least most sample first whole here so)
     (All-tail (IsBetween least most) sample later all)
 
 between-all : (t least most : ℕ) (times : List ℕ) → t ≤ 65536 → 0 < length times → All (IsBetween least most) times

@@ -152,11 +152,6 @@ within-one : (z : ℤ) → bounded_of z ≤ 10 ^ 12
 within-one (pos a) = omega arith
 within-one (negsuc a) = omega arith
 
-next-within : (elements : Elements) (params : RawParams) (prob delay old : ℕ) → next elements params prob delay old ≤ 10 ^ 12
-unfolding next
-next-within elements params prob delay old =
-    within-one (decayed (decays elements.decay params delay old) (pos prob +ℤ tuned_step elements.step prob (raw_step params delay old)))
-
 -- a divisor that falls leaves more
 div-more : (n d e : ℕ) → 0 < e → e ≤ d → n / d ≤ n / e
 div-more n d e some le =
@@ -171,161 +166,138 @@ rise-grows params delay low high le =
 more-times : (n rise : ℕ) → suc n * rise ≡ rise + n * rise
 more-times n rise = grind arith
 
-module _ (elements : Elements) (params : RawParams) (delay : ℕ) (some : 0 < params.target) (above : params.target ≤ delay) where
-  -- it never falls
-  pub stays_up : (n prob : ℕ) → prob ≤ 10 ^ 12 → prob ≤ after_updates n elements params delay prob
-  unfolding after_updates
-  stays_up zero prob within = omega arith
-  stays_up (suc n) prob within =
-      let one = next_up elements params prob delay delay within some above (omega arith) in
-      let rest = stays_up n (next elements params prob delay delay) (next-within elements params prob delay delay) in
-      omega (arith, one, rest)
-
-  rises-by : (n rise prob : ℕ) → rise ≤ least_rise params delay prob → prob ≤ 10 ^ 12
-      → min (10 ^ 12) (prob + n * rise) ≤ after_updates n elements params delay prob
-  unfolding after_updates
-  rises-by zero rise prob least within = omega arith
-  rises-by (suc n) rise prob least within =
-      let one = one-rise elements params prob delay some above in
-      let up = next_up elements params prob delay delay within some above (omega arith) in
-      let grows = rise-grows params delay prob (next elements params prob delay delay) up in
-      let rest = rises-by n rise (next elements params prob delay delay) (omega (arith, least, grows))
-      (next-within elements params prob delay delay) in
-      let times = more-times n rise in
-      omega (arith, one, rest, times, least)
-
-  pub rises_at_least : (n prob : ℕ) → prob ≤ 10 ^ 12
-      → min (10 ^ 12) (prob + n * least_rise params delay prob) ≤ after_updates n elements params delay prob
-  rises_at_least n prob within = rises-by n (least_rise params delay prob) prob (omega arith) within
-
-  pub rises_at_most : (n prob most : ℕ) → prob ≤ 10 ^ 12 → after_updates n elements params delay prob ≤ most
-      → after_updates n elements params delay prob ≤ prob + n * (untuned_rise params delay / tuning_divisor most)
-  unfolding after_updates
-  rises_at_most zero prob most within below = omega arith
-  rises_at_most (suc n) prob most within below =
-      let one = one-rise-most elements params prob delay some above in
-      let up = next_up elements params prob delay delay within some above (omega arith) in
-      let rest = rises_at_most n (next elements params prob delay delay) most (next-within elements params prob delay delay) below in
-      let stays = stays_up n (next elements params prob delay delay) (next-within elements params prob delay delay) in
-      let more = div-more (untuned_rise params delay) (tuning_divisor prob) (tuning_divisor most) (divisor-some most)
-      (divisor-falls prob most (omega (arith, up, stays, below))) in
-      let times = more-times n (untuned_rise params delay / tuning_divisor most) in
-      omega (arith, one, rest, more, times)
-
-module _ (elements : Elements) (params : RawParams) (delay : ℕ) (below : delay ≤ params.target) where
-  pub stays_down : (n prob : ℕ) → after_updates n elements params delay prob ≤ prob
-  unfolding after_updates
-  stays_down zero prob = omega arith
-  stays_down (suc n) prob =
-      let one = next_down elements params prob delay delay below (omega arith) in
-      let rest = stays_down n (next elements params prob delay delay) in
-      omega (arith, one, rest)
-
-  pub falls_at_least : (n prob least : ℕ) → 0 < least → least ≤ after_updates n elements params delay prob
-      → after_updates n elements params delay prob + n * (untuned_fall params delay / tuning_divisor least) ≤ prob
-  unfolding after_updates
-  falls_at_least zero prob least some above = omega arith
-  falls_at_least (suc n) prob least some above =
-      let rest = falls_at_least n (next elements params prob delay delay) least some above in
-      let stays = stays_down n (next elements params prob delay delay) in
-      let down = next_down elements params prob delay delay below (omega arith) in
-      let one = one-fall elements params prob delay below (omega (arith, some, above, stays)) in
-      let more = div-more (untuned_fall params delay) (tuning_divisor least) (tuning_divisor prob) (divisor-some prob)
-      (divisor-falls least prob (omega (arith, above, stays, down))) in
-      let times = more-times n (untuned_fall params delay / tuning_divisor least) in
-      omega (arith, one, rest, more, times)
-
-  falls-by : (n prob fall : ℕ) → prob ≤ 10 ^ 12 → decays elements.decay params delay delay ≡ false
-      → untuned_fall params delay / tuning_divisor prob ≤ fall
-      → prob ≤ after_updates n elements params delay prob + n * fall
-  unfolding after_updates
-  falls-by zero prob fall within still most = omega arith
-  falls-by (suc n) prob fall within still most =
-      let one = one-fall-most elements params prob delay within still below in
-      let down = next_down elements params prob delay delay below (omega arith) in
-      let less = div-more (untuned_fall params delay) (tuning_divisor (next elements params prob delay delay)) (tuning_divisor prob)
-      (divisor-some prob)
-      (divisor-falls (next elements params prob delay delay) prob down) in
-      let rest = falls-by n (next elements params prob delay delay) fall (next-within elements params prob delay delay) still
-      (omega (arith, less, most)) in
-      let times = more-times n fall in
-      omega (arith, one, rest, most, times)
-
-  pub falls_at_most : (n prob : ℕ) → prob ≤ 10 ^ 12 → decays elements.decay params delay delay ≡ false
-      → prob ≤ after_updates n elements params delay prob + n * (untuned_fall params delay / tuning_divisor prob)
-  falls_at_most n prob within still = falls-by n prob (untuned_fall params delay / tuning_divisor prob) within still (omega arith)
-
--- ---- to a tenth
-
-pub after_both : (m n : ℕ) (elements : Elements) (params : RawParams) (delay prob : ℕ)
-    → after_updates (m + n) elements params delay prob ≡ after_updates n elements params delay (after_updates m elements params delay prob)
-unfolding after_updates
-after_both zero n elements params delay prob =
-    let none : 0 + n ≡ n = omega arith in ap (λ (k : ℕ). after_updates k elements params delay prob) none
-after_both (suc m) n elements params delay prob =
-    let one : suc m + n ≡ suc (m + n) = omega arith in
-    ap (λ (k : ℕ). after_updates k elements params delay prob) one ∙ after_both m n elements params delay (next elements params prob delay delay)
-
-after-within : (n : ℕ) (elements : Elements) (params : RawParams) (delay prob : ℕ) → prob ≤ 10 ^ 12
-    → after_updates n elements params delay prob ≤ 10 ^ 12
-unfolding after_updates
-after-within zero elements params delay prob within = within
-after-within (suc n) elements params delay prob within =
-    after-within n elements params delay (next elements params prob delay delay) (next-within elements params prob delay delay)
-
 -- so many steps go so far
 enough : (far by : ℕ) → 0 < by → far ≤ (far / by + 1) * by
 enough far by some = let rest = lt-mul-div-succ far some in omega (arith, rest)
 
-module _ (elements : Elements) (params : RawParams) (delay : ℕ) (some : 0 < params.target) (above : params.target ≤ delay)
-    (rises : 2048 ≤ untuned_rise params delay) where
-  rise-some : (low : ℕ) → 0 < least_rise params delay low
-  rise-some low =
-      let one = le-div 1 (untuned_rise params delay) (tuning_divisor low) (divisor-some low)
-      (let top = divisor-falls 0 low (omega arith) in let first = first-divisor in omega (arith, rises, top, first)) in
-      omega (arith, one)
+module _ (elements : Elements) (params : RawParams) (delay : ℕ) where
+  -- after one update, and after so many
+  abbrev once : ℕ → ℕ
+  once prob = next elements params prob delay delay
 
-  reaches : (low high prob : ℕ) → low ≤ prob → prob ≤ 10 ^ 12 → high ≤ 10 ^ 12
-      → high ≤ after_updates (updates_from params delay low high) elements params delay prob
-  reaches low high prob from within top =
-      let n = updates_from params delay low high in
-      let r = least_rise params delay low in
-      let far = rises-by elements params delay some above (updates_from params delay low high) (least_rise params delay low) prob
-      (rise-grows params delay low prob from) within in
-      let steps = enough (high - low) (least_rise params delay low) (rise-some low) in
-      omega (arith, far, steps, from, top)
+  abbrev after : ℕ → ℕ → ℕ
+  after n prob = after_updates n elements params delay prob
 
-  -- where so many updates have come so far, so many more come further
-  further : (m low high prob : ℕ) → prob ≤ 10 ^ 12 → high ≤ 10 ^ 12 → low ≤ after_updates m elements params delay prob
-      → high ≤ after_updates (m + updates_from params delay low high) elements params delay prob
-  further m low high prob within top there =
-      rw (after_both m (updates_from params delay low high) elements params delay prob)
-      (reaches low high (after_updates m elements params delay prob) there (after-within m elements params delay prob within) top)
+  once-within : (prob : ℕ) → once prob ≤ 10 ^ 12
+  unfolding next
+  once-within prob =
+      within-one (decayed (decays elements.decay params delay delay) (pos prob +ℤ tuned_step elements.step prob (raw_step params delay delay)))
 
-  tenth : (prob : ℕ) → prob ≤ 10 ^ 12 → 10 ^ 11 ≤ after_updates (updates_to_a_tenth params delay) elements params delay prob
-  tenth prob within =
-      let a = updates_from params delay 0 (10 ^ 6) in
-      let b = updates_from params delay (10 ^ 6) (10 ^ 7) in
-      let c = updates_from params delay (10 ^ 7) (10 ^ 8) in
-      let d = updates_from params delay (10 ^ 8) (10 ^ 9) in
-      let e = updates_from params delay (10 ^ 9) (10 ^ 10) in
-      let f = updates_from params delay (10 ^ 10) (10 ^ 11) in
-      further (a + b + c + d + e) (10 ^ 10) (10 ^ 11) prob within (omega arith)
-      (further (a + b + c + d) (10 ^ 9) (10 ^ 10) prob within (omega arith)
-      (further (a + b + c) (10 ^ 8) (10 ^ 9) prob within (omega arith)
-      (further (a + b) (10 ^ 7) (10 ^ 8) prob within (omega arith)
-      (further a (10 ^ 6) (10 ^ 7) prob within (omega arith) (reaches 0 (10 ^ 6) prob (omega arith) within (omega arith))))))
+  after-within : (n prob : ℕ) → prob ≤ 10 ^ 12 → after n prob ≤ 10 ^ 12
+  unfolding after_updates
+  after-within zero prob within = within
+  after-within (suc n) prob within = after-within n (once prob) (once-within prob)
 
-  pub reaches_a_tenth : (n prob : ℕ) → prob ≤ 10 ^ 12 → updates_to_a_tenth params delay ≤ n → 10 ^ 11 ≤ after_updates n elements params delay prob
-  reaches_a_tenth n prob within many =
-      let m = updates_to_a_tenth params delay in
-      let split : updates_to_a_tenth params delay + (n - updates_to_a_tenth params delay) ≡ n = omega (arith, many) in
-      let there = tenth prob within in
-      let stays = stays_up elements params delay some above (n - updates_to_a_tenth params delay)
-      (after_updates (updates_to_a_tenth params delay) elements params delay prob)
-      (after-within (updates_to_a_tenth params delay) elements params delay prob within) in
-      let both = after_both (updates_to_a_tenth params delay) (n - updates_to_a_tenth params delay) elements params delay prob in
-      subst (λ (k : ℕ). 10 ^ 11 ≤ after_updates k elements params delay prob) split (rw both (omega (arith, there, stays)))
+  pub after_both : (m n prob : ℕ) → after (m + n) prob ≡ after n (after m prob)
+  unfolding after_updates
+  after_both zero n prob = let none : 0 + n ≡ n = omega arith in ap (λ (k : ℕ). after k prob) none
+  after_both (suc m) n prob =
+      let one : suc m + n ≡ suc (m + n) = omega arith in ap (λ (k : ℕ). after k prob) one ∙ after_both m n (once prob)
+
+  module _ (some : 0 < params.target) (above : params.target ≤ delay) where
+    -- it never falls, and rises by so much an update at least, and by so much at most
+    rises : (n rise most prob : ℕ) → rise ≤ least_rise params delay prob → prob ≤ 10 ^ 12
+        → (prob ≤ after n prob) × (min (10 ^ 12) (prob + n * rise) ≤ after n prob)
+        × (after n prob ≤ most → after n prob ≤ prob + n * (untuned_rise params delay / tuning_divisor most))
+    unfolding after_updates
+    rises zero rise most prob least within = (omega arith, omega arith, λ below. omega arith)
+    rises (suc n) rise most prob least within =
+        let up = next_up elements params prob delay delay within some above (omega arith) in
+        let grows = rise-grows params delay prob (once prob) up in
+        let rest = rises n rise most (once prob) (omega (arith, least, grows)) (once-within prob) in
+        let one = one-rise elements params prob delay some above in
+        let times = more-times n rise in (
+          omega (arith, up, rest.0),
+          omega (arith, one, rest.1, times, least),
+          λ below.
+          let more = div-more (untuned_rise params delay) (tuning_divisor prob) (tuning_divisor most) (divisor-some most)
+          (divisor-falls prob most (omega (arith, up, rest.0, below))) in
+          let one = one-rise-most elements params prob delay some above in
+          let times = more-times n (untuned_rise params delay / tuning_divisor most) in
+          let later = rest.2 below in omega (arith, one, later, more, times),
+        )
+
+    pub rises_at_least : (n prob : ℕ) → prob ≤ 10 ^ 12 → min (10 ^ 12) (prob + n * least_rise params delay prob) ≤ after n prob
+    rises_at_least n prob within = (rises n (least_rise params delay prob) 0 prob (omega arith) within).1
+
+    pub rises_at_most : (n prob most : ℕ) → prob ≤ 10 ^ 12 → after n prob ≤ most
+        → after n prob ≤ prob + n * (untuned_rise params delay / tuning_divisor most)
+    rises_at_most n prob most within below = (rises n 0 most prob (omega arith) within).2 below
+
+  module _ (below : delay ≤ params.target) where
+    -- it never rises, and falls by so much an update at least, and where it does not decay by so much at most
+    falls : (n fall least prob : ℕ) → (after n prob ≤ prob)
+        × (0 < least → least ≤ after n prob → after n prob + n * (untuned_fall params delay / tuning_divisor least) ≤ prob)
+        × (prob ≤ 10 ^ 12 → decays elements.decay params delay delay ≡ false → untuned_fall params delay / tuning_divisor prob ≤ fall
+        → prob ≤ after n prob + n * fall)
+    unfolding after_updates
+    falls zero fall least prob = (omega arith, λ some above. omega arith, λ within still most. omega arith)
+    falls (suc n) fall least prob =
+        let down = next_down elements params prob delay delay below (omega arith) in
+        let rest = falls n fall least (once prob) in (
+          omega (arith, down, rest.0),
+          λ some above.
+          let one = one-fall elements params prob delay below (omega (arith, some, above, rest.0)) in
+          let more = div-more (untuned_fall params delay) (tuning_divisor least) (tuning_divisor prob) (divisor-some prob)
+          (divisor-falls least prob (omega (arith, above, rest.0, down))) in
+          let times = more-times n (untuned_fall params delay / tuning_divisor least) in
+          let later = rest.1 some above in omega (arith, one, later, more, times),
+          λ within still most.
+          let one = one-fall-most elements params prob delay within still below in
+          let less = div-more (untuned_fall params delay) (tuning_divisor (once prob)) (tuning_divisor prob) (divisor-some prob)
+          (divisor-falls (once prob) prob down) in
+          let times = more-times n fall in
+          let later = rest.2 (once-within prob) still (omega (arith, less, most)) in omega (arith, one, later, most, times),
+        )
+
+    pub stays_down : (n prob : ℕ) → after n prob ≤ prob
+    stays_down n prob = (falls n 0 0 prob).0
+
+    pub falls_at_least : (n prob least : ℕ) → 0 < least → least ≤ after n prob
+        → after n prob + n * (untuned_fall params delay / tuning_divisor least) ≤ prob
+    falls_at_least n prob least = (falls n 0 least prob).1
+
+    pub falls_at_most : (n prob : ℕ) → prob ≤ 10 ^ 12 → decays elements.decay params delay delay ≡ false
+        → prob ≤ after n prob + n * (untuned_fall params delay / tuning_divisor prob)
+    falls_at_most n prob within still = (falls n (untuned_fall params delay / tuning_divisor prob) 0 prob).2 within still (omega arith)
+
+  -- ---- to a tenth
+
+  module _ (some : 0 < params.target) (above : params.target ≤ delay) (steep : 2048 ≤ untuned_rise params delay) where
+    rise-some : (low : ℕ) → 0 < least_rise params delay low
+    rise-some low =
+        let one = le-div 1 (untuned_rise params delay) (tuning_divisor low) (divisor-some low)
+        (let top = divisor-falls 0 low (omega arith) in let first = first-divisor in omega (arith, steep, top, first)) in
+        omega (arith, one)
+
+    reaches : (low high prob : ℕ) → low ≤ prob → prob ≤ 10 ^ 12 → high ≤ 10 ^ 12 → high ≤ after (updates_from params delay low high) prob
+    reaches low high prob from within top =
+        let far = (rises some above (updates_from params delay low high) (least_rise params delay low) 0 prob (rise-grows params delay low prob from)
+        within).1 in
+        let steps = enough (high - low) (least_rise params delay low) (rise-some low) in
+        omega (arith, far, steps, from, top)
+
+    -- where so many updates have come so far, so many more come further
+    further : (m low high prob : ℕ) → prob ≤ 10 ^ 12 → high ≤ 10 ^ 12 → low ≤ after m prob
+        → high ≤ after (m + updates_from params delay low high) prob
+    further m low high prob within top there =
+        rw (after_both m (updates_from params delay low high) prob) (reaches low high (after m prob) there (after-within m prob within) top)
+
+    tenth : (prob : ℕ) → prob ≤ 10 ^ 12 → 10 ^ 11 ≤ after (updates_to_a_tenth params delay) prob
+    tenth prob within =
+        further _ (10 ^ 10) (10 ^ 11) prob within (omega arith) (further _ (10 ^ 9) (10 ^ 10) prob within (omega arith)
+        (further _ (10 ^ 8) (10 ^ 9) prob within (omega arith) (further _ (10 ^ 7) (10 ^ 8) prob within (omega arith)
+        (further _ (10 ^ 6) (10 ^ 7) prob within (omega arith) (reaches 0 (10 ^ 6) prob (omega arith) within (omega arith))))))
+
+    pub reaches_a_tenth : (n prob : ℕ) → prob ≤ 10 ^ 12 → updates_to_a_tenth params delay ≤ n → 10 ^ 11 ≤ after n prob
+    reaches_a_tenth n prob within many =
+        let m = updates_to_a_tenth params delay in
+        let split : updates_to_a_tenth params delay + (n - updates_to_a_tenth params delay) ≡ n = omega (arith, many) in
+        let there = tenth prob within in
+        let stays = (rises some above (n - updates_to_a_tenth params delay) 0 0 (after (updates_to_a_tenth params delay) prob) (omega arith)
+        (after-within (updates_to_a_tenth params delay) prob within)).0 in
+        let both = after_both (updates_to_a_tenth params delay) (n - updates_to_a_tenth params delay) prob in
+        subst (λ (k : ℕ). 10 ^ 11 ≤ after k prob) split (rw both (omega (arith, there, stays)))
 
 pub twice_the_target : updates_to_a_tenth default_profile 30_000_000 ≡ 164
 unfolding tuning_divisor

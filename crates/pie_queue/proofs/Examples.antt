@@ -26,20 +26,11 @@ sums : (bytes_of [] ≡ 0) × (bytes_of (waiting 1500 ∷ []) ≡ 1500) × (byte
 sums = (refl, refl, refl)
 
 -- sizes from 1 to 65535 are taken, and no others
-least_size : IsSize 1
-least_size = (omega arith, omega arith)
-
-greatest_size : IsSize 65_535
-greatest_size = (omega arith, omega arith)
+sizes : IsSize 1 × IsSize 65_535 × (IsSize 0 → ⊥) × (IsSize 65_536 → ⊥)
+sizes = ((omega arith, omega arith), (omega arith, omega arith), λ taken. omega (arith, taken.0), λ taken. omega (arith, taken.1))
 
 max_size : MAX_SIZE + 1 ≡ 2 ^ 16
 max_size = refl
-
-no_size_of_0 : IsSize 0 → ⊥
-no_size_of_0 taken = let least = taken.0 in omega arith
-
-no_size_of_65536 : IsSize 65_536 → ⊥
-no_size_of_65536 taken = let most = taken.1 in omega arith
 
 -- a ring holds 2 ^ 20 packets at most
 no_ring_of_1048577 : (queue : Queue) → queue.packets ≡ 1_048_577 → IsQueue queue → ⊥

@@ -13,8 +13,8 @@ use Rattle.pie_record.specs.declared.fault.Flaw.TheVariants as flaw
 use Rattle.pie_record.specs.declared.trace_record.Request.{Request}
 use Rattle.pie_record.specs.declared.trace_record.Request.TheVariants as request
 use Rattle.pie_record.specs.declared.version.Version.TheVariants.{One, Two}
-use Rattle.pie_record.proofs.FieldFacts.{Has, HasAll, and_after, back_ecn, back_u32, back_u64, has-all, number-then, ok-same, one-way, packet-read}
-use Rattle.pie_record.proofs.FieldFacts.{ParamsRead, params-back, params-read, no-flaw, tested, word-has}
+use Rattle.pie_record.proofs.FieldFacts.{Has, HasAll, and_after, back_ecn, back_u32, back_u64, has-all, number-then, ok-same, one-way, packet-read, read-as}
+use Rattle.pie_record.proofs.FieldFacts.{ParamsRead, Says, params-back, params-read, no-flaw, tested, word-has}
 use Rattle.pie_record.proofs.NumberFacts.{number-back}
 
 -- ---- what was asked
@@ -82,12 +82,6 @@ pub record Reads (row : Row) (k : CommandKind) (asks : Asked) : Type 0 where
   pub has : HasAll row 1 (drop 1 (asked_fields asks))
   pub fits : AskedFits asks
 
-abbrev Says : Result Asked Flaw → Asked → Type 0
-Says read asks = read ≡ Ok asks
-
-reads-same : (row : Row) (k : CommandKind) (a b : Asked) → Says (Ok a) b → Reads row k a → Reads row k b
-reads-same row k a b e reads = subst (λ (asks : Asked). Reads row k asks) (ok-same a b e) reads
-
 arrival-read : (row : Row) (caller moment : ℕ) (command : Command) → Has row 1 (decimal caller) → Has row 2 (decimal moment) → caller ≤ most_u16
     → moment < 2 ^ 64 → arrival_at row moment ≡ Ok command → Reads row kind.Arrive (asked.Command caller command)
 unfolding arrival_at command_fields
@@ -95,7 +89,7 @@ arrival-read row caller moment command who when few small e =
     let p = and_after (packet_at row 3) _ command e in
     let w = number-then row 6 most_u64 _ command (omega arith) p.rest in
     let packet = packet-read row 3 p.got p.is in
-    subst (λ (c : Command). Reads row kind.Arrive (asked.Command caller c)) (ok-same (Arrive moment p.got w.got) command w.rest) (record {
+    read-as (λ (c : Command). Reads row kind.Arrive (asked.Command caller c)) (Arrive moment p.got w.got) command w.rest (record {
       kind = refl;
       has = (who, (when, (packet.tag, (packet.size, (packet.ecn, (w.there, tt))))));
       fits = (few, (small, packet.fits, omega (arith, w.within)));
@@ -110,10 +104,10 @@ change-read row caller moment asks who when few small e =
   where
     by : (p : RawParams) → ParamsRead row p → (bad : Option Field) → first_bad p ≡ bad → Says (Ok (change_to caller moment p bad)) asks
         → Reads row kind.Params asks
-    by p read None good e = reads-same row kind.Params (asked.Command caller (SetParams moment p)) asks e
+    by p read None good e = read-as (Reads row kind.Params) (asked.Command caller (SetParams moment p)) asks e
         (record { kind = refl; has = (who, (when, read.has)); fits = (few, (small, fits-of-nine p read.fits good)) })
     by p read (Some field) bad e =
-        reads-same row kind.Params (asked.BadParams (record { caller = caller; moment = moment; params = p })) asks e (record {
+        read-as (Reads row kind.Params) (asked.BadParams (record { caller = caller; moment = moment; params = p })) asks e (record {
           kind = refl;
           has = (who, (when, read.has));
           fits = record { caller = few; moment = small; nine = read.fits; field = field; bad = bad };
@@ -129,13 +123,13 @@ command-read row k asks e =
         → Says (asked_at row k caller moment) asks → Reads row k asks
     by kind.Arrive caller moment who when few small e =
         let c = and_after (arrival_at row moment) (λ (command : Command). let it : Result Asked Flaw = Ok (asked.Command caller command) in it) asks e in
-        reads-same row kind.Arrive (asked.Command caller c.got) asks c.rest (arrival-read row caller moment c.got who when few small c.is)
+        read-as (Reads row kind.Arrive) (asked.Command caller c.got) asks c.rest (arrival-read row caller moment c.got who when few small c.is)
     by kind.Depart caller moment who when few small e =
-        reads-same row kind.Depart (asked.Command caller (Depart moment)) asks e (record { kind = refl; has = (who, (when, tt)); fits = (few, small) })
+        read-as (Reads row kind.Depart) (asked.Command caller (Depart moment)) asks e (record { kind = refl; has = (who, (when, tt)); fits = (few, small) })
     by kind.Update caller moment who when few small e =
-        reads-same row kind.Update (asked.Command caller (Update moment)) asks e (record { kind = refl; has = (who, (when, tt)); fits = (few, small) })
+        read-as (Reads row kind.Update) (asked.Command caller (Update moment)) asks e (record { kind = refl; has = (who, (when, tt)); fits = (few, small) })
     by kind.Reset caller moment who when few small e =
-        reads-same row kind.Reset (asked.Command caller (Reset moment)) asks e (record { kind = refl; has = (who, (when, tt)); fits = (few, small) })
+        read-as (Reads row kind.Reset) (asked.Command caller (Reset moment)) asks e (record { kind = refl; has = (who, (when, tt)); fits = (few, small) })
     by kind.Params caller moment who when few small e = change-read row caller moment asks who when few small e
 
 -- the word of a kind of command
@@ -156,16 +150,16 @@ kind-has row k e =
         → Has row 0 (word_for k)
     this one is e = let one_is : one ≡ k = cc in subst (λ (o : CommandKind). Has row 0 (word_for o)) one_is (word-has row (word_for one) is)
 
--- a record of a command begins with its word, and is as long as its kind says
-asked-shape : (asks : Asked) → (asked_fields asks ≡ word_for (asked_kind asks) ∷ drop 1 (asked_fields asks))
-    × (command_length (asked_kind asks) ≡ length (asked_fields asks))
-unfolding command_fields
-asked-shape (asked.Command caller (Arrive moment packet word)) = (refl, refl)
-asked-shape (asked.Command caller (Depart moment)) = (refl, refl)
-asked-shape (asked.Command caller (Update moment)) = (refl, refl)
-asked-shape (asked.Command caller (Reset moment)) = (refl, refl)
-asked-shape (asked.Command caller (SetParams moment params)) = (refl, refl)
-asked-shape (asked.BadParams change) = (refl, refl)
+-- a record of a command begins with its word, is as long as its kind says, and is of that kind, whatever follows
+pub asked-shape : (asks : Asked) (more : Row) → (asked_fields asks ≡ word_for (asked_kind asks) ∷ drop 1 (asked_fields asks))
+    × (command_length (asked_kind asks) ≡ length (asked_fields asks)) × (command_kind (asked_fields asks ++ more) ≡ Some (asked_kind asks))
+unfolding command_kind field_at command_fields
+asked-shape (asked.Command caller (Arrive moment packet word)) more = (refl, refl, refl)
+asked-shape (asked.Command caller (Depart moment)) more = (refl, refl, refl)
+asked-shape (asked.Command caller (Update moment)) more = (refl, refl, refl)
+asked-shape (asked.Command caller (Reset moment)) more = (refl, refl, refl)
+asked-shape (asked.Command caller (SetParams moment params)) more = (refl, refl, refl)
+asked-shape (asked.BadParams change) more = (refl, refl, refl)
 
 -- the record of a command alone
 pub record WrittenAs (row : Row) (asks : Asked) : Type 0 where
@@ -176,7 +170,7 @@ written-as : (row : Row) (k : CommandKind) (asks : Asked) → command_kind row �
     → WrittenAs row asks
 written-as row k asks known long says =
     let read = command-read row k asks says in
-    let shape = asked-shape asks in
+    let shape = asked-shape asks [] in
     let whole = long ∙ ap command_length read.kind ∙ shape.1 ∙ ap length shape.0 in
     record {
       is = has-all row 0 (word_for k ∷ drop 1 (asked_fields asks)) (omega (arith, whole)) (kind-has row k known, read.has)
@@ -229,8 +223,8 @@ asks : (version : Version) (row : Row) (r : Request) → request_of version row 
 unfolding request_of command_request fold_request
 asks version row r e = by (command_kind row) refl e
   where
-    this : (a : Request) → (let said : Result Request Flaw = Ok a in said) ≡ Ok r → Asks version row a → Asks version row r
-    this a e here = subst (λ (q : Request). Asks version row q) (ok-same a r e) here
+    this : (a : Request) → Says (Ok a) r → Asks version row a → Asks version row r
+    this a e here = read-as (λ (q : Request). Asks version row q) a r e here
 
     said-by : (a : Asked) → WrittenAs row a → Asks version row (request_for a)
     said-by (asked.Command caller command) is = is
@@ -272,15 +266,6 @@ same-before-three row = by (command_kind row)
     by None = refl
 
 -- ---- what is written is read
-
-pub kind-back : (asks : Asked) (more : Row) → command_kind (asked_fields asks ++ more) ≡ Some (asked_kind asks)
-unfolding command_kind field_at command_fields
-kind-back (asked.Command caller (Arrive moment packet word)) more = refl
-kind-back (asked.Command caller (Depart moment)) more = refl
-kind-back (asked.Command caller (Update moment)) more = refl
-kind-back (asked.Command caller (Reset moment)) more = refl
-kind-back (asked.Command caller (SetParams moment params)) more = refl
-kind-back (asked.BadParams change) more = refl
 
 back_u16 : (n : ℕ) → n ≤ most_u16 → number most_u16 (decimal n) ≡ Some n
 back_u16 n fits = number-back most_u16 n fits (omega arith)

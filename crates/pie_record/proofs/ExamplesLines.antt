@@ -2,7 +2,7 @@
 use Rattle.pie_record.proofs.Names.{Option, Some, None, Result, Ok, Err, codes, usual, default_profile, Elements, Half, Stamp, Random, Scaled}
 use Rattle.pie_record.proofs.Names.{Uncapped, RawParams, Ecn, Packet, Answer, Enqueued, Marked, DroppedEarly, DroppedBytes, DroppedPackets, Empty}
 use Rattle.pie_record.proofs.Names.{Left, Updated, Done, Command, Arrive, Depart, Update, Reset, SetParams, Event, Mode, Bounded, Rolling, Opening}
-use Rattle.pie_record.proofs.Names.{Profile, One, Two, TraceFault, Line, Made, Unmakeable, Note, rows_text, records_of, fault_from, history_lines}
+use Rattle.pie_record.proofs.Names.{Profile, One, Two, TraceFault, Line, Unmakeable, Note, rows_text, records_of, fault_from, history_lines}
 use Rattle.pie_record.proofs.Names.{history_opening, later_fault, latest_clock, lines_from, opening_row, written_rows}
 use Rattle.std.specs.Prelude.{◌≡◌, ℕ, List, [], ◌∷◌, ◌++◌, map, refl}
 use Rattle.pie_queue.specs.declared.ecn.Ecn.TheVariants as ecn

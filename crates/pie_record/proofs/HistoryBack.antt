@@ -3,7 +3,7 @@ use Rattle.pie_record.proofs.Names.{◌≡◌, ◌≤◌, ◌<◌, ◌+◌, ◌^
 use Rattle.pie_record.proofs.Names.{None, Ok, All-cons, All-head, All-nil, All-tail, field_at, Command, Arrive, Depart, Update, Reset}
 use Rattle.pie_record.proofs.Names.{SetParams, Event, Mode, Bounded, Rolling, Opening, Profile, One, Two, opening_refusal, FirstKind}
 use Rattle.pie_record.proofs.Names.{Line, Made, Version, opening_of, HasField, rows_text, Row, command_kind, line_of, kind_word, version_of, Coming}
-use Rattle.pie_record.proofs.Names.{after_opening, coming_after, coming_from, fault_from, history_opening, history_version, lines_from, told_by}
+use Rattle.pie_record.proofs.Names.{after_opening, coming_after, coming_from, fault_from, history_opening, history_version, lines_from}
 use Rattle.pie_record.proofs.Names.{ParamsFit, Begins, EventFits, TellEach, TellsHistory, command_fields, earlier_row, event_row, is_earlier}
 use Rattle.pie_record.proofs.Names.{opening_row, version_three_row, written_rows, mode_word, profile_number}
 use Rattle.std.specs.Prelude.{Bool, true, drop, if◌then◌else◌}

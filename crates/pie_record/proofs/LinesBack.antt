@@ -20,8 +20,9 @@ use Rattle.pie_record.specs.declared.version.Version.TheVariants.{One, Two}
 use Rattle.pie_record.specs.declared.words.Said.TheVariants as said
 use Rattle.pie_record.specs.Answer.{answer_fields, flag, folded_row, refused_row, shown_row, tallied_row}
 use Rattle.pie_record.proofs.CommandFacts.{AskedFits, ChangeFits, ClockFits, asked-as-written, asked_fields, asked_kind, clock-as-written, clock-read}
-use Rattle.pie_record.proofs.CommandFacts.{command-back, command-read, kind-back, kind_of}
-use Rattle.pie_record.proofs.FieldFacts.{and_after, back_ecn, back_u32, back_u64, field-read, number-then, ok-same, one-way, no-flaw, packet-read, tested}
+use Rattle.pie_record.proofs.CommandFacts.{command-back, asked-shape, command-read, kind_of}
+use Rattle.pie_record.proofs.FieldFacts.{and_after, back_ecn, back_u32, back_u64, field-read, number-then, one-way, no-flaw, packet-read, tested}
+use Rattle.pie_record.proofs.FieldFacts.{Says, read-as}
 use Rattle.pie_record.proofs.HistoryFacts.{read-all}
 use Rattle.pie_record.proofs.NumberFacts.{number-back}
 use Rattle.pie_record.proofs.Names.{All, and_then, lines_from}
@@ -39,12 +40,6 @@ LineFits (line.Clock clock) = ClockFits clock
 record Answered (command : Command) (answer : Answer) : Type 0 where
   kind : fits command answer ≡ true
   numbers : AnswerFits answer
-
-abbrev Gives : Result Answer Flaw → Answer → Type 0
-Gives read answer = read ≡ Ok answer
-
-answered-same : (command : Command) (a b : Answer) → Gives (Ok a) b → Answered command a → Answered command b
-answered-same command a b e is = subst (λ (x : Answer). Answered command x) (ok-same a b e) is
 
 verdict-read : (moment : ℕ) (packet : Packet) (w : ℕ) (word : List ℕ) (answer : Answer) → verdict_of word ≡ Some answer
     → Answered (Arrive moment packet w) answer
@@ -67,10 +62,10 @@ unfolding departure_at
 departure-read row moment answer e =
     one-way (length row == 4) _ _ _ e (λ short e.
     let a = and_after (word_at row 3 (word_said said.Empty)) _ answer e in
-    answered-same (Depart moment) Empty answer a.rest (record { kind = refl; numbers = tt })) (λ e.
+    read-as (Answered (Depart moment)) Empty answer a.rest (record { kind = refl; numbers = tt })) (λ e.
     let a = and_after (word_at row 3 (word_said said.Left)) _ answer e in
     let p = and_after (packet_at row 4) _ answer a.rest in
-    answered-same (Depart moment) (Left p.got) answer p.rest (record { kind = refl; numbers = (packet-read row 4 p.got p.is).fits }))
+    read-as (Answered (Depart moment)) (Left p.got) answer p.rest (record { kind = refl; numbers = (packet-read row 4 p.got p.is).fits }))
 
 update-read : (row : Row) (moment : ℕ) (answer : Answer) → update_at row ≡ Ok answer → Answered (Update moment) answer
 unfolding update_at
@@ -78,7 +73,7 @@ update-read row moment answer e =
     let a = number-then row 3 most_u64 _ answer (omega arith) e in
     let b = number-then row 4 most_u64 _ answer (omega arith) a.rest in
     let c = number-then row 5 most_u64 _ answer (omega arith) b.rest in
-    answered-same (Update moment) (Updated a.got b.got c.got) answer c.rest (record {
+    read-as (Answered (Update moment)) (Updated a.got b.got c.got) answer c.rest (record {
       kind = refl;
       numbers = (omega (arith, a.within), omega (arith, b.within), omega (arith, c.within));
     })
@@ -91,62 +86,56 @@ answer-read row (Depart moment) answer e = departure-read row moment answer e
 answer-read row (Update moment) answer e = update-read row moment answer e
 answer-read row (Reset moment) answer e =
     let a = and_after (word_at row 3 (word_said said.Done)) _ answer e in
-    answered-same (Reset moment) Done answer a.rest (record { kind = refl; numbers = tt })
+    read-as (Answered (Reset moment)) Done answer a.rest (record { kind = refl; numbers = tt })
 answer-read row (SetParams moment params) answer e =
     let a = and_after (word_at row 12 (word_said said.Done)) _ answer e in
-    answered-same (SetParams moment params) Done answer a.rest (record { kind = refl; numbers = tt })
+    read-as (Answered (SetParams moment params)) Done answer a.rest (record { kind = refl; numbers = tt })
 
-abbrev Tells : Result Line Flaw → Line → Type 0
-Tells read told = read ≡ Ok told
-
-line-same : (a b : Line) → Tells (Ok a) b → LineFits a → LineFits b
-line-same a b e fits = subst LineFits (ok-same a b e) fits
-
-event-fits : (row : Row) (k : CommandKind) (told : Line) → Tells (event_line row k) told → LineFits told
+event-fits : (row : Row) (k : CommandKind) (told : Line) → Says (event_line row k) told → LineFits told
 unfolding event_line
 event-fits row k told e =
     let a = and_after (command_at row k) _ told (tested (has_length k (length row)) _ _ told e).1 in
     let b = and_after (answer_at row k) (λ (answer : Answer). let it : Result Line Flaw = Ok (line_for a.got answer) in it) told a.rest in
     let read = command-read row k a.got a.is in
-    line-same (line_for a.got b.got) told b.rest (by a.got b.got read.fits
-    (subst (λ (kind : CommandKind). Gives (answer_at row kind) b.got) read.kind b.is))
+    read-as LineFits (line_for a.got b.got) told b.rest (by a.got b.got read.fits
+    (subst (λ (kind : CommandKind). Says (answer_at row kind) b.got) read.kind b.is))
   where
-    by : (asks : Asked) (answer : Answer) → AskedFits asks → Gives (answer_at row (asked_kind asks)) answer → LineFits (line_for asks answer)
+    by : (asks : Asked) (answer : Answer) → AskedFits asks → Says (answer_at row (asked_kind asks)) answer → LineFits (line_for asks answer)
     by (asked.Command caller command) answer fits e =
         let said = answer-read row command answer e in
         record { kind = said.kind; caller = fits.0; command = fits.1; answer = said.numbers }
     by (asked.BadParams change) answer fits e = fits
 
-note-fits : (row : Row) (numbers most : ℕ) (told : Line) → Tells (note_line row numbers most) told → LineFits told
+note-fits : (row : Row) (numbers most : ℕ) (told : Line) → Says (note_line row numbers most) told → LineFits told
 unfolding note_line
 note-fits row numbers most told e =
     let a = and_after (numbers_at row 1 numbers) _ told (tested (length row == numbers + 2) _ _ told e).1 in
-    let b = and_after (number_at row (numbers + 1) most) _ told a.rest in line-same line.Note told b.rest tt
+    let b = and_after (number_at row (numbers + 1) most) _ told a.rest in read-as LineFits line.Note told b.rest tt
 
-active-fits : (row : Row) (told : Line) → Tells (active_line row) told → LineFits told
+active-fits : (row : Row) (told : Line) → Says (active_line row) told → LineFits told
 active-fits row told e =
     let a = and_after (registers_at row) _ told (tested (length row == 13) _ _ told e).1 in
     let b = and_after (number_at row 11 1) _ told a.rest in
-    let c = and_after (number_at row 12 1) _ told b.rest in line-same line.Note told c.rest tt
+    let c = and_after (number_at row 12 1) _ told b.rest in read-as LineFits line.Note told c.rest tt
 
-shown-fits : (version : Version) (row : Row) (told : Line) → Tells (shown_line version row) told → LineFits told
+shown-fits : (version : Version) (row : Row) (told : Line) → Says (shown_line version row) told → LineFits told
 unfolding shown_line
 shown-fits One row told e =
     let a = and_after (registers_at row) _ told (tested (length row == 12) _ _ told e).1 in
-    let b = and_after (number_at row 11 1) _ told a.rest in line-same line.Note told b.rest tt
+    let b = and_after (number_at row 11 1) _ told a.rest in read-as LineFits line.Note told b.rest tt
 shown-fits Two row told e = active-fits row told e
 shown-fits Three row told e = active-fits row told e
 
-clock-fits : (version : Version) (row : Row) (told : Line) → Tells (and_then (clock_in version row) (λ clock. Ok (line.Clock clock))) told → LineFits told
+clock-fits : (version : Version) (row : Row) (told : Line) → Says (and_then (clock_in version row) (λ clock. Ok (line.Clock clock))) told → LineFits told
 clock-fits version row told e =
     let a = and_after (clock_in version row) (λ (clock : Clock). let it : Result Line Flaw = Ok (line.Clock clock) in it) told e in
-    line-same (line.Clock a.got) told a.rest (clock-read version row a.got a.is).fits
+    read-as LineFits (line.Clock a.got) told a.rest (clock-read version row a.got a.is).fits
 
 line-holds : (version : Version) (row : Row) (told : Line) → line_of version row ≡ Ok told → LineFits told
 unfolding line_of
 line-holds version row told e = by (command_kind row) e
   where
-    by : (o : Option CommandKind) → Tells (line_by o version row) told → LineFits told
+    by : (o : Option CommandKind) → Says (line_by o version row) told → LineFits told
     by (Some k) e = event-fits row k told e
     by None e =
         one-way (is_kind row (codes "refused")) _ _ _ e (λ is e. note-fits row 1 most_u64 told e) (λ e.
@@ -197,7 +186,7 @@ line-back : (version : Version) (asks : Asked) (answer : Answer) → AskedFits a
 unfolding line_of event_line
 line-back version asks answer fits can numbers =
     let back = answer-back asks answer can numbers in
-    rw (kind-back asks (answer_fields answer), back.long, command-back asks (answer_fields answer) fits, back.reads) refl
+    rw ((asked-shape asks (answer_fields answer)).2, back.long, command-back asks (answer_fields answer) fits, back.reads) refl
 
 -- the record of a trace that asks a command, with an answer that the command can have
 pub answered-back : (version : Version) (row : Row) (caller : ℕ) (command : Command) (answer : Answer)

@@ -1,6 +1,6 @@
 -- The record of an opening is read back as that opening.
-use Rattle.pie_record.proofs.Names.{◌≡◌, ◌≤◌, ◌<◌, ◌+◌, ◌^◌, ◌==◌, ◌&&◌, ℕ, List, [], ◌∷◌, ◌++◌, map, Bool, true, false, decimal, refl, sym, ap, ◌∙◌}
-use Rattle.pie_record.proofs.Names.{arith, if◌then◌else◌, Some, None, Result, Ok, and_parts, eqb-true, field_at, accumulates, is_capped, usual}
+use Rattle.pie_record.proofs.Names.{◌≡◌, ◌≤◌, ◌<◌, ◌+◌, ◌^◌, ◌&&◌, ℕ, List, [], ◌∷◌, ◌++◌, map, Bool, true, false, decimal, refl, sym, ap, ◌∙◌}
+use Rattle.pie_record.proofs.Names.{arith, if◌then◌else◌, Some, None, Result, Ok, and_parts, field_at, accumulates, is_capped, usual}
 use Rattle.pie_record.proofs.Names.{default_profile, Elements, Half, Zero, Rate, Stamp, Derandomized, Random, Scaled, Unscaled, Capped, Uncapped}
 use Rattle.pie_record.proofs.Names.{RawParams, first_bad, Mode, Bounded, Rolling, Opening, Profile, One, Two, are_of_version_two, last_moment}
 use Rattle.pie_record.proofs.Names.{opening_refusal, ParamsFit, Flaw, TraceFault, Draft, FirstKind, chosen_at, decay_at, draft_at, elements_at}
@@ -125,7 +125,7 @@ usual-elements e = by e.delay e.picking e.step e.size e.decay
 -- ---- .. and of version three: each of its words is read back
 
 profile-back : (profile : Profile) → profile_of (profile_number profile) ≡ Some profile
-unfolding profile_of
+unfolding profile_of which_of
 profile-back One = refl
 profile-back Two = refl
 

@@ -3,7 +3,7 @@ use Rattle.pie_record.proofs.Names.{◌≡◌, ℕ, List, [], ◌∷◌, ◌++�
 use Rattle.pie_record.proofs.Names.{next_record, default_config, strip_bom, FirstKind, kind_word, HasField, rows_text, Row, records_left, records_of}
 use Rattle.pie_record.proofs.Names.{text_of}
 use Rattle.std.proofs.lemmas.List.Concat.{flat_map-cons}
-use Rattle.csv.specs.Writing.{default_writer, escaped, field_text, fields_text, is_blank, read_back, row_text}
+use Rattle.csv.specs.Writing.{default_writer, escaped, fields_text, is_blank, read_back, row_text}
 use Rattle.csv.specs.declared.parser.State.TheVariants as st
 use Rattle.csv.proofs.RoundTrip.{read-write}
 use Rattle.pie_record.specs.declared.first_record.FirstKind.TheVariants as kinds

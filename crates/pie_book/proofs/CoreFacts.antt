@@ -143,21 +143,6 @@ Shows-opened opening core packets events held count waiting stats = record {
   stats = stats;
 }
 
--- .. shows it in each mode, since no rule asks for that
-pub Shows-in-mode : (opening : Opening) (mode : Mode) (core : CoreView) → Shows opening core []
-    → Shows (opening_of opening.limits opening.params opening.moment mode opening.choices.profile opening.choices.elements) core []
-unfolding places admitted departed_count effective_moment greatest waiting_after shown stats_after largest_queue largest_delay waited
-Shows-in-mode opening mode core s = record {
-  legal = All-nil (IsLegalAt (opening_of opening.limits opening.params opening.moment mode opening.choices.profile opening.choices.elements));
-  packets = s.packets;
-  events = s.events;
-  count = s.count;
-  moment = s.moment;
-  waiting = s.waiting;
-  controller = s.controller;
-  stats = s.stats;
-}
-
 -- ---- one event more
 
 -- the bytes that wait after an arrival

@@ -1,5 +1,5 @@
 -- What decides an arrival, on worked histories and at single numbers: each theorem computes, and each cause is met.
-use Rattle.std.proofs.Common.{refl, ℕ, ◌≡◌, List, [], ◌∷◌, ◌++◌, map, Some, None}
+use Rattle.std.proofs.Common.{refl, ℕ, ◌≡◌, List, [], ◌∷◌, map, Some, None}
 use Rattle.pie_params.specs.Profile.{default_profile}
 use Rattle.pie_queue.specs.declared.ecn.Ecn.{Ecn}
 use Rattle.pie_queue.specs.declared.ecn.Ecn.TheVariants.{NotEct, Ect0, Ce}

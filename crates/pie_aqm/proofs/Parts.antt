@@ -19,8 +19,7 @@ use Rattle.pie_event.specs.declared.verdict.Verdict.TheVariants.{DroppedBytes, D
 shown-chosen : (choice : Choice) (considered : Bool) (prob : ℕ) (picking : Picking)
     → verdict_shown (chosen choice) considered prob picking ≡ arrival considered prob picking choice
 shown-chosen Enqueue considered prob picking = refl
-shown-chosen Mark considered prob picking = refl
-shown-chosen Drop considered prob picking = refl
+shown-chosen _ considered prob picking = refl
 
 -- after an arrival and its verdict
 pub early-step : (h : Held) (a : Arrival) (events : List EarlyEvent) → Early.Shows events h.accu

@@ -20,19 +20,11 @@ use Rattle.pie_aqm.proofs.InRange.{in-range, threshold-holds}
 
 -- ---- the accumulated probability
 
-accu-by : (over full active : Bool) (held next : ℕ) → held < 8_500_000_000_000 → next < 8_500_000_000_000
-    → (if over then 0 else if full then 0 else if active then next else held) < 8_500_000_000_000
-accu-by true full active held next h n = omega arith
-accu-by false true active held next h n = omega arith
-accu-by false false true held next h n = n
-accu-by false false false held next h n = h
-
 pub accu-small : (h : Held) (a : Arrival) → h.accu < 8_500_000_000_000 → accu_left h a < 8_500_000_000_000
 unfolding accu_left
 accu-small h a small =
-    accu-by (nat_lt h.params.limit_bytes (a.queued + a.size)) a.is_full h.active h.accu
-    (accu_after h.elements h.params h.control (offered a) h.accu)
-    small (accu_below h.elements.picking h.params h.control (counted h.elements h.params h.control (offered a)) a.queued a.word h.accu small)
+    grind (arith, nat_tests,
+    accu_below h.elements.picking h.params h.control (counted h.elements h.params h.control (offered a)) a.queued a.word h.accu small)
 
 -- ---- the departure rate
 
@@ -42,8 +34,7 @@ weighted t sample average small s a = grind arith
 
 sampled : (b : Bool) (t sample average : ℕ) → t ≤ 65536 → sample < 2 ^ 60 → average < 2 ^ 60
     → (if b then sample else averaged t average sample) < 2 ^ 60
-sampled true t sample average small s a = s
-sampled false t sample average small s a = let w = weighted t sample average small (omega (arith, s)) (omega (arith, a)) in omega (arith, w)
+sampled b t sample average small s a = let w = weighted t sample average small (omega (arith, s)) (omega (arith, a)) in grind (arith, nat_tests)
 
 later-within : (threshold m n : ℕ) (o : Option Begun) → m ≤ n → IsWithin threshold m o → IsWithin threshold n o
 later-within threshold m n None le w = w
@@ -96,15 +87,10 @@ delay-by-hold Rate waited estimate w e = e
 delay-by-hold Stamp waited estimate w e = w
 
 wait-hold : (left since now : ℕ) → wait_of left since now ≤ 2 ^ 40
-wait-hold left since now = by (left == 0)
-  where
-    by : (b : Bool) → (if b then 0 else min (2 ^ 40) (now - since)) ≤ 2 ^ 40
-    by true = omega arith
-    by false = omega arith
+wait-hold left since now = grind (arith, nat_tests)
 
 pub either : (b : Bool) (x y z : ℕ) → x ≤ z → y ≤ z → (if b then x else y) ≤ z
-either true x y z p q = p
-either false x y z p q = q
+either b x y z p q = grind (arith, nat_tests)
 
 pub record PartsHold (now : ℕ) (parts : Parts) : Type 0 where
   pub prob : parts.prob ≤ 10 ^ 12

@@ -5,7 +5,7 @@ use Rattle.std.proofs.Common.{max, None, Some, All, if◌then◌else◌, is_some
 use Rattle.std.proofs.lemmas.List.{map-append}
 use Rattle.std.proofs.lemmas.List.Elements.{All-cons, All-head, All-nil, All-push, All-tail}
 use Rattle.std.proofs.lemmas.List.Sums.{sum_by-append}
-use Rattle.pie_book.specs.{Packet, Waiting, One, Verdict, Held, Command, Arrive, Depart, Answer, Enqueued, Event, Mode, Opening, opened_by}
+use Rattle.pie_book.specs.{Packet, Waiting, One, Verdict, Held, Command, Arrive, Depart, Answer, Enqueued, Event, Opening, opened_by}
 use Rattle.pie_book.specs.{arrival_of, departure_call, cause_after, CoreView, Shows, closed, counted, refusal_of, registers_of, with_queue, IsLegal}
 use Rattle.pie_book.specs.{IsLegalAt, answer_by, answer_to_departure, decision, refusal_by_rule, refusal_with, active_after, delay_after}
 use Rattle.pie_book.specs.{delay_answered, held_after, admitted, bytes_after, departed_count, effective_moment, waiting_after, registers_after}
@@ -23,7 +23,6 @@ use Rattle.pie_aqm.specs.Steps.{anew, bytes_with, judged, now_at}
 use Rattle.pie_aqm.proofs.Laws.{Shows_call, Shows_opened, held_is}
 use Rattle.pie_aqm.proofs.Looks.{one_is_active}
 use Rattle.pie_aqm.proofs.Places.{place_of, places-push}
-use Rattle.pie_event.specs.Opening.{opening_of}
 use Rattle.pie_event.specs.Verdict.{answer_of}
 use Rattle.pie_event.specs.Deed.{Deed, arrival_deed, deed, departure, departure_deed, fits, handed_in, with_ce}
 use Rattle.pie_book.proofs.HistoryFacts.{departed-push, effective_moment-push, waiting_after-push}
@@ -141,21 +140,6 @@ Shows-opened opening core packets events held count waiting stats = record {
   waiting = waiting;
   controller = rw held (Shows_opened opening.choices.profile opening.choices.elements opening.params opening.moment);
   stats = stats;
-}
-
--- .. shows it in each mode, since no rule asks for that
-pub Shows-in-mode : (opening : Opening) (mode : Mode) (core : CoreView) → Shows opening core []
-    → Shows (opening_of opening.limits opening.params opening.moment mode opening.choices.profile opening.choices.elements) core []
-unfolding places admitted departed_count effective_moment greatest waiting_after shown stats_after largest_queue largest_delay waited
-Shows-in-mode opening mode core s = record {
-  legal = All-nil (IsLegalAt (opening_of opening.limits opening.params opening.moment mode opening.choices.profile opening.choices.elements));
-  packets = s.packets;
-  events = s.events;
-  count = s.count;
-  moment = s.moment;
-  waiting = s.waiting;
-  controller = s.controller;
-  stats = s.stats;
 }
 
 -- ---- one event more

@@ -15,7 +15,7 @@ use Rattle.pie_early.specs.Events.{EarlyEvent}
 use Rattle.pie_event.specs.declared.opening.Limits.{Limits}
 use Rattle.pie_event.specs.declared.refusal.OpenRefusal.TheVariants as open_refusal
 use Rattle.pie_event.specs.Opening.{are_in_range, are_of_version_two, opening_refusal}
-use Rattle.pie_event.specs.Deed.{Deed, deed, fits, handed_in, admission, departure, queued, marked, dropped_early, dropped_bytes}
+use Rattle.pie_event.specs.Deed.{Deed, deed, fits, admission, queued, marked, dropped_early, dropped_bytes}
 use Rattle.pie_event.specs.Deed.{dropped_packets, departed, found_none, updated, was_reset, set, nothing}
 use Rattle.pie_aqm.specs.History.{active_of, arrivals_shown, control_of, delay_noted, departures_of, departures_shown, early_of, held_of}
 use Rattle.pie_aqm.specs.History.{waited_noted, waited_of}

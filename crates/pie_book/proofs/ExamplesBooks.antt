@@ -1,23 +1,18 @@
 -- The definitions on worked histories: each theorem computes. Which histories are legal, which core shows a history, and which book
 -- tells it.
-use Rattle.std.proofs.Common.{ap, refl, ℕ, ◌≡◌, List, [], ◌∷◌, ◌++◌, take, Some, None, true, map, drop, All}
+use Rattle.std.proofs.Common.{ap, refl, ◌≡◌, List, [], ◌∷◌, take, Some, None, true, map, drop, All}
 use Rattle.std.proofs.lemmas.List.Elements.{All-cons, All-head, All-nil, All-take}
 use Rattle.pie_queue.specs.declared.ecn.Ecn.TheVariants.{Ce}
 use Rattle.pie_params.specs.Elements.{usual}
-use Rattle.pie_book.specs.{One, Arrive, Depart, Update, Enqueued, Marked, Empty, Left, Updated, Event, Bounded, Rolling, Opening, Stats}
-use Rattle.pie_book.specs.{registers_after, no_stats, IsLegal, IsLegalAt, decision, refusal_by_rule, CoreView, Shows, registers_of, refusal_of}
-use Rattle.pie_book.specs.{counted, BookView, Tells, last_events, without_last, tail_with}
-use Rattle.pie_event.specs.declared.refusal.Refusal.TheVariants.{Size, TooSoon}
-use Rattle.pie_event.specs.Deed.{Deed, queued, marked, dropped_early, dropped_bytes, dropped_packets, departed, found_none, updated}
-use Rattle.pie_event.specs.Deed.{was_reset, set, nothing}
+use Rattle.pie_book.specs.{One, Arrive, Depart, Enqueued, Marked, Empty, Left, Event, Bounded, Rolling, Opening}
+use Rattle.pie_book.specs.{IsLegal, IsLegalAt, decision, refusal_by_rule, CoreView, Shows}
+use Rattle.pie_book.specs.{last_events, without_last, tail_with}
 use Rattle.pie_aqm.specs.Places.{Place, places}
 use Rattle.pie_aqm.specs.History as Controller
-use Rattle.pie_aqm.specs.Steps.{no_estimate}
 use Rattle.pie_book.proofs.Examples.{limits, opened, opened_with, packet, waits, event, place, three, arrival, departure_of_it, late_departure}
 use Rattle.pie_book.proofs.Examples.{worked}
-use Rattle.pie_book.proofs.ExamplesMarks.{no_burst, some_burst, opening, change, restart, twelve}
+use Rattle.pie_book.proofs.ExamplesMarks.{no_burst, opening, twelve}
 use Rattle.pie_book.proofs.ExamplesMarks.{fourteen, parts, tallied}
-use Rattle.pie_book.proofs.LegalFacts.{first_core, first-shows}
 
 -- at each place the command is taken and has its answer
 all-legal : (o : Opening) (ps : List (Place Event)) → map (λ (p : Place Event). refusal_by_rule o p.before p.event.command) ps

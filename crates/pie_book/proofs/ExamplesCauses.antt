@@ -1,5 +1,5 @@
 -- What decides an arrival, on worked histories and at single numbers: each theorem computes, and each cause is met.
-use Rattle.std.proofs.Common.{refl, ℕ, ◌≡◌, List, [], ◌∷◌, ◌++◌, map, Some, None}
+use Rattle.std.proofs.Common.{refl, ℕ, ◌≡◌, List, [], ◌∷◌, map, Some, None}
 use Rattle.pie_params.specs.Profile.{default_profile}
 use Rattle.pie_queue.specs.declared.ecn.Ecn.{Ecn}
 use Rattle.pie_queue.specs.declared.ecn.Ecn.TheVariants.{NotEct, Ect0, Ce}
@@ -43,12 +43,6 @@ the_least_word : (at 100000000000 800000000000 NotEct 0 ≡ PickedByWord 8000000
     × (at 99999999999 8400000000001 Ce 7 ≡ PickedBySum 8400000000001 99999999999 (Marked 100000000000))
 unfolding early_cause considered_cause
 the_least_word = (refl, refl, refl, refl, refl)
-
--- the greatest word that picks at a probability of 0.1, and the least that does not
-the_words : (at 100000000000 800000000000 NotEct 1844674407370955161 ≡ PickedByWord 800000000000 100000000000 1844674407370955161 NotCapable)
-    × (at 100000000000 800000000000 NotEct 1844674407370955162 ≡ WordNotBelow 800000000000 100000000000 1844674407370955162)
-unfolding early_cause considered_cause
-the_words = (refl, refl)
 
 -- two packets of the mean size are a short queue, one byte more is not
 short_queues : map (λ bytes. early_cause usual default_profile (parts 100000000000 15000000 0 0) (meets bytes NotEct 0) 0) (2048 ∷ 2049 ∷ [])

@@ -1,5 +1,5 @@
 -- The definitions on worked histories: each theorem computes. Refusals, and runs of steps with folds.
-use Rattle.std.proofs.Common.{Bool, refl, ℕ, ◌≡◌, List, [], ◌∷◌, ◌++◌, Some, None, Ok, Err, true, false, map}
+use Rattle.std.proofs.Common.{Bool, refl, ℕ, ◌≡◌, List, [], ◌∷◌, Some, None, Ok, Err, true, false, map}
 use Rattle.pie_params.specs.Profile.{default_profile}
 use Rattle.pie_params.specs.Elements.{usual}
 use Rattle.pie_book.specs.{One, Held, Command, Arrive, Depart, Update, Reset, SetParams, Answer, Enqueued, DroppedBytes, DroppedPackets, Empty, Done}

@@ -1,5 +1,5 @@
 -- What one more event at the end of a history does to the moment and the packets that wait.
-use Rattle.std.proofs.Common.{◌≡◌, ◌≤◌, ◌<◌, ◌+◌, ℕ, List, [], ◌∷◌, ◌++◌, map, length, drop, Bool, true, false, cond, refl, sym, ap, ◌∙◌, arith}
+use Rattle.std.proofs.Common.{◌≡◌, ◌≤◌, ◌<◌, ◌+◌, ◌-◌, ℕ, List, [], ◌∷◌, ◌++◌, map, length, drop, Bool, true, false, cond, refl, sym, ap, ◌∙◌, arith}
 use Rattle.std.proofs.Common.{length-append, max, Option, Some, None, is_some, filter_map, drop-drop, length-drop}
 use Rattle.std.proofs.lemmas.List.{map-append, drop-append-le}
 use Rattle.std.proofs.lemmas.List.Sums.{sum_by_push}
@@ -58,18 +58,13 @@ pub departed-push : (opening : Opening) (history : List Event) (event : Event) �
 unfolding waiting_after
 departed-push opening history event fewer waits =
     rw (admitted-push opening history event, departed_count-push history event)
-    (by (is_some (departure (deed_of event))) waits
+    (by (is_some (departure (deed_of event))) (departed_count history) (length (admitted opening history)) _ (λ some. rw length-drop at waits some) fewer
     (longer (admission (max (effective_moment opening history) (handed_in event.command)) (deed_of event))))
   where
     longer : (one : Option Waiting) → length (admitted opening history) ≤ length (with_one (admitted opening history) one)
     longer None = omega arith
     longer (Some entry) = let more = length-append (admitted opening history) (entry ∷ []) in omega (arith, more)
 
-    by : (b : Bool) → (b ≡ true → 0 < length (drop (departed_count history) (admitted opening history)))
-        → length (admitted opening history) ≤ length (with_one (admitted opening history)
-        (admission (max (effective_moment opening history) (handed_in event.command)) (deed_of event)))
-        → departed_count history + cond b 1 0
-        ≤ length (with_one (admitted opening history) (admission (max (effective_moment opening history) (handed_in event.command))
-        (deed_of event)))
-    by true some more = let least = some refl in let fewer = length-drop (departed_count history) (admitted opening history) in omega (arith, more)
-    by false some more = omega (arith, more)
+    by : (b : Bool) (n a more : ℕ) → (b ≡ true → 0 < a - n) → n ≤ a → a ≤ more → n + cond b 1 0 ≤ more
+    by true n a more some within up = let least = some refl in omega arith
+    by false n a more some within up = omega arith

@@ -62,12 +62,7 @@ sum-more before next after =
     omega (arith, sum, first)
 
 size-good : (size : ℕ) → IsSize size → is_bad_size size ≡ false
-size-good size is =
-    let some = is.0 in
-    let few = is.1 in
-    let none : (size == 0) ≡ false = grind (arith, nat_tests) in
-    let small : nat_lt 65535 size ≡ false = grind (arith, nat_tests) in
-    rw (none, small) refl
+size-good size is = grind (arith, nat_tests)
 
 pub next_is_taken : (opening : Opening) (standing : Standing) (history : List Event) (before : List Waiting) (next : Waiting) (after : List Waiting)
     → first_bad opening.params ≡ None → All (λ event. CommandFits event.command) history → StandsFor opening standing history

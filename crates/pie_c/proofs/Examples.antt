@@ -42,10 +42,6 @@ defaults = record {
 abbrev start : PieState
 start = state_of (opened One usual (raw_of defaults) 0)
 
--- with a probability of a tenth, an old delay at the target, no burst allowance, and this accumulated
-abbrev busy : ℕ → Held
-busy accu = record (opened One usual (raw_of defaults) 0) { control = record { prob = 10 ^ 11; old_delay = 15_000_000; burst = 0; last = 0 }; accu = accu }
-
 sound-states : (is_sound start ≡ true) × (is_sound (record start { last = 1 }) ≡ false) × (is_sound (record start { measuring = 2 }) ≡ false)
     × (is_sound (record start { measuring = 1; cycle_count = 16383 }) ≡ true)
     × (is_sound (record start { measuring = 1; cycle_count = 16384 }) ≡ false)
@@ -104,25 +100,6 @@ too_soon : (update_refusal start 0 14_999_999 ≡ 103) × (update_refusal start 
     × (update_refusal (record start { moment = 15_000_000 }) 0 3 ≡ 0)
 unfolding state_of held_in update_refusal is_sound are_in_range is_control_sound is_rate_sound is_activity_sound is_choice_sound choices_of elements_of
 too_soon = (refl, refl, refl)
-
-abbrev said : ℕ → ℕ → ℕ → ℕ → ℕ → ℕ
-said accu queued size room word = verdict_number (verdict (busy accu) (arrival_of queued size room 2 word))
-
--- bytes are looked at first, then the ring
-tail_drops : (said 0 262_140 5 0 0 ≡ 3) × (said 0 262_140 4 0 0 ≡ 4) × (said 0 262_140 4 1 0 ≡ 0)
-unfolding verdict is_considered is_picked
-tail_drops = (refl, refl, refl)
-
--- the ninth considered arrival by the least and by the greatest word, and the 85th
-early_drops : (said 800_000_000_000 3000 1500 1 0 ≡ 2) × (said 800_000_000_000 3000 1500 1 (2 ^ 64 - 1) ≡ 0)
-    × (said 8_400_000_000_000 3000 1500 1 (2 ^ 64 - 1) ≡ 2)
-unfolding verdict is_considered is_picked
-early_drops = (refl, refl, refl)
-
-accumulates : ((arrived (busy 5) (arrival_of 3000 1500 1 2 0) 7).accu ≡ 100_000_000_005)
-    × ((arrived (busy 5) (arrival_of 2048 1500 1 2 0) 7).accu ≡ 5) × ((arrived (busy 5) (arrival_of 3000 1500 0 2 0) 7).accu ≡ 0)
-unfolding verdict accu_left is_considered is_picked
-accumulates = (refl, refl, refl)
 
 -- three departures: a cycle opens, closes and opens, and closes
 abbrev after_two : Held

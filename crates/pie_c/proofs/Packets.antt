@@ -41,43 +41,15 @@ use Rattle.pie_c.proofs.Sound.{state-sound}
 
 -- ---- a call that nothing refuses
 
-pub arrival-taken : (queued size bits moment : ℕ) → moment ≤ last_moment → is_bad_size size ≡ false → bits ≤ 3 → queued ≤ 2 ^ 30
-    → arrival_refusal queued size bits moment ≡ 0
-unfolding arrival_refusal
-arrival-taken queued size bits moment m s b q =
-    let early : nat_lt last_moment moment ≡ false = grind (arith, nat_tests) in
-    let known : nat_lt 3 bits ≡ false = grind (arith, nat_tests) in
-    let few : nat_lt (2 ^ 30) queued ≡ false = grind (arith, nat_tests) in
-    rw (early, s, known, few) refl
-
-pub departure-taken : (size left moment : ℕ) → moment ≤ last_moment → is_bad_size size ≡ false → left ≤ 2 ^ 30
-    → packet_refusal size left moment ≡ 0
+pub departure-taken : (s : PieState) (size left moment : ℕ) → moment ≤ last_moment → is_bad_size size ≡ false → left ≤ 2 ^ 30
+    → takes_stamps s ≡ false → departure_refusal s size left moment ≡ 0
 unfolding packet_refusal
-departure-taken size left moment m s q =
+departure-taken s size left moment m good q rate =
     let early : nat_lt last_moment moment ≡ false = grind (arith, nat_tests) in
     let few : nat_lt (2 ^ 30) left ≡ false = grind (arith, nat_tests) in
-    rw (early, s, few) refl
+    rw (early, good, few, rate) refl
 
-pub taken-by-rate : (s : PieState) (size left moment : ℕ) → packet_refusal size left moment ≡ 0 → takes_stamps s ≡ false
-    → departure_refusal s size left moment ≡ 0
-taken-by-rate s size left moment own rate = rw (own, rate) refl
-
-pub moment-taken : (moment : ℕ) → moment ≤ last_moment → moment_refusal moment ≡ 0
-unfolding moment_refusal
-moment-taken moment m = let early : nat_lt last_moment moment ≡ false = grind (arith, nat_tests) in rw early refl
-
-pub reset-taken : (s : PieState) (moment : ℕ) → is_sound s ≡ true → moment ≤ last_moment → reset_refusal s moment ≡ 0
-unfolding reset_refusal
-reset-taken s moment sound m = let early : nat_lt last_moment moment ≡ false = grind (arith, nat_tests) in rw (sound, early) refl
-
-pub params-taken : (s : PieState) (p : PieParams) (moment : ℕ) → is_sound s ≡ true → are_in_range p ≡ true → moment ≤ last_moment
-    → params_refusal s p moment ≡ 0
-unfolding params_refusal
-params-taken s p moment sound good m =
-    let early : nat_lt last_moment moment ≡ false = grind (arith, nat_tests) in
-    rw (sound, good, early) refl
-
--- .. and of an opening what that says
+-- what an opening says that nothing refuses
 pub record Opens (o : PieOpening) : Type 0 where
   pub params : are_in_range o.params ≡ true
   pub moment : o.moment < 2 ^ 60
@@ -175,17 +147,17 @@ makes keeps looks s t call refusal sound left taken = record {
   shows = shows-call s t call refusal keeps looks sound left;
 }
 
--- .. and where it is refused
-pub unmade : (s : PieState) (call : Call) (refusal : ℕ) → (refusal == 0) ≡ false → Makes s call refusal s
-unmade s call refusal some = record {
+-- .. and where it is refused by this number
+pub unmade : (s : PieState) (call : Call) (refusal code : ℕ) → code ≡ refusal → (code == 0) ≡ false → Makes s call refusal s
+unmade s call refusal code is some = rw (← is) record {
   after = rw some refl;
   sound = λ sound. sound;
-  shows = λ o events free. let none : (refusal == 0) ≡ true = rw free refl in cc;
+  shows = λ o events free. let none : (code == 0) ≡ true = rw free refl in cc;
 }
 
 -- a refused arrival leaves all as it was
-pub untouched : (s : PieState) (a : Arrival) (refusal moment code : ℕ) → refusal ≡ code → (code == 0) ≡ false → Arrives s a refusal moment code s
-untouched s a refusal moment code is some = rw is record {
+pub untouched : (s : PieState) (a : Arrival) (refusal moment code : ℕ) → code ≡ refusal → (code == 0) ≡ false → Arrives s a refusal moment code s
+untouched s a refusal moment code is some = rw (← is) record {
   answer = rw some refl;
   fields = rw some refl;
   held = record {

@@ -88,17 +88,11 @@ unmoved before after refusal held is = λ i. record {
 -- the place of a verdict's count is its number
 pub verdict-place : (verdict : Verdict) → verdict_number verdict ≡ answer_place (answer_of verdict)
 verdict-place Enqueued = refl
-verdict-place Marked = refl
-verdict-place DroppedEarly = refl
-verdict-place DroppedBytes = refl
-verdict-place DroppedPackets = refl
+verdict-place _ = refl
 
 pub verdict-few : (verdict : Verdict) → verdict_number verdict ≤ 4
 verdict-few Enqueued = omega arith
-verdict-few Marked = omega arith
-verdict-few DroppedEarly = omega arith
-verdict-few DroppedBytes = omega arith
-verdict-few DroppedPackets = omega arith
+verdict-few _ = omega arith
 
 -- what a call adds, by whether it was taken
 pub adds-by : (refusal : ℕ) (before after : LivePeriod) (told : Explained → Type 0) (taken : Bool) (noted : Noted) → IsSet before after
@@ -132,10 +126,8 @@ arrival-code queued size ecn moment refused =
     tests : (a b c d : Bool) → (refusal_by a b c d ≡ 0 → ⊥)
         → 100 < refusal_by a b c d
     tests true b c d r = omega arith
-    tests false true c d r = omega arith
-    tests false false true d r = omega arith
-    tests false false false true r = omega arith
     tests false false false false r = absurd (r refl)
+    tests _ _ _ _ r = omega arith
 
 -- a number that can't be other than 0
 zero-or : (n : ℕ) → ((n ≡ 0 → ⊥) → ⊥) → n ≡ 0

@@ -16,7 +16,7 @@ use Rattle.pie_excerpt.specs.Rows.{queued_row}
 use Rattle.pie_excerpt.specs.Written.{part_rows}
 use Rattle.pie_abi.specs.declared.event.PieEvent.{PieEvent}
 use Rattle.pie_abi.specs.declared.opening.PieOpening.{PieOpening}
-use Rattle.pie_c.specs.declared.resuming.PieStats.{PieStats}
+use Rattle.pie_abi.specs.declared.stats.PieStats.{PieStats}
 use Rattle.pie_c.specs.declared.state.PieState.{PieState}
 use Rattle.pie_abi.specs.Packets.{is_bad_size}
 use Rattle.pie_c.specs.Events.{Kept, change_of, event_by, event_of, event_text, is_event, lost_in, opening_text, stands_for, text_in, written_text}
@@ -60,9 +60,7 @@ packet-written : (tag size since : ℕ) (ecn : Ecn) → is_bad_size size ≡ fal
     → queued_text tag size (ecn_number ecn) since
     ≡ text_of (queued_row (record { packet = record { tag = tag; size = size; ecn = ecn }; since = since }))
 packet-written tag size since NotEct good early = rw (good, early) refl
-packet-written tag size since Ect1 good early = rw (good, early) refl
-packet-written tag size since Ect0 good early = rw (good, early) refl
-packet-written tag size since Ce good early = rw (good, early) refl
+packet-written tag size since _ good early = rw (good, early) refl
 
 packets-written : (packets : List Waiting) → All CanWait packets → flat_map waiting_text packets ≡ flat_map text_of (map queued_row packets)
 packets-written [] can = refl

@@ -49,24 +49,9 @@ fn laws()
 ///
 /// Tail drop by bytes, then by packets, comes before all else. An inactive controller considers no packet; where three times the
 /// bytes in the queue then reach `limit_bytes`, it is turned on, as by a reset (RFC 8033, section 5.3).
+#[inline(always)]
 #[unsafe(no_mangle)]
 pub extern "C" fn pie_arrive(
-    state: &mut PieState,
-    queued: u64,
-    size: u32,
-    room: u32,
-    bits: u32,
-    word: u64,
-    moment: u64,
-) -> u32
-    ensures { Arrives state.old (arrival_of queued size room bits word) (arrival_refusal queued size bits moment) moment result state.new }
-{
-    decide(state, queued, size, room, bits, word, moment)
-}
-
-/// The same, to be compiled where it is called.
-#[inline(always)]
-pub(crate) fn decide(
     state: &mut PieState,
     queued: u64,
     size: u32,
@@ -235,25 +220,9 @@ fn depart(state: &mut PieState, size: u32, left: u64, moment: u64) -> u32
 
 /// Takes in a packet that left the queue, with `left` bytes after it, and that arrived then: the state's own moment, as it was right after
 /// its `pie_arrive` (RFC 8033, section 4.3). Where delays come from the departure rate it is `pie_depart`.
+#[inline(always)]
 #[unsafe(no_mangle)]
 pub extern "C" fn pie_depart_waited(
-    state: &mut PieState,
-    size: u32,
-    left: u64,
-    arrived: u64,
-    moment: u64,
-) -> u32
-    ensures answer { result ≡ waited_refusal state.old size left arrived moment }
-    ensures fields { state.new ≡ if_taken (waited_refusal state.old size left arrived moment) state.old
-        (with_departure state.old (departed (capped (held_in state.old)) size left arrived moment)) }
-    ensures held { Leaves state.old (Depart size left arrived moment) (waited_refusal state.old size left arrived moment) state.new }
-{
-    depart_waited(state, size, left, arrived, moment)
-}
-
-/// The same, to be compiled where it is called.
-#[inline(always)]
-pub(crate) fn depart_waited(
     state: &mut PieState,
     size: u32,
     left: u64,
@@ -300,19 +269,10 @@ fn depart_stamped(state: &mut PieState, size: u32, left: u64, arrived: u64, mome
 }
 
 /// Takes in a departure that found the queue empty: its moment counts, and nothing else.
-#[unsafe(no_mangle)]
-pub extern "C" fn pie_empty(state: &mut PieState, moment: u64) -> u32
-    ensures answer { result ≡ moment_refusal moment }
-    ensures fields { state.new ≡ if_taken (moment_refusal moment) state.old (record state.old { moment = max state.old.moment moment }) }
-    ensures held { Leaves state.old (Pass moment) (moment_refusal moment) state.new }
-{
-    empty(state, moment)
-}
-
-/// The same, to be compiled where it is called.
 #[inline(always)]
 #[tactic(auto, unfolding(crate::specs::Calls::moment_refusal))]
-pub(crate) fn empty(state: &mut PieState, moment: u64) -> u32
+#[unsafe(no_mangle)]
+pub extern "C" fn pie_empty(state: &mut PieState, moment: u64) -> u32
     ensures answer { result ≡ moment_refusal moment }
     ensures fields { state.new ≡ if_taken (moment_refusal moment) state.old (record state.old { moment = max state.old.moment moment }) }
     ensures held { Leaves state.old (Pass moment) (moment_refusal moment) state.new }
@@ -330,18 +290,10 @@ pub(crate) fn empty(state: &mut PieState, moment: u64) -> u32
 ///
 /// A calm update turns a controller of profile two off. That of an inactive controller takes in the moment alone, and its delay is
 /// 0 (RFC 8033, section 5.3).
-#[unsafe(no_mangle)]
-pub extern "C" fn pie_update(state: &mut PieState, queued: u64, moment: u64) -> PieUpdated
-    ensures answer { result ≡ updated_by state.old queued moment }
-    ensures made { Makes state.old (Update queued moment) (update_refusal state.old queued moment) state.new }
-{
-    update(state, queued, moment)
-}
-
-/// The same, to be compiled where it is called.
 #[inline(always)]
 #[tactic(auto, unfolding(crate::specs::Calls::update_refusal))]
-pub(crate) fn update(state: &mut PieState, queued: u64, moment: u64) -> PieUpdated
+#[unsafe(no_mangle)]
+pub extern "C" fn pie_update(state: &mut PieState, queued: u64, moment: u64) -> PieUpdated
     ensures answer { result ≡ updated_by state.old queued moment }
     ensures small { result.code < 2 ^ 32 }
     ensures made { Makes state.old (Update queued moment) (update_refusal state.old queued moment) state.new }
@@ -375,18 +327,10 @@ pub extern "C" fn pie_due(state: &PieState) -> u64
 
 /// Sets probability, old delay, accumulated probability and rate estimate to 0 and the burst allowance
 /// to `max_burst`, and keeps parameters, last update, and whether the controller is active.
-#[unsafe(no_mangle)]
-pub extern "C" fn pie_reset(state: &mut PieState, moment: u64) -> u32
-    ensures answer { result ≡ reset_refusal state.old moment }
-    ensures made { Makes state.old (Restart moment) (reset_refusal state.old moment) state.new }
-{
-    reset(state, moment)
-}
-
-/// The same, to be compiled where it is called.
 #[inline(always)]
 #[tactic(auto, unfolding(crate::specs::Calls::reset_refusal))]
-pub(crate) fn reset(state: &mut PieState, moment: u64) -> u32
+#[unsafe(no_mangle)]
+pub extern "C" fn pie_reset(state: &mut PieState, moment: u64) -> u32
     ensures answer { result ≡ reset_refusal state.old moment }
     ensures made { Makes state.old (Restart moment) (reset_refusal state.old moment) state.new }
 {
@@ -406,18 +350,10 @@ pub(crate) fn reset(state: &mut PieState, moment: u64) -> u32
 /// Puts new parameters in force, and clears the rate estimate; the other registers stay.
 ///
 /// Refuses, of what is wrong, a state first, then parameters, then the moment.
-#[unsafe(no_mangle)]
-pub extern "C" fn pie_set_params(state: &mut PieState, params: &PieParams, moment: u64) -> u32
-    ensures answer { result ≡ params_refusal state.old params.now moment }
-    ensures made { Makes state.old (Change (raw_of params.now) moment) (params_refusal state.old params.now moment) state.new }
-{
-    set_params(state, params, moment)
-}
-
-/// The same, to be compiled where it is called.
 #[inline(always)]
 #[tactic(auto, unfolding(crate::specs::Calls::params_refusal))]
-pub(crate) fn set_params(state: &mut PieState, params: &PieParams, moment: u64) -> u32
+#[unsafe(no_mangle)]
+pub extern "C" fn pie_set_params(state: &mut PieState, params: &PieParams, moment: u64) -> u32
     ensures answer { result ≡ params_refusal state.old params.now moment }
     ensures made { Makes state.old (Change (raw_of params.now) moment) (params_refusal state.old params.now moment) state.new }
 {

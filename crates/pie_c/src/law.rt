@@ -15,7 +15,7 @@ ghost use Rattle.pie_record.specs.Text.{rows_text};
 ghost use Rattle.pie_record.specs.Write.{event_row, written_rows};
 ghost use Rattle.pie_excerpt.specs.Written.{part_rows};
 ghost use Rattle.pie_abi.specs.declared.opening.PieOpening.{PieOpening};
-ghost use Rattle.pie_c.specs.declared.resuming.PieStats.{PieStats};
+ghost use Rattle.pie_abi.specs.declared.stats.PieStats.{PieStats};
 ghost use Rattle.pie_c.specs.declared.state.PieState.{PieState};
 ghost use Rattle.pie_c.specs.Events.{Kept, opening_text, stands_for, written_text};
 ghost use Rattle.pie_abi.specs.Opening.{opening_in, opening_of, opening_refusal};

@@ -2,12 +2,12 @@
 use Rattle.std.specs.Prelude.{ℕ, ◌≡◌, ◌==◌, ◌⊎◌, Bool, true, false, List, [], ◌∷◌, map, length, Option, Some, None, Ok, Err, if◌then◌else◌}
 use Rattle.pie_event.specs.declared.command.Command.{Command}
 use Rattle.pie_event.specs.declared.command.Command.TheVariants as command
-use Rattle.pie_kept.specs.Bursts.{Reply}
+use Rattle.pie_kept.specs.Bursts.{Reply, always, has_left_or_updated}
 use Rattle.pie_link.specs.Bursts.{AnswersWithin}
 use Rattle.pie_link.specs.Views.{CallerView, StaysOne, WasBusy}
 use Rattle.pie_abi.specs.declared.event.PieEvent.{PieEvent}
 use Rattle.pie_link_c.specs.declared.asked.Asked.{Asked}
-use Rattle.pie_link_c.specs.declared.asked.Asked.TheVariants.{Update}
+use Rattle.pie_link_c.specs.declared.asked.Asked.TheVariants.{Depart, Update}
 use Rattle.pie_link_c.specs.Codes.{refusal_number}
 use Rattle.pie_link_c.specs.Events.{answered_event, command_in, has_bad_ecn, numbered_event, packet_in, under}
 
@@ -51,6 +51,11 @@ pub record Took (asked : Asked) (caller number : ℕ) (events now : List PieEven
   pub same : number ≡ caller
 
 -- ---- a burst
+
+-- after which replies it goes on
+abbrev pub goes_on_after : Asked → Reply → Bool
+goes_on_after Depart = has_left_or_updated
+goes_on_after _ = always
 
 -- it was answered: each event after those before it, with nothing of another caller between; and so many were asked
 pub record IsAnswered (asked : Asked) (budget : Option ℕ) (goes_on : Reply → Bool) (before : CallerView) (events : List PieEvent) (count code : ℕ)

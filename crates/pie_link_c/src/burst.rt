@@ -1,9 +1,9 @@
 //! Bursts of events that lie where the caller has them: each is read and written in its place.
 ghost use Rattle.std.specs.Prelude.{◌≡◌, ◌<◌, drop, length, map, slice_index_or, slice_set};
-ghost use Rattle.pie_kept.specs.Bursts.{always, has_left_or_updated};
+ghost use Rattle.pie_kept.specs.Bursts.{has_left_or_updated};
 ghost use Rattle.pie_abi.specs.declared.event.PieEvent.{PieEvent};
-ghost use Rattle.pie_link_c.specs.declared.asked.Asked.TheVariants.{Arrive, Depart};
-ghost use Rattle.pie_link_c.specs.Bursts.{asks, asks_unless, riding, told_event, told_events};
+ghost use Rattle.pie_link_c.specs.declared.asked.Asked.TheVariants.{Arrive};
+ghost use Rattle.pie_link_c.specs.Bursts.{asks, asks_unless, goes_on_after, riding, told_event, told_events};
 ghost use Rattle.pie_link_c.specs.Events.{has_bad_ecn};
 
 use crate::asked::Asked;
@@ -18,26 +18,17 @@ use pie_event::{Answer, Command, Refusal};
 use pie_kept::{Burst, Reply};
 use pie_queue::{Ecn, Packet};
 
-/// Packets that arrive, and updates among them.
+/// Events that ask for one thing each, arrivals or departures, and updates among them.
 #[derive(Drop)]
-pub(crate) struct Arriving<'a> {
+pub(crate) struct Asking<'a> {
     /// Their events.
     pub(crate) events: &'a mut [PieEvent],
     /// How many have been asked.
     pub(crate) done: usize,
     /// The number under which they stand.
     pub(crate) caller: u16,
-}
-
-/// Departures, and updates among them.
-#[derive(Drop)]
-pub(crate) struct Departing<'a> {
-    /// Their events.
-    pub(crate) events: &'a mut [PieEvent],
-    /// How many have been asked.
-    pub(crate) done: usize,
-    /// The number under which they stand.
-    pub(crate) caller: u16,
+    /// What they ask.
+    pub(crate) asked: Asked,
 }
 
 // What an event of a burst asks.
@@ -124,48 +115,26 @@ fn has_left_or_updated(reply: &Reply) -> bool
     }
 }
 
-impl Burst for Arriving<'_> {
-    ghost use Rattle.pie_link_c.specs.Bursts.{Took};
-
-    ghost commands = { λ b place. map (asks Arrive) (drop place b.events.now) };
-
-    ghost goes_on = { λ b. always };
-
-    ghost shows = { λ first b replies. (b.events.ghost_name ≡ first.events.ghost_name)
-        × Took Arrive first.caller b.caller first.events.now b.events.now b.done replies };
-
-    ghost room = { λ b. b.events.ghost_name };
-
-    ghost has_room = { λ b place. b.done ≡ place };
-
-    #[inline(always)]
-    fn count(&self) -> usize {
-        self.events.len()
-    }
-
-    #[inline(always)]
-    fn command(&self, place: usize) -> Command {
-        let events = &*self.events;
-        command_of(Asked::Arrive, &events[place])
-    }
-
-    #[inline(always)]
-    fn take(&mut self, place: usize, reply: Reply) -> bool {
-        tell_at(self.events, place, Asked::Arrive, self.caller, &reply);
-        self.done = place + 1;
-        true
+// Whether a burst goes on after this reply.
+#[inline(always)]
+fn goes_on(asked: Asked, reply: &Reply) -> bool
+    ensures { result ≡ goes_on_after asked reply.now }
+{
+    match asked {
+        Asked::Depart => has_left_or_updated(reply),
+        Asked::Arrive | Asked::Update | Asked::Reset => true,
     }
 }
 
-impl Burst for Departing<'_> {
+impl Burst for Asking<'_> {
     ghost use Rattle.pie_link_c.specs.Bursts.{Took};
 
-    ghost commands = { λ b place. map (asks Depart) (drop place b.events.now) };
+    ghost commands = { λ b place. map (asks b.asked) (drop place b.events.now) };
 
-    ghost goes_on = { λ b. has_left_or_updated };
+    ghost goes_on = { λ b. goes_on_after b.asked };
 
-    ghost shows = { λ first b replies. (b.events.ghost_name ≡ first.events.ghost_name)
-        × Took Depart first.caller b.caller first.events.now b.events.now b.done replies };
+    ghost shows = { λ first b replies. (b.events.ghost_name ≡ first.events.ghost_name) × (b.asked ≡ first.asked)
+        × Took b.asked first.caller b.caller first.events.now b.events.now b.done replies };
 
     ghost room = { λ b. b.events.ghost_name };
 
@@ -179,13 +148,13 @@ impl Burst for Departing<'_> {
     #[inline(always)]
     fn command(&self, place: usize) -> Command {
         let events = &*self.events;
-        command_of(Asked::Depart, &events[place])
+        command_of(self.asked, &events[place])
     }
 
     #[inline(always)]
     fn take(&mut self, place: usize, reply: Reply) -> bool {
-        tell_at(self.events, place, Asked::Depart, self.caller, &reply);
+        tell_at(self.events, place, self.asked, self.caller, &reply);
         self.done = place + 1;
-        has_left_or_updated(&reply)
+        goes_on(self.asked, &reply)
     }
 }

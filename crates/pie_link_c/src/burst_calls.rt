@@ -2,9 +2,10 @@
 ghost use Rattle.std.specs.Prelude.{◌≡◌, ℕ, None};
 ghost use Rattle.pie_kept.specs.Bursts.{always, has_left_or_updated};
 ghost use Rattle.pie_link_c.specs.declared.asked.Asked.TheVariants.{Arrive, Depart};
-ghost use Rattle.pie_link_c.specs.Bursts.{IsTriedAll, TriesAll, budget_of};
+ghost use Rattle.pie_link_c.specs.Bursts.{IsTriedAll, TriesAll, budget_of, goes_on_after};
 
-use crate::burst::{Arriving, Departing};
+use crate::asked::Asked;
+use crate::burst::Asking;
 use crate::code::{BUSY, CLOSED};
 use crate::handle::PiePort;
 use crate::port::Port;
@@ -21,40 +22,17 @@ fn budget_of(bytes: u64) -> Option<u64>
 
 impl Port {
     // Asks a burst, and writes the code.
-    fn ask_arrivals<'a>(
+    fn ask_all<'a>(
         &mut self,
         budget: Option<u64>,
-        burst: Arriving<'a>,
+        burst: Asking<'a>,
         code: &mut u32,
-    ) -> Arriving<'a>
+    ) -> Asking<'a>
         requires fresh { burst.done ≡ 0 }
         requires caller { burst.caller ≡ self.old.first }
         ensures same { result.events.ghost_name ≡ burst.entry.events.ghost_name }
-        ensures tried { IsTriedAll Arrive budget always self.old burst.entry.events.now result.done code.new result.events.now self.new }
-    {
-        match self.link.try_answer_all(&mut self.caller, budget, burst) {
-            Ok(after) => {
-                *code = DONE;
-                after
-            }
-            Err(back) => {
-                *code = BUSY;
-                back
-            }
-        }
-    }
-
-    // Asks a burst, and writes the code.
-    fn ask_departures<'a>(
-        &mut self,
-        budget: Option<u64>,
-        burst: Departing<'a>,
-        code: &mut u32,
-    ) -> Departing<'a>
-        requires fresh { burst.done ≡ 0 }
-        requires caller { burst.caller ≡ self.old.first }
-        ensures same { result.events.ghost_name ≡ burst.entry.events.ghost_name }
-        ensures tried { IsTriedAll Depart budget has_left_or_updated self.old burst.entry.events.now result.done code.new result.events.now self.new }
+        ensures tried { IsTriedAll burst.entry.asked budget (goes_on_after burst.entry.asked) self.old burst.entry.events.now result.done code.new
+            result.events.now self.new }
     {
         match self.link.try_answer_all(&mut self.caller, budget, burst) {
             Ok(after) => {
@@ -69,60 +47,40 @@ impl Port {
     }
 
     // The same of events.
-    fn begin_arrivals<'a>(
+    fn begin<'a>(
         &mut self,
+        asked: Asked,
         budget: Option<u64>,
         events: &'a mut [PieEvent],
         code: &mut u32,
-    ) -> Arriving<'a>
+    ) -> Asking<'a>
         ensures same { result.events.ghost_name ≡ events.entry.ghost_name }
-        ensures tried { IsTriedAll Arrive budget always self.old events.entry.now result.done code.new result.events.now self.new }
+        ensures tried { IsTriedAll asked budget (goes_on_after asked) self.old events.entry.now result.done code.new result.events.now self.new }
     {
         let caller = self.caller.first();
-        let burst = Arriving {
+        let burst = Asking {
             events,
             done: 0,
             caller,
+            asked,
         };
-        self.ask_arrivals(budget, burst, code)
+        self.ask_all(budget, burst, code)
     }
 
-    // The same of events.
-    fn begin_departures<'a>(
-        &mut self,
-        budget: Option<u64>,
-        events: &'a mut [PieEvent],
-        code: &mut u32,
-    ) -> Departing<'a>
-        ensures same { result.events.ghost_name ≡ events.entry.ghost_name }
-        ensures tried { IsTriedAll Depart budget has_left_or_updated self.old events.entry.now result.done code.new result.events.now self.new }
+    /// Asks for each of the events, one after another within a budget of bytes, and updates ride among them. It also answers how many were asked.
+    fn try_all(&mut self, asked: Asked, budget: Option<u64>, events: &mut [PieEvent]) -> (u32, usize)
+        ensures { IsTriedAll asked budget (goes_on_after asked) self.old events.old result.1 result.0 events.new self.new }
     {
-        let caller = self.caller.first();
-        let burst = Departing {
-            events,
-            done: 0,
-            caller,
-        };
-        self.ask_departures(budget, burst, code)
+        let mut code = DONE;
+        let after = self.begin(asked, budget, events, &mut code);
+        (code, after.done)
     }
 
-    /// The packets that the events name arrive, one after another, and updates ride among them.
+    /// The same of packets that arrive.
     fn try_arrive_all(&mut self, events: &mut [PieEvent]) -> u32
         ensures { (count : ℕ) × IsTriedAll Arrive None always self.old events.old count result events.new self.new }
     {
-        let mut code = DONE;
-        let _after = self.begin_arrivals(None, events, &mut code);
-        code
-    }
-
-    /// Packets leave, one after another, at the events' moments and within a budget of bytes, and updates ride among them. It also answers how
-    /// many events were asked.
-    fn try_depart_all(&mut self, bytes: u64, events: &mut [PieEvent]) -> (u32, usize)
-        ensures { IsTriedAll Depart (budget_of bytes) has_left_or_updated self.old events.old result.1 result.0 events.new self.new }
-    {
-        let mut code = DONE;
-        let after = self.begin_departures(budget_of(bytes), events, &mut code);
-        (code, after.done)
+        self.try_all(Asked::Arrive, None, events).0
     }
 }
 
@@ -161,7 +119,7 @@ pub extern "C" fn pie_link_try_depart_all(
         *made = 0;
         return CLOSED;
     };
-    let (code, asked) = held.try_depart_all(bytes, events);
+    let (code, asked) = held.try_all(Asked::Depart, budget_of(bytes), events);
     port.put(held);
     *made = asked;
     code

@@ -1,15 +1,14 @@
-use Rattle.std.proofs.Common.{◌≡◌, ◌≤◌, ◌==◌, ◌^◌, ◌∙◌, nat_lt, true, false, sym, ap, arith, refl}
+use Rattle.std.proofs.Common.{◌≡◌, ◌==◌, ◌∙◌, ap, arith, refl, rules}
 use Rattle.std.proofs.lemmas.Bool.Decides.{nat_tests}
 use Rattle.pie_queue.specs.declared.ecn.Ecn.{Ecn}
 use Rattle.pie_aqm.specs.declared.verdict.Arrival.{Arrival}
 use Rattle.pie_aqm.specs.Calls.{Arrive}
 use Rattle.pie_aqm.specs.Steps.{arrived, verdict}
 use Rattle.pie_c.specs.declared.state.PieState.{PieState}
-use Rattle.pie_abi.specs.Packets.{is_bad_size, verdict_number}
+use Rattle.pie_abi.specs.Packets.{verdict_number}
 use Rattle.pie_c.specs.Calls.{arrival_of, arrival_refusal}
-use Rattle.pie_abi.specs.Choices.{last_moment}
 use Rattle.pie_c.specs.State.{held_in, with_arrival}
-use Rattle.pie_c.proofs.Packets.{arrival-taken, arrived-state, handed, kept-later, leaves, moment-later, place-later, untouched, verdict-later}
+use Rattle.pie_c.proofs.Packets.{arrived-state, handed, kept-later, leaves, moment-later, place-later, untouched, verdict-later}
 use Rattle.pie_c.proofs.calls.arrive.Goals as goal
 use Rattle.pie_c.proofs.calls.arrive.Goals.{After-of_verdict}
 
@@ -24,10 +23,8 @@ module _ (c : After-of_verdict) where
   with_ecn ecn = record { queued = c.args.queued; is_full = c.args.room == 0; size = c.args.size; ecn = ecn; word = c.args.word }
 
   taken : arrival_refusal c.args.queued c.args.size c.args.bits c.args.moment ≡ 0
-  taken =
-      let known : c.args.bits ≤ 3 = grind (c.in-Some.ensures.two, arith, nat_tests) in
-      arrival-taken c.args.queued c.args.size c.args.bits c.args.moment (omega arith) (sym c.is_bad_size.ensures ∙ c.if-is_bad_size.false) known
-      (omega arith)
+  unfolding arrival_refusal
+  taken = grind (c.in-Some.ensures.two, arith, nat_tests)
 
   left : c.keep_arrived.new.self ≡ with_arrival state (arrived (held_in state) arrival c.args.moment)
   left = c.keep_arrived.ensures ∙ kept-later state _ _ _ c.args.moment _ _ c.reach.ensures c.raw_with-held.ensures.held
@@ -43,28 +40,16 @@ keep_arrived-requires c = moment-later c.reach.new.self _ _ _ c.raw_with-held.en
 
 pub returns-then-moment-gt-MAX_NANOS-clause-arrives : goal.returns-then-moment-gt-MAX_NANOS-clause-arrives
 unfolding arrival_refusal
-returns-then-moment-gt-MAX_NANOS-clause-arrives c =
-    let a = c.args in
-    let late : nat_lt last_moment a.moment ≡ true = grind (arith, nat_tests) in
-    untouched a.state.now _ _ a.moment 101 (rw late refl) refl
+returns-then-moment-gt-MAX_NANOS-clause-arrives c = untouched c.args.state.now _ _ c.args.moment 101 (search rules) refl
 
 pub returns-then-is_bad_size-clause-arrives : goal.returns-then-is_bad_size-clause-arrives
 unfolding arrival_refusal
-returns-then-is_bad_size-clause-arrives c =
-    let a = c.args in
-    let early : nat_lt last_moment a.moment ≡ false = grind (arith, nat_tests) in
-    let bad : is_bad_size a.size ≡ true = sym c.is_bad_size.ensures ∙ c.if-is_bad_size.true in
-    untouched a.state.now _ _ a.moment 102 (rw (early, bad) refl) refl
+returns-then-is_bad_size-clause-arrives c = untouched c.args.state.now _ _ c.args.moment 102 (search rules) refl
 
 pub returns-then-queued-gt-MAX_QUEUED-clause-arrives : goal.returns-then-queued-gt-MAX_QUEUED-clause-arrives
 unfolding arrival_refusal
 returns-then-queued-gt-MAX_QUEUED-clause-arrives c =
-    let a = c.args in
-    let early : nat_lt last_moment a.moment ≡ false = grind (arith, nat_tests) in
-    let good : is_bad_size a.size ≡ false = sym c.is_bad_size.ensures ∙ c.if-is_bad_size.false in
-    let known : nat_lt 3 a.bits ≡ false = grind (c.in-Some.ensures.two, arith, nat_tests) in
-    let many : nat_lt (2 ^ 30) a.queued ≡ true = grind (arith, nat_tests) in
-    untouched a.state.now _ _ a.moment 112 (rw (early, good, known, many) refl) refl
+    untouched c.args.state.now _ _ c.args.moment 112 (grind (c.in-Some.ensures.two, arith, nat_tests)) refl
 
 pub returns-clause-arrives : goal.returns-clause-arrives
 unfolding arrival_refusal

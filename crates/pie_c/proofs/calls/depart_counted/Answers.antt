@@ -4,7 +4,7 @@ use Rattle.pie_aqm.specs.Held.{Held}
 use Rattle.pie_aqm.specs.Steps.{capped, count_kept_open, departed, with_count}
 use Rattle.pie_abi.specs.Packets.{is_bad_size}
 use Rattle.pie_c.specs.State.{held_in}
-use Rattle.pie_c.proofs.Packets.{counted-facts, counted-state, departure-taken, taken-by-rate}
+use Rattle.pie_c.proofs.Packets.{counted-facts, counted-state, departure-taken}
 use Rattle.pie_c.proofs.calls.depart_counted.Goals as goal
 use Rattle.pie_c.proofs.calls.depart_counted.Goals.{After-keep_counted}
 
@@ -23,7 +23,7 @@ returns-in-Some-clause-taken c did =
     let a = c.args in
     let below = (counted-facts a.state.now a.size c.in-Some.count (kept c)).2 in
     let good : is_bad_size a.size ≡ false = grind (below, arith, nat_tests) in
-    taken-by-rate a.state.now a.size a.left a.moment (departure-taken a.size a.left a.moment (omega arith) good (omega arith))
+    departure-taken a.state.now a.size a.left a.moment (omega arith) good (omega arith)
     (counted-facts a.state.now a.size c.in-Some.count (kept c)).0
 
 pub returns-in-Some-clause-after : goal.returns-in-Some-clause-after

@@ -3,7 +3,7 @@ use Rattle.std.proofs.lemmas.Bool.Decides.{nat_tests}
 use Rattle.pie_aqm.specs.Held.{Held}
 use Rattle.pie_aqm.specs.Steps.{capped, departed, is_unmeasured, passed}
 use Rattle.pie_c.specs.State.{held_in}
-use Rattle.pie_c.proofs.Packets.{departure-taken, taken-by-rate, unmeasured-facts, unmeasured-state}
+use Rattle.pie_c.proofs.Packets.{departure-taken, unmeasured-facts, unmeasured-state}
 use Rattle.pie_c.proofs.calls.depart_unmeasured.Goals as goal
 use Rattle.pie_c.proofs.calls.depart_unmeasured.Goals.{After-keep_unmeasured}
 
@@ -21,8 +21,7 @@ returns-clause-taken c did =
     let a = c.args in
     let few = (unmeasured-facts a.state.now a.left (none c)).2 in
     let left : a.left ≤ 2 ^ 30 = grind (few, arith, nat_tests) in
-    taken-by-rate a.state.now a.size a.left a.moment
-    (departure-taken a.size a.left a.moment (omega arith) (sym c.is_bad_size.ensures ∙ c.if-is_bad_size.false) left)
+    departure-taken a.state.now a.size a.left a.moment (omega arith) (sym c.is_bad_size.ensures ∙ c.if-is_bad_size.false) left
     (unmeasured-facts a.state.now a.left (none c)).0
 
 pub returns-clause-after : goal.returns-clause-after

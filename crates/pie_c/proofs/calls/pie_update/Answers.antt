@@ -1,39 +1,25 @@
-use Rattle.std.proofs.Common.{◌≡◌, ℕ, ◌^◌, ◌∙◌, nat_lt, true, false, ap, arith, refl, rules, subst, sym}
-use Rattle.std.proofs.lemmas.Bool.Decides.{nat_tests}
+use Rattle.std.proofs.Common.{◌≡◌, ℕ, ◌∙◌, true, ap, arith, refl, rules, subst, sym}
 use Rattle.pie_aqm.specs.Calls.{Update}
 use Rattle.pie_aqm.specs.Held.{Held, IsSound, held_by}
 use Rattle.pie_aqm.specs.Steps.{delay_answered, updated}
 use Rattle.pie_c.specs.Calls.{update_refusal, updated_with}
-use Rattle.pie_abi.specs.Choices.{last_moment}
 use Rattle.pie_c.specs.State.{held_in, is_sound, state_of}
 use Rattle.pie_c.proofs.Packets.{makes, unmade}
 use Rattle.pie_c.proofs.Sound.{held-sound}
-use Rattle.pie_c.proofs.calls.update.Goals as goal
-use Rattle.pie_c.proofs.calls.update.Goals.{After-made, After-made-2}
+use Rattle.pie_c.proofs.calls.pie_update.Goals as goal
+use Rattle.pie_c.proofs.calls.pie_update.Goals.{After-made, After-made-2}
 
 pub returns-then-not-is_sound-clause-made : goal.returns-then-not-is_sound-clause-made
 unfolding update_refusal
-returns-then-not-is_sound-clause-made c =
-    let a = c.args in
-    let bad : is_sound a.state.now ≡ false = sym c.is_sound.ensures ∙ c.if-not-is_sound.true in
-    unmade a.state.now (Update a.queued a.moment) _ (rw bad refl)
+returns-then-not-is_sound-clause-made c = unmade c.args.state.now (Update c.args.queued c.args.moment) _ 110 (search rules) refl
 
 pub returns-then-moment-gt-MAX_NANOS-clause-made : goal.returns-then-moment-gt-MAX_NANOS-clause-made
 unfolding update_refusal
-returns-then-moment-gt-MAX_NANOS-clause-made c =
-    let a = c.args in
-    let sound : is_sound a.state.now ≡ true = sym c.is_sound.ensures ∙ c.if-not-is_sound.false in
-    let late : nat_lt last_moment a.moment ≡ true = grind (arith, nat_tests) in
-    unmade a.state.now (Update a.queued a.moment) _ (rw (sound, late) refl)
+returns-then-moment-gt-MAX_NANOS-clause-made c = unmade c.args.state.now (Update c.args.queued c.args.moment) _ 101 (search rules) refl
 
 pub returns-then-queued-gt-MAX_QUEUED-clause-made : goal.returns-then-queued-gt-MAX_QUEUED-clause-made
 unfolding update_refusal
-returns-then-queued-gt-MAX_QUEUED-clause-made c =
-    let a = c.args in
-    let sound : is_sound a.state.now ≡ true = sym c.is_sound.ensures ∙ c.if-not-is_sound.false in
-    let early : nat_lt last_moment a.moment ≡ false = grind (arith, nat_tests) in
-    let many : nat_lt (2 ^ 30) a.queued ≡ true = grind (arith, nat_tests) in
-    unmade a.state.now (Update a.queued a.moment) _ (rw (sound, early, many) refl)
+returns-then-queued-gt-MAX_QUEUED-clause-made c = unmade c.args.state.now (Update c.args.queued c.args.moment) _ 112 (search rules) refl
 
 pub is_too_soon-requires : goal.is_too_soon-requires
 is_too_soon-requires c = rw c.raw-held.ensures (held-sound c.args.state.now (sym c.is_sound.ensures ∙ c.if-not-is_sound.false))
@@ -51,9 +37,7 @@ returns-then-is_too_soon-clause-answer c =
     rw (too_soon c, c.made.ensures) (ap (λ (h : Held). updated_with 103 h.control.old_delay h) c.raw-held.ensures)
 
 pub returns-then-is_too_soon-clause-made : goal.returns-then-is_too_soon-clause-made
-returns-then-is_too_soon-clause-made c =
-    let a = c.args in
-    unmade a.state.now (Update a.queued a.moment) _ (rw (too_soon c) refl)
+returns-then-is_too_soon-clause-made c = unmade c.args.state.now (Update c.args.queued c.args.moment) _ 103 (sym (too_soon c)) refl
 
 pub update-delay-requires-clause-sound : goal.update-delay-requires-clause-sound
 update-delay-requires-clause-sound c = rw c.raw-held.ensures (held-sound c.args.state.now (sym c.is_sound.ensures ∙ c.if-not-is_sound.false))

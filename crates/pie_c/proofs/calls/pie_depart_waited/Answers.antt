@@ -1,7 +1,7 @@
 use Rattle.std.proofs.Common.{rules}
 use Rattle.pie_aqm.specs.Calls.{Depart}
 use Rattle.pie_c.proofs.Packets.{departed-after, departed-moment, leaves}
-use Rattle.pie_c.proofs.calls.depart_waited.Goals as goal
+use Rattle.pie_c.proofs.calls.pie_depart_waited.Goals as goal
 
 pub returns-then-takes_stamps-clause-held : goal.returns-then-takes_stamps-clause-held
 returns-then-takes_stamps-clause-held c =

@@ -52,17 +52,6 @@ run-unable true rows before now same = same
 
 -- ---- `pie run` and `pie migrate`
 
--- what an answer says of a text's first fault, and of what was written
-abbrev Answers : {A : Type 0} → Option TraceFault → List ℕ → Result A TraceFault → Option (List ℕ) → Option (List ℕ) → Type 0
-Answers found history (Ok end) before now = (found ≡ None) × Appends before now history
-Answers found history (Err why) before now = is_device why ≡ false → (found ≡ Some why) × Appends before now history
-
-run_ends-so : {A : Type 0} (found : Option TraceFault) (history : List ℕ) (given : Result A TraceFault) (before now : Option (List ℕ))
-    → Answers found history given before now
-    → run_ends found history (end_of given) before now
-run_ends-so found history (Ok end) before now so = so
-run_ends-so found history (Err why) before now so = so
-
 run-told : (kind : Bool) (rows : List Row) (given : Result RunEnd TraceFault) (before now : Option (List ℕ)) → RunsBy kind (2 ^ 32) rows given before now
     → run_ends_by kind rows (end_of given) before now
 run-told false rows (Ok end) before now ran = (ran.0, ran.2)
@@ -75,11 +64,12 @@ pub EndsRun-told : (known : Option (List ℕ)) (given : Result RunEnd TraceFault
 EndsRun-told None given before now ran = tt
 EndsRun-told (Some text) given before now ran = run-told (is_resumed (records_of text)) (records_of text) given before now ran
 
-migrate-answers : (found : Option TraceFault) (count : ℕ) (history : List ℕ) (given : Result ℕ TraceFault) (before now : Option (List ℕ))
-    → IfOk given (λ events. (found ≡ None) × (events ≡ count)) → IfErr given (λ why. is_device why ≡ false → found ≡ Some why)
-    → (IsTold given → Appends before now history) → Answers found history given before now
-migrate-answers found count history (Ok events) before now ends faults writes = (ends.0, writes tt)
-migrate-answers found count history (Err why) before now ends faults writes = λ told. (faults told, writes told)
+migrate-told : (found : Option TraceFault) (count : ℕ) (writes : Option (List ℕ) → Option (List ℕ) → Type 0) (given : Result ℕ TraceFault)
+    (before now : Option (List ℕ)) → IfOk given (λ events. (found ≡ None) × (events ≡ count))
+    → IfErr given (λ why. is_device why ≡ false → found ≡ Some why) → (IsTold given → writes before now)
+    → run_ends found writes (end_of given) before now
+migrate-told found count writes (Ok events) before now ends faults written = (ends.0, written tt)
+migrate-told found count writes (Err why) before now ends faults written = λ told. (faults told, written told)
 
 pub EndsMigrate-told : (known : Option (List ℕ)) (given : Result ℕ TraceFault) (before now : Option (List ℕ))
     → IfSome known (λ text. IfOk given (λ events. (history_fault (2 ^ 32) (records_of text) ≡ None)
@@ -89,9 +79,8 @@ pub EndsMigrate-told : (known : Option (List ℕ)) (given : Result ℕ TraceFaul
     → IfSome known (λ text. EndsMigrate text (end_of given) before now)
 EndsMigrate-told None given before now ends faults writes = tt
 EndsMigrate-told (Some text) given before now ends faults writes =
-    run_ends-so (history_fault (2 ^ 32) (records_of text)) (migrated_text (2 ^ 32) (records_of text)) given before now
-    (migrate-answers (history_fault (2 ^ 32) (records_of text)) (history_events (2 ^ 32) (records_of text)) (migrated_text (2 ^ 32)
-    (records_of text)) given before now ends faults writes)
+    migrate-told (history_fault (2 ^ 32) (records_of text)) (history_events (2 ^ 32) (records_of text))
+    (λ before now. Appends before now (migrated_text (2 ^ 32) (records_of text))) given before now ends faults writes
 
 -- ---- `pie audit`
 

@@ -38,8 +38,7 @@ pub use Rattle.pie_files.proofs.FileFacts.{Stays, reads-given, stays-on}
 pub use Rattle.pie_files.specs.Files.{Name, ReadsNamed, file_of, text_given}
 pub use Rattle.pie_files.specs.Output.{Held, IsEmpty, Keeps, Places, Settles}
 pub use Rattle.pie_files.specs.Watched.{remaining_of}
-pub use Rattle.pie_options.proofs.WordFacts.{audit-asks, audit-files, migrate-asks, migrate-file, migrate-output, name-found, options-in, run-asks}
-pub use Rattle.pie_options.proofs.WordFacts.{run-file, run-output, same-word, subcommand-found}
+pub use Rattle.pie_options.proofs.WordFacts.{audit-alone, migrate-alone, name-found, options-in, run-alone, same-word, subcommand-found}
 pub use Rattle.pie_options.specs.Words.{file_in, files_in, is_forced, is_joined, options_in, pie_app, subcommand_in}
 pub use Rattle.pie_options.specs.declared.subcommand.Subcommand.TheVariants.{Audit, Cut, Explain, Migrate, Params, Run, Storm}
 pub use Rattle.pie_params.specs.declared.elements.Elements.{Elements}

@@ -51,28 +51,21 @@ abbrev pub end_of : {A : Type 0} → Result A TraceFault → End
 end_of (Ok end) = Done
 end_of (Err why) = Fault why
 
--- where this is the first fault of a trace, if it has one, and this its history text: the run ends well where there is no fault, and its
+-- where this is the first fault of a trace, if it has one, and its history text is written so: the run ends well where there is no fault, and its
 -- history text is written; or it ends at the fault, and the history text of the records before it is written. Or the reader, the writer
 -- or memory failed; or it could not begin, and nothing is written
-abbrev pub run_ends : Option TraceFault → List ℕ → End → Option (List ℕ) → Option (List ℕ) → Type 0
-run_ends found history Done before now = (found ≡ None) × Appends before now history
-run_ends found history Differs before now = ⊥
-run_ends found history (Fault why) before now = is_device why ≡ false → (found ≡ Some why) × Appends before now history
-run_ends found history Unable before now = now ≡ before
-run_ends found history Failed before now = ⊥
+abbrev pub run_ends : Option TraceFault → (Option (List ℕ) → Option (List ℕ) → Type 0) → End → Option (List ℕ) → Option (List ℕ) → Type 0
+run_ends found writes Done before now = (found ≡ None) × writes before now
+run_ends found writes Differs before now = ⊥
+run_ends found writes (Fault why) before now = is_device why ≡ false → (found ≡ Some why) × writes before now
+run_ends found writes Unable before now = now ≡ before
+run_ends found writes Failed before now = ⊥
 
--- .. a trace of these records that goes on from the middle of a history: what is written is as whatever history it goes on after has it
-abbrev pub excerpt_run_ends : List Row → End → Option (List ℕ) → Option (List ℕ) → Type 0
-excerpt_run_ends rows Done before now = (resumed_fault (2 ^ 32) rows ≡ None) × WritesExcerpt (2 ^ 32) rows before now
-excerpt_run_ends rows Differs before now = ⊥
-excerpt_run_ends rows (Fault why) before now = is_device why ≡ false → (resumed_fault (2 ^ 32) rows ≡ Some why) × WritesExcerpt (2 ^ 32) rows before now
-excerpt_run_ends rows Unable before now = now ≡ before
-excerpt_run_ends rows Failed before now = ⊥
-
--- .. a trace of either kind
+-- .. a trace of these records, from its opening on; or one that goes on from the middle of a history, where what is written is as whatever history it
+-- goes on after has it
 abbrev pub run_ends_by : Bool → List Row → End → Option (List ℕ) → Option (List ℕ) → Type 0
-run_ends_by false rows end before now = run_ends (fault_of (2 ^ 32) rows) (history_text (2 ^ 32) rows) end before now
-run_ends_by true rows end before now = excerpt_run_ends rows end before now
+run_ends_by false rows = run_ends (fault_of (2 ^ 32) rows) (λ before now. Appends before now (history_text (2 ^ 32) rows))
+run_ends_by true rows = run_ends (resumed_fault (2 ^ 32) rows) (WritesExcerpt (2 ^ 32) rows)
 
 -- .. the trace being this input
 abbrev pub EndsRun : List ℕ → End → Option (List ℕ) → Option (List ℕ) → Type 0
@@ -112,4 +105,5 @@ EndsAudit input = audit_ends (FindsEither (records_of input))
 
 -- as a run: what is written are the records before the first fault, in version two
 abbrev pub EndsMigrate : List ℕ → End → Option (List ℕ) → Option (List ℕ) → Type 0
-EndsMigrate input = run_ends (history_fault (2 ^ 32) (records_of input)) (migrated_text (2 ^ 32) (records_of input))
+EndsMigrate input =
+    run_ends (history_fault (2 ^ 32) (records_of input)) (λ before now. Appends before now (migrated_text (2 ^ 32) (records_of input)))

@@ -1,5 +1,5 @@
 -- How `pie storm` ends, and what it writes.
-use Rattle.std.specs.Prelude.{ℕ, ◌≡◌, ◌==◌, List, Option, Some, None, codes, option_and_then, if◌then◌else◌}
+use Rattle.std.specs.Prelude.{ℕ, ◌≡◌, ◌==◌, ◌-◌, ◌^◌, List, Option, Some, None, codes, option_and_then, if◌then◌else◌}
 use Rattle.clap.specs.Words.{Row, Text, first_of}
 use Rattle.pie_event.specs.declared.profile.Profile.{Profile}
 use Rattle.pie_event.specs.declared.profile.Profile.TheVariants.{One, Two}
@@ -18,7 +18,7 @@ use Rattle.pie_record.specs.FirstRecord.{which_of}
 use Rattle.pie_record.specs.Words.{decay_word, delay_word, picking_word, size_word, step_word}
 use Rattle.pie_storm.specs.declared.numbers.StormNumbers.{StormNumbers}
 use Rattle.pie_storm.specs.declared.plan.Plan.{Plan}
-use Rattle.pie_options.specs.Words.{burst_in, changes_in, folds_in, load_in, packets_in, profile_in, seed_in, senders_in}
+use Rattle.pie_options.specs.Words.{number_or}
 use Rattle.pie_storm.specs.StormHistory.{WritesStorm}
 use Rattle.pie_storm.specs.StormPlan.{IsStormPlan}
 use Rattle.pie_record.specs.Fault.{IsWrite}
@@ -69,14 +69,14 @@ profile_by number = if number == 1 then One else Two
 -- the numbers of the plan that the options ask for, with these elements
 abbrev pub numbers_in : Elements → List Row → StormNumbers
 numbers_in elements options = record {
-  senders = senders_in options;
-  packets = packets_in options;
-  burst = burst_in options;
-  seed = seed_in options;
-  load = load_in options;
-  changes = changes_in options;
-  folds = folds_in options;
-  profile = profile_by (profile_in options);
+  senders = number_or (codes "senders") 2 8 2 options;
+  packets = number_or (codes "packets") 1 10_000 100 options;
+  burst = number_or (codes "burst") 1 1024 1 options;
+  seed = number_or (codes "seed") 0 (2 ^ 64 - 1) 1 options;
+  load = number_or (codes "load") 50 200 100 options;
+  changes = number_or (codes "changes") 0 100 0 options;
+  folds = number_or (codes "folds") 0 100 0 options;
+  profile = profile_by (number_or (codes "profile") 1 2 1 options);
   elements = elements;
 }
 

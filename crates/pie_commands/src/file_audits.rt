@@ -1,7 +1,7 @@
 //! `pie audit FILE..`: of files, each in turn; with `--joined` of those of one history, in its order.
 ghost use Rattle.std.specs.Prelude.{◌≡◌, ◌<◌, ◌||◌, [], IfOk, None, OnErr, OnOk, Some, get_or, length, map, true};
 ghost use Rattle.std.specs.Io.KnownBytes.{Appends};
-ghost use Rattle.pie_commands.specs.FileAudits.{EndsOfFiles, TellsRead, TellsText, is_broken, is_unfound, joint_line, line_of_joint, lines_of};
+ghost use Rattle.pie_commands.specs.FileAudits.{EndsOfFiles, TellsRead, TellsText, is_broken, is_unfound, line_of_joint, lines_of};
 ghost use Rattle.pie_commands.specs.FileAudits.{named_line, worst};
 ghost use Rattle.pie_files.specs.Files.{ReadsNamed, left_for};
 
@@ -83,47 +83,35 @@ fn told_named<H: NamedFiles + Clock, R: Read + Drop, E: Write>(
     }
 }
 
-/// Writes the line of a finding, behind the name of its file, and flushes the writer.
-fn write_named<W: Write>(name: &str, found: Finding, output: &mut W) -> io::Result<()>
+/// Writes the line of a finding, behind the name of its file.
+fn put_finding<W: Write>(name: &str, found: Finding, output: &mut W) -> io::Result<()>
     ensures { OnOk result (Appends (W.contents output.old) (W.contents output.new) (named_line name.now found)) }
 {
     match found {
-        Finding::Clean { events } => writeln!(output, "{name}: clean,{events}")?,
-        Finding::Differs { event } => writeln!(output, "{name}: differs,{event}")?,
-    }
-    output.flush()
-}
-
-/// Writes the line of a joint, behind the name of the second of the two files.
-fn put_joint<W: Write>(name: &str, joint: Joint, output: &mut W) -> io::Result<()>
-    ensures { OnOk result (Appends (W.contents output.old) (W.contents output.new) (joint_line name.now joint)) }
-{
-    match joint {
-        Joint::Follows => writeln!(output, "{name}: follows"),
-        Joint::Gap { last, first } => writeln!(output, "{name}: gap,{last},{first}"),
-        Joint::Unlike { last } => writeln!(output, "{name}: unlike,{last}"),
+        Finding::Clean { events } => writeln!(output, "{name}: clean,{events}"),
+        Finding::Differs { event } => writeln!(output, "{name}: differs,{event}"),
     }
 }
 
-/// The same, and flushes the writer; or nothing, where there is none.
-fn write_joint<W: Write>(name: &str, joint: Option<Joint>, output: &mut W) -> io::Result<()>
+/// Writes the line of a joint, where there is one, behind the name of the second of the two files.
+fn put_joint<W: Write>(name: &str, joint: Option<Joint>, output: &mut W) -> io::Result<()>
     ensures { OnOk result (Appends (W.contents output.old) (W.contents output.new) (line_of_joint name.now joint)) }
 {
     match joint {
-        Some(joint) => {
-            put_joint(name, joint, output)?;
-            output.flush()
-        }
         None => Ok(()),
+        Some(Joint::Follows) => writeln!(output, "{name}: follows"),
+        Some(Joint::Gap { last, first }) => writeln!(output, "{name}: gap,{last},{first}"),
+        Some(Joint::Unlike { last }) => writeln!(output, "{name}: unlike,{last}"),
     }
 }
 
-/// Writes the line of what was found of a file, and that of its joint.
+/// Writes the line of what was found of a file, and that of its joint, and flushes the writer.
 fn write_joined<W: Write>(name: &str, joined: Joined, output: &mut W) -> io::Result<()>
     ensures { OnOk result (Appends (W.contents output.old) (W.contents output.new) (lines_of name.now (Some joined))) }
 {
-    write_named(name, joined.finding, output)?;
-    write_joint(name, joined.joint, output)
+    put_finding(name, joined.finding, output)?;
+    put_joint(name, joined.joint, output)?;
+    output.flush()
 }
 
 /// Audits the file of this name, after one that ended so, and writes what is told of it.

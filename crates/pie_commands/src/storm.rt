@@ -1,9 +1,9 @@
 //! `pie storm`: the storm that the options ask for, whose history is written.
-ghost use Rattle.std.specs.Prelude.{◌≡◌, Some};
+ghost use Rattle.std.specs.Prelude.{◌≡◌, Some, codes};
 ghost use Rattle.clap.specs.Words.{found_of, rows_of};
 ghost use Rattle.pie_commands.specs.StormEnds.{EndsStorm, choice_in, decay_in, delay_in, elements_in, numbers_in, picking_in};
 ghost use Rattle.pie_commands.specs.StormEnds.{profile_by, size_in, step_in};
-ghost use Rattle.pie_options.specs.Words.{profile_in};
+ghost use Rattle.pie_options.specs.Words.{number_or};
 ghost use Rattle.pie_storm.specs.StormPlan.{HasStormRange};
 
 use crate::end::{End, failed, faulted, unable};
@@ -149,7 +149,7 @@ fn elements_of(options: &ArgMatches<'_>) -> Option<Elements>
 
 /// The profile that these options choose.
 fn profile_of(options: &ArgMatches<'_>) -> Profile
-    ensures { result ≡ profile_by (profile_in (rows_of (found_of options.now))) }
+    ensures { result ≡ profile_by (number_or (codes "profile") 1 2 1 (rows_of (found_of options.now))) }
 {
     if number_or(options, "profile", 1, 2, 1) == 1 {
         Profile::One

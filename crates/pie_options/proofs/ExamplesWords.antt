@@ -1,6 +1,6 @@
 -- Which words ask for which subcommand, and what they give its options, worked out.
 use Rattle.pie_options.proofs.Names.{◌≡◌, [], ◌∷◌, None, Some, codes, refl, true, Text, clap_on_literals, Asks, file_in, files_in, is_joined}
-use Rattle.pie_options.proofs.Names.{options_in, output_in, packets_in, seed_in, senders_in}
+use Rattle.pie_options.proofs.Names.{number_or, options_in, output_in}
 
 -- the subcommands that some words ask for
 asks : (name : Text) → Asks (codes "audit") (name ∷ codes "audit" ∷ codes "a" ∷ codes "-" ∷ [])
@@ -26,6 +26,6 @@ unfolding clap_on_literals
 files name = (refl, refl, refl, refl, refl, refl)
 
 storm : (name : Text) → let options = options_in (name ∷ codes "storm" ∷ codes "--senders" ∷ codes "3" ∷ []) in
-    (senders_in options ≡ 3) × (packets_in options ≡ 100) × (seed_in options ≡ 1)
+    (number_or (codes "senders") 2 8 2 options ≡ 3) × (number_or (codes "packets") 1 10_000 100 options ≡ 100)
 unfolding clap_on_literals
-storm name = (refl, refl, refl)
+storm name = (refl, refl)

@@ -12,7 +12,7 @@ pub use Rattle.clap.specs.Words.{AddsSubcommand, App, HasMatchesOf, Row, Rule, T
 pub use Rattle.clap.specs.Words.{rows_of, subcommand_rows_of, takes, with_subcommand}
 pub use Rattle.pie_options.specs.Arguments.{rule_for}
 pub use Rattle.pie_options.specs.Building.{WantsRules, WantsSubcommands}
-pub use Rattle.pie_options.specs.Words.{AskFor, Asks, app_for, file_in, file_made, files_in, is_joined, number_of, options_in, output_in, packets_in}
-pub use Rattle.pie_options.specs.Words.{pie_alone, pie_app, seed_in, senders_in, subcommand_in, with_rules, with_subcommands}
+pub use Rattle.pie_options.specs.Words.{AskFor, Asks, app_for, file_in, file_made, files_in, is_joined, number_of, number_or, options_in, output_in}
+pub use Rattle.pie_options.specs.Words.{pie_alone, pie_app, subcommand_in, with_rules, with_subcommands}
 pub use Rattle.pie_options.specs.declared.subcommand.Subcommand.{Subcommand}
 pub use Rattle.pie_options.specs.declared.subcommand.Subcommand.TheVariants.{Audit, Cut, Explain, Migrate, Params, Run, Storm}

@@ -2,52 +2,27 @@
 use Rattle.pie_options.proofs.Names.{◌≡◌, ◌∙◌, List, [], Option, Some, None, true, false, codes, refl, sym, subst, ap, option_and_then}
 use Rattle.pie_options.proofs.Names.{option_map, unwrap_or, if◌then◌else◌, bytes_eq, App, HasMatchesOf, Row, Text, found_of, is_simple, rows_of}
 use Rattle.pie_options.proofs.Names.{subcommand_rows_of, takes, subcommand_name_of, clap_on_literals, Subcommand, Run, Audit, Explain, Cut, Migrate}
-use Rattle.pie_options.proofs.Names.{Storm, Params, AskFor, Asks, file_in, files_in, is_joined, options_in, output_in, pie_app, subcommand_in}
+use Rattle.pie_options.proofs.Names.{Storm, Params, AskFor, Asks, file_in, files_in, options_in, output_in, pie_app, subcommand_in}
 use Rattle.std.specs.Box.{box_value}
 use Rattle.clap.specs.declared.parser.matches.ArgMatches.{ArgMatches}
 use Rattle.clap.specs.declared.parser.matches.ArgMatches.TheViews.{out-ArgMatches, out-SubCommand}
 use Rattle.pie_options.specs.Subcommands.{word_of}
 
--- ---- they are taken, whatever the program's own name is, ask for their subcommand and name no file
+-- ---- a subcommand's word alone is taken, whatever the program's own name is, asks for that subcommand and names no file
 
-pub run-asks : (words : List Text) → AskFor (codes "run") words → Asks (codes "run") words
+pub run-alone : (words : List Text) → AskFor (codes "run") words
+    → Asks (codes "run") words × (file_in (options_in words) ≡ None) × (output_in (options_in words) ≡ None)
 unfolding clap_on_literals
-run-asks words asks = rw asks.1 (record { taken = refl; found = refl })
+run-alone words asks = rw asks.1 (record { taken = refl; found = refl }, refl, refl)
 
-pub audit-asks : (words : List Text) → AskFor (codes "audit") words → Asks (codes "audit") words
+pub audit-alone : (words : List Text) → AskFor (codes "audit") words → Asks (codes "audit") words × (files_in (options_in words) ≡ [])
 unfolding clap_on_literals
-audit-asks words asks = rw asks.1 (record { taken = refl; found = refl })
+audit-alone words asks = rw asks.1 (record { taken = refl; found = refl }, refl)
 
-pub migrate-asks : (words : List Text) → AskFor (codes "migrate") words → Asks (codes "migrate") words
+pub migrate-alone : (words : List Text) → AskFor (codes "migrate") words
+    → Asks (codes "migrate") words × (file_in (options_in words) ≡ None) × (output_in (options_in words) ≡ None)
 unfolding clap_on_literals
-migrate-asks words asks = rw asks.1 (record { taken = refl; found = refl })
-
-pub run-file : (words : List Text) → AskFor (codes "run") words → file_in (options_in words) ≡ None
-unfolding clap_on_literals
-run-file words asks = rw asks.1 refl
-
-pub run-output : (words : List Text) → AskFor (codes "run") words → output_in (options_in words) ≡ None
-unfolding clap_on_literals
-run-output words asks = rw asks.1 refl
-
-pub audit-files : (words : List Text) → AskFor (codes "audit") words → files_in (options_in words) ≡ []
-unfolding clap_on_literals
-audit-files words asks = rw asks.1 refl
-
-pub audit-joined : (words : List Text) → AskFor (codes "audit") words → is_joined (options_in words) ≡ false
-unfolding clap_on_literals
-audit-joined words asks = rw asks.1 refl
-
-pub migrate-file : (words : List Text) → AskFor (codes "migrate") words → file_in (options_in words) ≡ None
-unfolding clap_on_literals
-migrate-file words asks = rw asks.1 refl
-
-pub migrate-output : (words : List Text) → AskFor (codes "migrate") words → output_in (options_in words) ≡ None
-unfolding clap_on_literals
-migrate-output words asks = rw asks.1 refl
-
-pub asked-taken : (app : App) (subcommand : Text) (words : List Text) → app ≡ pie_app → Asks subcommand words → takes app words ≡ true
-asked-taken app subcommand words is asks = subst (λ (a : App). takes a words ≡ true) (sym is) asks.taken
+migrate-alone words asks = rw asks.1 (record { taken = refl; found = refl }, refl, refl)
 
 -- ---- and what its options are given
 

@@ -143,28 +143,3 @@ file_made (Some name) = if bytes_eq name (codes "-") then None else Some name
 
 abbrev pub output_in : List Row → Option Text
 output_in options = file_made (first_of (codes "output") options)
-
--- the eight numbers of `pie storm`
-abbrev pub senders_in : List Row → ℕ
-senders_in options = number_or (codes "senders") 2 8 2 options
-
-abbrev pub packets_in : List Row → ℕ
-packets_in options = number_or (codes "packets") 1 10_000 100 options
-
-abbrev pub burst_in : List Row → ℕ
-burst_in options = number_or (codes "burst") 1 1024 1 options
-
-abbrev pub seed_in : List Row → ℕ
-seed_in options = number_or (codes "seed") 0 (2 ^ 64 - 1) 1 options
-
-abbrev pub load_in : List Row → ℕ
-load_in options = number_or (codes "load") 50 200 100 options
-
-abbrev pub changes_in : List Row → ℕ
-changes_in options = number_or (codes "changes") 0 100 0 options
-
-abbrev pub folds_in : List Row → ℕ
-folds_in options = number_or (codes "folds") 0 100 0 options
-
-abbrev pub profile_in : List Row → ℕ
-profile_in options = number_or (codes "profile") 1 2 1 options

@@ -7,7 +7,6 @@ ghost use Rattle.pie_options.specs.Subcommands.{word_of};
 ghost use Rattle.pie_options.specs.Words.{app_for, pie_alone, pie_app, rules_for, with_rules, with_subcommands};
 
 use crate::argument::{Argument, arg_of};
-use crate::help::PIE_HELP;
 use crate::subcommand::Subcommand;
 use crate::{audit, cut, explain, migrate, params, run, storm};
 use clap::Command;
@@ -15,6 +14,14 @@ use std::alloc::{AllocError, Global};
 
 /// What `pie --version` prints after the name.
 const VERSION: &str = "0.1.0";
+
+/// What `pie --help` says below its subcommands.
+pub(crate) const PIE_HELP: &str =
+    "Example: run a trace of one arrival and one departure, and see what was decided:
+
+  printf 'open,0,4,16,100\\narrive,1,10,7,1500,ect0,0\\ndepart,2,25\\n' | pie run
+
+What a run writes is its history, which pie audit decides again and pie explain explains.";
 
 /// A subcommand without what it takes.
 fn plain<'a>(alloc: Global, name: &'a str, about: &'a str, help: &'a str) -> Command<'a>

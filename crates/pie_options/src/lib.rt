@@ -10,7 +10,6 @@ mod command_line;
 mod cut;
 mod explain;
 mod given;
-mod help;
 mod migrate;
 mod params;
 mod run;

@@ -1,6 +1,6 @@
 use Rattle.pie_commands.proofs.Names.{List, Option, false, map, string_bytes, subst, true, IfSome, Text, Run, Audit, Explain, Cut, Migrate, Storm}
-use Rattle.pie_commands.proofs.Names.{Params, file_in, files_in, is_forced, is_joined, options_in, subcommand_in, audit-asks, audit-files}
-use Rattle.pie_commands.proofs.Names.{migrate-asks, migrate-file, migrate-output, run-asks, run-file, run-output, text_given, EndsMigrate, EndsRun}
+use Rattle.pie_commands.proofs.Names.{Params, file_in, files_in, is_forced, is_joined, options_in, subcommand_in, audit-alone}
+use Rattle.pie_commands.proofs.Names.{migrate-alone, run-alone}
 use Rattle.pie_commands.proofs.Names.{EndsEither, EndsIn, EndsAs}
 use Rattle.pie_commands.proofs.EndFacts.{status-most}
 use Rattle.pie_commands.proofs.FileAuditFacts.{ends-of-files}
@@ -23,18 +23,20 @@ returns-clause-differs g c is =
 pub returns-clause-runs : goal.returns-clause-runs
 returns-clause-runs g c asks =
     let words = map string_bytes c.args.words.now in
-    (rw (run-output words asks, run-file words asks) at ((c.answer-end.ensures words c.matches_of-found.ensures).ends Run (run-asks words asks))).1
+    let alone = run-alone words asks in
+    (rw (alone.2, alone.1) at ((c.answer-end.ensures words c.matches_of-found.ensures).ends Run alone.0)).1
 
 pub returns-clause-audits : goal.returns-clause-audits
 returns-clause-audits g c asks =
     let words = map string_bytes c.args.words.now in
-    rw (audit-files words asks) at ((c.answer-end.ensures words c.matches_of-found.ensures).ends Audit (audit-asks words asks)).1
+    let alone = audit-alone words asks in
+    rw alone.1 at ((c.answer-end.ensures words c.matches_of-found.ensures).ends Audit alone.0).1
 
 pub returns-clause-migrates : goal.returns-clause-migrates
 returns-clause-migrates g c asks =
     let words = map string_bytes c.args.words.now in
-    (rw (migrate-output words asks, migrate-file words asks) at
-    ((c.answer-end.ensures words c.matches_of-found.ensures).ends Migrate (migrate-asks words asks))).1
+    let alone = migrate-alone words asks in
+    (rw (alone.2, alone.1) at ((c.answer-end.ensures words c.matches_of-found.ensures).ends Migrate alone.0)).1
 
 -- ---- with files, and with options
 

@@ -7,13 +7,9 @@ use Rattle.pie_storm.specs.StormPlan.{arrival_at, arrival_by, word_at}
 
 -- ---- lists
 
-pub list-push : (f : ℕ → ℕ) (j : ℕ) (list later : List ℕ) → list ≡ map f (range_with_len 0 j) → later ≡ list ++ f j ∷ []
-    → later ≡ map f (range_with_len 0 (j + 1))
-list-push f j list later before pushed = rw (pushed, before) (sym (map-range_with_len_more f 0 j j (omega arith)))
-
-pub item-push : {A : Type 0} (f : ℕ → A) (j : ℕ) (list later : List A) (item : A) → list ≡ map f (range_with_len 0 j)
+pub item_push : {A : Type 0} (f : ℕ → A) (j : ℕ) (list later : List A) (item : A) → list ≡ map f (range_with_len 0 j)
     → later ≡ list ++ item ∷ [] → item ≡ f j → later ≡ map f (range_with_len 0 (j + 1))
-item-push f j list later item before pushed is = rw (pushed, before, is) (sym (map-range_with_len_more f 0 j j (omega arith)))
+item_push f j list later item before pushed is = rw (pushed, before, is) (sym (map-range_with_len_more f 0 j j (omega arith)))
 
 pub lists-push : (packets burst seed before : ℕ) (lists later : List (Vec Arrival Global)) (list : Vec Arrival Global)
     → map held_by lists ≡ map (arrivals_of packets burst seed) (range_with_len 1 before) → later ≡ lists ++ list ∷ []

@@ -115,6 +115,7 @@ fn arrivals_of(
 }
 
 /// The arrivals of each sender.
+#[tactic(auto, using(crate::proofs::PlanFacts::lists_push))]
 fn all_arrivals(
     alloc: Global,
     senders: u64,

@@ -1,25 +1,25 @@
 -- The lists of a storm's plan grow by one entry, and the random words are taken one after another.
 use Rattle.pie_storm.proofs.Names.{◌≡◌, ◌+◌, ◌*◌, ℕ, zero, suc, List, [], ◌∷◌, ◌++◌, map, refl, sym, ap, ◌∙◌, arith, Vec, range_with_len, Global}
-use Rattle.pie_storm.proofs.Names.{map-append, Arrival, arrivals_of, held_by, words_after}
+use Rattle.pie_storm.proofs.Names.{map-append, total, Arrival, arrivals_of, held_by, words_after}
+use Rattle.std.proofs.Common.{add-one}
 use Rattle.std.proofs.lemmas.List.FromFn.{map-range_with_len_more}
 use Rattle.rand_core.specs.Stream.{Stream, next_u64}
 use Rattle.pie_storm.specs.StormPlan.{arrival_at, arrival_by, word_at}
 
 -- ---- lists
 
-pub list-push : (f : ℕ → ℕ) (j : ℕ) (list later : List ℕ) → list ≡ map f (range_with_len 0 j) → later ≡ list ++ f j ∷ []
-    → later ≡ map f (range_with_len 0 (j + 1))
-list-push f j list later before pushed = rw (pushed, before) (sym (map-range_with_len_more f 0 j j (omega arith)))
+pub total_more : (f : ℕ → ℕ) (n : ℕ) → total f (n + 1) ≡ total f n + f n
+total_more f n = rw add-one refl
 
-pub item-push : {A : Type 0} (f : ℕ → A) (j : ℕ) (list later : List A) (item : A) → list ≡ map f (range_with_len 0 j)
+pub item_push : {A : Type 0} (f : ℕ → A) (j : ℕ) (list later : List A) (item : A) → list ≡ map f (range_with_len 0 j)
     → later ≡ list ++ item ∷ [] → item ≡ f j → later ≡ map f (range_with_len 0 (j + 1))
-item-push f j list later item before pushed is = rw (pushed, before, is) (sym (map-range_with_len_more f 0 j j (omega arith)))
+item_push f j list later item before pushed is = rw (pushed, before, is) (sym (map-range_with_len_more f 0 j j (omega arith)))
 
-pub lists-push : (packets burst seed before : ℕ) (lists later : List (Vec Arrival Global)) (list : Vec Arrival Global)
+pub lists_push : (packets burst seed before : ℕ) (lists later : List (Vec Arrival Global)) (list : Vec Arrival Global)
     → map held_by lists ≡ map (arrivals_of packets burst seed) (range_with_len 1 before) → later ≡ lists ++ list ∷ []
     → held_by list ≡ arrivals_of packets burst seed (before + 1)
     → map held_by later ≡ map (arrivals_of packets burst seed) (range_with_len 1 (before + 1))
-lists-push packets burst seed before lists later list so_far pushed is =
+lists_push packets burst seed before lists later list so_far pushed is =
     ap (λ (all : List (Vec Arrival Global)). map held_by all) pushed ∙ map-append held_by lists (list ∷ [])
     ∙ ap (λ (all : List (List Arrival)). all ++ held_by list ∷ []) so_far
     ∙ ap (λ (last : List Arrival). map (arrivals_of packets burst seed) (range_with_len 1 before) ++ last ∷ []) is

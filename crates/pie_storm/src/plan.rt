@@ -82,6 +82,7 @@ fn are_moments(moments: &[u64]) -> bool
 
 impl Plan {
     // How many commands there are in all, as far as a u64 can count.
+    #[tactic(auto, using(crate::proofs::PlanFacts::total_more))]
     fn planned(&self) -> u64
         requires { senders self.now ≤ 8 }
         ensures { result ≡ min (planned self.now) (2 ^ 64 - 1) }

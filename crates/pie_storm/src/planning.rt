@@ -115,6 +115,7 @@ fn arrivals_of(
 }
 
 /// The arrivals of each sender.
+#[tactic(auto, using(crate::proofs::PlanFacts::lists_push))]
 fn all_arrivals(
     alloc: Global,
     senders: u64,
@@ -146,6 +147,7 @@ fn departure_of(senders: u64, load: u64, j: u64) -> u64
 }
 
 /// A departure for each packet, spread evenly, where `load` packets come for each hundred that the link sends.
+#[tactic(auto, using(crate::proofs::PlanFacts::item_push))]
 fn departs_of(alloc: Global, senders: u64, packets: u64, load: u64) -> Result<Vec<u64>, AllocError>
     requires some { 1 ≤ senders }
     requires senders { senders ≤ 8 }
@@ -162,6 +164,7 @@ fn departs_of(alloc: Global, senders: u64, packets: u64, load: u64) -> Result<Ve
 }
 
 /// An update at each due moment while packets arrive, and one more.
+#[tactic(auto, using(crate::proofs::PlanFacts::item_push))]
 fn updates_of(alloc: Global, packets: u64) -> Result<Vec<u64>, AllocError>
     requires { packets ≤ 10_000 }
     ensures { IfOk result (λ list. list.items ≡ updates_of packets) }
@@ -198,6 +201,7 @@ fn change_moment(packets: u64, changes: u64, k: u64) -> u64
 }
 
 /// The changes of the parameters, spread evenly over the time in which packets arrive.
+#[tactic(auto, using(crate::proofs::PlanFacts::item_push))]
 fn changes_of(alloc: Global, packets: u64, changes: u64) -> Result<Vec<Change>, AllocError>
     requires packets { packets ≤ 10_000 }
     requires changes { changes ≤ 100 }
@@ -214,6 +218,7 @@ fn changes_of(alloc: Global, packets: u64, changes: u64) -> Result<Vec<Change>, 
 }
 
 /// The folds: together of as many events as there are packets.
+#[tactic(auto, using(crate::proofs::PlanFacts::item_push))]
 fn folds_of(alloc: Global, senders: u64, packets: u64, folds: u64) -> Result<Vec<u64>, AllocError>
     requires senders { senders ≤ 8 }
     requires packets { packets ≤ 10_000 }

@@ -1,5 +1,5 @@
 use Rattle.pie_storm.proofs.Names.{◌≡◌, refl, sym, rules, planned_arrival, sender_words, words_after}
-use Rattle.pie_storm.proofs.PlanFacts.{item-push}
+use Rattle.pie_storm.proofs.PlanFacts.{item_push}
 use Rattle.pie_storm.proofs.planning.arrivals_of.Goals as goal
 
 pub loop-i-init : goal.loop-i-init
@@ -13,7 +13,7 @@ pub loop-i-preserved : goal.loop-i-preserved
 loop-i-preserved c =
     let words = sender_words c.args.seed c.args.sender in
     let drawn = c.next_arrival.ensures words c.loop-i.invariant.1 in (
-      item-push (planned_arrival c.args.packets c.args.burst c.args.sender words) c.loop-i.i c.loop-i.arrivals.items c.push.new.self.items
+      item_push (planned_arrival c.args.packets c.args.burst c.args.sender words) c.loop-i.i c.loop-i.arrivals.items c.push.new.self.items
           c.next_arrival.result c.loop-i.invariant.0
           c.in_ok-push.ensures.items (rw (sym c.moment_of-moment.ensures) drawn.0),
       drawn.1,

@@ -11,4 +11,4 @@ mod PastFacts
 mod FollowingFacts
 pub mod PartText
 mod LineReading
-pub mod ToldFacts
+mod ToldFacts

@@ -2,7 +2,7 @@
 pub use Rattle.std.proofs.Common.{Bool, List, [], ap, append_assoc, arith, decimal, drop, false, if◌then◌else◌, inl, inr, length, length-append, map}
 pub use Rattle.std.proofs.Common.{refl, rules, subst, suc, sym, take, true, zero, ℕ, ◌++◌, ◌+◌, ◌-◌, ◌<◌, ◌==◌, ◌^◌, ◌||◌, ◌∙◌, ◌∷◌, ◌≡◌, ◌≢◌, ◌≤◌}
 pub use Rattle.std.proofs.KnownBytes.{Appends-nil, Appends-trans, Keeps-refl, append_known-grown}
-pub use Rattle.std.proofs.lemmas.Bool.{eqb-true, le-ltb, lt-ltb, ltb-true, ne_eqb}
+pub use Rattle.std.proofs.lemmas.Bool.{eqb-true, le-ltb, ltb-false, lt-ltb, ltb-true, ne_eqb}
 pub use Rattle.std.proofs.lemmas.Bool.Decides.{nat_tests}
 pub use Rattle.std.proofs.lemmas.List.{append-nil}
 pub use Rattle.std.proofs.lemmas.List.Elements.{All-append, All-cons, All-nil, filter_map-append}
@@ -33,7 +33,6 @@ pub use Rattle.pie_event.specs.declared.opening.Mode.{Mode}
 pub use Rattle.pie_event.specs.declared.refusal.FoldRefusal.TheVariants.{Memory, TooMany}
 pub use Rattle.pie_params.specs.Range.{first_bad}
 pub use Rattle.pie_params.specs.declared.raw.RawParams.{RawParams}
-pub use Rattle.pie_record.proofs.Laws.{event_count-cons, fault_from-none, kind-word, rows_text-cons, same-before-three, told_by-line, told_by-long}
 unfoldable pub use Rattle.pie_record.specs.Command.{command_kind}
 pub use Rattle.pie_record.specs.Field.{and_then, most_u64, number_at}
 pub use Rattle.pie_record.specs.FirstRecord.{first_fields, kind_word, params_or_default}
@@ -44,3 +43,6 @@ unfoldable pub use Rattle.pie_record.specs.ReadBack.{TellEach}
 pub use Rattle.pie_record.specs.Records.{TakesRow, Took}
 pub use Rattle.pie_record.specs.declared.first_record.Draft.{Draft}
 pub use Rattle.pie_trace.specs.declared.run.RunEnd.{RunEnd}
+pub use Rattle.pie_record.proofs.Laws.{and_after, event_count-cons, event_count-none, fault_from-failed, fault_from-line, fault_from-none, kind-first}
+pub use Rattle.pie_record.proofs.Laws.{kind-word, lines_from-failed, lines_from-line, lines_from-none, ok-same, records_left-written, rows_text-cons}
+pub use Rattle.pie_record.proofs.Laws.{same-before-three, tested, told_by-flaw, told_by-line, told_by-long}

@@ -16,7 +16,7 @@ use Rattle.pie_record.specs.declared.fault.TraceFault.TheVariants as fault
 use Rattle.pie_trace.proofs.EndFacts.{part-opened}
 use Rattle.pie_trace.proofs.RunBack.{Opens, Sound, before-few, rows-few, rows-told, text-begun}
 use Rattle.pie_trace.proofs.RunFindings.{AreRuns, before-all, lines-legal}
-use Rattle.pie_audit.proofs.ToldFacts.{one-value}
+use Rattle.pie_trace.proofs.Passing.{one-value}
 
 -- what is wanted of the crates below
 pub record Below : Type 0 where
@@ -104,41 +104,23 @@ resumed-clean law most rows opening past b few goes fit e =
 
 -- ---- one without a fault
 
--- it begins well, and ends with the numbers of the whole
-record Faultless (most : ℕ) (rows : List Row) (past : List Event) (end : RunEnd) : Type 0 where
-  b : Beginning
-  begun : resumed_within most rows ≡ Ok b
-  sound : first_fault Three most (b.read + 1) b.left ≡ None
-  count : end.events ≡ length (progress_after b.opening (going_on past) (steps_of (requests_of Three b.left))).history
-
-faultless : (most : ℕ) (rows : List Row) (past : List Event) (end : RunEnd) → resumed_fault most rows ≡ None → resumed_end past rows ≡ Some end
-    → Faultless most rows past end
+pub resumed-whole : Below → (most : ℕ) (rows : List Row) (opening : Opening) (past : List Event) (end : RunEnd) → most ≤ 2 ^ 32
+    → GoesOn rows opening past → All (λ event. CommandFits event.command) past → resumed_fault most rows ≡ None → resumed_end past rows ≡ Some end
+    → IsFound (resumed_text most past rows) opening past (Clean end.events)
 unfolding resumed_fault resumed_end
-faultless most rows past end sound ended = by (resumed_within most rows) refl sound
+resumed-whole law most rows opening past end few goes fit sound ended = by (resumed_within most rows) refl sound
   where
-    events-same : (made end : RunEnd) → Some made ≡ Some end → end.events ≡ made.events
-    events-same made end e = let same : made ≡ end = cc in sym (ap (λ (r : RunEnd). r.events) same)
+    found : ℕ → Type 0
+    found events = IsFound (resumed_text most past rows) opening past (Clean events)
 
     by : (read : Result Beginning TraceFault) → resumed_within most rows ≡ read
-        → fault_in most (or_fault read (λ begun. Ok (going_by begun))) ≡ None → Faultless most rows past end
+        → fault_in most (or_fault read (λ begun. Ok (going_by begun))) ≡ None → found end.events
     by (Err why) is e = cc
     by (Ok b) is e =
         let at = within most rows b is in
         let here : end_in past (or_fault (resumed_of rows) (λ begun. Ok (going_by begun))) ≡ Some end = ended in
-        record {
-          b = b;
-          begun = is;
-          sound = e;
-          count = events-same (end_left Three b.opening (going_on past) 0 b.left) end (rw at.begun at here);
-        }
-
-pub resumed-whole : Below → (most : ℕ) (rows : List Row) (opening : Opening) (past : List Event) (end : RunEnd) → most ≤ 2 ^ 32
-    → GoesOn rows opening past → All (λ event. CommandFits event.command) past → resumed_fault most rows ≡ None → resumed_end past rows ≡ Some end
-    → IsFound (resumed_text most past rows) opening past (Clean end.events)
-resumed-whole law most rows opening past end few goes fit sound ended =
-    let f = faultless most rows past end sound ended in
-    let all = before-all Three most (f.b.read + 1) f.b.left f.sound in
-    subst (λ (n : ℕ). IsFound (resumed_text most past rows) opening past (Clean n)) (sym f.count)
-    (subst (λ (rest : List Row). IsFound (resumed_text most past rows) opening past
-    (Clean (length (progress_after f.b.opening (going_on past) (steps_of (requests_of Three rest))).history))) all
-    (resumed-clean law most rows opening past f.b few goes fit f.begun))
+        let is-end : Some (end_left Three b.opening (going_on past) 0 b.left) ≡ Some end = rw at.begun at here in
+        let same : end_left Three b.opening (going_on past) 0 b.left ≡ end = cc in
+        subst (λ (r : RunEnd). found r.events) same
+        (subst (λ (rest : List Row). found (length (progress_after b.opening (going_on past) (steps_of (requests_of Three rest))).history))
+        (before-all Three most (b.read + 1) b.left e) (resumed-clean law most rows opening past b few goes fit is))

@@ -178,18 +178,6 @@ abbrev pub RowsTold : Version → Opening → ℕ → Progress → List Row → 
 RowsTold version opening number progress rows requests = TellEach version (history_rows version number rows (replies opening progress requests))
     (lines_told requests (replies opening progress requests))
 
-told-one : (version : Version) (opening : Opening) (number : ℕ) (progress : Progress) (row : Row) (rows : List Row) (request : Request)
-    (requests : List Request)
-    → line_of version (history_row version number row (reply opening progress request)) ≡ Ok (line_told request (reply opening progress request))
-    → RowsTold version opening (number + 1) (after opening progress request) rows requests
-    → RowsTold version opening number progress (row ∷ rows) (request ∷ requests)
-unfolding replies history_rows lines_told TellEach
-told-one version opening number progress row rows request requests here later = (here, later)
-
-told-none : (version : Version) (opening : Opening) (number : ℕ) (progress : Progress) → RowsTold version opening number progress [] []
-unfolding replies history_rows lines_told TellEach
-told-none version opening number progress = tt
-
 pub before-none : (version : Version) (most number : ℕ) → before_fault version most number [] ≡ []
 unfolding before_fault
 before-none version most number = refl
@@ -229,12 +217,14 @@ each-good version most opening P none one number progress (row ∷ rows) =
 pub rows-told : (version : Version) (held : Held) (most : ℕ) (opening : Opening) (number : ℕ) (progress : Progress) (rows : List Row) → most ≤ 2 ^ 32
     → Opens opening → Sound opening progress
     → RowsTold version opening number progress (before_fault version most number rows) (requests_of version (before_fault version most number rows))
+unfolding replies history_rows lines_told TellEach
 rows-told version held most opening number progress rows few opens =
     each-good version most opening (λ number progress rows requests. Sound opening progress → RowsTold version opening number progress rows requests)
-    (λ number progress sound. told-none version opening number progress)
-    (λ number progress row rows request requests within reads later sound. told-one version opening number progress row rows request requests
-    (record-told version held number row request opening progress (omega (arith, within, few)) opens sound reads)
-    (later (after-sound version held opening progress row request reads sound))) number progress rows
+    (λ number progress sound. tt)
+    (λ number progress row rows request requests within reads later sound. (
+      record-told version held number row request opening progress (omega (arith, within, few)) opens sound reads,
+      later (after-sound version held opening progress row request reads sound),
+    )) number progress rows
 
 -- how many there are
 pub before-few : (version : Version) (most : ℕ) (opening : Opening) (number : ℕ) (rows : List Row) → number ≤ most + 1

@@ -76,46 +76,14 @@ pub fn moment_of(core: &Core, event: &Event) -> u64
     before.moment.max(handed_in)
 }
 
-impl Explanation {
-    ghost use Rattle.pie_explain.specs.Explanation.{explanation};
-
-    /// What there is to say of an event with this number that a core is about to decide, where `set_by` is what last set the
-    /// probability, and `clock` the last record that tells the time of day. The core is as it was.
-    #[inline(always)]
-    pub(crate) fn of(
-        core: &Core,
-        number: u64,
-        event: &Event,
-        set_by: Setter,
-        clock: Option<Clock>,
-    ) -> Explanation
-        ensures { (opening : Opening) (history : List Event) → Shows opening core.now history
-            → result ≡ explanation opening history number event.now set_by clock }
-    {
-        let before = core.registers();
-        let now = moment_of(core, event);
-        Explanation {
-            number,
-            event: *event,
-            moment: now,
-            before,
-            delay: core.delay(),
-            cause: core.cause(&event.command),
-            waited: waited(core, event, now),
-            set_by,
-            updates: core.stats().updates,
-            clock,
-        }
-    }
-}
-
 impl Explained {
     ghost use Rattle.pie_book.specs.Estimates.{delay_after};
     ghost use Rattle.pie_book.specs.Registers.{registers_after};
     ghost use Rattle.pie_explain.specs.Explanation.{explanation, with_after};
 
-    /// What there is to say of an event that a core is about to decide, as `Explanation::of` says it, made where it stays: as long as
-    /// the core has not decided it, what it held before stands in the place of what it holds after.
+    /// What there is to say of an event with this number that a core is about to decide, where `set_by` is what last set the probability, and
+    /// `clock` the last record that tells the time of day; made where it stays: as long as the core has not decided it, what it held before stands
+    /// in the place of what it holds after.
     #[inline(always)]
     pub(crate) fn begin(
         core: &Core,
@@ -129,7 +97,20 @@ impl Explained {
         ensures held { (opening : Opening) (history : List Event) → Shows opening core.now history
             → (result.after ≡ registers_after opening history) × (result.delay ≡ delay_after opening history) }
     {
-        let told = Explanation::of(core, number, event, set_by, clock);
+        let before = core.registers();
+        let now = moment_of(core, event);
+        let told = Explanation {
+            number,
+            event: *event,
+            moment: now,
+            before,
+            delay: core.delay(),
+            cause: core.cause(&event.command),
+            waited: waited(core, event, now),
+            set_by,
+            updates: core.stats().updates,
+            clock,
+        };
         let (after, delay) = (told.before, told.delay);
         Explained { told, after, delay }
     }

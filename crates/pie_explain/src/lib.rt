@@ -1,6 +1,6 @@
 //! Why an event of a saved history went as it did: which case of the rules decided it, and on which numbers, as values, in words or as CSV.
 //!
-//! `Explanation::of` answers, over every history that the core shows, exactly the look-back's numbers and the first case of the decision that
+//! `Explained::begin` answers, over every history that the core shows, exactly the look-back's numbers and the first case of the decision that
 //! holds there; `Explained` adds what the controller held after it; `Choice::picks` says which events are explained. `Report` is what writes
 //! explanations one after another, and `Form` the reports in words and as CSV.
 //!

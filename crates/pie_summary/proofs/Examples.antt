@@ -5,8 +5,7 @@ use Rattle.pie_params.specs.Profile.{default_profile}
 use Rattle.pie_queue.specs.declared.ecn.Ecn.TheVariants.{NotEct, Ect0}
 use Rattle.pie_queue.specs.declared.packet.Packet.{Packet}
 use Rattle.pie_event.specs.declared.cause.Cause.{Cause}
-use Rattle.pie_event.specs.declared.cause.Cause.TheVariants.{NoRoomInBytes, NoRoomInPackets, Inactive, BurstAllowed, LowDelay, ShortQueue}
-use Rattle.pie_event.specs.declared.cause.Cause.TheVariants.{NoProbability, LittleAccumulated, PickedBySum, PickedByWord, WordNotBelow}
+use Rattle.pie_event.specs.declared.cause.Cause.TheVariants.{NoRoomInBytes, NoRoomInPackets, Inactive, PickedBySum, PickedByWord, WordNotBelow}
 use Rattle.pie_event.specs.declared.cause.Fate.TheVariants as fate
 use Rattle.pie_event.specs.CauseName.{word_of_cause}
 use Rattle.pie_aqm.specs.Places.{greatest, last_or, places}
@@ -30,7 +29,7 @@ use Rattle.pie_summary.specs.Counts.{kept}
 use Rattle.pie_summary.specs.Ranges.{end_within, first_up_to, range_end, range_of, ranges_of}
 use Rattle.pie_summary.specs.Spans.{bounds_of, mean_in, moment_at, peak_of, sum_in, total_in, total_of}
 use Rattle.pie_summary.specs.Summary.{header, noted, summary_of}
-use Rattle.pie_summary.specs.Sums.{above_by, answer_place, cause_place, excess_by, late_at, meter_of, sums_of, turned_at, waits_of}
+use Rattle.pie_summary.specs.Sums.{above_by, cause_place, excess_by, late_at, meter_of, sums_of, turned_at, waits_of}
 use Rattle.pie_summary.specs.Words.{arrival_words, arrived_words, cause_row, cause_words, disagree, disagree_words, head_words, late_words}
 use Rattle.pie_summary.specs.Words.{later_words, left_words, row_words, target_words, time_words, turned_words, turning_words, update_words}
 use Rattle.pie_summary.specs.Words.{verdict_words, words}
@@ -122,21 +121,12 @@ excesses = refl
 abbrev capable : ℕ → ℕ → Packet
 capable tag size = record { tag = tag; size = size; ecn = Ect0 }
 
--- each answer has a place of its own, and so has each cause, a picked one by its packet's fate; the last is that of other events
-answer-places : map answer_place
-    (Enqueued ∷ Marked ∷ DroppedEarly ∷ DroppedBytes ∷ DroppedPackets ∷ Left (packet 1 60) ∷ Empty ∷ Updated 1 2 3 ∷ Done ∷ [])
-    ≡ 0 ∷ 1 ∷ 2 ∷ 3 ∷ 4 ∷ 5 ∷ 6 ∷ 7 ∷ 8 ∷ []
-answer-places = refl
-
-cause-places : map (λ cause. cause_place (Some cause))
-    (NoRoomInBytes 1 2 3 ∷ NoRoomInPackets 1 ∷ Inactive ∷ BurstAllowed 1 ∷ LowDelay 1 2 3 ∷ ShortQueue 1 2 ∷ NoProbability ∷ LittleAccumulated 1 2
-    ∷ PickedBySum 1 2 (fate.Marked 3) ∷ PickedBySum 1 2 fate.NotCapable ∷ PickedBySum 1 2 (fate.NotBelow 3)
-    ∷ PickedByWord 1 2 3 (fate.Marked 4) ∷ PickedByWord 1 2 3 fate.NotCapable ∷ PickedByWord 1 2 3 (fate.NotBelow 4) ∷ WordNotBelow 1 2 3 ∷ [])
-    ≡ 0 ∷ 1 ∷ 2 ∷ 3 ∷ 4 ∷ 5 ∷ 6 ∷ 7 ∷ 8 ∷ 9 ∷ 10 ∷ 11 ∷ 12 ∷ 13 ∷ 14 ∷ []
+-- a picked arrival is counted by its packet's fate, and an event that is none at the last place
+cause-places : map cause_place
+    (Some (PickedBySum 1 2 (fate.Marked 3)) ∷ Some (PickedBySum 1 2 fate.NotCapable) ∷ Some (PickedByWord 1 2 3 (fate.NotBelow 4))
+    ∷ Some (WordNotBelow 1 2 3) ∷ None ∷ [])
+    ≡ 8 ∷ 9 ∷ 13 ∷ 14 ∷ 15 ∷ []
 cause-places = refl
-
-no-cause-place : cause_place None ≡ 15
-no-cause-place = refl
 
 -- ---- a list of events
 

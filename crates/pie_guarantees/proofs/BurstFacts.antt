@@ -1,14 +1,14 @@
 -- How the burst allowance goes down from update to update, and how far updates are apart.
-use Rattle.pie_guarantees.proofs.Names.{◌≡◌, ◌≤◌, ◌+◌, ◌*◌, ◌-◌, ◌&&◌, ℕ, List, [], ◌∷◌, ◌++◌, Bool, true, false, refl, sym, ap, ◌∙◌, cond}
-use Rattle.pie_guarantees.proofs.Names.{if◌then◌else◌, arith, subst, max, All, append_assoc, All-weaker, sum_by_push, sum_by-append, ltb-false}
-use Rattle.pie_guarantees.proofs.Names.{bytes_of, deed, deed_of, is_update, after_call, Held, IsSound, anew, bytes_with, is_calm, judged, Waiting}
-use Rattle.pie_guarantees.proofs.Names.{Arrival, Command, Arrive, Depart, Update, Reset, SetParams, Answer, Enqueued, Event, Opening, arrival_of}
-use Rattle.pie_guarantees.proofs.Names.{call_of, departure_call, is_too_soon, active_after, held_after, params_after, parts_after, effective_moment}
+use Rattle.pie_guarantees.proofs.Names.{◌≡◌, ◌≤◌, ◌+◌, ◌*◌, ◌&&◌, ℕ, List, [], ◌∷◌, ◌++◌, true, false, refl, sym, ap, ◌∙◌, cond}
+use Rattle.pie_guarantees.proofs.Names.{arith, subst, max, All, append_assoc, sum_by_push, sum_by-append, ltb-false}
+use Rattle.pie_guarantees.proofs.Names.{bytes_of, deed, deed_of, is_update, after_call, Held, IsSound, is_calm, Waiting}
+use Rattle.pie_guarantees.proofs.Names.{Command, Arrive, Depart, Update, Reset, SetParams, Answer, Event, Opening, arrival_of}
+use Rattle.pie_guarantees.proofs.Names.{call_of, is_too_soon, active_after, held_after, params_after, parts_after, effective_moment}
 use Rattle.pie_guarantees.proofs.Names.{waiting_after, held-is, first-shows, first_core, AllAllow, Allows, IsAllowed, IsWhole, KeepsParams, SetsAllow}
 use Rattle.pie_guarantees.proofs.Names.{burst_left, updates_in, IsLawful, IsEarly}
-use Rattle.pie_book.specs.Types.{RawParams}
 use Rattle.pie_aqm.specs.Steps as Steps
 use Rattle.pie_guarantees.proofs.LawfulFacts.{IsStep, along, sound_at, step_at}
+use Rattle.std.proofs.Common.{get_or}
 use Rattle.pie_guarantees.proofs.CallFacts.{after-arrival, asks_update, burst-updated, last-updated, update-is}
 use Rattle.pie_guarantees.proofs.EarlyFacts.{early_at}
 
@@ -204,12 +204,8 @@ allow-own : (opening : Opening) (before between : List Event) → IsAllowed open
     → AllAllow (burst_left opening before) (params_after opening before).t_update (params_after opening before).t_update opening before between
 allow-own opening before between allowed keep = record {
   force = record { allowance = allowed; apart = omega arith; together = omega arith };
-  set = All-weaker (λ (event : Event). KeepsParams event.command)
-      (λ (event : Event). SetsAllow (burst_left opening before) (params_after opening before).t_update
-      (params_after opening before).t_update event.command)
-      (λ (event : Event) keep. keeps-allows (burst_left opening before) (params_after opening before).t_update
-      (params_after opening before).t_update event.command keep)
-      between keep;
+  set = λ k d within. keeps-allows (burst_left opening before) (params_after opening before).t_update (params_after opening before).t_update
+      (get_or between k d).command (keep k d within);
 }
 
 module _ (opening : Opening) (before : List Event) (between : List Event) (event : Event) (later : List Event)

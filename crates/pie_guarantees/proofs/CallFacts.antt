@@ -1,5 +1,5 @@
 -- What a call leaves, way by way: what each way leaves so is so after the call.
-use Rattle.pie_guarantees.proofs.Names.{◌≡◌, ◌+◌, ◌-◌, ◌&&◌, ◌||◌, ◌==◌, ℕ, Bool, true, false, refl, if◌then◌else◌, nat_lt, not, bytes_of, Choice, Enqueue}
+use Rattle.pie_guarantees.proofs.Names.{◌≡◌, ◌+◌, ◌-◌, ◌&&◌, ◌||◌, ◌==◌, ℕ, Bool, true, false, refl, if◌then◌else◌, nat_lt, not, Enqueue}
 use Rattle.pie_guarantees.proofs.Names.{is_considered, is_picked, joined, counted, picked_choice, deed, is_update, Held, anew, bytes_with, chosen, judged}
 use Rattle.pie_guarantees.proofs.Names.{is_calm, offered, Arrival, Verdict, Command, Arrive, Depart, Update, Answer, Enqueued}
 use Rattle.pie_event.specs.declared.verdict.Verdict.TheVariants as verdict

@@ -3,7 +3,7 @@ use Rattle.pie_guarantees.proofs.Names.{◌≡◌, ◌≤◌, ◌+◌, ◌*◌, 
 use Rattle.pie_guarantees.proofs.Names.{inl, inr, if◌then◌else◌, nat_lt, length, arith, subst, All, Some, None, Option, sum_by, ltb-false, append-nil}
 use Rattle.pie_guarantees.proofs.Names.{append_assoc, length-map, map-append, filter_map-append, sum_by_push, sum_by-cons, bytes_of, Deed, deed}
 use Rattle.pie_guarantees.proofs.Names.{deed_of, departure, fits, with_ce, answer_of, Choice, after_call, Held, filter_map-push, with_one, Packet}
-use Rattle.pie_guarantees.proofs.Names.{Waiting, Verdict, Command, Arrive, Depart, Update, Reset, SetParams, Answer, Enqueued, Marked, DroppedEarly}
+use Rattle.pie_guarantees.proofs.Names.{Waiting, Verdict, Command, Arrive, Depart, SetParams, Answer, Enqueued, Marked, DroppedEarly}
 use Rattle.pie_guarantees.proofs.Names.{DroppedBytes, DroppedPackets, Empty, Left, Event, Opening, arrival_of, call_of, answer_by, held_after}
 use Rattle.pie_guarantees.proofs.Names.{params_after, bytes_after, effective_moment, waiting_after, count_of, is_dropped_bytes, is_dropped_early}
 use Rattle.pie_guarantees.proofs.Names.{is_dropped_packets, is_marked, is_queued, answer-fits, held-is, waiting_next, first-shows, first_core}

@@ -1,11 +1,11 @@
 -- At each place of a lawful history a core stands that shows the events before it, and each event makes of what it holds what its call does.
-use Rattle.pie_guarantees.proofs.Names.{◌≡◌, ◌≤◌, ◌<◌, ◌+◌, ◌==◌, ℕ, List, [], ◌∷◌, ◌++◌, Bool, true, false, refl, sym, subst, ap, ◌∙◌, arith, max, ⊤}
-use Rattle.pie_guarantees.proofs.Names.{if◌then◌else◌, All, None, Some, nat_lt, nat_le, length, ◌^◌, eqb-false, leb-true, ltb-false, append-nil}
+use Rattle.pie_guarantees.proofs.Names.{◌≡◌, ◌≤◌, ◌<◌, ◌+◌, ◌==◌, ℕ, List, [], ◌∷◌, ◌++◌, Bool, false, refl, sym, subst, ap, ◌∙◌, arith, ⊤}
+use Rattle.pie_guarantees.proofs.Names.{if◌then◌else◌, All, None, Some, nat_lt, length, ◌^◌, eqb-false, ltb-false, append-nil}
 use Rattle.pie_guarantees.proofs.Names.{append_assoc, All-cons, All-head, All-nil, All-tail, first_bad, bytes_of, arrival_deed, deed, deed_of}
 use Rattle.pie_guarantees.proofs.Names.{departure_deed, handed_in, answer_of, Choice, Enqueue, Mark, IsTaken, after_call, Held, IsSound, places}
 use Rattle.pie_guarantees.proofs.Names.{chosen, now_at, place_of, Packet, Waiting, Command, Arrive, Depart, Update, Reset, SetParams, Event, Opening}
 use Rattle.pie_guarantees.proofs.Names.{Refusal, arrival_of, call_of, departure_call, IsLegalAt, answer_to_departure, has_bad_size, is_too_soon}
-use Rattle.pie_guarantees.proofs.Names.{refusal_by_rule, refusal_with, due_after, held_after, effective_moment, waiting_after, after_command}
+use Rattle.pie_guarantees.proofs.Names.{refusal_by_rule, due_after, held_after, effective_moment, waiting_after, after_command}
 use Rattle.pie_guarantees.proofs.Names.{answer_in, call_in, waiting_next, at_place, departed-of-legal, held-is, first-shows, first_core, next-core}
 use Rattle.pie_guarantees.proofs.Names.{next-legal, IsLawful, SetsInRange}
 use Rattle.pie_aqm.proofs.Sounds.{Sound_call, Sound_opened}
@@ -14,7 +14,6 @@ use Rattle.pie_book.proofs.HistoryFacts.{effective_moment-push, waiting_after-pu
 use Rattle.pie_book.proofs.RangeFacts.{HasRoom, waiting_next-room}
 use Rattle.pie_event.specs.Opening as Opens
 use Rattle.pie_event.specs.declared.verdict.Verdict.TheVariants as verdict
-use Rattle.pie_event.specs.declared.refusal.OpenRefusal.TheVariants as open_refusal
 use Rattle.pie_event.specs.declared.refusal.Refusal.TheVariants as refusal
 use Rattle.pie_aqm.specs.Steps as Steps
 

@@ -1,5 +1,5 @@
 -- How the next probability follows the delay.
-use Rattle.pie_guarantees.proofs.Names.{◌≡◌, ◌≤◌, ◌<◌, ◌+◌, ◌*◌, ◌/◌, ◌&&◌, ◌==◌, ◌^◌, ℕ, suc, Bool, true, false, refl, arith, if◌then◌else◌, nat_lt}
+use Rattle.pie_guarantees.proofs.Names.{◌≡◌, ◌≤◌, ◌<◌, ◌+◌, ◌*◌, ◌/◌, ◌&&◌, ◌^◌, ℕ, suc, Bool, true, false, refl, arith, if◌then◌else◌}
 use Rattle.pie_guarantees.proofs.Names.{ℤ, pos, negsuc, ◌+ℤ◌, ◌-ℤ◌, ◌*ℤ◌, ◌≤ℤ◌, int_div, nat_le, int_min, nat_tests, clamps, ints, le-div, mul-le}
 use Rattle.pie_guarantees.proofs.Names.{div-mul-le_self, bounded_of, Elements, Step, is_capped, decayed, decays, next, raw_step, tuned_step}
 use Rattle.pie_guarantees.proofs.Names.{tuning_divisor, bounded_of-below, decay-below, int_div-below}
@@ -71,17 +71,15 @@ decay-less (negsuc a) = bounded_of-below (int_div (negsuc a *ℤ pos 98) (pos 10
 decay-mono : (x y : ℤ) → x ≤ℤ y → int_div (x *ℤ pos 98) (pos 100) ≤ℤ int_div (y *ℤ pos 98) (pos 100)
 decay-mono x y le = div-mono-int (x *ℤ pos 98) (y *ℤ pos 98) 100 (omega arith) (omega (arith, ints, le))
 
+-- what decays wherever more does is no more, once both are bounded
+decayed-mono : (d m : Bool) (x y : ℤ) → (m ≡ true → d ≡ true) → x ≤ℤ y → bounded_of (decayed d x) ≤ bounded_of (decayed m y)
+unfolding decayed
+decayed-mono true true x y both le = bounded-mono (int_div (x *ℤ pos 98) (pos 100)) (int_div (y *ℤ pos 98) (pos 100)) (decay-mono x y le)
+decayed-mono true false x y both le = let less = decay-less x in let more = bounded-mono x y le in omega (arith, less, more)
+decayed-mono false true x y both le = let wrong : false ≡ true = both refl in cc
+decayed-mono false false x y both le = bounded-mono x y le
+
 -- ---- the next probability
-
-sum_of : Elements → RawParams → ℕ → ℕ → ℕ → ℤ
-sum_of elements params prob delay old = pos prob +ℤ tuned_step elements.step prob (raw_step params delay old)
-
-sum-mono : (elements : Elements) (params : RawParams) (prob old delay more : ℕ) → delay ≤ more
-    → sum_of elements params prob delay old ≤ℤ sum_of elements params prob more old
-unfolding sum_of
-sum-mono elements params prob old delay more le =
-    let t = tuned-mono elements.step prob (raw_step params delay old) (raw_step params more old) (raw-mono params old delay more le) in
-    omega (arith, ints, t)
 
 -- where it decays at a delay it does so at a lower one
 decays-below : (choice : Decay) (params : RawParams) (old delay more : ℕ) → delay ≤ more → decays choice params more old ≡ true
@@ -92,29 +90,12 @@ decays-below Half params old delay more le is = grind (arith, nat_tests)
 -- a higher delay never gives a lower next probability, all else the same
 pub next_mono : (elements : Elements) (params : RawParams) (prob old delay more : ℕ) → delay ≤ more
     → next elements params prob delay old ≤ next elements params prob more old
-unfolding next decayed sum_of
+unfolding next
 next_mono elements params prob old delay more le =
-    by (decays elements.decay params delay old) (decays elements.decay params more old) (decays-below elements.decay params old delay more le)
-  where
-    x : ℤ
-    x = sum_of elements params prob delay old
-
-    y : ℤ
-    y = sum_of elements params prob more old
-
-    xy : sum_of elements params prob delay old ≤ℤ sum_of elements params prob more old
-    xy = sum-mono elements params prob old delay more le
-
-    by : (d m : Bool) → (m ≡ true → d ≡ true)
-        → bounded_of (if d then int_div (sum_of elements params prob delay old *ℤ pos 98) (pos 100) else sum_of elements params prob delay old)
-        ≤ bounded_of (if m then int_div (sum_of elements params prob more old *ℤ pos 98) (pos 100) else sum_of elements params prob more old)
-    by true true both = bounded-mono (int_div (x *ℤ pos 98) (pos 100)) (int_div (y *ℤ pos 98) (pos 100)) (decay-mono x y xy)
-    by true false both =
-        let less = decay-less x in
-        let more = bounded-mono x y xy in
-        omega (arith, less, more)
-    by false true both = let wrong : false ≡ true = both refl in cc
-    by false false both = bounded-mono x y xy
+    let t = tuned-mono elements.step prob (raw_step params delay old) (raw_step params more old) (raw-mono params old delay more le) in
+    decayed-mono (decays elements.decay params delay old) (decays elements.decay params more old)
+    (pos prob +ℤ tuned_step elements.step prob (raw_step params delay old)) (pos prob +ℤ tuned_step elements.step prob (raw_step params more old))
+    (decays-below elements.decay params old delay more le) (omega (arith, ints, t))
 
 -- ---- up and down
 

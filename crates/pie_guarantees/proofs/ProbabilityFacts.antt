@@ -2,9 +2,9 @@
 use Rattle.pie_guarantees.proofs.Names.{◌≡◌, ◌≤◌, ◌<◌, ◌+◌, ◌*◌, ◌-◌, ◌^◌, ◌⊎◌, inl, inr, ℕ, zero, suc, List, [], ◌∷◌, ◌++◌, Bool, true, false, refl}
 use Rattle.pie_guarantees.proofs.Names.{sym, ap, ◌∙◌, cond, if◌then◌else◌, arith, subst, mul-le, le_of_mul-le-mul_right, pow-suc, append-nil}
 use Rattle.pie_guarantees.proofs.Names.{append_assoc, sum_by-cons, is_capped, usual, default_profile, Elements, bytes_of, decayed, decays, next}
-use Rattle.pie_guarantees.proofs.Names.{raw_step, tuned_step, tuning_divisor, deed, deed_of, is_update, after_call, Held, held_of, anew, bytes_with}
-use Rattle.pie_guarantees.proofs.Names.{judged, in-range, Waiting, Arrival, Command, Arrive, Depart, Update, Reset, SetParams, Answer, Enqueued}
-use Rattle.pie_guarantees.proofs.Names.{Event, Opening, arrival_of, call_of, departure_call, active_after, delay_after, held_after, params_after}
+use Rattle.pie_guarantees.proofs.Names.{raw_step, tuned_step, tuning_divisor, deed, deed_of, is_update, after_call, Held, held_of}
+use Rattle.pie_guarantees.proofs.Names.{in-range, Waiting, Command, Arrive, Depart, Update, Reset, SetParams, Answer}
+use Rattle.pie_guarantees.proofs.Names.{Event, Opening, arrival_of, call_of, active_after, delay_after, held_after, params_after}
 use Rattle.pie_guarantees.proofs.Names.{waiting_after, is_reset, KeepsParams, updates_in, AllAlong, IsLawful, IsActiveUpdate, IsSteady, after_updates}
 use Rattle.pie_guarantees.proofs.Names.{old_delay_after, probability_after}
 use Rattle.pie_book.specs.Types.{RawParams}

@@ -1,22 +1,22 @@
 -- How the accumulated probability grows, and where it starts anew.
-use Rattle.pie_guarantees.proofs.Names.{◌≡◌, ◌≤◌, ◌<◌, ◌+◌, ◌*◌, ◌&&◌, ◌==◌, ℕ, List, [], ◌∷◌, ◌++◌, Bool, true, false, refl, sym, ap, ◌∙◌}
-use Rattle.pie_guarantees.proofs.Names.{if◌then◌else◌, nat_lt, nat_le, arith, subst, length, not, ◌||◌, nat_tests, append-nil, append_assoc, Elements}
-use Rattle.pie_guarantees.proofs.Names.{is_capable, bytes_of, Choice, Enqueue, Mark, Drop, counted_as, is_considered, is_picked, joined}
-use Rattle.pie_guarantees.proofs.Names.{picked_choice, Deed, deed, answer_of, after_call, Held, anew, bytes_with, chosen, judged, Packet, Waiting}
-use Rattle.pie_guarantees.proofs.Names.{Arrival, Verdict, Command, Arrive, Depart, Update, Reset, SetParams, Answer, Event, Opening, arrival_of}
+use Rattle.pie_guarantees.proofs.Names.{◌≡◌, ◌≤◌, ◌<◌, ◌+◌, ◌*◌, ◌&&◌, ℕ, List, [], ◌∷◌, ◌++◌, Bool, true, false, refl, sym, ap, ◌∙◌}
+use Rattle.pie_guarantees.proofs.Names.{if◌then◌else◌, nat_lt, arith, subst, not, nat_tests, append-nil, append_assoc, Elements}
+use Rattle.pie_guarantees.proofs.Names.{is_capable, bytes_of, Mark, Drop, counted_as, is_considered, is_picked, joined}
+use Rattle.pie_guarantees.proofs.Names.{deed, answer_of, after_call, Held, chosen, Waiting}
+use Rattle.pie_guarantees.proofs.Names.{Arrival, Verdict, Command, Arrive, Depart, Reset, Answer, Event, Opening, arrival_of}
 use Rattle.pie_guarantees.proofs.Names.{call_of, answer_by, held_after, waiting_after, is_dropped_bytes, is_dropped_packets, is_reset, AllAlong}
 use Rattle.pie_guarantees.proofs.Names.{IsLawful, IsEarly, is_early}
 use Rattle.pie_params.specs.declared.elements.Picking.{Picking}
 use Rattle.pie_params.specs.declared.elements.Picking.TheVariants.{Derandomized, Random}
 use Rattle.pie_book.specs.Shown.{arriving_size}
 use Rattle.pie_guarantees.specs.Spacing.{CountsAtLeast, CountsAtMost, GoesOn, considered_in, counted_at, had_room, was_considered}
-use Rattle.pie_event.specs.declared.verdict.Verdict.TheVariants as verdict
 use Rattle.pie_aqm.specs.Steps as Steps
 use Rattle.pie_book.specs.Estimates as Book
 use Rattle.pie_guarantees.proofs.LawfulFacts.{IsStep, sound_at, step_at}
 use Rattle.pie_guarantees.proofs.ProbabilityFacts.{elements-is}
 use Rattle.pie_guarantees.proofs.CallFacts.{after-arrival, after-verdict}
 use Rattle.pie_guarantees.proofs.EarlyFacts.{early_arrival}
+use Rattle.pie_guarantees.proofs.Names.{held_of}
 use Rattle.std.proofs.lemmas.Bool.{eqb-true}
 
 -- ---- one command
@@ -76,10 +76,8 @@ starts_anew opening before event later lawful early =
 
 q-is : (opening : Opening) (before : List Event) (event : Event)
     → q-of (held_after opening before) (arriving_size event.command) ≡ counted_at opening before event
-q-is opening before event =
-    ap (λ (e : Elements). counted_as e.size (held_after opening before).params (arriving_size event.command)
-    (held_after opening before).control.prob)
-    (elements-is opening before)
+unfolding held_after held_of
+q-is opening before event = refl
 
 grows-at : (opening : Opening) (before : List Event) (event : Event) → IsStep opening before event
     → Book.accu_after opening (before ++ event ∷ [])
@@ -154,6 +152,10 @@ far_apart most opening before between event later lawful spaced none few last ea
 
 -- ---- as long as it goes on
 
+joined-keeps : (picking : Picking) (accu q least : ℕ) → picking ≡ Derandomized → least ≤ q → accu + least ≤ joined picking accu q
+joined-keeps Derandomized accu q least spaced much = omega arith
+joined-keeps Random accu q least spaced much = cc
+
 pick-early : (a b : Bool) → is_early (answer_of (chosen (if a && b then Mark else Drop))) ≡ true
 pick-early true true = refl
 pick-early true false = refl
@@ -188,7 +190,7 @@ keeps h least waiting packets (Arrive moment packet word) spaced on some large n
     (λ active seen picked on large.
     let wrong : true ≡ false = sym (pick-early (is_capable packet.ecn) (nat_lt h.control.prob h.params.mark_ecnth)) ∙ on.unpicked in cc)
     (λ seen none on large. let much = large seen in absurd (omega (arith, much, some, eqb-true (q-of h packet.size) 0 none)))
-    (λ seen more on large. let much = large seen in rw (seen, spaced) (omega (arith, much))) on large)
+    (λ seen more on large. rw seen (joined-keeps h.elements.picking h.accu (q-of h packet.size) least spaced (large seen))) on large)
     (λ wakes still. let wrong : true ≡ false = still (off-before h.active _ wakes) in cc) no_start
   where
     a : Arrival

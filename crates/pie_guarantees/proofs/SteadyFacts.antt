@@ -1,8 +1,8 @@
 -- How far updates at one delay move the probability, by the table of auto-tuning.
-use Rattle.pie_guarantees.proofs.Names.{◌≡◌, ◌≤◌, ◌<◌, ◌+◌, ◌*◌, ◌-◌, ◌/◌, ◌&&◌, ◌==◌, ◌^◌, ℕ, zero, suc, Bool, true, false, refl, ap, ◌∙◌, arith}
-use Rattle.pie_guarantees.proofs.Names.{if◌then◌else◌, subst, min, ℤ, pos, negsuc, ◌+ℤ◌, ◌-ℤ◌, ◌*ℤ◌, ◌≤ℤ◌, int_div, nat_le, int_min, nat_tests}
+use Rattle.pie_guarantees.proofs.Names.{◌≡◌, ◌≤◌, ◌<◌, ◌+◌, ◌*◌, ◌-◌, ◌/◌, ◌^◌, ℕ, zero, suc, Bool, true, false, refl, ap, ◌∙◌, arith}
+use Rattle.pie_guarantees.proofs.Names.{subst, min, ℤ, pos, negsuc, ◌+ℤ◌, ◌-ℤ◌, ◌*ℤ◌, ◌≤ℤ◌, int_div, nat_le, int_min, nat_tests}
 use Rattle.pie_guarantees.proofs.Names.{clamps, ints, le-div, mul-le, div-mul-le_self, lt-mul-div-succ, bounded_of, default_profile, Elements, Step}
-use Rattle.pie_guarantees.proofs.Names.{is_capped, decayed, decays, next, raw_step, tuned_step, tuning_divisor, bounded_of-below, after_updates}
+use Rattle.pie_guarantees.proofs.Names.{decayed, decays, next, raw_step, tuned_step, tuning_divisor, bounded_of-below, after_updates}
 use Rattle.pie_guarantees.proofs.Names.{least_rise, untuned_fall, untuned_rise, updates_from, updates_to_a_tenth}
 use Rattle.pie_params.specs.declared.raw.RawParams.{RawParams}
 use Rattle.pie_guarantees.proofs.NextFacts.{decayed-less, divisor-some, next_down, next_up, none_decays, tuned-by}
@@ -210,11 +210,11 @@ module _ (elements : Elements) (params : RawParams) (delay : ℕ) where
           omega (arith, up, rest.0),
           omega (arith, one, rest.1, times, least),
           λ below.
-          let more = div-more (untuned_rise params delay) (tuning_divisor prob) (tuning_divisor most) (divisor-some most)
-          (divisor-falls prob most (omega (arith, up, rest.0, below))) in
-          let one = one-rise-most elements params prob delay some above in
-          let times = more-times n (untuned_rise params delay / tuning_divisor most) in
-          let later = rest.2 below in omega (arith, one, later, more, times),
+              let more = div-more (untuned_rise params delay) (tuning_divisor prob) (tuning_divisor most) (divisor-some most)
+              (divisor-falls prob most (omega (arith, up, rest.0, below))) in
+              let one = one-rise-most elements params prob delay some above in
+              let times = more-times n (untuned_rise params delay / tuning_divisor most) in
+              let later = rest.2 below in omega (arith, one, later, more, times),
         )
 
     pub rises_at_least : (n prob : ℕ) → prob ≤ 10 ^ 12 → min (10 ^ 12) (prob + n * least_rise params delay prob) ≤ after n prob
@@ -237,17 +237,17 @@ module _ (elements : Elements) (params : RawParams) (delay : ℕ) where
         let rest = falls n fall least (once prob) in (
           omega (arith, down, rest.0),
           λ some above.
-          let one = one-fall elements params prob delay below (omega (arith, some, above, rest.0)) in
-          let more = div-more (untuned_fall params delay) (tuning_divisor least) (tuning_divisor prob) (divisor-some prob)
-          (divisor-falls least prob (omega (arith, above, rest.0, down))) in
-          let times = more-times n (untuned_fall params delay / tuning_divisor least) in
-          let later = rest.1 some above in omega (arith, one, later, more, times),
+              let one = one-fall elements params prob delay below (omega (arith, some, above, rest.0)) in
+              let more = div-more (untuned_fall params delay) (tuning_divisor least) (tuning_divisor prob) (divisor-some prob)
+              (divisor-falls least prob (omega (arith, above, rest.0, down))) in
+              let times = more-times n (untuned_fall params delay / tuning_divisor least) in
+              let later = rest.1 some above in omega (arith, one, later, more, times),
           λ within still most.
-          let one = one-fall-most elements params prob delay within still below in
-          let less = div-more (untuned_fall params delay) (tuning_divisor (once prob)) (tuning_divisor prob) (divisor-some prob)
-          (divisor-falls (once prob) prob down) in
-          let times = more-times n fall in
-          let later = rest.2 (once-within prob) still (omega (arith, less, most)) in omega (arith, one, later, most, times),
+              let one = one-fall-most elements params prob delay within still below in
+              let less = div-more (untuned_fall params delay) (tuning_divisor (once prob)) (tuning_divisor prob) (divisor-some prob)
+              (divisor-falls (once prob) prob down) in
+              let times = more-times n fall in
+              let later = rest.2 (once-within prob) still (omega (arith, less, most)) in omega (arith, one, later, most, times),
         )
 
     pub stays_down : (n prob : ℕ) → after n prob ≤ prob

@@ -1,7 +1,7 @@
 -- How long a burst is let in (RFC 8033, section 4.4).
 use Rattle.std.specs.Prelude.{◌≡◌, ◌≤◌, ℕ, List, All, ⊤}
 use Rattle.pie_event.specs.Deed.{is_update}
-use Rattle.pie_book.specs.Types.{RawParams, Command, Arrive, Depart, Update, Reset, SetParams, Event, Opening}
+use Rattle.pie_book.specs.Types.{RawParams, Command, SetParams, Event, Opening}
 use Rattle.pie_book.specs.Estimates.{params_after, parts_after}
 use Rattle.pie_book.specs.Statistics.{count_of}
 

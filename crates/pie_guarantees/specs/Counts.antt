@@ -3,7 +3,7 @@ use Rattle.std.specs.Prelude.{◌≤◌, ◌*◌, ◌-◌, ◌^◌, ◌++◌, �
 use Rattle.std.specs.List.{filter_map}
 use Rattle.pie_event.specs.Deed.{Deed, deed_of, departure, marked, queued}
 use Rattle.pie_queue.specs.declared.ecn.Ecn.TheVariants.{Ce}
-use Rattle.pie_book.specs.Types.{Packet, Waiting, Command, Arrive, Depart, Update, Reset, SetParams, Event, Opening}
+use Rattle.pie_book.specs.Types.{Packet, Waiting, Command, Arrive, SetParams, Event, Opening}
 use Rattle.pie_book.specs.History.{effective_moment, waiting_after}
 
 -- the command hands in a packet

@@ -1,8 +1,8 @@
 -- What a core holds, where it shows a history, is what looking back over the history gives; and it shows the history with one event more
 -- after each command.
-use Rattle.std.proofs.Common.{◌≡◌, ◌≤◌, ◌<◌, ◌+◌, ℕ, List, [], ◌∷◌, ◌++◌, map, length, Bool, true, false, refl, ap, ◌∙◌, sym, arith, length-append}
+use Rattle.std.proofs.Common.{◌≡◌, ◌≤◌, ◌<◌, ◌+◌, ℕ, List, [], ◌∷◌, ◌++◌, map, length, true, refl, ap, ◌∙◌, sym, arith, length-append}
 use Rattle.std.proofs.lemmas.Bool.Decides.{nat_tests}
-use Rattle.std.proofs.Common.{max, None, Some, All, if◌then◌else◌, is_some, append-nil, append_assoc}
+use Rattle.std.proofs.Common.{max, None, Some, All, is_some, append-nil, append_assoc}
 use Rattle.std.proofs.lemmas.List.{map-append}
 use Rattle.std.proofs.lemmas.List.Elements.{All-cons, All-head, All-nil, All-push, All-tail}
 use Rattle.std.proofs.lemmas.List.Sums.{sum_by-append}

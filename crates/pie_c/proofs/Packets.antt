@@ -21,6 +21,7 @@ use Rattle.pie_aqm.specs.Steps.{measures}
 use Rattle.pie_rate.specs.Estimate.{Begun}
 use Rattle.pie_params.specs.declared.elements.Delay.TheVariants.{Rate, Stamp}
 use Rattle.pie_abi.specs.declared.params.PieParams.{PieParams}
+use Rattle.pie_aqm.proofs.InRange.{threshold-holds}
 use Rattle.pie_c.specs.declared.state.PieState.{PieState}
 use Rattle.pie_abi.specs.Packets.{is_bad_size}
 use Rattle.pie_c.specs.Calls.{Arrives, Leaves, Makes, arrival_refusal, departure_refusal, if_taken, kept_if_refused, moment_refusal}
@@ -58,23 +59,12 @@ pub record Opens (o : PieOpening) : Type 0 where
 
 pub opening-taken : (o : PieOpening) → opening_refusal o ≡ 0 → Opens o
 unfolding opening_refusal
-opening-taken o free =
-    by (are_in_range o.params) (nat_lt last_moment o.moment) ((o.profile == 1) || (o.profile == 2)) (nat_lt 31 o.choices)
-    (nat_lt 1 o.mode || not (book.are_in_range (limits_of o))) refl refl refl refl free
-  where
-    code : (good late known many odd : Bool) → ℕ
-    code good late known many odd =
-        if not good then 107 else if late then 101 else if not known then 113 else if many then 117 else if odd then 120 else 0
-
-    by : (good late known many odd : Bool) → are_in_range o.params ≡ good → nat_lt last_moment o.moment ≡ late
-        → ((o.profile == 1) || (o.profile == 2)) ≡ known → nat_lt 31 o.choices ≡ many
-        → code good late known many odd ≡ 0 → Opens o
-    by false late known many odd g l k m free = cc
-    by true true known many odd g l k m free = cc
-    by true false false many odd g l k m free = cc
-    by true false true true odd g l k m free = cc
-    by true false true false odd g l k m free =
-        record { params = g; moment = grind (arith, nat_tests); profile = k; choices = grind (arith, nat_tests) }
+opening-taken o free = record {
+  params = grind (arith, nat_tests);
+  moment = grind (arith, nat_tests);
+  profile = grind (arith, nat_tests);
+  choices = grind (arith, nat_tests);
+}
 
 -- what an opening says, and why it is refused
 pub says-opening : (o : PieOpening) (it : Opening) → opening_of o ≡ Ok it → (opening_refusal o ≡ 0) × (it ≡ opening_in o)
@@ -85,13 +75,8 @@ says-opening o it is = by (opening_refusal o == 0) refl is
     by true e is = (eqb-true (opening_refusal o) 0 e, cc)
     by false e is = cc
 
-threshold-in : (params : RawParams) → first_bad params ≡ None → params.dq_threshold ≤ 65536
-threshold-in params good =
-    let power : IsTrue (is_dq_threshold params.dq_threshold) = grind (arith, nat_tests) in
-    grind (arith, nat_tests, power)
-
 threshold-of : (s : PieState) → is_sound s ≡ true → s.params.dq_threshold ≤ 65536
-threshold-of s sound = let parts = parts-of s sound in threshold-in (raw_of s.params) (params-from s.params parts.params)
+threshold-of s sound = (threshold-holds (raw_of s.params) (params-from s.params (parts-of s sound).params)).1
 
 pub threshold-held : (s : PieState) → is_sound s ≡ true → (held_in s).params.dq_threshold ≤ 65536
 unfolding held_in
@@ -101,19 +86,11 @@ threshold-held s sound = threshold-of s sound
 
 -- a call that is taken handed in a moment in its range
 pub handed : (moment rest : ℕ) → (if nat_lt last_moment moment then 101 else rest) ≡ 0 → moment < 2 ^ 60
-handed moment rest = by (nat_lt last_moment moment) refl
-  where
-    by : (late : Bool) → nat_lt last_moment moment ≡ late → (if late then 101 else rest) ≡ 0 → moment < 2 ^ 60
-    by true is free = cc
-    by false is free = grind (arith, nat_tests)
+handed moment rest free = grind (arith, nat_tests)
 
 pub departed-moment : (size left moment rest : ℕ) → unless_refused (packet_refusal size left moment) rest ≡ 0 → moment < 2 ^ 60
 unfolding packet_refusal
-departed-moment size left moment rest = by (nat_lt last_moment moment) refl
-  where
-    by : (late : Bool) → nat_lt last_moment moment ≡ late → unless_refused (packet_refusal size left moment) rest ≡ 0 → moment < 2 ^ 60
-    by true is free = let none : 101 ≡ 0 = rw is at free in cc
-    by false is free = grind (arith, nat_tests)
+departed-moment size left moment rest free = grind (arith, nat_tests)
 
 module _ (s t : PieState) (call : Call) (refusal : ℕ) (keeps : KeepsSound) (looks : LooksBack) (sound : is_sound s ≡ true)
     (left : t ≡ kept_if_refused refusal s (after_call (held_in s) call)) where

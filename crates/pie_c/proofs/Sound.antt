@@ -229,22 +229,18 @@ state-held s sound =
 pub kept-by : (s : PieState) (h : Held) (f : PieState → PieState) → is_sound s ≡ true → f (state_of (held_in s)) ≡ state_of h → f s ≡ state_of h
 kept-by s h f sound is = ap f (sym (state-held s sound)) ∙ is
 
-pub kept-updated : (s : PieState) (h : Held) → is_sound s ≡ true
-    → h ≡ record (held_in s) { moment = h.moment; active = h.active; control = h.control }
-    → record s {
-      moment = h.moment;
-      prob = h.control.prob;
-      old_delay = h.control.old_delay;
-      burst = h.control.burst;
-      last = h.control.last;
-      active = flag h.active;
-    } ≡ state_of h
-unfolding state_of
-kept-updated s h sound is = kept-by s h (λ (t : PieState). record t {
+-- .. as an update changes it
+abbrev pub with_update : PieState → Held → PieState
+with_update s h = record s {
   moment = h.moment;
   prob = h.control.prob;
   old_delay = h.control.old_delay;
   burst = h.control.burst;
   last = h.control.last;
   active = flag h.active;
-}) sound (sym (ap state_of is))
+}
+
+pub kept-updated : (s : PieState) (h : Held) → is_sound s ≡ true
+    → h ≡ record (held_in s) { moment = h.moment; active = h.active; control = h.control } → with_update s h ≡ state_of h
+unfolding state_of
+kept-updated s h sound is = kept-by s h (λ (t : PieState). with_update t h) sound (sym (ap state_of is))

@@ -113,39 +113,19 @@ adds-by refusal before after told false noted set same adds so otherwise is = re
   adds = λ all one taken tells holds. absurd (otherwise refl taken);
 }
 
--- ---- a refusal's number is above all answers
-
-abbrev refusal_by : Bool → Bool → Bool → Bool → ℕ
-refusal_by a b c d = if a then 101 else if b then 102 else if c then 111 else if d then 112 else 0
-
-pub arrival-code : (queued size ecn moment : ℕ) → (arrival_refusal queued size ecn moment ≡ 0 → ⊥) → 100 < arrival_refusal queued size ecn moment
-unfolding arrival_refusal
-arrival-code queued size ecn moment refused =
-    tests (nat_lt last_moment moment) (is_bad_size size) (nat_lt 3 ecn) (nat_lt (2 ^ 30) queued) refused
-  where
-    tests : (a b c d : Bool) → (refusal_by a b c d ≡ 0 → ⊥)
-        → 100 < refusal_by a b c d
-    tests true b c d r = omega arith
-    tests false false false false r = absurd (r refl)
-    tests _ _ _ _ r = omega arith
+-- ---- what an answer says of the refusal
 
 -- a number that can't be other than 0
 zero-or : (n : ℕ) → ((n ≡ 0 → ⊥) → ⊥) → n ≡ 0
 zero-or zero otherwise = refl
 zero-or (suc n) otherwise = absurd (otherwise (λ e. omega (arith, e)))
 
--- a call that is refused answers by the refusal
-refused-answer : (refusal number answer : ℕ) → answer ≡ unless_refused refusal number → (refusal ≡ 0 → ⊥) → answer ≡ refusal
-refused-answer refusal number answer is r = is ∙ ap (λ (b : Bool). if b then number else refusal) (ne_eqb refusal 0 r)
-
--- .. so an answer that is a verdict says that the call was taken, and no other
+-- an answer that is a verdict says that the call was taken, and no other
 pub arrival-taken-by : (queued size ecn moment answer : ℕ) (verdict : Verdict)
     → answer ≡ unless_refused (arrival_refusal queued size ecn moment) (verdict_number verdict) → nat_le answer 4 ≡ true
     → arrival_refusal queued size ecn moment ≡ 0
-arrival-taken-by queued size ecn moment answer verdict is few =
-    let small : answer ≤ 4 = grind (arith, nat_tests, few) in
-    let refusal : ℕ = arrival_refusal queued size ecn moment in
-    zero-or refusal (λ r. omega (arith, arrival-code queued size ecn moment r, refused-answer refusal (verdict_number verdict) answer is r, small))
+unfolding arrival_refusal
+arrival-taken-by queued size ecn moment answer verdict is few = grind (arith, nat_tests)
 
 pub arrival-refused-by : (refusal answer : ℕ) (verdict : Verdict) → answer ≡ unless_refused refusal (verdict_number verdict)
     → nat_le answer 4 ≡ false → refusal ≡ 0 → ⊥
@@ -179,16 +159,9 @@ arrival-place refusal answer verdict is taken =
     small a v same few = omega (arith, same, few)
 
 -- a departure that found no packet is answered by 5, which is no refusal
-abbrev late_by : Bool → ℕ
-late_by late = if late then 101 else 0
-
 pub none-taken : (moment answer : ℕ) → answer ≡ unless_refused (moment_refusal moment) 5 → (answer == 5) ≡ true → moment_refusal moment ≡ 0
 unfolding moment_refusal
-none-taken moment answer is so = tests (nat_lt last_moment moment) (sym is ∙ eqb-true answer 5 so)
-  where
-    tests : (late : Bool) → unless_refused (late_by late) 5 ≡ 5 → late_by late ≡ 0
-    tests true e = absurd (omega (arith, e))
-    tests false e = refl
+none-taken moment answer is so = grind (arith, nat_tests)
 
 pub none-refused : (moment answer : ℕ) → answer ≡ unless_refused (moment_refusal moment) 5 → (answer == 5) ≡ false → moment_refusal moment ≡ 0 → ⊥
 none-refused moment answer is otherwise taken =

@@ -68,12 +68,7 @@ opening-taken o free = record {
 
 -- what an opening says, and why it is refused
 pub says-opening : (o : PieOpening) (it : Opening) → opening_of o ≡ Ok it → (opening_refusal o ≡ 0) × (it ≡ opening_in o)
-says-opening o it is = by (opening_refusal o == 0) refl is
-  where
-    by : (free : Bool) → (opening_refusal o == 0) ≡ free → (if free then Ok (opening_in o) else Err (opening_refusal o)) ≡ Ok it
-        → (opening_refusal o ≡ 0) × (it ≡ opening_in o)
-    by true e is = (eqb-true (opening_refusal o) 0 e, cc)
-    by false e is = cc
+says-opening o it is = (grind (arith, nat_tests), grind (arith, nat_tests))
 
 threshold-of : (s : PieState) → is_sound s ≡ true → s.params.dq_threshold ≤ 65536
 threshold-of s sound = (threshold-holds (raw_of s.params) (params-from s.params (parts-of s sound).params)).1
@@ -221,40 +216,16 @@ departed-after s t size left since moment refusal is sound =
 pub rate-after : (s t : PieState) (size left moment : ℕ)
     → t ≡ if_taken (departure_refusal s size left moment) s (with_rate s (departed (capped (held_in s)) size left 0 moment))
     → t ≡ if_taken (departure_refusal s size left moment) s (with_departure s (departed (capped (held_in s)) size left 0 moment))
-rate-after s t size left moment is = is ∙ by (takes_stamps s) refl (packet_refusal size left moment)
-  where
-    by : (stamps : Bool) → takes_stamps s ≡ stamps → (n : ℕ)
-        → if_taken (unless_refused n (if takes_stamps s then 119 else 0)) s (with_rate s (departed (capped (held_in s)) size left 0 moment))
-        ≡ if_taken (unless_refused n (if takes_stamps s then 119 else 0)) s (with_departure s (departed (capped (held_in s)) size left 0 moment))
-    by true e n = rw e (split (n == 0) refl)
-      where
-        split : (free : Bool) → (n == 0) ≡ free
-            → if_taken (unless_refused n 119) s (with_rate s (departed (capped (held_in s)) size left 0 moment))
-            ≡ if_taken (unless_refused n 119) s (record s { moment = (departed (capped (held_in s)) size left 0 moment).moment; waited = (departed (capped (held_in s)) size left 0 moment).waited })
-        split true f = rw f refl
-        split false f = rw (f, f) refl
-    by false e n = ap (λ (u : PieState). if_taken (unless_refused n (if takes_stamps s then 119 else 0)) s u) (by-rate s size left 0 moment e)
+rate-after s t size left moment is = grind (arith, nat_tests, by-rate s size left 0 moment)
 
 -- a packet that leaves the open cycle open changes its count and the moment alone
-counted-at : (stamps active begun : Bool) (threshold size start n count : ℕ)
-    → (if measures active (if stamps then Stamp else Rate) then count_below threshold size (if begun then Some (record { start = start; count = n }) else None) else None) ≡ Some count
-    → (stamps ≡ false) × (begun ≡ true) × (size < threshold)
-counted-at true active begun threshold size start n count is = cc
-counted-at false false begun threshold size start n count is = cc
-counted-at false true false threshold size start n count is = cc
-counted-at false true true threshold size start n count is = (refl, refl, by (nat_lt (n + size) threshold) refl is)
-  where
-    by : (few : Bool) → nat_lt (n + size) threshold ≡ few → (if few then Some (n + size) else None) ≡ Some count → size < threshold
-    by true e is = grind (arith, nat_tests)
-    by false e is = cc
-
 abbrev pub cycle_limit : PieState → ℕ
 cycle_limit s = min s.params.dq_threshold 65536
 
 pub counted-facts : (s : PieState) (size count : ℕ) → count_kept_open (held_in s) size ≡ Some count
     → (takes_stamps s ≡ false) × ((s.measuring == 1) ≡ true) × (size < cycle_limit s)
 unfolding held_in count_kept_open elements_of
-counted-facts s size count kept = counted-at (takes_stamps s) (s.active == 1) (s.measuring == 1) (cycle_limit s) size s.cycle_start s.cycle_count count kept
+counted-facts s size count kept = (grind (arith, nat_tests), grind (arith, nat_tests), grind (arith, nat_tests))
 
 pub counted-state : (s : PieState) (h : Held) (size moment count : ℕ) → (s.measuring == 1) ≡ true
     → h ≡ with_count (capped (held_in s)) count moment
@@ -263,23 +234,10 @@ unfolding held_in
 counted-state s h size moment count begun is = rw (is, begun, sym (eqb-true s.measuring 1 begun)) refl
 
 -- .. and one that meets no cycle and opens none the moment
-open_at : (few : Bool) (o : Option Begun) → o ≡ None → (is_none o && few) ≡ true → few ≡ true
-open_at few o e is = rw e at is
-
-unmeasured-at : (stamps active begun few : Bool) (start count : ℕ) (o : Option Begun)
-    → o ≡ (if begun then Some (record { start = start; count = count }) else None)
-    → (measures active (if stamps then Stamp else Rate) && is_none o && few) ≡ true → (stamps ≡ false) × (begun ≡ false) × (few ≡ true)
-unmeasured-at true active begun few start count o e is = cc
-unmeasured-at false false begun few start count o e is = cc
-unmeasured-at false true false few start count o e is = (refl, refl, open_at few o e is)
-unmeasured-at false true true few start count o e is = let not : is_none o ≡ false = ap is_none e in cc
-
 pub unmeasured-facts : (s : PieState) (left : ℕ) → is_unmeasured (held_in s) left ≡ true
     → (takes_stamps s ≡ false) × ((s.measuring == 1) ≡ false) × (nat_lt left (cycle_limit s) ≡ true)
 unfolding held_in is_unmeasured elements_of
-unmeasured-facts s left none =
-    unmeasured-at (takes_stamps s) (s.active == 1) (s.measuring == 1) (nat_lt left (cycle_limit s)) s.cycle_start s.cycle_count
-    (if s.measuring == 1 then Some (record { start = s.cycle_start; count = s.cycle_count }) else None) refl none
+unmeasured-facts s left none = (grind (arith, nat_tests), grind (arith, nat_tests), grind (arith, nat_tests))
 
 pub unmeasured-state : (s : PieState) (h : Held) (moment : ℕ) → (s.measuring == 1) ≡ false → h ≡ passed (capped (held_in s)) moment
     → record s { moment = max s.moment moment; measuring = 0; cycle_start = 0; cycle_count = 0 } ≡ with_rate s h
@@ -308,11 +266,7 @@ kept-later s t a b moment h g at held after same =
     rw (is, at) refl
 
 arrived-moment : (h : Held) (a : Arrival) (moment : ℕ) → (arrived h a moment).moment ≡ max h.moment moment
-arrived-moment h a moment = by (turns_on h (bytes_with (verdict h a) a.queued a.size))
-  where
-    by : (on : Bool) → (if on then record (anew (judged h a moment)) { active = true } else judged h a moment).moment ≡ max h.moment moment
-    by true = refl
-    by false = refl
+arrived-moment h a moment = grind (arith, nat_tests)
 
 pub moment-later : (t : PieState) (a : Arrival) (h g : Held) → h ≡ held_in t → g ≡ arrived h a t.moment → g.moment ≡ t.moment
 unfolding held_in

@@ -115,11 +115,6 @@ adds-by refusal before after told false noted set same adds so otherwise is = re
 
 -- ---- what an answer says of the refusal
 
--- a number that can't be other than 0
-zero-or : (n : ℕ) → ((n ≡ 0 → ⊥) → ⊥) → n ≡ 0
-zero-or zero otherwise = refl
-zero-or (suc n) otherwise = absurd (otherwise (λ e. omega (arith, e)))
-
 -- an answer that is a verdict says that the call was taken, and no other
 pub arrival-taken-by : (queued size ecn moment answer : ℕ) (verdict : Verdict)
     → answer ≡ unless_refused (arrival_refusal queued size ecn moment) (verdict_number verdict) → nat_le answer 4 ≡ true
@@ -129,18 +124,14 @@ arrival-taken-by queued size ecn moment answer verdict is few = grind (arith, na
 
 pub arrival-refused-by : (refusal answer : ℕ) (verdict : Verdict) → answer ≡ unless_refused refusal (verdict_number verdict)
     → nat_le answer 4 ≡ false → refusal ≡ 0 → ⊥
-arrival-refused-by refusal answer verdict is many taken =
-    let number : answer ≡ verdict_number verdict = is ∙ ap (λ (r : ℕ). unless_refused r (verdict_number verdict)) taken in
-    let above : 4 < answer = grind (arith, nat_tests, many) in
-    omega (arith, number, above, verdict-few verdict)
+arrival-refused-by refusal answer verdict is many taken = grind (arith, nat_tests, verdict-few verdict)
 
 -- a call that answers its refusal
 pub done-taken : (refusal answer : ℕ) → answer ≡ refusal → (answer == 0) ≡ true → refusal ≡ 0
 done-taken refusal answer is so = sym is ∙ eqb-true answer 0 so
 
 pub done-refused : (refusal answer : ℕ) → answer ≡ refusal → (answer == 0) ≡ false → refusal ≡ 0 → ⊥
-done-refused refusal answer is otherwise taken = let zero_there : (answer == 0) ≡ true = eq-eqb answer 0 (is ∙ taken) in
-    false≢true (sym otherwise ∙ zero_there)
+done-refused refusal answer is otherwise taken = grind (arith, nat_tests)
 
 -- an arrival that is taken is answered by a verdict
 pub arrival-few : (refusal answer : ℕ) (verdict : Verdict) → answer ≡ unless_refused refusal (verdict_number verdict) → refusal ≡ 0 → answer ≤ 4
@@ -153,10 +144,8 @@ pub arrival-place : (refusal answer : ℕ) (verdict : Verdict) → answer ≡ un
     → min answer 8 ≡ answer_place (answer_of verdict)
 arrival-place refusal answer verdict is taken =
     let number : answer ≡ verdict_number verdict = is ∙ ap (λ (r : ℕ). unless_refused r (verdict_number verdict)) taken in
-    small answer (verdict_number verdict) number (verdict-few verdict) ∙ verdict-place verdict
-  where
-    small : (a v : ℕ) → a ≡ v → v ≤ 4 → min a 8 ≡ v
-    small a v same few = omega (arith, same, few)
+    let same : min answer 8 ≡ verdict_number verdict = omega (arith, number, verdict-few verdict) in
+    same ∙ verdict-place verdict
 
 -- a departure that found no packet is answered by 5, which is no refusal
 pub none-taken : (moment answer : ℕ) → answer ≡ unless_refused (moment_refusal moment) 5 → (answer == 5) ≡ true → moment_refusal moment ≡ 0
@@ -164,33 +153,16 @@ unfolding moment_refusal
 none-taken moment answer is so = grind (arith, nat_tests)
 
 pub none-refused : (moment answer : ℕ) → answer ≡ unless_refused (moment_refusal moment) 5 → (answer == 5) ≡ false → moment_refusal moment ≡ 0 → ⊥
-none-refused moment answer is otherwise taken =
-    let five : answer ≡ 5 = is ∙ ap (λ (r : ℕ). unless_refused r 5) taken in
-    false≢true (sym otherwise ∙ eq-eqb answer 5 five)
+none-refused moment answer is otherwise taken = grind (arith, nat_tests)
 
 -- an update's answer is 0 where it was made
-abbrev coded : PieState → ℕ → ℕ → Bool → Bool → PieUpdated
-coded state queued moment a b =
-    if a then updated_with 0 (delay_answered (held_in state) queued) (updated (held_in state) queued moment)
-    else if b then updated_with 103 state.old_delay (held_in state)
-    else nothing_updated (update_refusal state queued moment)
-
 pub update-taken : (state : PieState) (queued moment answer : ℕ) → answer ≡ (updated_by state queued moment).code → (answer == 0) ≡ true
     → update_refusal state queued moment ≡ 0
-update-taken state queued moment answer is so =
-    let refusal : ℕ = update_refusal state queued moment in
-    zero-or refusal (λ r. by (refusal == 0) (refusal == 103) (ne_eqb refusal 0 r) r (sym is ∙ eqb-true answer 0 so))
-  where
-    by : (a b : Bool) → a ≡ false → (update_refusal state queued moment ≡ 0 → ⊥) → (coded state queued moment a b).code ≡ 0 → ⊥
-    by true b otherwise r e = false≢true (sym otherwise)
-    by false true otherwise r e = omega (arith, e)
-    by false false otherwise r e = r e
+update-taken state queued moment answer is so = grind (arith, nat_tests)
 
 pub update-refused : (state : PieState) (queued moment answer : ℕ) → answer ≡ (updated_by state queued moment).code → (answer == 0) ≡ false
     → update_refusal state queued moment ≡ 0 → ⊥
-update-refused state queued moment answer is otherwise taken =
-    let made : (updated_by state queued moment).code ≡ 0 = rw taken refl in
-    false≢true (sym otherwise ∙ eq-eqb answer 0 (is ∙ made))
+update-refused state queued moment answer is otherwise taken = grind (arith, nat_tests)
 
 -- ---- what is told is what is explained
 

@@ -27,11 +27,7 @@ use Rattle.pie_c.specs.State.{is_sound}
 
 -- lost events stand for none
 lost-none : (e : PieEvent) → (e.kind == 6) ≡ true → event_of e ≡ None
-lost-none e is = by (is_event e) (rw (eqb-true e.kind 6 is) refl)
-  where
-    by : (can : Bool) → event_by e ≡ None → (if can then event_by e else None) ≡ None
-    by true none = none
-    by false none = refl
+lost-none e is = grind (arith, nat_tests)
 
 event-written : (k : Kept) (e : Event) → stands_for k ≡ Some e → written_text k ≡ text_of (event_row e)
 event-written k e = by (k.event.kind == 5)

@@ -45,10 +45,7 @@ use Rattle.pie_c.proofs.Sound.{state-sound}
 pub departure-taken : (s : PieState) (size left moment : ℕ) → moment ≤ last_moment → is_bad_size size ≡ false → left ≤ 2 ^ 30
     → takes_stamps s ≡ false → departure_refusal s size left moment ≡ 0
 unfolding packet_refusal
-departure-taken s size left moment m good q rate =
-    let early : nat_lt last_moment moment ≡ false = grind (arith, nat_tests) in
-    let few : nat_lt (2 ^ 30) left ≡ false = grind (arith, nat_tests) in
-    rw (early, good, few, rate) refl
+departure-taken s size left moment m good q rate = grind (arith, nat_tests)
 
 -- what an opening says that nothing refuses
 pub record Opens (o : PieOpening) : Type 0 where
@@ -142,12 +139,10 @@ untouched s a refusal moment code is some = rw (← is) record {
 -- ---- the state after it
 
 not-both : (b : Bool) → (b && not b) ≡ false
-not-both true = refl
-not-both false = refl
+not-both b = grind (arith, nat_tests)
 
 on-alone : (b c : Bool) → (not b && c) ≡ true → (true && not b) ≡ true
-on-alone true c e = cc
-on-alone false c e = refl
+on-alone b c e = grind (arith, nat_tests)
 
 pub registers-state : (s : PieState) (h : Held) → h.params ≡ raw_of s.params → profile_number h.profile ≡ s.profile → choices_of h.elements ≡ s.choices
     → with_registers s h ≡ state_of h
@@ -313,5 +308,4 @@ opened-state s o opens =
     (by (o.profile == 2) refl opens.profile) (choices-back o.choices opens.choices)
   where
     by : (two : Bool) → (o.profile == 2) ≡ two → ((o.profile == 1) || (o.profile == 2)) ≡ true → profile_number (if two then Two else One) ≡ o.profile
-    by true is known = grind (arith, nat_tests)
-    by false is known = grind (arith, nat_tests)
+    by two is known = grind (arith, nat_tests)

@@ -30,17 +30,7 @@ lost-none : (e : PieEvent) → (e.kind == 6) ≡ true → event_of e ≡ None
 lost-none e is = grind (arith, nat_tests)
 
 event-written : (k : Kept) (e : Event) → stands_for k ≡ Some e → written_text k ≡ text_of (event_row e)
-event-written k e = by (k.event.kind == 5)
-  where
-    six : (lost : Bool) → (k.event.kind == 6) ≡ lost → event_of k.event ≡ Some e
-        → (if lost then lost_in k.event else event_text (event_of k.event)) ≡ text_of (event_row e)
-    six true s is = let none = lost-none k.event s in cc
-    six false s is = ap event_text is
-
-    by : (five : Bool) → (if five then change_of k.event k.params else event_of k.event) ≡ Some e
-        → (if five then event_text (change_of k.event k.params) else text_in k.event) ≡ text_of (event_row e)
-    by true is = ap event_text is
-    by false is = six (k.event.kind == 6) refl is
+event-written k e is = grind (arith, nat_tests, lost-none k.event)
 
 events-written : (kept : List Kept) (events : List Event) → map stands_for kept ≡ map Some events
     → flat_map written_text kept ≡ flat_map text_of (map event_row events)

@@ -1,7 +1,6 @@
 -- What the calls for each packet leave of a sound state is what the controller then holds.
-use Rattle.std.proofs.Common.{◌≡◌, ℕ, ◌+◌, ◌≤◌, ◌<◌, ◌^◌, ◌==◌, ◌&&◌, ◌||◌, not, max, min, if◌then◌else◌, nat_lt, Bool, true, false, List, [], ◌∷◌, Option, Some, None, is_none, Ok, Err}
+use Rattle.std.proofs.Common.{◌≡◌, ℕ, ◌≤◌, ◌<◌, ◌^◌, ◌==◌, ◌&&◌, ◌||◌, not, max, min, if◌then◌else◌, nat_lt, Bool, true, false, List, [], ◌∷◌, Some, Ok}
 use Rattle.std.proofs.Common.{◌++◌, arith, refl, sym, ap, ◌∙◌}
-use Rattle.std.specs.Prelude.{IsTrue}
 use Rattle.std.proofs.lemmas.Bool.{eqb-true}
 use Rattle.std.proofs.lemmas.Bool.Decides.{nat_tests}
 use Rattle.pie_aqm.specs.declared.verdict.Arrival.{Arrival}
@@ -11,26 +10,22 @@ use Rattle.pie_aqm.specs.Calls.{Call, Depart, IsTaken, after_call, shown_by}
 use Rattle.pie_aqm.specs.Events.{ControllerEvent, Opened}
 use Rattle.pie_params.specs.declared.raw.RawParams.{RawParams}
 use Rattle.pie_params.specs.Range.{first_bad, is_dq_threshold}
+use Rattle.std.specs.Prelude.{IsTrue, None}
 use Rattle.pie_event.specs.declared.profile.Profile.TheVariants.{One, Two}
 use Rattle.pie_aqm.specs.Held.{Held}
 use Rattle.pie_aqm.specs.History.{Shows}
-use Rattle.pie_aqm.specs.Steps.{anew, accu_left, arrived, bytes_with, capped, changed, count_below, count_kept_open, departed, is_unmeasured}
+use Rattle.pie_aqm.specs.Steps.{anew, accu_left, arrived, bytes_with, capped, changed, count_kept_open, departed, is_unmeasured}
 use Rattle.pie_aqm.specs.Steps.{cause, judged, opened, passed, reset, turns_on, verdict, with_count}
 use Rattle.pie_event.specs.CauseName.{name_of, place_of_cause}
-use Rattle.pie_aqm.specs.Steps.{measures}
-use Rattle.pie_rate.specs.Estimate.{Begun}
-use Rattle.pie_params.specs.declared.elements.Delay.TheVariants.{Rate, Stamp}
 use Rattle.pie_abi.specs.declared.params.PieParams.{PieParams}
-use Rattle.pie_aqm.proofs.InRange.{threshold-holds}
 use Rattle.pie_c.specs.declared.state.PieState.{PieState}
 use Rattle.pie_abi.specs.Packets.{is_bad_size}
-use Rattle.pie_c.specs.Calls.{Arrives, Leaves, Makes, arrival_refusal, departure_refusal, if_taken, kept_if_refused, moment_refusal}
+use Rattle.pie_c.specs.Calls.{Arrives, Leaves, Makes, departure_refusal, if_taken, kept_if_refused}
 use Rattle.pie_c.specs.Laws.{KeepsSound, LooksBack}
-use Rattle.pie_c.specs.Calls.{packet_refusal, params_refusal, reset_refusal, unless_refused}
+use Rattle.pie_c.specs.Calls.{packet_refusal, unless_refused}
 use Rattle.pie_abi.specs.declared.opening.PieOpening.{PieOpening}
-use Rattle.pie_event.specs.Opening as book
 use Rattle.pie_event.specs.declared.opening.Opening.{Opening}
-use Rattle.pie_abi.specs.Opening.{limits_of, opening_in, opening_of, opening_refusal}
+use Rattle.pie_abi.specs.Opening.{opening_in, opening_of, opening_refusal}
 use Rattle.pie_c.specs.Opening.{held_by_opening}
 use Rattle.pie_abi.specs.Params.{params_of, raw_of}
 use Rattle.pie_abi.specs.Choices.{choices_of, elements_of, last_moment, profile_number, profile_of}
@@ -67,8 +62,13 @@ opening-taken o free = record {
 pub says-opening : (o : PieOpening) (it : Opening) → opening_of o ≡ Ok it → (opening_refusal o ≡ 0) × (it ≡ opening_in o)
 says-opening o it is = (grind (arith, nat_tests), grind (arith, nat_tests))
 
+threshold-in : (params : RawParams) → first_bad params ≡ None → params.dq_threshold ≤ 65536
+threshold-in params good =
+    let power : IsTrue (is_dq_threshold params.dq_threshold) = grind (arith, nat_tests) in
+    grind (arith, nat_tests, power)
+
 threshold-of : (s : PieState) → is_sound s ≡ true → s.params.dq_threshold ≤ 65536
-threshold-of s sound = (threshold-holds (raw_of s.params) (params-from s.params (parts-of s sound).params)).1
+threshold-of s sound = threshold-in (raw_of s.params) (params-from s.params (parts-of s sound).params)
 
 pub threshold-held : (s : PieState) → is_sound s ≡ true → (held_in s).params.dq_threshold ≤ 65536
 unfolding held_in

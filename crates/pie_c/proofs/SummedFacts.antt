@@ -1,12 +1,12 @@
 -- What the calls that sum up add to a period.
-use Rattle.std.proofs.Common.{◌≡◌, ◌≤◌, ◌<◌, ◌^◌, min, ◌==◌, arith, ℕ, Bool, true, false, nat_lt, nat_le, List, [], ◌∷◌, ◌++◌, refl, sym, ap, ◌∙◌, subst, suc, zero}
+use Rattle.std.proofs.Common.{◌≡◌, ◌≤◌, min, ◌==◌, arith, ℕ, Bool, true, false, nat_le, List, [], ◌∷◌, ◌++◌, refl, sym, ap, ◌∙◌, subst}
 use Rattle.std.specs.Prelude.{Option, if◌then◌else◌}
-use Rattle.std.proofs.lemmas.Bool.{eq-eqb, eqb-true, false≢true, ne_eqb}
+use Rattle.std.proofs.lemmas.Bool.{eqb-true}
 use Rattle.std.proofs.lemmas.Bool.Decides.{nat_tests}
 use Rattle.pie_event.specs.declared.cause.Cause.{Cause}
 use Rattle.pie_event.specs.declared.command.Event.{Event}
 use Rattle.pie_event.specs.declared.verdict.Verdict.{Verdict}
-use Rattle.pie_event.specs.declared.verdict.Verdict.TheVariants.{Enqueued, Marked, DroppedEarly, DroppedBytes, DroppedPackets}
+use Rattle.pie_event.specs.declared.verdict.Verdict.TheVariants.{Enqueued}
 use Rattle.pie_event.specs.Verdict.{answer_of}
 use Rattle.pie_record.specs.declared.clock.Clock.{Clock}
 use Rattle.pie_explain.specs.declared.explanation.Explained.{Explained}
@@ -15,15 +15,12 @@ use Rattle.pie_summary.specs.declared.noted.Met.{Met}
 use Rattle.pie_summary.specs.declared.noted.Noted.{Noted}
 use Rattle.pie_summary.specs.Live.{Holds, IsSet, Meets, clock_of, noted_of}
 use Rattle.pie_summary.specs.Sums.{answer_place}
-use Rattle.pie_abi.specs.Choices.{last_moment}
-use Rattle.pie_abi.specs.Packets.{is_bad_size, verdict_number}
+use Rattle.pie_abi.specs.Packets.{verdict_number}
 use Rattle.pie_c.specs.declared.state.PieState.{PieState}
-use Rattle.pie_c.specs.declared.updated.PieUpdated.{PieUpdated}
 use Rattle.pie_c.specs.Calls.{arrival_refusal, if_taken, moment_refusal, unless_refused, update_refusal}
-use Rattle.pie_c.specs.Calls.{nothing_updated, updated_by, updated_with}
+use Rattle.pie_c.specs.Calls.{updated_by}
 use Rattle.pie_c.specs.State.{held_in, takes_stamps, with_departure, with_rate}
 use Rattle.pie_aqm.specs.Held.{Held}
-use Rattle.pie_aqm.specs.Steps.{delay_answered, updated}
 use Rattle.pie_c.specs.Summed.{Adds, Tells}
 use Rattle.pie_book.specs.Cause.{cause_after}
 use Rattle.pie_book.specs.Estimates.{held_after}

@@ -1,12 +1,11 @@
 -- What is written of packets that wait and of events is their records.
-use Rattle.std.proofs.Common.{◌≡◌, ℕ, suc, ◌==◌, ◌++◌, List, [], ◌∷◌, Bool, true, false, Some, None, if◌then◌else◌, ap, refl, arith}
+use Rattle.std.proofs.Common.{◌≡◌, ℕ, suc, ◌==◌, ◌++◌, List, [], ◌∷◌, true, false, Some, None, refl, arith}
 use Rattle.std.specs.Prelude.{All, map, nat_le}
 use Rattle.std.specs.List.{flat_map}
-use Rattle.std.proofs.lemmas.Bool.{eqb-true}
 use Rattle.std.proofs.lemmas.Bool.Decides.{nat_tests}
 use Rattle.std.proofs.lemmas.Grind.{flat_map-append}
 use Rattle.pie_queue.specs.declared.ecn.Ecn.{Ecn}
-use Rattle.pie_queue.specs.declared.ecn.Ecn.TheVariants.{NotEct, Ect1, Ect0, Ce}
+use Rattle.pie_queue.specs.declared.ecn.Ecn.TheVariants.{NotEct}
 use Rattle.pie_queue.specs.declared.packet.Waiting.{Waiting}
 use Rattle.pie_event.specs.declared.command.Event.{Event}
 use Rattle.pie_book.specs.History.{waiting_after}
@@ -19,7 +18,7 @@ use Rattle.pie_abi.specs.declared.opening.PieOpening.{PieOpening}
 use Rattle.pie_abi.specs.declared.stats.PieStats.{PieStats}
 use Rattle.pie_c.specs.declared.state.PieState.{PieState}
 use Rattle.pie_abi.specs.Packets.{is_bad_size}
-use Rattle.pie_c.specs.Events.{Kept, change_of, event_by, event_of, event_text, is_event, lost_in, opening_text, stands_for, text_in, written_text}
+use Rattle.pie_c.specs.Events.{Kept, event_of, opening_text, stands_for, written_text}
 use Rattle.pie_abi.specs.Opening.{opening_in, opening_of, opening_refusal}
 use Rattle.pie_c.specs.Resuming.{CanWait, ecn_number, is_standing, queued_text, resume_of, resume_text, set_by_of, standing_in, waiting_text}
 use Rattle.pie_abi.specs.Choices.{last_moment}

@@ -1,9 +1,9 @@
 -- What one more call does to what each part holds, whichever list it shows.
-use Rattle.std.proofs.Common.{◌≡◌, ◌≤◌, ◌+◌, ◌&&◌, ℕ, List, [], ◌∷◌, ◌++◌, Bool, true, false, refl, if◌then◌else◌}
+use Rattle.std.proofs.Common.{◌≡◌, ◌+◌, ◌&&◌, ℕ, List, [], ◌∷◌, ◌++◌, Bool, true, false, refl, if◌then◌else◌}
 use Rattle.std.specs.Prelude.{nat_lt}
 use Rattle.pie_rate.specs.Average.{average, samples}
 use Rattle.pie_rate.specs.Cycles.{begun, cycles, cycles_from, first_opening, first_position}
-use Rattle.pie_aqm.specs.{Estimate, Picking, Choice, Enqueue, Mark, Drop, Arrival, considered_where, verdict_shown, accu_left, chosen, no_estimate}
+use Rattle.pie_aqm.specs.{Picking, Choice, Enqueue, Arrival, considered_where, verdict_shown, accu_left, chosen, no_estimate}
 use Rattle.pie_aqm.specs.{offered, verdict}
 use Rattle.pie_aqm.specs.Held.{Held}
 use Rattle.pie_rate.specs.Estimate as Rate

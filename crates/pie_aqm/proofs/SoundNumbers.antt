@@ -1,5 +1,5 @@
 -- No number of a controller can't be believed exactly where all are sound.
-use Rattle.std.proofs.Common.{◌≡◌, ◌≤◌, ◌<◌, ◌^◌, ◌∙◌, ℕ, zero, suc, Bool, true, false, refl, arith, ◌↔◌, ap, sym, not, List, [], ◌∷◌, find, slice_get}
+use Rattle.std.proofs.Common.{◌≡◌, ◌^◌, ◌∙◌, ℕ, zero, suc, Bool, true, false, refl, arith, ◌↔◌, ap, sym, not, List, [], ◌∷◌, find, slice_get}
 use Rattle.std.specs.Prelude.{Option, Some, None, is_none}
 use Rattle.std.proofs.lemmas.Bool.{le-leb, leb-true, lt-ltb, ltb-true}
 use Rattle.pie_params.specs.Range.{first_bad}

@@ -1,7 +1,7 @@
 -- What a controller holds stays sound at each call.
 use Rattle.std.proofs.Common.{◌≡◌, ◌≤◌, ◌<◌, ◌+◌, ◌-◌, ◌^◌, ◌==◌, ◌&&◌, ℕ, ℤ, pos, negsuc, ◌+ℤ◌, Bool, true, false, refl, ap, subst, sym, arith}
 use Rattle.std.proofs.Common.{if◌then◌else◌}
-use Rattle.std.specs.Prelude.{max, min, nat_lt, Option, Some, None}
+use Rattle.std.specs.Prelude.{max, nat_lt, Option, Some, None}
 use Rattle.std.proofs.lemmas.Bool.Decides.{nat_tests}
 use Rattle.pie_fixed.specs.Fixed.{bounded_of}
 use Rattle.pie_aqm.specs.Types.{RawParams, Elements, Delay, Rate, Stamp, departure, Begun, Estimate, Parts, Profile, One, Two, Arrival}
@@ -10,7 +10,7 @@ use Rattle.pie_rate.specs.Average.{averaged, with_sample}
 use Rattle.pie_rate.specs.Step.{after_departure, step_from}
 use Rattle.pie_control.specs.Delay.{delay_of}
 use Rattle.pie_control.specs.Next.{decayed, decays, next, raw_step, tuned_step}
-use Rattle.pie_early.specs.Decision.{accu_after, counted}
+use Rattle.pie_early.specs.Decision.{counted}
 use Rattle.pie_early.proofs.Arrivals.{accu_below}
 use Rattle.pie_aqm.specs.Calls.{Arrive, Call, Change, Depart, IsTaken, Pass, Restart, Update, after_call}
 use Rattle.pie_aqm.specs.Held.{Held, IsSound, IsWithin}
@@ -23,8 +23,11 @@ use Rattle.pie_aqm.proofs.InRange.{in-range, threshold-holds}
 pub accu-small : (h : Held) (a : Arrival) → h.accu < 8_500_000_000_000 → accu_left h a < 8_500_000_000_000
 unfolding accu_left
 accu-small h a small =
-    grind (arith, nat_tests,
-    accu_below h.elements.picking h.params h.control (counted h.elements h.params h.control (offered a)) a.queued a.word h.accu small)
+    grind (
+      arith,
+      nat_tests,
+      accu_below h.elements.picking h.params h.control (counted h.elements h.params h.control (offered a)) a.queued a.word h.accu small,
+    )
 
 -- ---- the departure rate
 

@@ -1,11 +1,12 @@
 -- What a core holds, where it shows a history, is what looking back over the history gives; and it shows the history with one event more
 -- after each command.
-use Rattle.std.proofs.Common.{◌≡◌, ◌≤◌, ◌<◌, ◌+◌, ℕ, List, [], ◌∷◌, ◌++◌, map, length, Bool, true, false, refl, ap, ◌∙◌, sym, arith, length-append}
-use Rattle.std.proofs.Common.{max, None, Some, All, if◌then◌else◌, is_some, append-nil, append_assoc}
+use Rattle.std.proofs.Common.{◌≡◌, ◌≤◌, ◌<◌, ◌+◌, ℕ, List, [], ◌∷◌, ◌++◌, map, length, true, refl, ap, ◌∙◌, sym, arith, length-append}
+use Rattle.std.proofs.lemmas.Bool.Decides.{nat_tests}
+use Rattle.std.proofs.Common.{max, None, Some, All, is_some, append-nil, append_assoc}
 use Rattle.std.proofs.lemmas.List.{map-append}
 use Rattle.std.proofs.lemmas.List.Elements.{All-cons, All-head, All-nil, All-push, All-tail}
 use Rattle.std.proofs.lemmas.List.Sums.{sum_by-append}
-use Rattle.pie_book.specs.{Packet, Waiting, One, Verdict, Held, Command, Arrive, Depart, Answer, Enqueued, Event, Opening, opened_by}
+use Rattle.pie_book.specs.{Arrival, Packet, Waiting, One, Verdict, Held, Command, Arrive, Depart, Answer, Enqueued, Event, Opening, opened_by}
 use Rattle.pie_book.specs.{arrival_of, departure_call, cause_after, CoreView, Shows, closed, counted, refusal_of, registers_of, with_queue, IsLegal}
 use Rattle.pie_book.specs.{IsLegalAt, answer_by, answer_to_departure, decision, refusal_by_rule, refusal_with, active_after, delay_after}
 use Rattle.pie_book.specs.{delay_answered, held_after, admitted, bytes_after, departed_count, effective_moment, waiting_after, registers_after}
@@ -176,17 +177,11 @@ command-shown core now (Depart moment) = by core.waiting
 command-shown core now _ = refl
 
 -- the effective moment after a call
-moment-next : (core : CoreView) (command : Command) → (after_call core.held (call_in core command)).moment ≡ now_at core.held (handed_in command)
-moment-next core (Arrive moment packet word) =
-    by (Steps.turns_on core.held (bytes_with (Steps.verdict core.held (arrival_of core.waiting core.packets packet word))
-    (bytes_of core.waiting) packet.size))
-  where
-    judgement : Held
-    judgement = judged core.held (arrival_of core.waiting core.packets packet word) moment
+arrived-moment : (h : Held) (a : Arrival) (moment : ℕ) → (Steps.arrived h a moment).moment ≡ max h.moment moment
+arrived-moment h a moment = grind (arith, nat_tests)
 
-    by : (on : Bool) → (if on then record (anew judgement) { active = true } else judgement).moment ≡ max core.held.moment moment
-    by true = refl
-    by false = refl
+moment-next : (core : CoreView) (command : Command) → (after_call core.held (call_in core command)).moment ≡ now_at core.held (handed_in command)
+moment-next core (Arrive moment packet word) = arrived-moment core.held (arrival_of core.waiting core.packets packet word) moment
 moment-next core (Depart moment) = by core.waiting
   where
     by : (waiting : List Waiting) → (after_call core.held (departure_call waiting moment)).moment ≡ max core.held.moment moment

@@ -1,5 +1,6 @@
 -- What one more event at the end of a history does to the moment and the packets that wait.
-use Rattle.std.proofs.Common.{◌≡◌, ◌≤◌, ◌<◌, ◌+◌, ◌-◌, ℕ, List, [], ◌∷◌, ◌++◌, map, length, drop, Bool, true, false, cond, refl, sym, ap, ◌∙◌, arith}
+use Rattle.std.proofs.Common.{◌≡◌, ◌≤◌, ◌<◌, ◌+◌, ◌-◌, ℕ, List, [], ◌∷◌, ◌++◌, map, length, drop, Bool, true, cond, sym, ap, ◌∙◌, arith}
+use Rattle.std.proofs.lemmas.Bool.Decides.{nat_tests}
 use Rattle.std.proofs.Common.{length-append, max, Option, Some, None, is_some, filter_map, drop-drop, length-drop}
 use Rattle.std.proofs.lemmas.List.{map-append, drop-append-le}
 use Rattle.std.proofs.lemmas.List.Sums.{sum_by_push}
@@ -66,5 +67,4 @@ departed-push opening history event fewer waits =
     longer (Some entry) = let more = length-append (admitted opening history) (entry ∷ []) in omega (arith, more)
 
     by : (b : Bool) (n a more : ℕ) → (b ≡ true → 0 < a - n) → n ≤ a → a ≤ more → n + cond b 1 0 ≤ more
-    by true n a more some within up = let least = some refl in omega arith
-    by false n a more some within up = omega arith
+    by b n a more some within up = grind (arith, nat_tests)

@@ -1,5 +1,6 @@
 -- Each legal history is shown by a core that made its commands, one after another.
-use Rattle.std.proofs.Common.{◌≡◌, ℕ, List, [], ◌∷◌, ◌++◌, Bool, true, false, refl, sym, subst, ap, ◌∙◌, if◌then◌else◌, All, None}
+use Rattle.std.proofs.Common.{arith, ◌≡◌, ℕ, List, [], ◌∷◌, ◌++◌, refl, sym, subst, ap, ◌∙◌, All, None}
+use Rattle.std.proofs.lemmas.Bool.Decides.{nat_tests}
 use Rattle.std.proofs.lemmas.List.{append-nil, append_assoc}
 use Rattle.std.proofs.lemmas.List.Elements.{All-head, All-tail}
 use Rattle.pie_params.specs.Range.{first_bad}
@@ -31,11 +32,7 @@ first-shows opening = Shows-opened opening (first_core opening) refl refl refl r
 -- ---- parameters stay in their ranges
 
 params-arrived : (h : Held) (a : Arrival) (moment : ℕ) → (Steps.arrived h a moment).params ≡ h.params
-params-arrived h a moment = by (Steps.turns_on h (bytes_with (Steps.verdict h a) a.queued a.size))
-  where
-    by : (on : Bool) → (if on then record (anew (judged h a moment)) { active = true } else judged h a moment).params ≡ h.params
-    by true = refl
-    by false = refl
+params-arrived h a moment = grind (arith, nat_tests)
 
 pub good-next : (core : CoreView) (command : Command) → first_bad core.held.params ≡ None → CommandFits command
     → first_bad (after_call core.held (call_in core command)).params ≡ None

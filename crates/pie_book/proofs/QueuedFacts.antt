@@ -1,8 +1,7 @@
 -- The packets that wait after a legal history are taken, one by one, by a core that goes on from what they wait at.
-use Rattle.std.proofs.Common.{◌≡◌, ◌≤◌, ◌<◌, ◌+◌, ◌-◌, ◌==◌, ℕ, suc, List, [], ◌∷◌, ◌++◌, length, false, refl, sym, subst, ap, ◌∙◌, arith}
-use Rattle.std.proofs.Common.{length-append, All, None, nat_lt, slice_get, le-ltb}
+use Rattle.std.proofs.Common.{◌≡◌, ◌≤◌, ◌<◌, ◌+◌, ◌-◌, ℕ, suc, List, [], ◌∷◌, ◌++◌, length, false, sym, subst, ap, ◌∙◌, arith}
+use Rattle.std.proofs.Common.{length-append, All, None, slice_get}
 use Rattle.std.specs.Option.{option_map_or}
-use Rattle.std.proofs.lemmas.Bool.{lt-leb}
 use Rattle.std.proofs.lemmas.Bool.Decides.{nat_tests}
 use Rattle.std.proofs.lemmas.List.Elements.{All-cons, All-head, All-nil, All-tail}
 use Rattle.std.proofs.lemmas.List.Sums.{sum_by-append, sum_by-cons}
@@ -82,19 +81,8 @@ next_is_taken opening standing history before next after good fit stands is =
     let early : next.since ≤ standing.controller.moment = omega (arith, arrived, stands.shows.moment) in
     let ordered = newest-by before next.since (before-next before next after whole.order) in
     let size = (at-next WaitingHolds before next after whole.packets).size in
-    rw (
-      lt-leb standing.packets (length before) room,
-      size-good next.packet.size size,
-      le-ltb standing.bytes (bytes_of before + next.packet.size) fits,
-      le-ltb standing.controller.moment next.since early,
-      le-ltb next.since (newest_since before) ordered,
-    ) refl
+    grind (arith, nat_tests, room, size-good next.packet.size size, fits, early, ordered)
 
 pub none_is_missed : (opening : Opening) (standing : Standing) (history : List Event) → StandsFor opening standing history
     → end_refusal (begun_with (core_of opening.limits standing (waiting_after opening history)) standing) ≡ None
-none_is_missed opening standing history stands =
-    let all : nat_lt (length (waiting_after opening history)) standing.packets ≡ false =
-    le-ltb (length (waiting_after opening history)) standing.packets (omega (arith, stands.packets)) in
-    let whole : nat_lt (bytes_of (waiting_after opening history)) standing.bytes ≡ false =
-    le-ltb (bytes_of (waiting_after opening history)) standing.bytes (omega (arith, stands.bytes)) in
-    rw (all, whole) refl
+none_is_missed opening standing history stands = grind (arith, nat_tests, stands.packets, stands.bytes)

@@ -1,5 +1,6 @@
 -- What one more event at the end of a history does to the statistics.
 use Rattle.std.proofs.Common.{◌≡◌, ℕ, ◌+◌, List, [], ◌∷◌, ◌++◌, map, Bool, true, false, cond, refl, ap, ◌∙◌, arith, max, Option, Some, None}
+use Rattle.std.proofs.lemmas.Bool.Decides.{nat_tests}
 use Rattle.std.proofs.Common.{if◌then◌else◌, sum_by, is_some, filter_map}
 use Rattle.std.specs.Option.{option_map_or}
 use Rattle.std.proofs.lemmas.List.{map-append}
@@ -13,8 +14,7 @@ use Rattle.pie_aqm.proofs.Places.{place_of, places-push, from_places-push, great
 
 -- one more, where there is one
 more_of : (b : Bool) (n m : ℕ) → n + cond b m 0 ≡ (if b then n + m else n)
-more_of true n m = refl
-more_of false n m = let e : n + 0 ≡ n = omega arith in e
+more_of b n m = grind (arith, nat_tests)
 
 count_of-push : (test : Deed → Bool) (history : List Event) (event : Event)
     → count_of test (history ++ event ∷ []) ≡ (if test (deed_of event) then count_of test history + 1 else count_of test history)

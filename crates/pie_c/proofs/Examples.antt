@@ -1,5 +1,5 @@
 -- The definitions on worked rows: each theorem computes.
-use Rattle.std.proofs.Common.{◌≡◌, ℕ, ◌+◌, ◌^◌, ◌-◌, true, false, refl}
+use Rattle.std.proofs.Common.{◌≡◌, ◌+◌, ◌^◌, ◌-◌, true, false, refl}
 use Rattle.pie_control.specs.Delay.{delay_of}
 use Rattle.pie_control.specs.Next.{raw_step, tuning_divisor, tuned_step, decayed, next}
 use Rattle.pie_early.specs.Decision.{is_considered, is_picked}
@@ -15,7 +15,6 @@ use Rattle.pie_event.specs.declared.profile.Profile.TheVariants.{One}
 use Rattle.pie_aqm.specs.Held.{Held}
 use Rattle.pie_aqm.specs.Steps.{accu_left, arrived, capped, departed, opened, updated, verdict}
 use Rattle.pie_c.specs.Calls.{arrival_of, arrival_refusal, packet_refusal, waited_refusal, departure_refusal, moment_refusal, reset_refusal, state_refusal}
-use Rattle.pie_abi.specs.Packets.{verdict_number}
 use Rattle.pie_c.specs.Calls.{update_refusal}
 use Rattle.pie_abi.specs.Opening.{opening_refusal}
 use Rattle.pie_c.specs.Opening.{default_opening}

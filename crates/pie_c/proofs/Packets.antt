@@ -1,7 +1,6 @@
 -- What the calls for each packet leave of a sound state is what the controller then holds.
-use Rattle.std.proofs.Common.{◌≡◌, ℕ, ◌+◌, ◌≤◌, ◌<◌, ◌^◌, ◌==◌, ◌&&◌, ◌||◌, not, max, min, if◌then◌else◌, nat_lt, Bool, true, false, List, [], ◌∷◌, Option, Some, None, is_none, Ok, Err}
+use Rattle.std.proofs.Common.{◌≡◌, ℕ, ◌≤◌, ◌<◌, ◌^◌, ◌==◌, ◌&&◌, ◌||◌, not, max, min, if◌then◌else◌, nat_lt, Bool, true, false, List, [], ◌∷◌, Some, Ok}
 use Rattle.std.proofs.Common.{◌++◌, arith, refl, sym, ap, ◌∙◌}
-use Rattle.std.specs.Prelude.{IsTrue}
 use Rattle.std.proofs.lemmas.Bool.{eqb-true}
 use Rattle.std.proofs.lemmas.Bool.Decides.{nat_tests}
 use Rattle.pie_aqm.specs.declared.verdict.Arrival.{Arrival}
@@ -11,25 +10,22 @@ use Rattle.pie_aqm.specs.Calls.{Call, Depart, IsTaken, after_call, shown_by}
 use Rattle.pie_aqm.specs.Events.{ControllerEvent, Opened}
 use Rattle.pie_params.specs.declared.raw.RawParams.{RawParams}
 use Rattle.pie_params.specs.Range.{first_bad, is_dq_threshold}
+use Rattle.std.specs.Prelude.{IsTrue, None}
 use Rattle.pie_event.specs.declared.profile.Profile.TheVariants.{One, Two}
 use Rattle.pie_aqm.specs.Held.{Held}
 use Rattle.pie_aqm.specs.History.{Shows}
-use Rattle.pie_aqm.specs.Steps.{anew, accu_left, arrived, bytes_with, capped, changed, count_below, count_kept_open, departed, is_unmeasured}
+use Rattle.pie_aqm.specs.Steps.{anew, accu_left, arrived, bytes_with, capped, changed, count_kept_open, departed, is_unmeasured}
 use Rattle.pie_aqm.specs.Steps.{cause, judged, opened, passed, reset, turns_on, verdict, with_count}
 use Rattle.pie_event.specs.CauseName.{name_of, place_of_cause}
-use Rattle.pie_aqm.specs.Steps.{measures}
-use Rattle.pie_rate.specs.Estimate.{Begun}
-use Rattle.pie_params.specs.declared.elements.Delay.TheVariants.{Rate, Stamp}
 use Rattle.pie_abi.specs.declared.params.PieParams.{PieParams}
 use Rattle.pie_c.specs.declared.state.PieState.{PieState}
 use Rattle.pie_abi.specs.Packets.{is_bad_size}
-use Rattle.pie_c.specs.Calls.{Arrives, Leaves, Makes, arrival_refusal, departure_refusal, if_taken, kept_if_refused, moment_refusal}
+use Rattle.pie_c.specs.Calls.{Arrives, Leaves, Makes, departure_refusal, if_taken, kept_if_refused}
 use Rattle.pie_c.specs.Laws.{KeepsSound, LooksBack}
-use Rattle.pie_c.specs.Calls.{packet_refusal, params_refusal, reset_refusal, unless_refused}
+use Rattle.pie_c.specs.Calls.{packet_refusal, unless_refused}
 use Rattle.pie_abi.specs.declared.opening.PieOpening.{PieOpening}
-use Rattle.pie_event.specs.Opening as book
 use Rattle.pie_event.specs.declared.opening.Opening.{Opening}
-use Rattle.pie_abi.specs.Opening.{limits_of, opening_in, opening_of, opening_refusal}
+use Rattle.pie_abi.specs.Opening.{opening_in, opening_of, opening_refusal}
 use Rattle.pie_c.specs.Opening.{held_by_opening}
 use Rattle.pie_abi.specs.Params.{params_of, raw_of}
 use Rattle.pie_abi.specs.Choices.{choices_of, elements_of, last_moment, profile_number, profile_of}
@@ -44,10 +40,7 @@ use Rattle.pie_c.proofs.Sound.{state-sound}
 pub departure-taken : (s : PieState) (size left moment : ℕ) → moment ≤ last_moment → is_bad_size size ≡ false → left ≤ 2 ^ 30
     → takes_stamps s ≡ false → departure_refusal s size left moment ≡ 0
 unfolding packet_refusal
-departure-taken s size left moment m good q rate =
-    let early : nat_lt last_moment moment ≡ false = grind (arith, nat_tests) in
-    let few : nat_lt (2 ^ 30) left ≡ false = grind (arith, nat_tests) in
-    rw (early, good, few, rate) refl
+departure-taken s size left moment m good q rate = grind (arith, nat_tests)
 
 -- what an opening says that nothing refuses
 pub record Opens (o : PieOpening) : Type 0 where
@@ -58,32 +51,16 @@ pub record Opens (o : PieOpening) : Type 0 where
 
 pub opening-taken : (o : PieOpening) → opening_refusal o ≡ 0 → Opens o
 unfolding opening_refusal
-opening-taken o free =
-    by (are_in_range o.params) (nat_lt last_moment o.moment) ((o.profile == 1) || (o.profile == 2)) (nat_lt 31 o.choices)
-    (nat_lt 1 o.mode || not (book.are_in_range (limits_of o))) refl refl refl refl free
-  where
-    code : (good late known many odd : Bool) → ℕ
-    code good late known many odd =
-        if not good then 107 else if late then 101 else if not known then 113 else if many then 117 else if odd then 120 else 0
-
-    by : (good late known many odd : Bool) → are_in_range o.params ≡ good → nat_lt last_moment o.moment ≡ late
-        → ((o.profile == 1) || (o.profile == 2)) ≡ known → nat_lt 31 o.choices ≡ many
-        → code good late known many odd ≡ 0 → Opens o
-    by false late known many odd g l k m free = cc
-    by true true known many odd g l k m free = cc
-    by true false false many odd g l k m free = cc
-    by true false true true odd g l k m free = cc
-    by true false true false odd g l k m free =
-        record { params = g; moment = grind (arith, nat_tests); profile = k; choices = grind (arith, nat_tests) }
+opening-taken o free = record {
+  params = grind (arith, nat_tests);
+  moment = grind (arith, nat_tests);
+  profile = grind (arith, nat_tests);
+  choices = grind (arith, nat_tests);
+}
 
 -- what an opening says, and why it is refused
 pub says-opening : (o : PieOpening) (it : Opening) → opening_of o ≡ Ok it → (opening_refusal o ≡ 0) × (it ≡ opening_in o)
-says-opening o it is = by (opening_refusal o == 0) refl is
-  where
-    by : (free : Bool) → (opening_refusal o == 0) ≡ free → (if free then Ok (opening_in o) else Err (opening_refusal o)) ≡ Ok it
-        → (opening_refusal o ≡ 0) × (it ≡ opening_in o)
-    by true e is = (eqb-true (opening_refusal o) 0 e, cc)
-    by false e is = cc
+says-opening o it is = (grind (arith, nat_tests), grind (arith, nat_tests))
 
 threshold-in : (params : RawParams) → first_bad params ≡ None → params.dq_threshold ≤ 65536
 threshold-in params good =
@@ -91,7 +68,7 @@ threshold-in params good =
     grind (arith, nat_tests, power)
 
 threshold-of : (s : PieState) → is_sound s ≡ true → s.params.dq_threshold ≤ 65536
-threshold-of s sound = let parts = parts-of s sound in threshold-in (raw_of s.params) (params-from s.params parts.params)
+threshold-of s sound = threshold-in (raw_of s.params) (params-from s.params (parts-of s sound).params)
 
 pub threshold-held : (s : PieState) → is_sound s ≡ true → (held_in s).params.dq_threshold ≤ 65536
 unfolding held_in
@@ -101,19 +78,11 @@ threshold-held s sound = threshold-of s sound
 
 -- a call that is taken handed in a moment in its range
 pub handed : (moment rest : ℕ) → (if nat_lt last_moment moment then 101 else rest) ≡ 0 → moment < 2 ^ 60
-handed moment rest = by (nat_lt last_moment moment) refl
-  where
-    by : (late : Bool) → nat_lt last_moment moment ≡ late → (if late then 101 else rest) ≡ 0 → moment < 2 ^ 60
-    by true is free = cc
-    by false is free = grind (arith, nat_tests)
+handed moment rest free = grind (arith, nat_tests)
 
 pub departed-moment : (size left moment rest : ℕ) → unless_refused (packet_refusal size left moment) rest ≡ 0 → moment < 2 ^ 60
 unfolding packet_refusal
-departed-moment size left moment rest = by (nat_lt last_moment moment) refl
-  where
-    by : (late : Bool) → nat_lt last_moment moment ≡ late → unless_refused (packet_refusal size left moment) rest ≡ 0 → moment < 2 ^ 60
-    by true is free = let none : 101 ≡ 0 = rw is at free in cc
-    by false is free = grind (arith, nat_tests)
+departed-moment size left moment rest free = grind (arith, nat_tests)
 
 module _ (s t : PieState) (call : Call) (refusal : ℕ) (keeps : KeepsSound) (looks : LooksBack) (sound : is_sound s ≡ true)
     (left : t ≡ kept_if_refused refusal s (after_call (held_in s) call)) where
@@ -170,12 +139,10 @@ untouched s a refusal moment code is some = rw (← is) record {
 -- ---- the state after it
 
 not-both : (b : Bool) → (b && not b) ≡ false
-not-both true = refl
-not-both false = refl
+not-both b = grind (arith, nat_tests)
 
 on-alone : (b c : Bool) → (not b && c) ≡ true → (true && not b) ≡ true
-on-alone true c e = cc
-on-alone false c e = refl
+on-alone b c e = grind (arith, nat_tests)
 
 pub registers-state : (s : PieState) (h : Held) → h.params ≡ raw_of s.params → profile_number h.profile ≡ s.profile → choices_of h.elements ≡ s.choices
     → with_registers s h ≡ state_of h
@@ -244,40 +211,16 @@ departed-after s t size left since moment refusal is sound =
 pub rate-after : (s t : PieState) (size left moment : ℕ)
     → t ≡ if_taken (departure_refusal s size left moment) s (with_rate s (departed (capped (held_in s)) size left 0 moment))
     → t ≡ if_taken (departure_refusal s size left moment) s (with_departure s (departed (capped (held_in s)) size left 0 moment))
-rate-after s t size left moment is = is ∙ by (takes_stamps s) refl (packet_refusal size left moment)
-  where
-    by : (stamps : Bool) → takes_stamps s ≡ stamps → (n : ℕ)
-        → if_taken (unless_refused n (if takes_stamps s then 119 else 0)) s (with_rate s (departed (capped (held_in s)) size left 0 moment))
-        ≡ if_taken (unless_refused n (if takes_stamps s then 119 else 0)) s (with_departure s (departed (capped (held_in s)) size left 0 moment))
-    by true e n = rw e (split (n == 0) refl)
-      where
-        split : (free : Bool) → (n == 0) ≡ free
-            → if_taken (unless_refused n 119) s (with_rate s (departed (capped (held_in s)) size left 0 moment))
-            ≡ if_taken (unless_refused n 119) s (record s { moment = (departed (capped (held_in s)) size left 0 moment).moment; waited = (departed (capped (held_in s)) size left 0 moment).waited })
-        split true f = rw f refl
-        split false f = rw (f, f) refl
-    by false e n = ap (λ (u : PieState). if_taken (unless_refused n (if takes_stamps s then 119 else 0)) s u) (by-rate s size left 0 moment e)
+rate-after s t size left moment is = grind (arith, nat_tests, by-rate s size left 0 moment)
 
 -- a packet that leaves the open cycle open changes its count and the moment alone
-counted-at : (stamps active begun : Bool) (threshold size start n count : ℕ)
-    → (if measures active (if stamps then Stamp else Rate) then count_below threshold size (if begun then Some (record { start = start; count = n }) else None) else None) ≡ Some count
-    → (stamps ≡ false) × (begun ≡ true) × (size < threshold)
-counted-at true active begun threshold size start n count is = cc
-counted-at false false begun threshold size start n count is = cc
-counted-at false true false threshold size start n count is = cc
-counted-at false true true threshold size start n count is = (refl, refl, by (nat_lt (n + size) threshold) refl is)
-  where
-    by : (few : Bool) → nat_lt (n + size) threshold ≡ few → (if few then Some (n + size) else None) ≡ Some count → size < threshold
-    by true e is = grind (arith, nat_tests)
-    by false e is = cc
-
 abbrev pub cycle_limit : PieState → ℕ
 cycle_limit s = min s.params.dq_threshold 65536
 
 pub counted-facts : (s : PieState) (size count : ℕ) → count_kept_open (held_in s) size ≡ Some count
     → (takes_stamps s ≡ false) × ((s.measuring == 1) ≡ true) × (size < cycle_limit s)
 unfolding held_in count_kept_open elements_of
-counted-facts s size count kept = counted-at (takes_stamps s) (s.active == 1) (s.measuring == 1) (cycle_limit s) size s.cycle_start s.cycle_count count kept
+counted-facts s size count kept = (grind (arith, nat_tests), grind (arith, nat_tests), grind (arith, nat_tests))
 
 pub counted-state : (s : PieState) (h : Held) (size moment count : ℕ) → (s.measuring == 1) ≡ true
     → h ≡ with_count (capped (held_in s)) count moment
@@ -286,23 +229,10 @@ unfolding held_in
 counted-state s h size moment count begun is = rw (is, begun, sym (eqb-true s.measuring 1 begun)) refl
 
 -- .. and one that meets no cycle and opens none the moment
-open_at : (few : Bool) (o : Option Begun) → o ≡ None → (is_none o && few) ≡ true → few ≡ true
-open_at few o e is = rw e at is
-
-unmeasured-at : (stamps active begun few : Bool) (start count : ℕ) (o : Option Begun)
-    → o ≡ (if begun then Some (record { start = start; count = count }) else None)
-    → (measures active (if stamps then Stamp else Rate) && is_none o && few) ≡ true → (stamps ≡ false) × (begun ≡ false) × (few ≡ true)
-unmeasured-at true active begun few start count o e is = cc
-unmeasured-at false false begun few start count o e is = cc
-unmeasured-at false true false few start count o e is = (refl, refl, open_at few o e is)
-unmeasured-at false true true few start count o e is = let not : is_none o ≡ false = ap is_none e in cc
-
 pub unmeasured-facts : (s : PieState) (left : ℕ) → is_unmeasured (held_in s) left ≡ true
     → (takes_stamps s ≡ false) × ((s.measuring == 1) ≡ false) × (nat_lt left (cycle_limit s) ≡ true)
 unfolding held_in is_unmeasured elements_of
-unmeasured-facts s left none =
-    unmeasured-at (takes_stamps s) (s.active == 1) (s.measuring == 1) (nat_lt left (cycle_limit s)) s.cycle_start s.cycle_count
-    (if s.measuring == 1 then Some (record { start = s.cycle_start; count = s.cycle_count }) else None) refl none
+unmeasured-facts s left none = (grind (arith, nat_tests), grind (arith, nat_tests), grind (arith, nat_tests))
 
 pub unmeasured-state : (s : PieState) (h : Held) (moment : ℕ) → (s.measuring == 1) ≡ false → h ≡ passed (capped (held_in s)) moment
     → record s { moment = max s.moment moment; measuring = 0; cycle_start = 0; cycle_count = 0 } ≡ with_rate s h
@@ -331,11 +261,7 @@ kept-later s t a b moment h g at held after same =
     rw (is, at) refl
 
 arrived-moment : (h : Held) (a : Arrival) (moment : ℕ) → (arrived h a moment).moment ≡ max h.moment moment
-arrived-moment h a moment = by (turns_on h (bytes_with (verdict h a) a.queued a.size))
-  where
-    by : (on : Bool) → (if on then record (anew (judged h a moment)) { active = true } else judged h a moment).moment ≡ max h.moment moment
-    by true = refl
-    by false = refl
+arrived-moment h a moment = grind (arith, nat_tests)
 
 pub moment-later : (t : PieState) (a : Arrival) (h g : Held) → h ≡ held_in t → g ≡ arrived h a t.moment → g.moment ≡ t.moment
 unfolding held_in
@@ -382,5 +308,4 @@ opened-state s o opens =
     (by (o.profile == 2) refl opens.profile) (choices-back o.choices opens.choices)
   where
     by : (two : Bool) → (o.profile == 2) ≡ two → ((o.profile == 1) || (o.profile == 2)) ≡ true → profile_number (if two then Two else One) ≡ o.profile
-    by true is known = grind (arith, nat_tests)
-    by false is known = grind (arith, nat_tests)
+    by two is known = grind (arith, nat_tests)

@@ -77,25 +77,11 @@ unfolding is_choice_sound
 choice-to s k w = grind (arith, nat_tests)
 
 -- the choices may be looked at first
-with-true : (x : Bool) → (x && true) ≡ x
-with-true true = refl
-with-true false = refl
-
-with-false : (x : Bool) → (x && false) ≡ false
-with-false true = refl
-with-false false = refl
-
-turned : (a b c d e f g : Bool) → (a && b && c && d && e && f && g) ≡ (g && a && b && c && d && e && f)
-turned a b c d e f true = with-true (a && b && c && d && e && f)
-turned a b c d e f false = with-false (a && b && c && d && e && f)
-
 pub choice_first : (s : PieState) → is_sound s
     ≡ (is_choice_sound s && are_in_range s.params && nat_le s.moment last_moment && is_control_sound s && nat_lt s.accu 8_500_000_000_000
     && is_rate_sound s && is_activity_sound s)
 unfolding is_sound
-choice_first s =
-    turned (are_in_range s.params) (nat_le s.moment last_moment) (is_control_sound s) (nat_lt s.accu 8_500_000_000_000) (is_rate_sound s)
-    (is_activity_sound s) (is_choice_sound s)
+choice_first s = grind (arith, nat_tests)
 
 sound-by : (s : PieState) → are_in_range s.params ≡ true → s.moment ≤ last_moment → is_control_sound s ≡ true → s.accu < 8_500_000_000_000
     → is_rate_sound s ≡ true → is_activity_sound s ≡ true → is_choice_sound s ≡ true → is_sound s ≡ true
@@ -151,8 +137,7 @@ rate-to t (Some cycle) a f s c w = let from = w.0 in let below = w.1 in grind (a
 
 one-at : (b : Bool) (s : PieState) → (s.profile == 2) ≡ b → is_activity_sound s ≡ true → (if b then Two else One) ≡ One → (s.active == 1) ≡ true
 unfolding is_activity_sound
-one-at true s e h one = cc
-one-at false s e h one = grind (arith, nat_tests)
+one-at b s e h one = grind (arith, nat_tests)
 
 activity-to : (s : PieState) (profile : Profile) (active : Bool) → s.profile ≡ profile_number profile → s.active ≡ flag active
     → (profile ≡ One → active ≡ true) → is_activity_sound s ≡ true
@@ -193,13 +178,11 @@ state-sound h sound =
 
 pub profile-back : (b : Bool) (s : PieState) → (s.profile == 2) ≡ b → is_activity_sound s ≡ true → profile_number (if b then Two else One) ≡ s.profile
 unfolding is_activity_sound
-profile-back true s e h = grind (arith, nat_tests)
-profile-back false s e h = grind (arith, nat_tests)
+profile-back b s e h = grind (arith, nat_tests)
 
 active-back : (b : Bool) (s : PieState) → (s.active == 1) ≡ b → is_activity_sound s ≡ true → flag b ≡ s.active
 unfolding is_activity_sound
-active-back true s e h = grind (arith, nat_tests)
-active-back false s e h = grind (arith, nat_tests)
+active-back b s e h = grind (arith, nat_tests)
 
 record CycleBack (s : PieState) (o : Option Begun) : Type 0 where
   flag : flag_of o ≡ s.measuring
@@ -229,22 +212,18 @@ state-held s sound =
 pub kept-by : (s : PieState) (h : Held) (f : PieState → PieState) → is_sound s ≡ true → f (state_of (held_in s)) ≡ state_of h → f s ≡ state_of h
 kept-by s h f sound is = ap f (sym (state-held s sound)) ∙ is
 
-pub kept-updated : (s : PieState) (h : Held) → is_sound s ≡ true
-    → h ≡ record (held_in s) { moment = h.moment; active = h.active; control = h.control }
-    → record s {
-      moment = h.moment;
-      prob = h.control.prob;
-      old_delay = h.control.old_delay;
-      burst = h.control.burst;
-      last = h.control.last;
-      active = flag h.active;
-    } ≡ state_of h
-unfolding state_of
-kept-updated s h sound is = kept-by s h (λ (t : PieState). record t {
+-- .. as an update changes it
+abbrev pub with_update : PieState → Held → PieState
+with_update s h = record s {
   moment = h.moment;
   prob = h.control.prob;
   old_delay = h.control.old_delay;
   burst = h.control.burst;
   last = h.control.last;
   active = flag h.active;
-}) sound (sym (ap state_of is))
+}
+
+pub kept-updated : (s : PieState) (h : Held) → is_sound s ≡ true
+    → h ≡ record (held_in s) { moment = h.moment; active = h.active; control = h.control } → with_update s h ≡ state_of h
+unfolding state_of
+kept-updated s h sound is = kept-by s h (λ (t : PieState). with_update t h) sound (sym (ap state_of is))

@@ -1,12 +1,12 @@
 -- What the calls that sum up add to a period.
-use Rattle.std.proofs.Common.{◌≡◌, ◌≤◌, ◌<◌, ◌^◌, min, ◌==◌, arith, ℕ, Bool, true, false, nat_lt, nat_le, List, [], ◌∷◌, ◌++◌, refl, sym, ap, ◌∙◌, subst, suc, zero}
+use Rattle.std.proofs.Common.{◌≡◌, ◌≤◌, min, ◌==◌, arith, ℕ, Bool, true, false, nat_le, List, [], ◌∷◌, ◌++◌, refl, sym, ap, ◌∙◌, subst}
 use Rattle.std.specs.Prelude.{Option, if◌then◌else◌}
-use Rattle.std.proofs.lemmas.Bool.{eq-eqb, eqb-true, false≢true, ne_eqb}
+use Rattle.std.proofs.lemmas.Bool.{eqb-true}
 use Rattle.std.proofs.lemmas.Bool.Decides.{nat_tests}
 use Rattle.pie_event.specs.declared.cause.Cause.{Cause}
 use Rattle.pie_event.specs.declared.command.Event.{Event}
 use Rattle.pie_event.specs.declared.verdict.Verdict.{Verdict}
-use Rattle.pie_event.specs.declared.verdict.Verdict.TheVariants.{Enqueued, Marked, DroppedEarly, DroppedBytes, DroppedPackets}
+use Rattle.pie_event.specs.declared.verdict.Verdict.TheVariants.{Enqueued}
 use Rattle.pie_event.specs.Verdict.{answer_of}
 use Rattle.pie_record.specs.declared.clock.Clock.{Clock}
 use Rattle.pie_explain.specs.declared.explanation.Explained.{Explained}
@@ -15,15 +15,12 @@ use Rattle.pie_summary.specs.declared.noted.Met.{Met}
 use Rattle.pie_summary.specs.declared.noted.Noted.{Noted}
 use Rattle.pie_summary.specs.Live.{Holds, IsSet, Meets, clock_of, noted_of}
 use Rattle.pie_summary.specs.Sums.{answer_place}
-use Rattle.pie_abi.specs.Choices.{last_moment}
-use Rattle.pie_abi.specs.Packets.{is_bad_size, verdict_number}
+use Rattle.pie_abi.specs.Packets.{verdict_number}
 use Rattle.pie_c.specs.declared.state.PieState.{PieState}
-use Rattle.pie_c.specs.declared.updated.PieUpdated.{PieUpdated}
 use Rattle.pie_c.specs.Calls.{arrival_refusal, if_taken, moment_refusal, unless_refused, update_refusal}
-use Rattle.pie_c.specs.Calls.{nothing_updated, updated_by, updated_with}
+use Rattle.pie_c.specs.Calls.{updated_by}
 use Rattle.pie_c.specs.State.{held_in, takes_stamps, with_departure, with_rate}
 use Rattle.pie_aqm.specs.Held.{Held}
-use Rattle.pie_aqm.specs.Steps.{delay_answered, updated}
 use Rattle.pie_c.specs.Summed.{Adds, Tells}
 use Rattle.pie_book.specs.Cause.{cause_after}
 use Rattle.pie_book.specs.Estimates.{held_after}
@@ -113,54 +110,25 @@ adds-by refusal before after told false noted set same adds so otherwise is = re
   adds = λ all one taken tells holds. absurd (otherwise refl taken);
 }
 
--- ---- a refusal's number is above all answers
+-- ---- what an answer says of the refusal
 
-abbrev refusal_by : Bool → Bool → Bool → Bool → ℕ
-refusal_by a b c d = if a then 101 else if b then 102 else if c then 111 else if d then 112 else 0
-
-pub arrival-code : (queued size ecn moment : ℕ) → (arrival_refusal queued size ecn moment ≡ 0 → ⊥) → 100 < arrival_refusal queued size ecn moment
-unfolding arrival_refusal
-arrival-code queued size ecn moment refused =
-    tests (nat_lt last_moment moment) (is_bad_size size) (nat_lt 3 ecn) (nat_lt (2 ^ 30) queued) refused
-  where
-    tests : (a b c d : Bool) → (refusal_by a b c d ≡ 0 → ⊥)
-        → 100 < refusal_by a b c d
-    tests true b c d r = omega arith
-    tests false false false false r = absurd (r refl)
-    tests _ _ _ _ r = omega arith
-
--- a number that can't be other than 0
-zero-or : (n : ℕ) → ((n ≡ 0 → ⊥) → ⊥) → n ≡ 0
-zero-or zero otherwise = refl
-zero-or (suc n) otherwise = absurd (otherwise (λ e. omega (arith, e)))
-
--- a call that is refused answers by the refusal
-refused-answer : (refusal number answer : ℕ) → answer ≡ unless_refused refusal number → (refusal ≡ 0 → ⊥) → answer ≡ refusal
-refused-answer refusal number answer is r = is ∙ ap (λ (b : Bool). if b then number else refusal) (ne_eqb refusal 0 r)
-
--- .. so an answer that is a verdict says that the call was taken, and no other
+-- an answer that is a verdict says that the call was taken, and no other
 pub arrival-taken-by : (queued size ecn moment answer : ℕ) (verdict : Verdict)
     → answer ≡ unless_refused (arrival_refusal queued size ecn moment) (verdict_number verdict) → nat_le answer 4 ≡ true
     → arrival_refusal queued size ecn moment ≡ 0
-arrival-taken-by queued size ecn moment answer verdict is few =
-    let small : answer ≤ 4 = grind (arith, nat_tests, few) in
-    let refusal : ℕ = arrival_refusal queued size ecn moment in
-    zero-or refusal (λ r. omega (arith, arrival-code queued size ecn moment r, refused-answer refusal (verdict_number verdict) answer is r, small))
+unfolding arrival_refusal
+arrival-taken-by queued size ecn moment answer verdict is few = grind (arith, nat_tests)
 
 pub arrival-refused-by : (refusal answer : ℕ) (verdict : Verdict) → answer ≡ unless_refused refusal (verdict_number verdict)
     → nat_le answer 4 ≡ false → refusal ≡ 0 → ⊥
-arrival-refused-by refusal answer verdict is many taken =
-    let number : answer ≡ verdict_number verdict = is ∙ ap (λ (r : ℕ). unless_refused r (verdict_number verdict)) taken in
-    let above : 4 < answer = grind (arith, nat_tests, many) in
-    omega (arith, number, above, verdict-few verdict)
+arrival-refused-by refusal answer verdict is many taken = grind (arith, nat_tests, verdict-few verdict)
 
 -- a call that answers its refusal
 pub done-taken : (refusal answer : ℕ) → answer ≡ refusal → (answer == 0) ≡ true → refusal ≡ 0
 done-taken refusal answer is so = sym is ∙ eqb-true answer 0 so
 
 pub done-refused : (refusal answer : ℕ) → answer ≡ refusal → (answer == 0) ≡ false → refusal ≡ 0 → ⊥
-done-refused refusal answer is otherwise taken = let zero_there : (answer == 0) ≡ true = eq-eqb answer 0 (is ∙ taken) in
-    false≢true (sym otherwise ∙ zero_there)
+done-refused refusal answer is otherwise taken = grind (arith, nat_tests)
 
 -- an arrival that is taken is answered by a verdict
 pub arrival-few : (refusal answer : ℕ) (verdict : Verdict) → answer ≡ unless_refused refusal (verdict_number verdict) → refusal ≡ 0 → answer ≤ 4
@@ -173,51 +141,25 @@ pub arrival-place : (refusal answer : ℕ) (verdict : Verdict) → answer ≡ un
     → min answer 8 ≡ answer_place (answer_of verdict)
 arrival-place refusal answer verdict is taken =
     let number : answer ≡ verdict_number verdict = is ∙ ap (λ (r : ℕ). unless_refused r (verdict_number verdict)) taken in
-    small answer (verdict_number verdict) number (verdict-few verdict) ∙ verdict-place verdict
-  where
-    small : (a v : ℕ) → a ≡ v → v ≤ 4 → min a 8 ≡ v
-    small a v same few = omega (arith, same, few)
+    let same : min answer 8 ≡ verdict_number verdict = omega (arith, number, verdict-few verdict) in
+    same ∙ verdict-place verdict
 
 -- a departure that found no packet is answered by 5, which is no refusal
-abbrev late_by : Bool → ℕ
-late_by late = if late then 101 else 0
-
 pub none-taken : (moment answer : ℕ) → answer ≡ unless_refused (moment_refusal moment) 5 → (answer == 5) ≡ true → moment_refusal moment ≡ 0
 unfolding moment_refusal
-none-taken moment answer is so = tests (nat_lt last_moment moment) (sym is ∙ eqb-true answer 5 so)
-  where
-    tests : (late : Bool) → unless_refused (late_by late) 5 ≡ 5 → late_by late ≡ 0
-    tests true e = absurd (omega (arith, e))
-    tests false e = refl
+none-taken moment answer is so = grind (arith, nat_tests)
 
 pub none-refused : (moment answer : ℕ) → answer ≡ unless_refused (moment_refusal moment) 5 → (answer == 5) ≡ false → moment_refusal moment ≡ 0 → ⊥
-none-refused moment answer is otherwise taken =
-    let five : answer ≡ 5 = is ∙ ap (λ (r : ℕ). unless_refused r 5) taken in
-    false≢true (sym otherwise ∙ eq-eqb answer 5 five)
+none-refused moment answer is otherwise taken = grind (arith, nat_tests)
 
 -- an update's answer is 0 where it was made
-abbrev coded : PieState → ℕ → ℕ → Bool → Bool → PieUpdated
-coded state queued moment a b =
-    if a then updated_with 0 (delay_answered (held_in state) queued) (updated (held_in state) queued moment)
-    else if b then updated_with 103 state.old_delay (held_in state)
-    else nothing_updated (update_refusal state queued moment)
-
 pub update-taken : (state : PieState) (queued moment answer : ℕ) → answer ≡ (updated_by state queued moment).code → (answer == 0) ≡ true
     → update_refusal state queued moment ≡ 0
-update-taken state queued moment answer is so =
-    let refusal : ℕ = update_refusal state queued moment in
-    zero-or refusal (λ r. by (refusal == 0) (refusal == 103) (ne_eqb refusal 0 r) r (sym is ∙ eqb-true answer 0 so))
-  where
-    by : (a b : Bool) → a ≡ false → (update_refusal state queued moment ≡ 0 → ⊥) → (coded state queued moment a b).code ≡ 0 → ⊥
-    by true b otherwise r e = false≢true (sym otherwise)
-    by false true otherwise r e = omega (arith, e)
-    by false false otherwise r e = r e
+update-taken state queued moment answer is so = grind (arith, nat_tests)
 
 pub update-refused : (state : PieState) (queued moment answer : ℕ) → answer ≡ (updated_by state queued moment).code → (answer == 0) ≡ false
     → update_refusal state queued moment ≡ 0 → ⊥
-update-refused state queued moment answer is otherwise taken =
-    let made : (updated_by state queued moment).code ≡ 0 = rw taken refl in
-    false≢true (sym otherwise ∙ eq-eqb answer 0 (is ∙ made))
+update-refused state queued moment answer is otherwise taken = grind (arith, nat_tests)
 
 -- ---- what is told is what is explained
 

@@ -1,12 +1,11 @@
 -- What is written of packets that wait and of events is their records.
-use Rattle.std.proofs.Common.{◌≡◌, ℕ, suc, ◌==◌, ◌++◌, List, [], ◌∷◌, Bool, true, false, Some, None, if◌then◌else◌, ap, refl, arith}
+use Rattle.std.proofs.Common.{◌≡◌, ℕ, suc, ◌==◌, ◌++◌, List, [], ◌∷◌, true, false, Some, None, refl, arith}
 use Rattle.std.specs.Prelude.{All, map, nat_le}
 use Rattle.std.specs.List.{flat_map}
-use Rattle.std.proofs.lemmas.Bool.{eqb-true}
 use Rattle.std.proofs.lemmas.Bool.Decides.{nat_tests}
 use Rattle.std.proofs.lemmas.Grind.{flat_map-append}
 use Rattle.pie_queue.specs.declared.ecn.Ecn.{Ecn}
-use Rattle.pie_queue.specs.declared.ecn.Ecn.TheVariants.{NotEct, Ect1, Ect0, Ce}
+use Rattle.pie_queue.specs.declared.ecn.Ecn.TheVariants.{NotEct}
 use Rattle.pie_queue.specs.declared.packet.Waiting.{Waiting}
 use Rattle.pie_event.specs.declared.command.Event.{Event}
 use Rattle.pie_book.specs.History.{waiting_after}
@@ -19,7 +18,7 @@ use Rattle.pie_abi.specs.declared.opening.PieOpening.{PieOpening}
 use Rattle.pie_abi.specs.declared.stats.PieStats.{PieStats}
 use Rattle.pie_c.specs.declared.state.PieState.{PieState}
 use Rattle.pie_abi.specs.Packets.{is_bad_size}
-use Rattle.pie_c.specs.Events.{Kept, change_of, event_by, event_of, event_text, is_event, lost_in, opening_text, stands_for, text_in, written_text}
+use Rattle.pie_c.specs.Events.{Kept, event_of, opening_text, stands_for, written_text}
 use Rattle.pie_abi.specs.Opening.{opening_in, opening_of, opening_refusal}
 use Rattle.pie_c.specs.Resuming.{CanWait, ecn_number, is_standing, queued_text, resume_of, resume_text, set_by_of, standing_in, waiting_text}
 use Rattle.pie_abi.specs.Choices.{last_moment}
@@ -27,24 +26,10 @@ use Rattle.pie_c.specs.State.{is_sound}
 
 -- lost events stand for none
 lost-none : (e : PieEvent) → (e.kind == 6) ≡ true → event_of e ≡ None
-lost-none e is = by (is_event e) (rw (eqb-true e.kind 6 is) refl)
-  where
-    by : (can : Bool) → event_by e ≡ None → (if can then event_by e else None) ≡ None
-    by true none = none
-    by false none = refl
+lost-none e is = grind (arith, nat_tests)
 
 event-written : (k : Kept) (e : Event) → stands_for k ≡ Some e → written_text k ≡ text_of (event_row e)
-event-written k e = by (k.event.kind == 5)
-  where
-    six : (lost : Bool) → (k.event.kind == 6) ≡ lost → event_of k.event ≡ Some e
-        → (if lost then lost_in k.event else event_text (event_of k.event)) ≡ text_of (event_row e)
-    six true s is = let none = lost-none k.event s in cc
-    six false s is = ap event_text is
-
-    by : (five : Bool) → (if five then change_of k.event k.params else event_of k.event) ≡ Some e
-        → (if five then event_text (change_of k.event k.params) else text_in k.event) ≡ text_of (event_row e)
-    by true is = ap event_text is
-    by false is = six (k.event.kind == 6) refl is
+event-written k e is = grind (arith, nat_tests, lost-none k.event)
 
 events-written : (kept : List Kept) (events : List Event) → map stands_for kept ≡ map Some events
     → flat_map written_text kept ≡ flat_map text_of (map event_row events)

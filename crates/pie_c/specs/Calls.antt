@@ -1,10 +1,6 @@
 -- Why each call is refused, and what it answers. What a call leaves is what the controller makes of what was held.
-use Rattle.std.specs.Prelude.{ℕ, ◌≡◌, ◌^◌, ◌==◌, ◌||◌, ◌&&◌, Bool, true, nat_lt, not, List, [], ◌∷◌, ◌++◌, if◌then◌else◌}
-use Rattle.pie_queue.specs.declared.ecn.Ecn.{Ecn}
-use Rattle.pie_queue.specs.declared.ecn.Ecn.TheVariants.{NotEct, Ect1, Ect0, Ce}
+use Rattle.std.specs.Prelude.{ℕ, ◌≡◌, ◌^◌, ◌==◌, ◌&&◌, true, nat_lt, not, List, [], ◌∷◌, ◌++◌, if◌then◌else◌}
 use Rattle.pie_aqm.specs.declared.verdict.Arrival.{Arrival}
-use Rattle.pie_event.specs.declared.verdict.Verdict.{Verdict}
-use Rattle.pie_event.specs.declared.verdict.Verdict.TheVariants.{Enqueued, Marked, DroppedEarly, DroppedBytes, DroppedPackets}
 use Rattle.pie_aqm.specs.Calls.{Arrive, Call, after_call, shown_by}
 use Rattle.pie_aqm.specs.Events.{ControllerEvent, Opened}
 use Rattle.pie_aqm.specs.Held.{Held}

@@ -1,5 +1,5 @@
 -- What the calls that sum up add to a period: their event, as it is explained.
-use Rattle.std.specs.Prelude.{ℕ, ◌≡◌, ◌==◌, ◌||◌, nat_lt, List, [], ◌∷◌, ◌++◌, Option, Some, None, if◌then◌else◌}
+use Rattle.std.specs.Prelude.{ℕ, ◌≡◌, ◌==◌, ◌||◌, nat_lt, List, [], ◌∷◌, ◌++◌, Option, if◌then◌else◌}
 use Rattle.pie_event.specs.declared.cause.Cause.{Cause}
 use Rattle.pie_event.specs.declared.command.Event.{Event}
 use Rattle.pie_record.specs.declared.clock.Clock.{Clock}

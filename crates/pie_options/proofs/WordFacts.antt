@@ -1,7 +1,7 @@
 -- What `clap` makes of the words that ask for a subcommand.
 use Rattle.pie_options.proofs.Names.{◌≡◌, ◌∙◌, List, [], Option, Some, None, true, false, codes, refl, sym, subst, ap, option_and_then}
 use Rattle.pie_options.proofs.Names.{option_map, unwrap_or, if◌then◌else◌, bytes_eq, App, HasMatchesOf, Row, Text, found_of, is_simple, rows_of}
-use Rattle.pie_options.proofs.Names.{subcommand_rows_of, takes, subcommand_name_of, clap_on_literals, Subcommand, Run, Audit, Explain, Cut, Migrate}
+use Rattle.pie_options.proofs.Names.{subcommand_rows_of, subcommand_name_of, clap_on_literals, Subcommand, Run, Audit, Explain, Cut, Migrate}
 use Rattle.pie_options.proofs.Names.{Storm, Params, AskFor, Asks, file_in, files_in, options_in, output_in, pie_app, subcommand_in}
 use Rattle.std.specs.Box.{box_value}
 use Rattle.clap.specs.declared.parser.matches.ArgMatches.{ArgMatches}

@@ -35,6 +35,19 @@ pub(crate) struct Argument {
     pub(crate) help: &'static str,
 }
 
+/// What the command line has of a subcommand.
+#[derive(Clone, Copy)]
+pub(crate) struct Page<'a> {
+    /// The word that asks for it.
+    pub(crate) word: &'a str,
+    /// What it is for.
+    pub(crate) about: &'a str,
+    /// What its help says below its options.
+    pub(crate) help: &'a str,
+    /// What it takes.
+    pub(crate) arguments: &'a [Argument],
+}
+
 /// What asks to be told how far reading has come.
 pub(crate) const PROGRESS: Argument = Argument {
     name: "progress",

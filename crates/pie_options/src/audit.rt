@@ -1,14 +1,12 @@
 //! The words of `pie audit`: what it takes, and what `--help` says of it.
 
-use crate::argument::{Argument, PROGRESS, Takes};
+use crate::argument::{Argument, PROGRESS, Page, Takes};
 
-/// What `pie audit` is for.
-pub(crate) const ABOUT: &str =
-    "Reads histories from files, or one from standard input, and decides each of their events again";
-
-/// What `pie audit --help` says below its options.
-pub(crate) const HELP: &str =
-    "A history is what pie run writes: the first record of a trace, and then one record for each that followed, with what it
+/// The words of `pie audit`.
+pub(crate) const PAGE: Page<'static> = Page {
+    word: "audit",
+    about: "Reads histories from files, or one from standard input, and decides each of their events again",
+    help: "A history is what pie run writes: the first record of a trace, and then one record for each that followed, with what it
 was answered. An audit decides each event again, from the opening and the events before it, and compares.
 
 Events are the records arrive, depart, update, reset and params, numbered from 1. The records refused, folded, shown and
@@ -44,19 +42,18 @@ Example: what pie run writes is clean, and the line is clean,2:
 
 A verdict that was changed is found, and the line is differs,1:
 
-  printf 'open,0,4,16,100\\narrive,1,10,7,1500,ect0,0\\ndepart,2,25\\n' | pie run | sed s/enqueue/mark/ | pie audit";
-
-/// What it takes.
-pub(crate) const ARGUMENTS: &[Argument] = &[
-    Argument {
-        name: "joined",
-        takes: Takes::Nothing,
-        help: "The files are of one history, in order: tell whether each goes on where the one before it ends",
-    },
-    PROGRESS,
-    Argument {
-        name: "file",
-        takes: Takes::Files,
-        help: "The files to audit; -: standard input",
-    },
-];
+  printf 'open,0,4,16,100\\narrive,1,10,7,1500,ect0,0\\ndepart,2,25\\n' | pie run | sed s/enqueue/mark/ | pie audit",
+    arguments: &[
+        Argument {
+            name: "joined",
+            takes: Takes::Nothing,
+            help: "The files are of one history, in order: tell whether each goes on where the one before it ends",
+        },
+        PROGRESS,
+        Argument {
+            name: "file",
+            takes: Takes::Files,
+            help: "The files to audit; -: standard input",
+        },
+    ],
+};

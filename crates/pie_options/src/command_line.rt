@@ -6,7 +6,7 @@ ghost use Rattle.pie_options.specs.Building.{WantsRules, WantsSubcommands};
 ghost use Rattle.pie_options.specs.Subcommands.{word_of};
 ghost use Rattle.pie_options.specs.Words.{app_for, pie_alone, pie_app, rules_for, with_rules, with_subcommands};
 
-use crate::argument::{Argument, arg_of};
+use crate::argument::{Argument, Page, arg_of};
 use crate::subcommand::Subcommand;
 use crate::{audit, cut, explain, migrate, params, run, storm};
 use clap::Command;
@@ -69,59 +69,19 @@ fn command_of<'a>(
     command
 }
 
-/// The word that asks for a subcommand.
-fn name_of<'a>(subcommand: Subcommand) -> &'a str
-    ensures { result.now ≡ word_of subcommand }
+/// What there is of a subcommand.
+fn page_of<'a>(subcommand: Subcommand) -> Page<'a>
+    ensures word { result.word.now ≡ word_of subcommand }
+    ensures arguments { map rule_for result.arguments.now ≡ rules_for subcommand }
 {
     match subcommand {
-        Subcommand::Run => "run",
-        Subcommand::Audit => "audit",
-        Subcommand::Explain => "explain",
-        Subcommand::Cut => "cut",
-        Subcommand::Migrate => "migrate",
-        Subcommand::Storm => "storm",
-        Subcommand::Params => "params",
-    }
-}
-
-/// What a subcommand is for.
-fn about_of<'a>(subcommand: Subcommand) -> &'a str {
-    match subcommand {
-        Subcommand::Run => run::ABOUT,
-        Subcommand::Audit => audit::ABOUT,
-        Subcommand::Explain => explain::ABOUT,
-        Subcommand::Cut => cut::ABOUT,
-        Subcommand::Migrate => migrate::ABOUT,
-        Subcommand::Storm => storm::ABOUT,
-        Subcommand::Params => params::ABOUT,
-    }
-}
-
-/// What its help says below its options.
-fn help_of<'a>(subcommand: Subcommand) -> &'a str {
-    match subcommand {
-        Subcommand::Run => run::HELP,
-        Subcommand::Audit => audit::HELP,
-        Subcommand::Explain => explain::HELP,
-        Subcommand::Cut => cut::HELP,
-        Subcommand::Migrate => migrate::HELP,
-        Subcommand::Storm => storm::HELP,
-        Subcommand::Params => params::HELP,
-    }
-}
-
-/// What it takes.
-fn arguments_of(subcommand: Subcommand) -> &'static [Argument]
-    ensures { map rule_for result.now ≡ rules_for subcommand }
-{
-    match subcommand {
-        Subcommand::Run => run::ARGUMENTS,
-        Subcommand::Audit => audit::ARGUMENTS,
-        Subcommand::Explain => explain::ARGUMENTS,
-        Subcommand::Cut => cut::ARGUMENTS,
-        Subcommand::Migrate => migrate::ARGUMENTS,
-        Subcommand::Storm => storm::ARGUMENTS,
-        Subcommand::Params => params::ARGUMENTS,
+        Subcommand::Run => run::PAGE,
+        Subcommand::Audit => audit::PAGE,
+        Subcommand::Explain => explain::PAGE,
+        Subcommand::Cut => cut::PAGE,
+        Subcommand::Migrate => migrate::PAGE,
+        Subcommand::Storm => storm::PAGE,
+        Subcommand::Params => params::PAGE,
     }
 }
 
@@ -129,14 +89,8 @@ fn arguments_of(subcommand: Subcommand) -> &'static [Argument]
 fn command_for<'a>(alloc: Global, subcommand: Subcommand) -> Result<Command<'a>, AllocError>
     ensures { IfOk result (λ command. app_of command ≡ app_for subcommand) }
 {
-    let (about, help) = (about_of(subcommand), help_of(subcommand));
-    command_of(
-        alloc,
-        name_of(subcommand),
-        about,
-        help,
-        arguments_of(subcommand),
-    )
+    let page = page_of(subcommand);
+    command_of(alloc, page.word, page.about, page.help, page.arguments)
 }
 
 /// `pie` without its subcommands.

@@ -1,14 +1,12 @@
 //! The words of `pie cut`: what it takes, and what `--help` says of it.
 
-use crate::argument::{Argument, FILE, FORCE, OUTPUT, PROGRESS, Takes};
+use crate::argument::{Argument, FILE, FORCE, OUTPUT, PROGRESS, Page, Takes};
 
-/// What `pie cut` is for.
-pub(crate) const ABOUT: &str =
-    "Reads a history from a file or standard input and cuts out some of its events, as a text that stands alone";
-
-/// What `pie cut --help` says below its options.
-pub(crate) const HELP: &str =
-    "What is cut out is an excerpt: it begins with what the controller held before its first event, in a record resume, with the packets
+/// The words of `pie cut`.
+pub(crate) const PAGE: Page<'static> = Page {
+    word: "cut",
+    about: "Reads a history from a file or standard input and cuts out some of its events, as a text that stands alone",
+    help: "What is cut out is an excerpt: it begins with what the controller held before its first event, in a record resume, with the packets
 that waited then, in records queued, and with the last time of day that was told before, in a record clock; then come its events, and
 the times of day between them, as they were read, without the notes. So pie audit and pie explain take it as they take the whole, and
 say the same of its events, each by the number that it has in the whole: clean,<events> names the last one.
@@ -39,42 +37,41 @@ Example: why were packets lost in one minute of a day? With the history of the d
 Files of a million events each, day.0000 and so on, and their audit:
 
   pie cut --every 1000000 day | csplit -z -n 4 -f day. - '/^resume,/' '{*}'
-  pie audit day.*";
-
-/// What it takes.
-pub(crate) const ARGUMENTS: &[Argument] = &[
-    Argument {
-        name: "from",
-        takes: Takes::Value("MOMENT"),
-        help: "Cut out the events at this moment or time of day and later, such as 1.5ms",
-    },
-    Argument {
-        name: "to",
-        takes: Takes::Value("MOMENT"),
-        help: "Cut out the events at this moment or time of day and earlier",
-    },
-    Argument {
-        name: "event",
-        takes: Takes::Number(1, u64::MAX),
-        help: "Cut out the event with this number, counted from 1",
-    },
-    Argument {
-        name: "around",
-        takes: Takes::Number(0, u64::MAX),
-        help: "With an event: so many before and after it too",
-    },
-    Argument {
-        name: "last",
-        takes: Takes::Number(1, u64::MAX),
-        help: "Cut out the last N events of a file",
-    },
-    Argument {
-        name: "every",
-        takes: Takes::Number(1, u64::MAX),
-        help: "Cut all events into segments of N, one after another",
-    },
-    PROGRESS,
-    OUTPUT,
-    FORCE,
-    FILE,
-];
+  pie audit day.*",
+    arguments: &[
+        Argument {
+            name: "from",
+            takes: Takes::Value("MOMENT"),
+            help: "Cut out the events at this moment or time of day and later, such as 1.5ms",
+        },
+        Argument {
+            name: "to",
+            takes: Takes::Value("MOMENT"),
+            help: "Cut out the events at this moment or time of day and earlier",
+        },
+        Argument {
+            name: "event",
+            takes: Takes::Number(1, u64::MAX),
+            help: "Cut out the event with this number, counted from 1",
+        },
+        Argument {
+            name: "around",
+            takes: Takes::Number(0, u64::MAX),
+            help: "With an event: so many before and after it too",
+        },
+        Argument {
+            name: "last",
+            takes: Takes::Number(1, u64::MAX),
+            help: "Cut out the last N events of a file",
+        },
+        Argument {
+            name: "every",
+            takes: Takes::Number(1, u64::MAX),
+            help: "Cut all events into segments of N, one after another",
+        },
+        PROGRESS,
+        OUTPUT,
+        FORCE,
+        FILE,
+    ],
+};

@@ -1,14 +1,12 @@
 //! The words of `pie migrate`: what it takes, and what `--help` says of it.
 
-use crate::argument::{Argument, FILE, FORCE, OUTPUT, PROGRESS};
+use crate::argument::{Argument, FILE, FORCE, OUTPUT, PROGRESS, Page};
 
-/// What `pie migrate` is for.
-pub(crate) const ABOUT: &str =
-    "Reads a history from a file or standard input and writes the same history in version two";
-
-/// What `pie migrate --help` says below its options.
-pub(crate) const HELP: &str =
-    "A history of version one begins with open or rolling. In version two it begins with open2,1,bounded or open2,1,rolling, each
+/// The words of `pie migrate`.
+pub(crate) const PAGE: Page<'static> = Page {
+    word: "migrate",
+    about: "Reads a history from a file or standard input and writes the same history in version two",
+    help: "A history of version one begins with open or rolling. In version two it begins with open2,1,bounded or open2,1,rolling, each
 shown ends with 1, since its controller is always active, and all else stays. One of version two or three is written as it is.
 pie audit finds the same in both, and pie run --help says how records are written.
 
@@ -24,7 +22,6 @@ writes
 
   open2,1,bounded,0,4,16,100
   arrive,1,10,7,1500,ect0,0,enqueue
-  shown,1,10,1,1500,0,0,0,150000000,0,0,0,1";
-
-/// What it takes.
-pub(crate) const ARGUMENTS: &[Argument] = &[PROGRESS, OUTPUT, FORCE, FILE];
+  shown,1,10,1,1500,0,0,0,150000000,0,0,0,1",
+    arguments: &[PROGRESS, OUTPUT, FORCE, FILE],
+};

@@ -1,14 +1,12 @@
 //! The words of `pie params`: what it takes, and what `--help` says of it.
 
-use crate::argument::{Argument, Takes};
+use crate::argument::{Argument, Page, Takes};
 
-/// What `pie params` is for.
-pub(crate) const ABOUT: &str =
-    "Writes the parameters and choices that tc's options ask for as the first record of a trace";
-
-/// What `pie params --help` says below its options.
-pub(crate) const HELP: &str =
-    "The record opens a rolling book of version three, which may have 2^47 events:
+/// The words of `pie params`.
+pub(crate) const PAGE: Page<'static> = Page {
+    word: "params",
+    about: "Writes the parameters and choices that tc's options ask for as the first record of a trace",
+    help: "The record opens a rolling book of version three, which may have 2^47 events:
 open3,1,<delay>,<picking>,<step>,<size>,rolling,0,<packets>,<tail>,<events>, with half behind <size> where that is the decay, and the
 nine parameters where they are not the default ones, as pie run --help has it. TIME, RATE and PACKETS are written as tc reads them, in
 letters of any case: TIME is a number of ns, us, ms or s, as 20ms or 1.5msec; RATE one of bit, kbit, mbit, gbit or tbit (by 1024: kibit,
@@ -32,73 +30,72 @@ Example: what tc qdisc add dev eth0 root pie target 20ms limit 1000p ecn dq_rate
 writes, in one line,
 
   open3,1,rate,derandomized,capped,unscaled,rolling,0,1000,1000,140737488355328,
-  20000000,15000000,150000000,125,1250,1024,2500000,100000000000,16384";
-
-/// What it takes.
-pub(crate) const ARGUMENTS: &[Argument] = &[
-    Argument {
-        name: "rate",
-        takes: Takes::Value("RATE"),
-        help: "The link's rate, as 100mbit, of which limit_bytes is 200 ms",
-    },
-    Argument {
-        name: "target",
-        takes: Takes::Value("TIME"),
-        help: "The wanted delay; 15ms by default",
-    },
-    Argument {
-        name: "tupdate",
-        takes: Takes::Value("TIME"),
-        help: "The time between two updates; 15ms by default",
-    },
-    Argument {
-        name: "limit",
-        takes: Takes::Value("PACKETS"),
-        help: "How many packets may wait, as 1000p; 1000 by default",
-    },
-    Argument {
-        name: "alpha",
-        takes: Takes::Number(0, 32),
-        help: "The gain alpha of tc; 2 by default",
-    },
-    Argument {
-        name: "beta",
-        takes: Takes::Number(0, 32),
-        help: "The gain beta of tc; 20 by default",
-    },
-    Argument {
-        name: "ecn",
-        takes: Takes::Nothing,
-        help: "Mark packets of ECN-capable endpoints",
-    },
-    Argument {
-        name: "bytemode",
-        takes: Takes::Nothing,
-        help: "Pick a packet below the MTU less often, in proportion to its size",
-    },
-    Argument {
-        name: "mtu",
-        takes: Takes::Number(1, 65535),
-        help: "The link's MTU in bytes, for --bytemode; 1514 by default",
-    },
-    Argument {
-        name: "dq_rate_estimator",
-        takes: Takes::Nothing,
-        help: "Take delays from the departure rate, not from time stamps",
-    },
-    Argument {
-        name: "no_derandomization",
-        takes: Takes::Nothing,
-        help: "Pick packets by the random word alone",
-    },
-    Argument {
-        name: "no_cap_drop_adjustment",
-        takes: Takes::Nothing,
-        help: "Raise the probability as far as the control law says",
-    },
-    Argument {
-        name: "decay",
-        takes: Takes::Value("zero|half"),
-        help: "Decay at delays of 0, or below half the target; zero by default",
-    },
-];
+  20000000,15000000,150000000,125,1250,1024,2500000,100000000000,16384",
+    arguments: &[
+        Argument {
+            name: "rate",
+            takes: Takes::Value("RATE"),
+            help: "The link's rate, as 100mbit, of which limit_bytes is 200 ms",
+        },
+        Argument {
+            name: "target",
+            takes: Takes::Value("TIME"),
+            help: "The wanted delay; 15ms by default",
+        },
+        Argument {
+            name: "tupdate",
+            takes: Takes::Value("TIME"),
+            help: "The time between two updates; 15ms by default",
+        },
+        Argument {
+            name: "limit",
+            takes: Takes::Value("PACKETS"),
+            help: "How many packets may wait, as 1000p; 1000 by default",
+        },
+        Argument {
+            name: "alpha",
+            takes: Takes::Number(0, 32),
+            help: "The gain alpha of tc; 2 by default",
+        },
+        Argument {
+            name: "beta",
+            takes: Takes::Number(0, 32),
+            help: "The gain beta of tc; 20 by default",
+        },
+        Argument {
+            name: "ecn",
+            takes: Takes::Nothing,
+            help: "Mark packets of ECN-capable endpoints",
+        },
+        Argument {
+            name: "bytemode",
+            takes: Takes::Nothing,
+            help: "Pick a packet below the MTU less often, in proportion to its size",
+        },
+        Argument {
+            name: "mtu",
+            takes: Takes::Number(1, 65535),
+            help: "The link's MTU in bytes, for --bytemode; 1514 by default",
+        },
+        Argument {
+            name: "dq_rate_estimator",
+            takes: Takes::Nothing,
+            help: "Take delays from the departure rate, not from time stamps",
+        },
+        Argument {
+            name: "no_derandomization",
+            takes: Takes::Nothing,
+            help: "Pick packets by the random word alone",
+        },
+        Argument {
+            name: "no_cap_drop_adjustment",
+            takes: Takes::Nothing,
+            help: "Raise the probability as far as the control law says",
+        },
+        Argument {
+            name: "decay",
+            takes: Takes::Value("zero|half"),
+            help: "Decay at delays of 0, or below half the target; zero by default",
+        },
+    ],
+};

@@ -1,14 +1,12 @@
 //! The words of `pie run`: what it takes, and what `--help` says of it.
 
-use crate::argument::{Argument, FILE, FORCE, OUTPUT, PROGRESS, Takes};
+use crate::argument::{Argument, FILE, FORCE, OUTPUT, PROGRESS, Page, Takes};
 
-/// What `pie run` is for.
-pub(crate) const ABOUT: &str =
-    "Reads a trace from a file or standard input and writes its history to standard output";
-
-/// What `pie run --help` says below its options.
-pub(crate) const HELP: &str =
-    "A trace is a text of CSV records, one a line. Each is written again with what it was answered. Moments and times are
+/// The words of `pie run`.
+pub(crate) const PAGE: Page<'static> = Page {
+    word: "run",
+    about: "Reads a trace from a file or standard input and writes its history to standard output",
+    help: "A trace is a text of CSV records, one a line. Each is written again with what it was answered. Moments and times are
 whole nanoseconds, from a start of your choosing and at most 2^60 - 1; probabilities are in units of 10^-12.
 
 The first record opens the controller:
@@ -89,17 +87,16 @@ ends with
   update,4,1001001,2000000,53955024169,0
   update,4,1001002,2000000,903954174169,0
   arrive,1,1001003,5,500,ect0,0,mark
-  arrive,2,1001003,6,500,not,0,early";
-
-/// What it takes.
-pub(crate) const ARGUMENTS: &[Argument] = &[
-    Argument {
-        name: "count",
-        takes: Takes::Nothing,
-        help: "Say on standard error how many events and refused records there were",
-    },
-    PROGRESS,
-    OUTPUT,
-    FORCE,
-    FILE,
-];
+  arrive,2,1001003,6,500,not,0,early",
+    arguments: &[
+        Argument {
+            name: "count",
+            takes: Takes::Nothing,
+            help: "Say on standard error how many events and refused records there were",
+        },
+        PROGRESS,
+        OUTPUT,
+        FORCE,
+        FILE,
+    ],
+};

@@ -1,14 +1,12 @@
 //! The words of `pie storm`: what it takes, and what `--help` says of it.
 
-use crate::argument::{Argument, Takes};
+use crate::argument::{Argument, Page, Takes};
 
-/// What `pie storm` is for.
-pub(crate) const ABOUT: &str =
-    "Runs one controller under many threads at once and writes its history";
-
-/// What `pie storm --help` says below its options.
-pub(crate) const HELP: &str =
-    "Each sender sends a packet each millisecond, in a thread of its own. Two more threads make as many departures, spread evenly
+/// The words of `pie storm`.
+pub(crate) const PAGE: Page<'static> = Page {
+    word: "storm",
+    about: "Runs one controller under many threads at once and writes its history",
+    help: "Each sender sends a packet each millisecond, in a thread of its own. Two more threads make as many departures, spread evenly
 over that time, and an update each 15 milliseconds. With --load 120 the departures are 1.2 times as far apart, so packets wait,
 and some are marked or dropped early. With --changes another thread sets a reference delay of 5 ms and the default one in turn,
 and with --folds another takes the oldest recorded events out of the link, together as many as there are packets: both spread
@@ -27,78 +25,77 @@ audited before it is written.
 
 Example: three senders with ten packets each, and the audit of what was recorded:
 
-  pie storm --senders 3 --packets 10 | pie audit";
-
-/// What it takes.
-pub(crate) const ARGUMENTS: &[Argument] = &[
-    Argument {
-        name: "senders",
-        takes: Takes::Number(2, 8),
-        help: "How many senders there are, 2 to 8; 2 by default",
-    },
-    Argument {
-        name: "packets",
-        takes: Takes::Number(1, 10_000),
-        help: "How many packets each sender has, 1 to 10000; 100 by default",
-    },
-    Argument {
-        name: "burst",
-        takes: Takes::Number(1, 1024),
-        help: "How many packets a sender hands in at once, 1 to 1024; 1 by default",
-    },
-    Argument {
-        name: "seed",
-        takes: Takes::Number(0, u64::MAX),
-        help: "What the random words are made of, 0 to 2^64 - 1; 1 by default",
-    },
-    Argument {
-        name: "load",
-        takes: Takes::Number(50, 200),
-        help: "How many packets come for each hundred that the link sends, 50 to 200; 100 by default",
-    },
-    Argument {
-        name: "changes",
-        takes: Takes::Number(0, 100),
-        help: "How often the parameters change, 0 to 100; 0 by default",
-    },
-    Argument {
-        name: "folds",
-        takes: Takes::Number(0, 100),
-        help: "How often recorded events are taken out of the link, 0 to 100; 0 by default",
-    },
-    Argument {
-        name: "profile",
-        takes: Takes::Number(1, 2),
-        help: "1: the controller is always active; 2: it turns itself off and on (5.3); 1 by default",
-    },
-    Argument {
-        name: "delay",
-        takes: Takes::Value("rate|stamp"),
-        help: "Where an update takes the delay from: the departure rate (5.2), or time stamps (4.3); rate by default",
-    },
-    Argument {
-        name: "picking",
-        takes: Takes::Value("derandomized|random"),
-        help: "Whether probabilities accumulate (5.4), or the random word alone picks; derandomized by default",
-    },
-    Argument {
-        name: "step",
-        takes: Takes::Value("capped|uncapped"),
-        help: "Whether an update's rise is capped at 2 % from a probability of 10 % on (5.5); capped by default",
-    },
-    Argument {
-        name: "size",
-        takes: Takes::Value("unscaled|scaled"),
-        help: "Whether packets below mean_pkt are picked less often, in proportion; unscaled by default",
-    },
-    Argument {
-        name: "decay",
-        takes: Takes::Value("zero|half"),
-        help: "Whether the probability decays at delays of 0 (4.2), or below half the target; zero by default",
-    },
-    Argument {
-        name: "count",
-        takes: Takes::Nothing,
-        help: "Say on standard error how many events and changes of caller there were",
-    },
-];
+  pie storm --senders 3 --packets 10 | pie audit",
+    arguments: &[
+        Argument {
+            name: "senders",
+            takes: Takes::Number(2, 8),
+            help: "How many senders there are, 2 to 8; 2 by default",
+        },
+        Argument {
+            name: "packets",
+            takes: Takes::Number(1, 10_000),
+            help: "How many packets each sender has, 1 to 10000; 100 by default",
+        },
+        Argument {
+            name: "burst",
+            takes: Takes::Number(1, 1024),
+            help: "How many packets a sender hands in at once, 1 to 1024; 1 by default",
+        },
+        Argument {
+            name: "seed",
+            takes: Takes::Number(0, u64::MAX),
+            help: "What the random words are made of, 0 to 2^64 - 1; 1 by default",
+        },
+        Argument {
+            name: "load",
+            takes: Takes::Number(50, 200),
+            help: "How many packets come for each hundred that the link sends, 50 to 200; 100 by default",
+        },
+        Argument {
+            name: "changes",
+            takes: Takes::Number(0, 100),
+            help: "How often the parameters change, 0 to 100; 0 by default",
+        },
+        Argument {
+            name: "folds",
+            takes: Takes::Number(0, 100),
+            help: "How often recorded events are taken out of the link, 0 to 100; 0 by default",
+        },
+        Argument {
+            name: "profile",
+            takes: Takes::Number(1, 2),
+            help: "1: the controller is always active; 2: it turns itself off and on (5.3); 1 by default",
+        },
+        Argument {
+            name: "delay",
+            takes: Takes::Value("rate|stamp"),
+            help: "Where an update takes the delay from: the departure rate (5.2), or time stamps (4.3); rate by default",
+        },
+        Argument {
+            name: "picking",
+            takes: Takes::Value("derandomized|random"),
+            help: "Whether probabilities accumulate (5.4), or the random word alone picks; derandomized by default",
+        },
+        Argument {
+            name: "step",
+            takes: Takes::Value("capped|uncapped"),
+            help: "Whether an update's rise is capped at 2 % from a probability of 10 % on (5.5); capped by default",
+        },
+        Argument {
+            name: "size",
+            takes: Takes::Value("unscaled|scaled"),
+            help: "Whether packets below mean_pkt are picked less often, in proportion; unscaled by default",
+        },
+        Argument {
+            name: "decay",
+            takes: Takes::Value("zero|half"),
+            help: "Whether the probability decays at delays of 0 (4.2), or below half the target; zero by default",
+        },
+        Argument {
+            name: "count",
+            takes: Takes::Nothing,
+            help: "Say on standard error how many events and changes of caller there were",
+        },
+    ],
+};

@@ -1,9 +1,9 @@
 -- What a burst of arrivals carries a sender to.
 use Rattle.pie_storm.proofs.Names.{◌≡◌, ◌<◌, ◌≤◌, ◌+◌, ℕ, not, List, [], ◌∷◌, ◌++◌, Some, None, Ok, Err, Option, map, take, drop, length, min}
 use Rattle.pie_storm.proofs.Names.{refl, ap, sym, ◌∙◌, ◌==◌, subst, inl, inr, ⊎_elim, arith, append_assoc, length-append, All}
-use Rattle.pie_storm.proofs.Names.{IfSome, IsOk, append-nil, length-map, All-cons, All-head, All-nil, All-tail, nat_tests}
+use Rattle.pie_storm.proofs.Names.{IfSome, IsOk, append-nil, length-map, All-cons, All-head, All-nil, All-tail}
 use Rattle.pie_storm.proofs.Names.{is_within, Command, Event, Answer, Opening, Refusal, decision, is_refused_full, refusal_by_rule}
-use Rattle.pie_storm.proofs.Names.{refusal_with, due_after, effective_moment, event_of, Arrival, Entry, Made, Told, Reply, always, arrive, entries_of}
+use Rattle.pie_storm.proofs.Names.{due_after, effective_moment, event_of, Arrival, Entry, Made, Told, Reply, always, arrive, entries_of}
 use Rattle.pie_storm.proofs.Names.{events_in, number_of, tail_in, CallerView, LinkView, Call, Ask, Plan, IsFair, arriving, calls_of, folder}
 use Rattle.pie_storm.proofs.Names.{opening_of, senders, EntriesLookBack, AddedByAll, AreMade, HasMade, HasNoMore, IsAt, IsFor, MadeOrCut}
 use Rattle.std.proofs.lemmas.List.Elements.{All-drop, All-take, filter-append}

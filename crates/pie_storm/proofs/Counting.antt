@@ -1,18 +1,14 @@
 -- A storm's history has no more events than there are commands, and so no caller was cut short; and so it is what the plan asks for.
-use Rattle.pie_storm.proofs.Names.{◌≡◌, ℕ, zero, suc, ◌+◌, ◌<◌, ◌≤◌, ◌==◌, nat_le, Bool, true, false, cond, List, [], ◌∷◌, ◌++◌, Option}
-use Rattle.pie_storm.proofs.Names.{Some, None, length, refl, ap, sym, ◌∙◌, subst, inl, inr, arith}
+use Rattle.pie_storm.proofs.Names.{◌≡◌, ℕ, zero, suc, ◌+◌, ◌<◌, ◌≤◌, nat_le, Bool, true, false, cond, List, [], ◌∷◌, ◌++◌}
+use Rattle.pie_storm.proofs.Names.{length, refl, ap, sym, ◌∙◌, subst, inl, inr, arith}
 use Rattle.pie_storm.proofs.Names.{All, append-nil, All-nil, All-cons, All-head, All-tail, nat_tests, dite}
-use Rattle.pie_storm.proofs.Names.{ℕ_discrete, is_within, within, not_within, Command, Event, Opening, Refusal, refusal_by_rule}
+use Rattle.pie_storm.proofs.Names.{ℕ_discrete, is_within, within, not_within, Event, Opening}
 use Rattle.pie_storm.proofs.Names.{due_after, effective_moment, entries_of, events_in, number_of, EntriesLookBack, Entry, Made}
 use Rattle.pie_storm.proofs.Names.{Folded, Call, Ask, Fold, Plan, IsSound, calls_of, changing, departing, folder}
 use Rattle.pie_storm.proofs.Names.{opening_of, total, updater, AreMade, CameOf, IsCutShort, IsMade, IsStorm}
-use Rattle.std.proofs.Common.{nat_lt}
-use Rattle.pie_event.specs.Opening.{last_moment}
-use Rattle.pie_event.specs.Deed.{handed_in}
-use Rattle.pie_book.specs.Decision.{has_bad_size, is_too_soon}
+use Rattle.pie_book.specs.Decision.{is_too_soon}
 use Rattle.std.proofs.lemmas.List.Elements.{All-append}
 use Rattle.pie_storm.specs.Storms.{IsEntryOf, WasPassedOver, events_of}
-use Rattle.pie_event.specs.declared.refusal.Refusal.TheVariants as refusal
 use Rattle.pie_storm.proofs.Making.{few_made, never_soon, numbered, own_entry}
 use Rattle.pie_storm.proofs.PlanCommands.{IsAsk, IsFold, asks_alone, each, each_sent, folds_alone, no_calls, of_calls}
 

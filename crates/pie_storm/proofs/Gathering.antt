@@ -1,6 +1,6 @@
 -- What is known of all workers of a storm together.
 use Rattle.pie_storm.proofs.Names.{◌≡◌, ℕ, ◌+◌, ◌<◌, List, [], length, length-append, events_in, refl, ap, sym, ◌∙◌, subst, inl, inr, ⊎_elim, arith, dite, ℕ_discrete}
-use Rattle.pie_storm.proofs.Names.{own, is_within, GoesOn, within, Event, number_of, EntriesLookBack, Entry, CallerView, LinkView, Plan}
+use Rattle.pie_storm.proofs.Names.{is_within, GoesOn, within, Event, number_of, EntriesLookBack, Entry, CallerView, LinkView, Plan}
 use Rattle.pie_storm.proofs.Names.{Work, calls_of, folder, opening_of, updater, CameOf, HasNoMore, IsWell}
 use Rattle.pie_storm.proofs.Names.{IsWorkBelow, WereHanded}
 use Rattle.pie_lock.specs.Promises.{IsBothOf}

@@ -1,10 +1,19 @@
 -- The lists of a storm's plan grow by one entry, and the random words are taken one after another.
-use Rattle.pie_storm.proofs.Names.{◌≡◌, ◌+◌, ◌*◌, ℕ, zero, suc, List, [], ◌∷◌, ◌++◌, map, refl, sym, ap, ◌∙◌, arith, Vec, range_with_len, Global}
+use Rattle.pie_storm.proofs.Names.{◌≡◌, ◌+◌, ◌*◌, ◌/◌, ◌^◌, ◌≤◌, ℕ, zero, suc, List, [], ◌∷◌, ◌++◌, map, refl, sym, ap, ◌∙◌, arith, Vec, range_with_len, Global}
 use Rattle.pie_storm.proofs.Names.{map-append, total, Arrival, arrivals_of, held_by, words_after}
 use Rattle.std.proofs.Common.{add-one}
+use Rattle.std.proofs.Math.Nat.{div-le_self, mul-le-mul_left}
 use Rattle.std.proofs.lemmas.List.FromFn.{map-range_with_len_more}
 use Rattle.rand_core.specs.Stream.{Stream, next_u64}
 use Rattle.pie_storm.specs.StormPlan.{arrival_at, arrival_by, word_at}
+
+-- ---- numbers
+
+pub small_product : (count by : ℕ) → by ≤ 2 ^ 14 → count * by ≤ count * 2 ^ 14
+small_product count by few = mul-le-mul_left count few
+
+pub small_quotient : (i burst : ℕ) → i / burst ≤ i
+small_quotient i burst = div-le_self i burst
 
 -- ---- lists
 

@@ -40,6 +40,7 @@ fn ecn_of(bits: u64) -> Ecn
 }
 
 /// A product of small numbers, below a bound that is no product: so nobody who uses it has to bound one.
+#[tactic(auto, using(crate::proofs::PlanFacts::small_product))]
 fn product(count: u64, by: u64) -> u64
     requires count { count ≤ 2 ^ 40 }
     requires by { by ≤ 2 ^ 14 }
@@ -50,6 +51,7 @@ fn product(count: u64, by: u64) -> u64
 }
 
 /// Which burst a packet belongs to, counted from 1.
+#[tactic(auto, using(crate::proofs::PlanFacts::small_quotient))]
 fn burst_of(burst: u64, i: u64) -> u64
     requires some { 1 ≤ burst }
     requires i { i < 2 ^ 14 }

@@ -61,12 +61,8 @@ number-both decimals zeros first second most first-is second-is =
 pub number-joined : (whole decimals zeros : List ℕ) (first second third most : ℕ) → first ≡ min (number_after 0 whole) most
     → second ≡ min (number_after first decimals) most → third ≡ min (number_after second zeros) most
     → third ≡ min (number_after 0 (whole ++ decimals ++ zeros)) most
-number-joined whole decimals zeros first second third most first-is second-is third-is =
-    let both : second ≡ min (number_after 0 (whole ++ decimals)) most =
-    second-is ∙ ap (λ (k : ℕ). min (number_after k decimals) most) first-is ∙ after-min (number_after 0 whole) most decimals
-    ∙ ap (λ (k : ℕ). min k most) (sym (after-append 0 whole decimals)) in
-    third-is ∙ ap (λ (k : ℕ). min (number_after k zeros) most) both ∙ after-min (number_after 0 (whole ++ decimals)) most zeros
-    ∙ ap (λ (k : ℕ). min k most) (sym (after-append 0 (whole ++ decimals) zeros))
+number-joined whole decimals zeros first second third most first-is second-is =
+    number-both (whole ++ decimals) zeros second third most (number-both whole decimals first second most first-is second-is)
 
 -- what is kept at the greatest number is too great
 whole-kept : (parts : ℕ) → whole_in (min parts 340282366920938463463374607431768211455) ≡ whole_in parts

@@ -1,11 +1,11 @@
 use Rattle.std.proofs.Common.{append_assoc}
 use Rattle.std.proofs.Output.{has_written_of_eq}
 use Rattle.pie_units.specs.Utc.{utc_text}
-use Rattle.pie_units.proofs.DigitFacts.{nine-digits}
+use Rattle.pie_units.proofs.DigitFacts.{some-digits}
 use Rattle.pie_units.proofs.utc.UtcDisplay.fmt.Goals as goal
 
 pub returns-clause-writes : goal.returns-clause-writes
 unfolding utc_text
 returns-clause-writes g c = λ plain ok. has_written_of_eq _ _ _ _ _
-    (rw (c.laid_out.ensures, c.date_of.ensures, nine-digits) (simp append_assoc))
+    (rw (c.laid_out.ensures, c.date_of.ensures, some-digits 9) (simp append_assoc))
     (c.write.ensures.writes plain ok)

@@ -2,7 +2,7 @@
 use Rattle.pie_trace.proofs.Names.{◌≡◌, ◌≤◌, ◌+◌, ◌^◌, ℕ, List, ◌++◌, map, take, length, Bool, true, false, refl, sym, ap, subst, ◌∙◌, arith, All}
 use Rattle.pie_trace.proofs.Names.{nat_lt, Some, None, Result, Ok, Err, if◌then◌else◌, nat_tests, Event, Opening, Shows, IsLegal, progress_after}
 use Rattle.pie_trace.proofs.Names.{TraceFault, Line, Three, TellEach, Row, records_of, rows_text, Clean, AreLegal, RunEnd, before_fault}
-use Rattle.pie_trace.proofs.Names.{end_left, first_fault, history_rows, replies, requests_of, steps_of, lines_told}
+use Rattle.pie_trace.proofs.Names.{end_left, history_rows, replies, requests_of, steps_of, lines_told}
 use Rattle.pie_event.specs.Ranges.{CommandFits}
 use Rattle.pie_record.specs.declared.history_record.Line.TheVariants.{Made}
 use Rattle.pie_excerpt.specs.Beginning.{Beginning, BeginsWell, GoesOn, or_fault, resumed_of}

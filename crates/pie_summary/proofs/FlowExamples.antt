@@ -1,14 +1,13 @@
 -- Sums by flow on worked lists: each theorem computes.
-use Rattle.std.specs.Prelude.{ℕ, ◌≡◌, ◌+◌, ◌*◌, ◌^◌, List, [], ◌∷◌, map, Option, Some, None, codes, refl, ⊤}
+use Rattle.std.specs.Prelude.{ℕ, ◌≡◌, ◌+◌, ◌*◌, ◌^◌, [], ◌∷◌, map, Some, None, codes, refl, ⊤}
 use Rattle.std.specs.Fmt.{digits}
 use Rattle.pie_event.specs.declared.command.Answer.TheVariants.{Enqueued, Left, Empty}
 use Rattle.pie_event.specs.declared.command.Command.TheVariants.{Arrive, Depart, Update}
 use Rattle.pie_queue.specs.declared.ecn.Ecn.TheVariants.{NotEct}
 use Rattle.pie_queue.specs.declared.packet.Packet.{Packet}
 use Rattle.pie_summary.specs.declared.flow.Flow.{Flow}
-use Rattle.pie_summary.specs.declared.flow_sums.FlowSums.{FlowSums}
 use Rattle.pie_summary.specs.FlowSums.{flow_by}
-use Rattle.pie_summary.specs.Flows.{distinct, first_of, in_order, is_among}
+use Rattle.pie_summary.specs.Flows.{distinct, first_of, in_order}
 use Rattle.pie_summary.specs.FlowWords.{flow_text}
 
 -- all that a theorem on a worked list computes with

@@ -1,11 +1,11 @@
 -- The flows of events with one more.
-use Rattle.std.proofs.Common.{◌≡◌, ◌==◌, ◌||◌, ℕ, suc, zero, Bool, true, false, cond, not, List, [], ◌∷◌, ◌++◌, map, filter, refl, sym, ap, ◌∙◌}
+use Rattle.std.proofs.Common.{◌≡◌, ◌||◌, ℕ, suc, zero, Bool, true, false, cond, not, List, [], ◌∷◌, ◌++◌, map, filter, refl, sym, ap, ◌∙◌}
 use Rattle.std.proofs.Common.{nat_eq, take, true≢false, subst, append-nil, length, ◌<◌, ◌+◌}
-use Rattle.std.specs.Prelude.{fold, Option, Some, None, if◌then◌else◌, slice_index_or}
+use Rattle.std.specs.Prelude.{Option, Some, None, if◌then◌else◌, slice_index_or}
 use Rattle.std.specs.Cmp.{nat_eq_equiv}
 use Rattle.std.specs.List.{AllByRecursion, IsDistinct, cons_option, filter_map, list_any}
-use Rattle.std.specs.Map.{keys_of, lookup, values_of}
-use Rattle.std.proofs.lemmas.Bool.{eqb-true, eq-eqb}
+use Rattle.std.specs.Map.{lookup, values_of}
+use Rattle.std.proofs.lemmas.Bool.{eqb-true, eq-eqb, or_parts}
 use Rattle.std.proofs.lemmas.List.{map_push, take_more}
 use Rattle.std.proofs.lemmas.List.Elements.{filter-append, filter_map-append}
 use Rattle.std.proofs.lemmas.List.Folds.{list_any-append}
@@ -16,35 +16,28 @@ use Rattle.pie_explain.specs.declared.explanation.Explained.{Explained}
 use Rattle.pie_summary.specs.declared.flow.Flow.{Flow}
 use Rattle.pie_summary.specs.declared.flow_sums.FlowSums.{FlowSums}
 use Rattle.pie_summary.specs.FlowSums.{added_up, flow_in, flow_sums, is_of, is_this, together}
-use Rattle.pie_summary.specs.Flows.{HasFlows, distinct, first_of, flow_of, flows_in, flows_of, in_order, is_among, placed, precedes, sums_beside}
+use Rattle.pie_summary.specs.Flows.{HasFlows, distinct, first_of, flow_of, flows_in, in_order, is_among, placed, precedes, sums_beside}
 use Rattle.pie_summary.specs.Flows.{with_new}
 use Rattle.pie_summary.proofs.FlowSumsFacts.{added-push}
 
 -- ---- numbers, each once
-
-same-number : (a b : ℕ) → nat_eq a b ≡ true → a ≡ b
-same-number a b e = eqb-true a b e
 
 -- none of a list with one more is one that it is not among
 any-new : (x flow : ℕ) (fs : List ℕ) → list_any (nat_eq x) (with_new fs flow) ≡ false
     → (list_any (nat_eq x) fs ≡ false) × (nat_eq x flow ≡ false)
 any-new x flow fs none = by (list_any (nat_eq flow) fs) refl none
   where
-    halves : (a b : Bool) → (a || b) ≡ false → (a ≡ false) × (b ≡ false)
-    halves false b e = (refl, e)
-    halves true b e = absurd (true≢false e)
-
     apart : (b : Bool) → nat_eq x flow ≡ b → list_any (nat_eq flow) fs ≡ true → list_any (nat_eq x) fs ≡ false → nat_eq x flow ≡ false
     apart false e there missing = e
     apart true e there missing =
-        absurd (true≢false (sym there ∙ ap (λ (f : ℕ). list_any (nat_eq f) fs) (sym (same-number x flow e)) ∙ missing))
+        absurd (true≢false (sym there ∙ ap (λ (f : ℕ). list_any (nat_eq f) fs) (sym (eqb-true x flow e)) ∙ missing))
 
     by : (b : Bool) → list_any (nat_eq flow) fs ≡ b → list_any (nat_eq x) (if b then fs else fs ++ flow ∷ []) ≡ false
         → (list_any (nat_eq x) fs ≡ false) × (nat_eq x flow ≡ false)
     by true there missing = (missing, apart (nat_eq x flow) refl there missing)
     by false there missing =
-        let both = halves (list_any (nat_eq x) fs) (nat_eq x flow || false) (sym (list_any-append (nat_eq x) fs (flow ∷ [])) ∙ missing) in
-        (both.0, (halves (nat_eq x flow) false both.1).0)
+        let both = or_parts (list_any (nat_eq x) fs) (nat_eq x flow || false) (sym (list_any-append (nat_eq x) fs (flow ∷ [])) ∙ missing) in
+        (both.0, (or_parts (nat_eq x flow) false both.1).0)
 
 distinct-new : (flow : ℕ) (fs : List ℕ) → IsDistinct nat_eq fs → IsDistinct nat_eq (with_new fs flow)
 distinct-new flow fs apart = by (list_any (nat_eq flow) fs) refl
@@ -78,7 +71,7 @@ insert-rows f g flow row is same (x ∷ fs) apart = by (nat_eq flow x) refl (ins
         → (if b then (x, row) ∷ rows_by f fs else (x, f x) ∷ insert_entry nat_eq (rows_by f fs) flow row)
         ≡ rows_by g (if b || list_any (nat_eq flow) fs then x ∷ fs else (x ∷ fs) ++ flow ∷ [])
     by true e rest =
-        let here : flow ≡ x = same-number flow x e in
+        let here : flow ≡ x = eqb-true flow x e in
         let others : AllByRecursion (λ y. nat_eq flow y ≡ false) fs = subst (λ (y : ℕ). AllByRecursion (λ z. nat_eq y z ≡ false) fs) (sym here) apart.0 in
         λ i. (x, (is ∙ ap g here) i) ∷ same-rows f g flow same fs others i
     by false e rest =
@@ -94,7 +87,7 @@ lookup-rows f flow (x ∷ fs) = by (nat_eq flow x) refl (lookup-rows f flow fs)
         → lookup (nat_eq flow) (rows_by f fs) ≡ (if list_any (nat_eq flow) fs then Some (f flow) else None)
         → cond b (Some (f x)) (lookup (nat_eq flow) (rows_by f fs))
         ≡ (if b || list_any (nat_eq flow) fs then Some (f flow) else None)
-    by true e rest = ap (λ (y : ℕ). Some (f y)) (sym (same-number flow x e))
+    by true e rest = ap (λ (y : ℕ). Some (f y)) (sym (eqb-true flow x e))
     by false e rest = rest
 
 pub values-rows : (all : List Explained) (fs : List ℕ) → values_of (rows_by (flow_of all) fs) ≡ map (flow_of all) fs
@@ -174,7 +167,7 @@ flow-taken flow shown one rows now row has is row-is now-is = record {
       where
         by : (b : Bool) → nat_eq x flow ≡ b → b ≡ false
         by false other = refl
-        by true other = absurd (true≢false (sym (eq-eqb flow x (sym (same-number x flow other))) ∙ e))
+        by true other = absurd (true≢false (sym (eq-eqb flow x (sym (eqb-true x flow other))) ∙ e))
 
     others : (x : ℕ) → nat_eq flow x ≡ false → flow_of shown x ≡ flow_of (shown ++ one ∷ []) x
     others x e = λ i. record {

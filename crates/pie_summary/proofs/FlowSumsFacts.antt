@@ -1,7 +1,7 @@
 -- Numbers of flows with more.
 use Rattle.std.proofs.Common.{◌≡◌, ◌+◌, ◌-◌, ℕ, List, [], ◌∷◌, ◌++◌, map, length, sym, ap, ◌∙◌, arith, refl, append-nil}
 use Rattle.std.specs.Fmt.{char_count, digits, format_spec, padded_integral}
-use Rattle.std.specs.Prelude.{false, max, min, replicate}
+use Rattle.std.specs.Prelude.{false, max, replicate}
 use Rattle.std.specs.List.{sum}
 use Rattle.std.proofs.lemmas.List.{map_push}
 use Rattle.std.proofs.lemmas.List.Sums.{sum_by_push}

@@ -1,5 +1,5 @@
 -- What a meter takes of an event, by what it met and its answer.
-use Rattle.std.proofs.Common.{◌≡◌, ℕ, refl, sym, ap, ◌∙◌}
+use Rattle.std.proofs.Common.{◌≡◌, ℕ, refl, sym, ap}
 use Rattle.std.specs.Prelude.{Option, Some, None}
 use Rattle.pie_event.specs.declared.command.Answer.{Answer}
 use Rattle.pie_event.specs.declared.command.Answer.TheVariants.{Done}
@@ -8,7 +8,6 @@ use Rattle.pie_event.specs.declared.verdict.Verdict.TheVariants.{Enqueued, Marke
 use Rattle.pie_event.specs.Verdict.{answer_of}
 use Rattle.pie_explain.specs.declared.explanation.Explained.{Explained}
 use Rattle.pie_summary.specs.declared.noted.Met.{Met}
-use Rattle.pie_summary.specs.declared.noted.Noted.{Noted}
 use Rattle.pie_summary.specs.Live.{Meets, noted_by, noted_of}
 use Rattle.pie_summary.specs.Sums.{answer_place, cause_of, cause_place, size_in}
 

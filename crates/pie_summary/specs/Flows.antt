@@ -1,5 +1,5 @@
 -- The flows of a list of events, each with its numbers, and those with the most bytes.
-use Rattle.std.specs.Prelude.{ℕ, ◌≡◌, ◌==◌, ◌&&◌, ◌||◌, nat_eq, nat_lt, Bool, true, false, not, List, [], ◌∷◌, ◌++◌, map, filter, fold, take}
+use Rattle.std.specs.Prelude.{ℕ, ◌≡◌, ◌==◌, ◌&&◌, ◌||◌, nat_eq, nat_lt, Bool, false, not, List, [], ◌∷◌, ◌++◌, map, filter, fold, take}
 use Rattle.std.specs.Prelude.{if◌then◌else◌}
 use Rattle.std.specs.List.{IsDistinct, filter_map, list_any}
 use Rattle.pie_explain.specs.declared.explanation.Explained.{Explained}

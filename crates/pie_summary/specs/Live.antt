@@ -1,5 +1,5 @@
 -- A period that is summed up as it goes: the numbers of a summary's record, kept in as much memory as they take.
-use Rattle.std.specs.Prelude.{ℕ, ◌≡◌, ◌≤◌, ◌<◌, ◌-◌, ◌==◌, Bool, true, false, not, ◌&&◌, nat_le, nat_lt, List, [], ◌∷◌, ◌++◌, Option, Some, None, count_by}
+use Rattle.std.specs.Prelude.{ℕ, ◌≡◌, ◌≤◌, ◌<◌, ◌-◌, ◌==◌, Bool, true, false, ◌&&◌, nat_le, nat_lt, List, [], ◌∷◌, ◌++◌, Option, Some, None, count_by}
 use Rattle.std.specs.Prelude.{if◌then◌else◌}
 use Rattle.pie_aqm.specs.Places.{Place, places}
 use Rattle.pie_event.specs.declared.command.Answer.{Answer}

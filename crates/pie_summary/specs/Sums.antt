@@ -90,17 +90,6 @@ above_by active _ target since = 0
 abbrev pub above_in : Explained → ℕ
 above_in all = above_by all.told.before.active all.told.event.answer all.told.before.params.target (all.told.moment - all.told.before.last)
 
--- the target and the burst allowance after an event
-abbrev pub target_at : Explained → ℕ
-target_at all = all.after.params.target
-
-abbrev pub burst_at : Explained → ℕ
-burst_at all = all.after.burst
-
--- the probability after an event
-abbrev pub prob_at : Explained → ℕ
-prob_at all = all.after.prob
-
 -- the moment of an event that turned the controller on, or off, where the controller was active before it or not, and is after it or not
 abbrev pub turned_at : Bool → Bool → Bool → ℕ → Option ℕ
 turned_at true false true moment = Some moment
@@ -161,7 +150,7 @@ meter_of all = record {
   waits = total_of (filter_map wait_in all);
   greatest_wait = greatest (filter_map wait_in all);
   delays = peak_of (filter_map delay_in all);
-  probs = peak_of (map prob_at all);
+  probs = peak_of (map (λ one. one.after.prob) all);
   turned_on = bounds_of (filter_map turned_on all);
   turned_off = bounds_of (filter_map turned_off all);
   timed = min (length (filter_map time_at all)) 1;
@@ -170,8 +159,8 @@ meter_of all = record {
   above = kept (sum (map above_in all));
   longer = kept (length (filter_map excess_in all));
   late = kept (sum (map late_at (places all)));
-  target = last_or 0 (map target_at all);
-  burst = last_or 0 (map burst_at all);
+  target = last_or 0 (map (λ one. one.after.params.target) all);
+  burst = last_or 0 (map (λ one. one.after.burst) all);
 }
 
 -- .. where one more is the next: the first moment is known that the record will have, and since when the first packet in the queue is that

@@ -1,6 +1,5 @@
-use Rattle.std.proofs.Common.{◌∙◌, ap}
-use Rattle.pie_summary.specs.declared.flow_sums.FlowSums.{FlowSums}
-use Rattle.pie_summary.specs.FlowSums.{numbers_of, together}
+use Rattle.std.proofs.Common.{◌∙◌}
+use Rattle.pie_summary.specs.FlowSums.{together}
 use Rattle.pie_summary.proofs.FlowSumsFacts.{flow_sums-push}
 use Rattle.pie_summary.proofs.flow_sums.FlowSums.with.Goals as goal
 

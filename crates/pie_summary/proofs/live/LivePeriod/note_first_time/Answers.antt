@@ -1,6 +1,5 @@
 use Rattle.std.proofs.Common.{ap, ◌∙◌, [], ◌++◌}
 use Rattle.std.specs.List.{cons_option}
-use Rattle.std.specs.Prelude.{Option}
 use Rattle.pie_explain.specs.Choice.{time_of}
 use Rattle.pie_summary.specs.Sums.{timed_by}
 use Rattle.pie_summary.proofs.live.LivePeriod.note_first_time.Goals as goal

@@ -1,5 +1,5 @@
-use Rattle.std.proofs.Common.{ℕ, List, ◌≡◌, ◌∷◌, [], ◌++◌, ◌∙◌, ap, subst, sym}
-use Rattle.std.specs.Prelude.{Option, Some}
+use Rattle.std.proofs.Common.{List, ◌∷◌, [], ◌++◌, ◌∙◌, ap, subst, sym}
+use Rattle.std.specs.Prelude.{Some}
 use Rattle.pie_explain.specs.Choice.{time_of}
 use Rattle.pie_explain.specs.declared.explanation.Explained.{Explained}
 use Rattle.pie_summary.specs.declared.live.LivePeriod.{LivePeriod}

@@ -1,4 +1,4 @@
-use Rattle.std.proofs.Common.{[], ◌++◌, ◌∙◌, ap, refl, sym, ℕ}
+use Rattle.std.proofs.Common.{[], ◌++◌, ◌∙◌, ap, sym, ℕ}
 use Rattle.std.specs.List.{cons_option}
 use Rattle.std.specs.Prelude.{Option}
 use Rattle.pie_summary.specs.Sums.{timed_by}

@@ -7,8 +7,8 @@ use Rattle.pie_summary.specs.declared.meter.Meter.{Meter}
 use Rattle.pie_summary.specs.declared.noted.Noted.{Noted}
 use Rattle.pie_summary.specs.Counts.{kept}
 use Rattle.pie_summary.specs.Spans.{bounds_of, moment_at, peak_of, total_of}
-use Rattle.pie_summary.specs.Sums.{above_in, answer_of, burst_at, carried_in, cause_of, delay_in, excess_in, excess_within, late_at, left_at, meter_of}
-use Rattle.pie_summary.specs.Sums.{prob_at, size_in, target_at, turned_off, turned_on, wait_in}
+use Rattle.pie_summary.specs.Sums.{above_in, answer_of, carried_in, cause_of, delay_in, excess_in, excess_within, late_at, left_at, meter_of}
+use Rattle.pie_summary.specs.Sums.{size_in, turned_off, turned_on, wait_in}
 use Rattle.pie_summary.proofs.CountFacts.{counted-among, counted-push}
 use Rattle.pie_summary.proofs.SpanFacts.{count-some, each-of-push, since-push, some-of-push}
 use Rattle.pie_summary.proofs.SumsFacts.{last-push, place_of, places-push, sum-push}
@@ -46,7 +46,7 @@ returns c = λ shown one noted same.
           (ap (λ (x : Noted). x.wait) noted) (ap (λ (m : Meter). m.greatest_wait) same) i;
       delays = some-of-push peak_of delay_in shown one c.take_some-3.ensures
           (ap (λ (x : Noted). x.delay) noted) (ap (λ (m : Meter). m.delays) same) i;
-      probs = each-of-push peak_of prob_at shown one c.take.ensures
+      probs = each-of-push peak_of (λ e. e.after.prob) shown one c.take.ensures
           (ap (λ (x : Noted). x.prob) noted) (ap (λ (m : Meter). m.probs) same) i;
       turned_on = some-of-push bounds_of turned_on shown one c.take_some-4.ensures
           (ap (λ (x : Noted). x.turned_on) noted) (ap (λ (m : Meter). m.turned_on) same) i;
@@ -62,6 +62,6 @@ returns c = λ shown one noted same.
           (ap (λ (x : Noted). x.excess) noted) (ap (λ (m : Meter). m.longer) same) i;
       late = (sum-push late_at (places shown) (place_of shown one) c.add_excess.ensures read-late (ap (λ (m : Meter). m.late) same)
           ∙ ap (λ ps. kept (sum (map late_at ps))) (sym (places-push shown one))) i;
-      target = (ap (λ (x : Noted). x.target) noted ∙ last-push target_at shown one) i;
-      burst = (ap (λ (x : Noted). x.burst) noted ∙ last-push burst_at shown one) i;
+      target = (ap (λ (x : Noted). x.target) noted ∙ last-push (λ e. e.after.params.target) shown one) i;
+      burst = (ap (λ (x : Noted). x.burst) noted ∙ last-push (λ e. e.after.burst) shown one) i;
     }

@@ -1,4 +1,3 @@
-use Rattle.std.proofs.Common.{[]}
 use Rattle.pie_aqm.specs.Places.{last_or, places}
 use Rattle.pie_summary.specs.Sums.{meter_of, sums_of}
 use Rattle.pie_summary.proofs.sums.Sums.empty.Goals as goal

@@ -1,4 +1,4 @@
-use Rattle.std.proofs.Common.{ap, sym, refl, ◌∙◌}
+use Rattle.std.proofs.Common.{ap, sym, ◌∙◌}
 use Rattle.pie_explain.specs.Choice.{time_of}
 use Rattle.pie_summary.specs.declared.noted.Noted.{Noted}
 use Rattle.pie_summary.specs.declared.sums.Sums.{Sums}

@@ -1,6 +1,7 @@
 -- What a call leaves, way by way: what each way leaves so is so after the call.
 use Rattle.pie_guarantees.proofs.Names.{◌≡◌, ◌+◌, ◌-◌, ◌&&◌, ◌||◌, ◌==◌, ℕ, Bool, true, false, refl, if◌then◌else◌, nat_lt, not, Enqueue}
-use Rattle.pie_guarantees.proofs.Names.{is_considered, is_picked, joined, counted, picked_choice, deed, is_update, Held, anew, bytes_with, chosen, judged}
+use Rattle.pie_guarantees.proofs.Names.{is_considered, is_picked, joined, counted, picked_choice, deed, is_update, Held, anew, bytes_with}
+use Rattle.pie_guarantees.proofs.Names.{chosen, judged}
 use Rattle.pie_guarantees.proofs.Names.{is_calm, offered, Arrival, Verdict, Command, Arrive, Depart, Update, Answer, Enqueued}
 use Rattle.pie_event.specs.declared.verdict.Verdict.TheVariants as verdict
 use Rattle.pie_aqm.specs.Steps as Steps
@@ -27,7 +28,7 @@ module _ (h : Held) (a : Arrival) where
   con = is_considered h.params h.control a.queued
 
   abbrev pub picks : Bool
-  picks = is_picked h.elements.picking (counted h.elements h.params h.control (offered a)) (h.accu + counted h.elements h.params h.control (offered a)) a.word
+  picks = is_picked h.elements.picking counts (h.accu + counts) a.word
 
 pub after-verdict : (h : Held) (a : Arrival) (P : Verdict → ℕ → Type 0) → P verdict.DroppedBytes 0 → P verdict.DroppedPackets 0
     → (h.active && con h a ≡ false → P verdict.Enqueued h.accu)

@@ -9,6 +9,7 @@ use Rattle.pie_guarantees.proofs.Names.{params_after, bytes_after, effective_mom
 use Rattle.pie_guarantees.proofs.Names.{is_dropped_packets, is_marked, is_queued, answer-fits, held-is, waiting_next, first-shows, first_core}
 use Rattle.pie_guarantees.proofs.Names.{IsLawful}
 use Rattle.std.proofs.lemmas.List.{append_cancel_left}
+use Rattle.pie_queue.proofs.QueueFacts.{bytes-push}
 use Rattle.pie_guarantees.specs.Counts.{Carries, SetsLimit, bytes_departed, hands_in, packet_queued, packets_departed, packets_handed_in}
 use Rattle.pie_guarantees.specs.Counts.{packets_queued, packets_waiting, time_of}
 use Rattle.pie_event.specs.declared.verdict.Verdict.TheVariants as verdict
@@ -26,10 +27,6 @@ Adds history = packets_handed_in history ≡ count_of is_queued history + count_
 count-push : (test : Deed → Bool) (before : List Event) (event : Event)
     → count_of test (before ++ event ∷ []) ≡ count_of test before + cond (test (deed_of event)) 1 0
 count-push test before event = sum_by_push (λ (e : Event). cond (test (deed_of e)) 1 0) before event
-
-handed-push : (before : List Event) (event : Event)
-    → packets_handed_in (before ++ event ∷ []) ≡ packets_handed_in before + cond (hands_in event.command) 1 0
-handed-push before event = sum_by_push (λ (e : Event). cond (hands_in e.command) 1 0) before event
 
 -- one event counts once
 once-more : (command : Command) (answer : Answer) → fits command answer ≡ true
@@ -54,7 +51,7 @@ adds-next opening before event step old =
     ∙ answer-fits (held_after opening before) (waiting_after opening before) opening.limits.packets event.command in
     let one = once-more event.command event.answer kind in
     rw (
-      handed-push before event,
+      sum_by_push (λ (e : Event). cond (hands_in e.command) 1 0) before event,
       count-push is_queued before event,
       count-push is_marked before event,
       count-push is_dropped_early before event,
@@ -134,9 +131,6 @@ in_the_ring opening history lawful =
     let it = stands_at opening history [] (rw (append-nil history) lawful) in
     subst (λ (w : List Waiting). length w ≤ opening.limits.packets) it.shows.waiting it.room
 
-bytes-one : (waiting : List Waiting) (new : Waiting) → bytes_of (waiting ++ new ∷ []) ≡ bytes_of waiting + new.packet.size
-bytes-one waiting new = sum_by_push (λ (entry : Waiting). entry.packet.size) waiting new
-
 -- the bytes that wait after a command: fewer or as many, or a packet more that the limit has room for
 record Bounded (limit before after : ℕ) (queued : Option Packet) : Type 0 where
   or : (after ≤ before) ⊎ (after ≤ limit)
@@ -157,7 +151,7 @@ bounded h waiting packets (Arrive moment packet word) now =
     more : (new : Waiting) → new.packet.size ≡ packet.size → bytes_of waiting + packet.size ≤ h.params.limit_bytes
         → Bounded h.params.limit_bytes (bytes_of waiting) (bytes_of (waiting ++ new ∷ [])) (Some new.packet)
     more new size room =
-        let one = bytes-one waiting new in
+        let one = bytes-push waiting new in
         record { or = inr (omega (arith, one, size, room)); queue = λ packet is. omega (arith, one, size, room) }
 
     by : (over full : Bool) → nat_lt h.params.limit_bytes (bytes_of waiting + packet.size) ≡ over → (choice : Choice)

@@ -1,13 +1,15 @@
 -- At each place of a lawful history a core stands that shows the events before it, and each event makes of what it holds what its call does.
 use Rattle.pie_guarantees.proofs.Names.{◌≡◌, ◌≤◌, ◌<◌, ◌+◌, ◌==◌, ℕ, List, [], ◌∷◌, ◌++◌, Bool, false, refl, sym, subst, ap, ◌∙◌, arith, ⊤}
 use Rattle.pie_guarantees.proofs.Names.{if◌then◌else◌, All, None, Some, nat_lt, length, ◌^◌, eqb-false, ltb-false, append-nil}
-use Rattle.pie_guarantees.proofs.Names.{append_assoc, All-cons, All-head, All-nil, All-tail, first_bad, bytes_of, arrival_deed, deed, deed_of}
+use Rattle.pie_guarantees.proofs.Names.{append_assoc, All-head, All-tail, first_bad, bytes_of, arrival_deed, deed, deed_of}
 use Rattle.pie_guarantees.proofs.Names.{departure_deed, handed_in, answer_of, Choice, Enqueue, Mark, IsTaken, after_call, Held, IsSound, places}
 use Rattle.pie_guarantees.proofs.Names.{chosen, now_at, place_of, Packet, Waiting, Command, Arrive, Depart, Update, Reset, SetParams, Event, Opening}
 use Rattle.pie_guarantees.proofs.Names.{Refusal, arrival_of, call_of, departure_call, IsLegalAt, answer_to_departure, has_bad_size, is_too_soon}
 use Rattle.pie_guarantees.proofs.Names.{refusal_by_rule, due_after, held_after, effective_moment, waiting_after, after_command}
 use Rattle.pie_guarantees.proofs.Names.{answer_in, call_in, waiting_next, at_place, departed-of-legal, held-is, first-shows, first_core, next-core}
 use Rattle.pie_guarantees.proofs.Names.{next-legal, IsLawful, SetsInRange}
+use Rattle.std.proofs.Math.Seq.{drop-append_seam, take-append_seam}
+use Rattle.std.proofs.lemmas.List.Elements.{All-drop, All-take}
 use Rattle.pie_aqm.proofs.Sounds.{Sound_call, Sound_opened}
 use Rattle.pie_book.specs.Core.{CoreView, Shows, closed}
 use Rattle.pie_book.proofs.HistoryFacts.{effective_moment-push, waiting_after-push}
@@ -147,8 +149,8 @@ step-of opening before event old here fit =
 
 set-after : (before rest : List Event) → All (λ (e : Event). SetsInRange e.command) (before ++ rest)
     → All (λ (e : Event). SetsInRange e.command) rest
-set-after [] rest all = all
-set-after (event ∷ before) rest all = set-after before rest (All-tail (λ (e : Event). SetsInRange e.command) event (before ++ rest) all)
+set-after before rest all =
+    rw (drop-append_seam before rest) at (All-drop (λ (e : Event). SetsInRange e.command) (length before) (before ++ rest) all)
 
 -- what is so before some events, and stays so at each of them that passes a test, is so after them
 module _ (P : List Event → Type 0) (Q : Event → Type 0) (opening : Opening)
@@ -220,18 +222,12 @@ sound_at opening before later lawful =
     let is : it.core.held ≡ held_after opening before = held-is opening it.core before it.shows in
     (subst (λ (h : Held). IsSound h) is it.sound, sym (ap (λ (h : Held). h.moment) is) ∙ it.shows.moment)
 
-set-before : (before later : List Event) → All (λ (e : Event). SetsInRange e.command) (before ++ later)
-    → All (λ (e : Event). SetsInRange e.command) before
-set-before [] later all = All-nil (λ (e : Event). SetsInRange e.command)
-set-before (event ∷ before) later all =
-    All-cons (λ (e : Event). SetsInRange e.command) event before (All-head (λ (e : Event). SetsInRange e.command) event (before ++ later) all)
-    (set-before before later (All-tail (λ (e : Event). SetsInRange e.command) event (before ++ later) all))
-
 -- the beginning of a lawful history is lawful
 pub beginning : (opening : Opening) (before later : List Event) → IsLawful opening (before ++ later) → IsLawful opening before
 beginning opening before later lawful = record {
   opens = lawful.opens;
   params = lawful.params;
-  set = set-before before later lawful.set;
+  set = rw (take-append_seam before later) at
+      (All-take (λ (e : Event). SetsInRange e.command) (length before) (before ++ later) lawful.set);
   legal = (stands_at opening before later lawful).shows.legal;
 }

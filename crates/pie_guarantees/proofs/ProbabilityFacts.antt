@@ -159,7 +159,8 @@ steadily delay opening before (event ∷ between) later lawful steady =
     let moved : Next delay h.elements h (held_after opening (before ++ event ∷ [])) (is_update (deed_of event)) =
     subst (λ (g : Held). Next delay h.elements h g (is_update (deed_of event))) (sym step.held)
     (rw (update-is event.command event.answer) (same-next delay h w opening.limits.packets event.command event.answer here.keeps here.unreset
-    here.active (λ is. here.delay_now (update-is event.command event.answer ∙ is)) (λ is. here.delay_old (update-is event.command event.answer ∙ is)))) in
+    here.active (λ is. here.delay_now (update-is event.command event.answer ∙ is))
+    (λ is. here.delay_old (update-is event.command event.answer ∙ is)))) in
     let s = opening.choices.elements in
     let prob : probability_after opening (before ++ event ∷ [])
     ≡ (if is_update (deed_of event) then next s h.params h.control.prob delay delay else h.control.prob) =

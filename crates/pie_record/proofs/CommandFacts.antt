@@ -13,7 +13,8 @@ use Rattle.pie_record.specs.declared.fault.Flaw.TheVariants as flaw
 use Rattle.pie_record.specs.declared.trace_record.Request.{Request}
 use Rattle.pie_record.specs.declared.trace_record.Request.TheVariants as request
 use Rattle.pie_record.specs.declared.version.Version.TheVariants.{One, Two}
-use Rattle.pie_record.proofs.FieldFacts.{Has, HasAll, and_after, back_ecn, back_u32, back_u64, has-all, number-then, ok-same, one-way, packet-read, read-as}
+use Rattle.pie_record.proofs.FieldFacts.{Has, HasAll, and_after, back_ecn, back_u32, back_u64, has-all, number-then, ok-same, one-way, packet-read}
+use Rattle.pie_record.proofs.FieldFacts.{read-as}
 use Rattle.pie_record.proofs.FieldFacts.{ParamsRead, Says, params-back, params-read, no-flaw, tested, word-has}
 use Rattle.pie_record.proofs.NumberFacts.{number-back}
 
@@ -122,14 +123,17 @@ command-read row k asks e =
     by : (k : CommandKind) (caller moment : ℕ) → Has row 1 (decimal caller) → Has row 2 (decimal moment) → caller ≤ most_u16 → moment < 2 ^ 64
         → Says (asked_at row k caller moment) asks → Reads row k asks
     by kind.Arrive caller moment who when few small e =
-        let c = and_after (arrival_at row moment) (λ (command : Command). let it : Result Asked Flaw = Ok (asked.Command caller command) in it) asks e in
+        let c = and_after (arrival_at row moment) (λ (command : Command). Ok (asked.Command caller command)) asks e in
         read-as (Reads row kind.Arrive) (asked.Command caller c.got) asks c.rest (arrival-read row caller moment c.got who when few small c.is)
     by kind.Depart caller moment who when few small e =
-        read-as (Reads row kind.Depart) (asked.Command caller (Depart moment)) asks e (record { kind = refl; has = (who, (when, tt)); fits = (few, small) })
+        read-as (Reads row kind.Depart) (asked.Command caller (Depart moment)) asks e
+        (record { kind = refl; has = (who, (when, tt)); fits = (few, small) })
     by kind.Update caller moment who when few small e =
-        read-as (Reads row kind.Update) (asked.Command caller (Update moment)) asks e (record { kind = refl; has = (who, (when, tt)); fits = (few, small) })
+        read-as (Reads row kind.Update) (asked.Command caller (Update moment)) asks e
+        (record { kind = refl; has = (who, (when, tt)); fits = (few, small) })
     by kind.Reset caller moment who when few small e =
-        read-as (Reads row kind.Reset) (asked.Command caller (Reset moment)) asks e (record { kind = refl; has = (who, (when, tt)); fits = (few, small) })
+        read-as (Reads row kind.Reset) (asked.Command caller (Reset moment)) asks e
+        (record { kind = refl; has = (who, (when, tt)); fits = (few, small) })
     by kind.Params caller moment who when few small e = change-read row caller moment asks who when few small e
 
 -- the word of a kind of command

@@ -126,7 +126,8 @@ shown-fits One row told e =
 shown-fits Two row told e = active-fits row told e
 shown-fits Three row told e = active-fits row told e
 
-clock-fits : (version : Version) (row : Row) (told : Line) → Says (and_then (clock_in version row) (λ clock. Ok (line.Clock clock))) told → LineFits told
+clock-fits : (version : Version) (row : Row) (told : Line) → Says (and_then (clock_in version row) (λ clock. Ok (line.Clock clock))) told
+    → LineFits told
 clock-fits version row told e =
     let a = and_after (clock_in version row) (λ (clock : Clock). let it : Result Line Flaw = Ok (line.Clock clock) in it) told e in
     read-as LineFits (line.Clock a.got) told a.rest (clock-read version row a.got a.is).fits

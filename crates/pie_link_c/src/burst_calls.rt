@@ -22,12 +22,7 @@ fn budget_of(bytes: u64) -> Option<u64>
 
 impl Port {
     // Asks a burst, and writes the code.
-    fn ask_all<'a>(
-        &mut self,
-        budget: Option<u64>,
-        burst: Asking<'a>,
-        code: &mut u32,
-    ) -> Asking<'a>
+    fn ask_all<'a>(&mut self, budget: Option<u64>, burst: Asking<'a>, code: &mut u32) -> Asking<'a>
         requires fresh { burst.done ≡ 0 }
         requires caller { burst.caller ≡ self.old.first }
         ensures same { result.events.ghost_name ≡ burst.entry.events.ghost_name }
@@ -68,7 +63,12 @@ impl Port {
     }
 
     /// Asks for each of the events, one after another within a budget of bytes, and updates ride among them. It also answers how many were asked.
-    fn try_all(&mut self, asked: Asked, budget: Option<u64>, events: &mut [PieEvent]) -> (u32, usize)
+    fn try_all(
+        &mut self,
+        asked: Asked,
+        budget: Option<u64>,
+        events: &mut [PieEvent],
+    ) -> (u32, usize)
         ensures { IsTriedAll asked budget (goes_on_after asked) self.old events.old result.1 result.0 events.new self.new }
     {
         let mut code = DONE;

@@ -1,4 +1,3 @@
-use Rattle.pie_link_c.specs.Bursts.{asks}
 use Rattle.pie_link_c.proofs.Bursting.{is_at, is_place}
 use Rattle.pie_link_c.proofs.burst.AskingBurst.command.Goals as goal
 

@@ -138,5 +138,6 @@ module _ {S E O : Type 0} (number : E → ℕ) (origin_of : S → O) (tells : S 
   pub takes_keep : (slots id : ℕ) (me : Me (Option S) (Place E O)) → IsIdle me
       → Allows Rule slots id me 0 (λ n. either (n == 0) 1 n) (taken number origin_of tells (step slots 0 0 1 none) me)
   takes_keep slots id me idle =
-      subst (λ (m : Me (Option S) (Place E O)). Allows Rule slots id m 0 (λ n. either (n == 0) 1 n) (taken number origin_of tells (step slots 0 0 1 none) m))
+      subst (λ (m : Me (Option S) (Place E O)). Allows Rule slots id m 0 (λ n. either (n == 0) 1 n)
+      (taken number origin_of tells (step slots 0 0 1 none) m))
       (sym idle) (won_or_lost slots id (pass_at me.0))

@@ -113,8 +113,8 @@ module _ (opening : Opening) (caller : ℕ) where
         omega (arith, few_made_by (h ++ []) later),
       )
 
-  was_full : (law : EntriesLookBack) (h : List Entry) (burst : List Arrival) → All IsFairCall (map arriving burst) → (All IsOk (answers_to h burst) → ⊥)
-      → WasFull h (made_by h burst) (length burst)
+  was_full : (law : EntriesLookBack) (h : List Entry) (burst : List Arrival) → All IsFairCall (map arriving burst)
+      → (All IsOk (answers_to h burst) → ⊥) → WasFull h (made_by h burst) (length burst)
   unfolding entries_to replies_to
   was_full law h [] fair not_all = absurd (not_all (All-nil IsOk))
   was_full law h (a ∷ later) fair not_all =

@@ -122,8 +122,8 @@ module _ (opening : Opening) (caller : ℕ) where
       (calm (effective_moment opening h) (due_after opening h)) was.refused
   not_passed before (Fold n) calm was = calm
 
-  none_passed : (front : List Entry) (calls : List Call) (h : List Entry) (passed : ℕ) → All IsCalm calls → AreMade opening caller front calls h passed
-      → passed ≡ 0
+  none_passed : (front : List Entry) (calls : List Call) (h : List Entry) (passed : ℕ) → All IsCalm calls
+      → AreMade opening caller front calls h passed → passed ≡ 0
   none_passed front [] h passed calm m = m.1
   none_passed front (call ∷ calls) h passed calm (inl m) = none_passed (m.0 ++ m.1 ∷ []) calls h passed (All-tail IsCalm call calls calm) m.4
   none_passed front (call ∷ calls) h passed calm (inr m) = absurd (not_passed m.0 call (All-head IsCalm call calls calm) m.3)
@@ -139,7 +139,8 @@ module _ (opening : Opening) (caller : ℕ) where
   only_made front [] h passed asks m all = subst (All IsMade) (sym m.0.1) all
   only_made front (call ∷ calls) h passed asks (inl m) all =
       only_made (m.0 ++ m.1 ∷ []) calls h passed (All-tail IsAsk call calls asks) m.4
-      (subst (All IsMade) (sym (own_entry opening caller m.0 m.1 (numbered opening caller call m.1 m.3) ∙ ap (λ (l : List Entry). l ++ m.1 ∷ []) m.2.1))
+      (subst (All IsMade) (sym (own_entry opening caller m.0 m.1 (numbered opening caller call m.1 m.3)
+      ∙ ap (λ (l : List Entry). l ++ m.1 ∷ []) m.2.1))
       (All-append IsMade (entries_of caller front) (m.1 ∷ []) all (one_made call m.1 (All-head IsAsk call calls asks) m.3)))
   only_made front (call ∷ calls) h passed asks (inr m) all =
       only_made m.0 calls h m.1 (All-tail IsAsk call calls asks) m.5 (subst (All IsMade) (sym m.2.1) all)

@@ -227,7 +227,8 @@ module _ (plan : Plan) (number k : ℕ) (link : LinkView) (link_for : IsFor plan
     cut_short why refused not_soon =
         let fair = all_at IsFairCall (calls_of plan number) k (Ask command) (all_fair plan link_for.sound number) there in
         asked refused.0 None refused.1.from.goes_on
-        (subst (λ (h : List Entry). IsFull (opening_of plan) number refused.0 (Ask command ∷ []) h) (sym (ap (λ (c : CallerView). c.front) refused.1.seen))
+        (subst (λ (h : List Entry). IsFull (opening_of plan) number refused.0 (Ask command ∷ []) h)
+        (sym (ap (λ (c : CallerView). c.front) refused.1.seen))
         (record { full = full_after (opening_of plan) refused.0 command why fair refused.1.because not_soon; fewer = omega arith }))
 
     pub asked_next : (answer : Result (Told Answer) Refusal) → Answers link before command answer after

@@ -13,7 +13,8 @@ join_seat-requires g c =
       search rules,
       ap (λ m. m.1) waiting.1,
       search rules,
-      joins_keep k.number_of k.origin_of k.tells (k.origin_of key.state.value) key.numbers _ _ _ _ (ap (λ m. m.0) waiting.0) (ap (λ m. m.0) waiting.1),
+      joins_keep k.number_of k.origin_of k.tells (k.origin_of key.state.value) key.numbers _ _ _ _ (ap (λ m. m.0) waiting.0)
+          (ap (λ m. m.0) waiting.1),
     )
 
 pub load-requires : goal.load-requires

@@ -9,7 +9,6 @@ use Rattle.pie_guarantees.proofs.Names.{params_after, bytes_after, effective_mom
 use Rattle.pie_guarantees.proofs.Names.{is_dropped_packets, is_marked, is_queued, answer-fits, held-is, waiting_next, first-shows, first_core}
 use Rattle.pie_guarantees.proofs.Names.{IsLawful}
 use Rattle.std.proofs.lemmas.List.{append_cancel_left}
-use Rattle.pie_queue.proofs.QueueFacts.{bytes-push}
 use Rattle.pie_guarantees.specs.Counts.{Carries, SetsLimit, bytes_departed, hands_in, packet_queued, packets_departed, packets_handed_in}
 use Rattle.pie_guarantees.specs.Counts.{packets_queued, packets_waiting, time_of}
 use Rattle.pie_event.specs.declared.verdict.Verdict.TheVariants as verdict
@@ -151,7 +150,7 @@ bounded h waiting packets (Arrive moment packet word) now =
     more : (new : Waiting) → new.packet.size ≡ packet.size → bytes_of waiting + packet.size ≤ h.params.limit_bytes
         → Bounded h.params.limit_bytes (bytes_of waiting) (bytes_of (waiting ++ new ∷ [])) (Some new.packet)
     more new size room =
-        let one = bytes-push waiting new in
+        let one : bytes_of (waiting ++ new ∷ []) ≡ bytes_of waiting + new.packet.size = sum_by_push (λ (w : Waiting). w.packet.size) waiting new in
         record { or = inr (omega (arith, one, size, room)); queue = λ packet is. omega (arith, one, size, room) }
 
     by : (over full : Bool) → nat_lt h.params.limit_bytes (bytes_of waiting + packet.size) ≡ over → (choice : Choice)

@@ -44,5 +44,5 @@ pub use Rattle.pie_record.specs.Opening.{Checked}
 pub use Rattle.pie_record.specs.Records.{TakesRow, Took}
 pub use Rattle.pie_record.specs.Text.{records_left}
 pub use Rattle.pie_record.specs.declared.first_record.FirstKind.{FirstKind}
-pub use Rattle.pie_text.proofs.PlainFacts.{decimal_plain, decimal_plain_long, plain_append, text-onto, text-plain}
+pub use Rattle.pie_text.proofs.Laws.{All-none, decimal_plain, decimal_plain_long, plain_append, row-added, text-none, text-onto, text-plain}
 pub use Rattle.pie_text.specs.Plain.{ending}

@@ -3,3 +3,4 @@ pub mod Records
 pub mod Openings
 pub mod LostFacts
 pub mod WriteFacts
+pub mod Laws

@@ -1,10 +1,9 @@
 -- Dates and times of day, worked out: beside days counted year by year and month by month.
 use Rattle.std.proofs.Common.{◌≡◌, ◌+◌, ℕ, zero, suc, List, [], ◌∷◌, map, codes, refl, if◌then◌else◌}
-use Rattle.std.specs.Prelude.{Result, Ok, Err}
+use Rattle.std.specs.Prelude.{Ok, Err}
 use Rattle.std.specs.Fmt.{digits}
 use Rattle.std.specs.List.{flat_map, range_with_len}
 use Rattle.pie_units.specs.declared.date.Date.{Date}
-use Rattle.pie_units.specs.declared.utc.UtcFault.{UtcFault}
 use Rattle.pie_units.specs.declared.utc.UtcFault.TheVariants.{NotUtc, OutOfRange}
 use Rattle.pie_units.specs.Date.{date_in, date_of, day_number, days_in_month, is_leap, year_among, year_day}
 use Rattle.pie_units.specs.Utc.{date_part, has_marks, nanos_in, seconds_part, unix_of, utc_in, utc_text, utc_with}

@@ -1,6 +1,6 @@
 -- The definitions on worked rows. Each line computes: what is held after each call, and that looking back over the events gives the same.
 use Rattle.std.proofs.Common.{◌≡◌, ℕ, ◌+◌, ◌^◌, List, [], ◌∷◌, ◌++◌, Bool, true, false, Option, Some, None, refl}
-use Rattle.pie_aqm.specs.{RawParams, Elements, Stamp, Begun, Two, Arrival, ControllerEvent, Opened, Arrive, Call, Change, Depart, Restart, Update}
+use Rattle.pie_aqm.specs.{RawParams, Elements, Stamp, Begun, Two, ArrivingPacket, ControllerEvent, Opened, Arrive, Call, Change, Depart, Restart, Update}
 use Rattle.pie_aqm.specs.{after_call, shown_by, active_of, arrivals_shown, control_of, delay_noted, departures_of, departures_shown, early_of}
 use Rattle.pie_aqm.specs.{held_of, is_active, noted, noted_after, now_of, params_of, updates_shown, waited_noted, waited_of, greatest, last_or}
 use Rattle.pie_aqm.specs.{places, accu_left, delay_answered, due, opened, verdict}
@@ -47,7 +47,7 @@ held moment prob old burst last average begun active = record {
 abbrev begun_at : ℕ → Option Begun
 begun_at moment = Some (record { start = moment; count = 0 })
 
-abbrev packet : ℕ → ℕ → Bool → Arrival
+abbrev packet : ℕ → ℕ → Bool → ArrivingPacket
 packet queued size full = record { queued = queued; is_full = full; size = size; ecn = NotEct; word = 0 }
 
 -- it opens inactive, and two packets leave it so; a departure then is not measured

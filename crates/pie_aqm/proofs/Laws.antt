@@ -1,7 +1,7 @@
 -- A controller that shows some events shows one more after each call.
 use Rattle.std.proofs.Common.{◌≡◌, ◌≤◌, ◌-◌, ℕ, List, [], ◌∷◌, ◌++◌, Bool, true, false, refl, sym, subst, ◌∙◌, arith, if◌then◌else◌}
 use Rattle.std.specs.Prelude.{max, min, ◌&&◌, Some, None, unwrap_or}
-use Rattle.pie_aqm.specs.{RawParams, Elements, Departure, departure, Estimate, Parts, Profile, One, Two, Arrival, Arrive, Call, Change, Depart}
+use Rattle.pie_aqm.specs.{RawParams, Elements, Departure, departure, Estimate, Parts, Profile, One, Two, ArrivingPacket, Arrive, Call, Change, Depart}
 use Rattle.pie_aqm.specs.{HasThreshold, Pass, Restart, Update, after_call, shown_by, ControllerEvent, Opened, Arrived, Departed, Updated, Reset}
 use Rattle.pie_aqm.specs.{Changed, moment_of, params_set, Shows, active_of, change_by, updates_shown, control_of, control_shown, delay_noted}
 use Rattle.pie_aqm.specs.{departures_shown, departures_of, arrivals_shown, early_of, early_shown, estimate_of, held_of, is_active, is_calm_noted}
@@ -198,7 +198,7 @@ module _ (o : Opened) (events : List ControllerEvent) where
   unfolding held_of
   change-next params moment = λ i. record (passed (held_of o events) moment) { params = params; rate = none-is params.dq_threshold i }
 
-  arrive-next : (a : Arrival) (moment : ℕ) (on : Bool)
+  arrive-next : (a : ArrivingPacket) (moment : ℕ) (on : Bool)
       → next_if on (Arrived (verdict (held_of o events) a) a.size a.queued (bytes_with (verdict (held_of o events) a) a.queued a.size) moment)
       ≡ (if on then record (anew (judged (held_of o events) a moment)) { active = true } else judged (held_of o events) a moment)
   unfolding held_of

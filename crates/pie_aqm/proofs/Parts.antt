@@ -3,7 +3,7 @@ use Rattle.std.proofs.Common.{◌≡◌, ◌+◌, ◌&&◌, ℕ, List, [], ◌�
 use Rattle.std.specs.Prelude.{nat_lt}
 use Rattle.pie_rate.specs.Average.{average, samples}
 use Rattle.pie_rate.specs.Cycles.{begun, cycles, cycles_from, first_opening, first_position}
-use Rattle.pie_aqm.specs.{Picking, Choice, Enqueue, Arrival, considered_where, verdict_shown, accu_left, chosen, no_estimate}
+use Rattle.pie_aqm.specs.{Picking, Choice, Enqueue, ArrivingPacket, considered_where, verdict_shown, accu_left, chosen, no_estimate}
 use Rattle.pie_aqm.specs.{offered, verdict}
 use Rattle.pie_aqm.specs.Held.{Held}
 use Rattle.pie_rate.specs.Estimate as Rate
@@ -22,7 +22,7 @@ shown-chosen Enqueue considered prob picking = refl
 shown-chosen _ considered prob picking = refl
 
 -- after an arrival and its verdict
-pub early-step : (h : Held) (a : Arrival) (events : List EarlyEvent) → Early.Shows events h.accu
+pub early-step : (h : Held) (a : ArrivingPacket) (events : List EarlyEvent) → Early.Shows events h.accu
     → Early.Shows (events ++ verdict_shown (verdict h a) (considered_where h.active h.params h.control a.queued)
     (counted h.elements h.params h.control (offered a)) h.elements.picking ∷ []) (accu_left h a)
 unfolding verdict accu_left

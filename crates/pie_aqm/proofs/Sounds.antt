@@ -4,7 +4,7 @@ use Rattle.std.proofs.Common.{if◌then◌else◌}
 use Rattle.std.specs.Prelude.{max, nat_lt, Option, Some, None}
 use Rattle.std.proofs.lemmas.Bool.Decides.{nat_tests}
 use Rattle.pie_fixed.specs.Fixed.{bounded_of}
-use Rattle.pie_aqm.specs.Types.{RawParams, Elements, Delay, Rate, Stamp, departure, Begun, Estimate, Parts, Profile, One, Two, Arrival}
+use Rattle.pie_aqm.specs.Types.{RawParams, Elements, Delay, Rate, Stamp, departure, Begun, Estimate, Parts, Profile, One, Two, ArrivingPacket}
 use Rattle.pie_params.specs.Range.{first_bad}
 use Rattle.pie_rate.specs.Average.{averaged, with_sample}
 use Rattle.pie_rate.specs.Step.{after_departure, step_from}
@@ -20,7 +20,7 @@ use Rattle.pie_aqm.proofs.InRange.{in-range, threshold-holds}
 
 -- ---- the accumulated probability
 
-pub accu-small : (h : Held) (a : Arrival) → h.accu < 8_500_000_000_000 → accu_left h a < 8_500_000_000_000
+pub accu-small : (h : Held) (a : ArrivingPacket) → h.accu < 8_500_000_000_000 → accu_left h a < 8_500_000_000_000
 unfolding accu_left
 accu-small h a small =
     grind (
@@ -172,7 +172,7 @@ module _ (h : Held) (sound : IsSound h) where
       Sound-with active no_estimate 0 (renewed h.params h.control) 0 always (record { average = omega arith; cycle = tt }) (omega arith)
       (record { prob = omega arith; old_delay = omega arith; burst = (in-range h.params sound.params).max_burst; last = sound.last }) (omega arith)
 
-arrive-sound : (h : Held) → IsSound h → (a : Arrival) (moment : ℕ) → moment < 2 ^ 60 → IsSound (after_call h (Arrive a moment))
+arrive-sound : (h : Held) → IsSound h → (a : ArrivingPacket) (moment : ℕ) → moment < 2 ^ 60 → IsSound (after_call h (Arrive a moment))
 arrive-sound h sound a moment within = by (turns_on h (bytes_with (verdict h a) a.queued a.size))
   where
     passed : IsSound (record h { moment = now_at h moment })

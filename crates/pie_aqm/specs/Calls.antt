@@ -1,6 +1,6 @@
 -- The calls on a controller: what each leaves, and what it adds to what the controller was shown.
 use Rattle.std.specs.Prelude.{◌≡◌, ℕ, ◌^◌, ◌<◌, ◌≤◌, None, ⊤}
-use Rattle.pie_aqm.specs.Types.{RawParams, Arrival}
+use Rattle.pie_aqm.specs.Types.{RawParams, ArrivingPacket}
 use Rattle.pie_aqm.specs.Held.{Held}
 use Rattle.pie_params.specs.Range.{first_bad}
 use Rattle.pie_aqm.specs.Events.{ControllerEvent, Arrived, Departed, Passed, Updated, Reset, Changed}
@@ -9,7 +9,7 @@ use Rattle.pie_aqm.specs.Steps.{arrived, bytes_with, changed, departed, passed, 
 -- an arrival; a departure, with the packet's size, the bytes that it left and the moment since which it had waited; a departure that
 -- found no packet; an update, with the bytes in the queue; a reset; and new parameters. The last number is the moment
 pub data Call : Type 0 where
-  Arrive : Arrival → ℕ → Call
+  Arrive : ArrivingPacket → ℕ → Call
   Depart : ℕ → ℕ → ℕ → ℕ → Call
   Pass : ℕ → Call
   Update : ℕ → ℕ → Call

@@ -3,7 +3,7 @@
 use Rattle.std.specs.Prelude.{ℕ, ◌+◌, ◌-◌, ◌*◌, ◌^◌, ◌==◌, max, ◌&&◌, not, nat_lt, nat_le, Bool, true, false, Option, Some, None, is_none}
 use Rattle.std.specs.Prelude.{min, option_map, if◌then◌else◌}
 use Rattle.pie_aqm.specs.Types.{RawParams, Elements, Delay, Rate, Stamp, departure, Estimate, Parts, Offered, Choice, Enqueue}
-use Rattle.pie_aqm.specs.Types.{Profile, One, Two, Arrival, Verdict}
+use Rattle.pie_aqm.specs.Types.{Profile, One, Two, ArrivingPacket, Verdict}
 use Rattle.pie_aqm.specs.Held.{Held}
 use Rattle.pie_rate.specs.Estimate.{Begun}
 use Rattle.pie_rate.specs.Step.{after_departure}
@@ -66,31 +66,31 @@ changed h params moment = record h { params = params; moment = now_at h moment; 
 -- ---- arrivals
 
 -- an arriving packet as early drop sees it
-abbrev pub offered : Arrival → Offered
+abbrev pub offered : ArrivingPacket → Offered
 offered a = record { bytes = a.queued; size = a.size; ecn = a.ecn; word = a.word }
 
 -- early drop's choice: while the controller is inactive it considers no packet, and each is queued
-abbrev pub choice : Held → Arrival → Choice
+abbrev pub choice : Held → ArrivingPacket → Choice
 choice h a = if h.active then choice_of h.elements h.params h.control (offered a) h.accu else Enqueue
 
 -- tail drop: the first of these where the queue has no room for the packet's bytes, else the second where the ring has none for one
 -- packet more, and else the third
-abbrev pub by_room : {X : Type 0} → ℕ → Arrival → X → X → X → X
+abbrev pub by_room : {X : Type 0} → ℕ → ArrivingPacket → X → X → X → X
 by_room limit a no_bytes no_packet room = if nat_lt limit (a.queued + a.size) then no_bytes else if a.is_full then no_packet else room
 
 -- the verdict: tail drop by bytes, then by packets, and else early drop's choice
-unfoldable pub verdict : Held → Arrival → Verdict
+unfoldable pub verdict : Held → ArrivingPacket → Verdict
 verdict h a = by_room h.params.limit_bytes a DroppedBytes DroppedPackets (chosen (choice h a))
 
 -- what decides it, where so many packets wait: the limit in bytes, then that in packets, then that the controller is inactive, then the
 -- rest, each with the numbers that it compares (RFC 8033, Appendix A; the limit in packets is this project's own)
-unfoldable pub cause : Held → Arrival → ℕ → Cause
+unfoldable pub cause : Held → ArrivingPacket → ℕ → Cause
 cause h a packets =
     by_room h.params.limit_bytes a (NoRoomInBytes a.queued a.size h.params.limit_bytes) (NoRoomInPackets packets)
     (if h.active then early_cause h.elements h.params h.control (offered a) h.accu else Inactive)
 
 -- the accumulated probability after it: 0 after a tail drop, and as it was while the controller is inactive
-unfoldable pub accu_left : Held → Arrival → ℕ
+unfoldable pub accu_left : Held → ArrivingPacket → ℕ
 accu_left h a = by_room h.params.limit_bytes a 0 0 (if h.active then accu_after h.elements h.params h.control (offered a) h.accu else h.accu)
 
 -- the bytes in the queue after the verdict
@@ -109,11 +109,11 @@ abbrev pub woken : Held → ℕ → Held
 woken h bytes = if turns_on h bytes then record (anew h) { active = true } else h
 
 -- after the verdict
-abbrev pub judged : Held → Arrival → ℕ → Held
+abbrev pub judged : Held → ArrivingPacket → ℕ → Held
 judged h a moment = record h { moment = now_at h moment; accu = accu_left h a }
 
 -- after an arrival
-abbrev pub arrived : Held → Arrival → ℕ → Held
+abbrev pub arrived : Held → ArrivingPacket → ℕ → Held
 arrived h a moment = woken (judged h a moment) (bytes_with (verdict h a) a.queued a.size)
 
 -- ---- departures

@@ -18,5 +18,5 @@ pub use Rattle.pie_early.specs.declared.early.Choice.{Choice}
 pub use Rattle.pie_early.specs.declared.early.Choice.TheVariants.{Enqueue, Mark, Drop}
 pub use Rattle.pie_event.specs.declared.profile.Profile.{Profile}
 pub use Rattle.pie_event.specs.declared.profile.Profile.TheVariants.{One, Two}
-pub use Rattle.pie_aqm.specs.declared.verdict.Arrival.{Arrival}
+pub use Rattle.pie_aqm.specs.declared.verdict.ArrivingPacket.{ArrivingPacket}
 pub use Rattle.pie_event.specs.declared.verdict.Verdict.{Verdict}

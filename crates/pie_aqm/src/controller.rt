@@ -6,7 +6,7 @@ ghost use Rattle.pie_aqm.specs.{updated, verdict};
 ghost use Rattle.pie_event.specs.Cause.{verdict_of};
 ghost use Rattle.pie_event.specs.Verdict.{is_queued};
 
-use crate::{Arrival, Cause, Profile, RawController, Register, Verdict};
+use crate::{ArrivingPacket, Cause, Profile, RawController, Register, Verdict};
 use pie_fixed::Nanos;
 use pie_params::{Elements, Params};
 use std::marker::Model;
@@ -71,7 +71,7 @@ impl Controller {
     /// Appendix A). An inactive controller is turned on, as by a reset, where three times the bytes in the queue then reach
     /// `limit_bytes` (RFC 8033, section 5.3; the third is this project's own).
     #[inline(always)]
-    pub fn arrive(&mut self, arrival: Arrival, moment: Nanos) -> Verdict
+    pub fn arrive(&mut self, arrival: ArrivingPacket, moment: Nanos) -> Verdict
         requires { arrival.queued ≤ 2 ^ 30 }
         ensures verdict { result ≡ verdict self.old arrival }
         ensures fits { is_queued result ≡ true → (arrival.is_full ≡ false) × (arrival.queued + arrival.size ≤ 2 ^ 30) }
@@ -85,7 +85,7 @@ impl Controller {
     /// What would decide an arriving packet here: the first case of the rules that holds, with the numbers that it compares. Its
     /// verdict is that of `arrive`. Nothing is changed. `packets` is how many packets are in the queue, which the cause says where
     /// the ring is full.
-    pub fn cause(&self, arrival: Arrival, packets: u64) -> Cause
+    pub fn cause(&self, arrival: ArrivingPacket, packets: u64) -> Cause
         requires { arrival.queued ≤ 2 ^ 30 }
         ensures cause { result ≡ cause self.now arrival packets }
         ensures verdict { verdict_of result ≡ verdict self.now arrival }

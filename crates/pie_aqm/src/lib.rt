@@ -22,4 +22,4 @@ pub use pie_event::{Cause, CauseName, Fate};
 pub use profile::Profile;
 pub use raw::RawController;
 pub use register::Register;
-pub use verdict::{Arrival, Verdict};
+pub use verdict::{ArrivingPacket, Verdict};

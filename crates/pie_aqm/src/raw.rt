@@ -8,7 +8,7 @@ ghost use Rattle.pie_event.specs.Verdict.{is_queued};
 
 use crate::profile::opens_active;
 use crate::verdict::{verdict_of, wakes};
-use crate::{Arrival, Cause, CauseName, Profile, Verdict};
+use crate::{ArrivingPacket, Cause, CauseName, Profile, Verdict};
 use pie_control::{MAX_DELAY, RawControl};
 use pie_early::decide;
 use pie_params::{Delay, Elements, Picking, RawParams, Size};
@@ -69,7 +69,7 @@ impl RawController {
 
     /// Decides on an arriving packet, as [`Controller::arrive`](crate::Controller::arrive) does.
     #[inline(always)]
-    pub fn arrive(&mut self, arrival: Arrival, moment: u64) -> Verdict
+    pub fn arrive(&mut self, arrival: ArrivingPacket, moment: u64) -> Verdict
         requires { arrival.queued ≤ 2 ^ 30 }
         ensures verdict { result ≡ verdict (held_by self.old) arrival }
         ensures fits { is_queued result ≡ true → (arrival.is_full ≡ false) × (arrival.queued + arrival.size ≤ self.old.params.limit_bytes) }
@@ -81,7 +81,7 @@ impl RawController {
     /// The same, with the place of what decides it, in the order of the decision: that of the name of its
     /// [`cause`](crate::Controller::cause).
     #[inline(always)]
-    pub fn arrive_with_place(&mut self, arrival: Arrival, moment: u64) -> (Verdict, usize)
+    pub fn arrive_with_place(&mut self, arrival: ArrivingPacket, moment: u64) -> (Verdict, usize)
         requires { arrival.queued ≤ 2 ^ 30 }
         ensures verdict { result.0 ≡ verdict (held_by self.old) arrival }
         ensures place { (packets : ℕ) → result.1 ≡ place_of_cause (name_of (cause (held_by self.old) arrival packets)) }
@@ -95,7 +95,7 @@ impl RawController {
     /// The same, where picking by the sum and sizes as they are have a way of their own, compiled with no choice in it, and all else is
     /// a call.
     #[inline(always)]
-    pub(crate) fn arrive_either_way(&mut self, arrival: Arrival, moment: u64) -> Verdict
+    pub(crate) fn arrive_either_way(&mut self, arrival: ArrivingPacket, moment: u64) -> Verdict
         requires { arrival.queued ≤ 2 ^ 30 }
         ensures verdict { result ≡ verdict (held_by self.old) arrival }
         ensures fits { is_queued result ≡ true → (arrival.is_full ≡ false) × (arrival.queued + arrival.size ≤ self.old.params.limit_bytes) }
@@ -138,7 +138,7 @@ impl RawController {
         ensures after { held_by self.new
             ≡ arrived (held_by self.old) (record { queued = queued; is_full = is_full; size = size; ecn = ecn; word = word }) moment }
     {
-        let arrival = Arrival {
+        let arrival = ArrivingPacket {
             queued,
             is_full,
             size,
@@ -150,7 +150,12 @@ impl RawController {
 
     /// The same by these elements, which are its own.
     #[inline(always)]
-    fn arrive_by(&mut self, elements: Elements, arrival: Arrival, moment: u64) -> (Verdict, usize)
+    fn arrive_by(
+        &mut self,
+        elements: Elements,
+        arrival: ArrivingPacket,
+        moment: u64,
+    ) -> (Verdict, usize)
         requires queued { arrival.queued ≤ 2 ^ 30 }
         requires own { elements ≡ self.old.elements }
         ensures verdict { result.0 ≡ verdict (held_by self.old) arrival }
@@ -173,7 +178,7 @@ impl RawController {
     /// packets, before all else, and then early drop, while the controller is active (RFC 8033, sections 4.1, 5.1, 5.4 and Appendix A).
     #[inline(always)]
     #[tactic(auto, unfolding(crate::specs::Steps::cause, crate::specs::Steps::verdict, crate::specs::Steps::accu_left))]
-    fn judge(&self, elements: Elements, arrival: Arrival) -> (Verdict, u64, usize)
+    fn judge(&self, elements: Elements, arrival: ArrivingPacket) -> (Verdict, u64, usize)
         requires queued { arrival.queued ≤ 2 ^ 30 }
         requires own { elements ≡ self.now.elements }
         ensures verdict { result.0 ≡ verdict (held_by self.now) arrival }
@@ -207,7 +212,7 @@ impl RawController {
 
     /// What would decide an arriving packet, as [`Controller::cause`](crate::Controller::cause) says it.
     #[tactic(auto, unfolding(crate::specs::Steps::cause, crate::specs::Steps::verdict))]
-    pub(crate) fn cause(&self, arrival: Arrival, packets: u64) -> Cause
+    pub(crate) fn cause(&self, arrival: ArrivingPacket, packets: u64) -> Cause
         requires { arrival.queued ≤ 2 ^ 30 }
         ensures cause { result ≡ cause (held_by self.now) arrival packets }
         ensures verdict { verdict_of result ≡ verdict (held_by self.now) arrival }

@@ -1,13 +1,9 @@
 -- A controller beside a queue decides and holds what a core does.
-use Rattle.std.proofs.Common.{◌≡◌, ℕ, List, [], ◌∷◌, ◌++◌, map, refl, sym, ap, ◌∙◌, All, None}
-use Rattle.std.proofs.lemmas.List.{map-append}
-use Rattle.pie_params.specs.Range.{first_bad}
-use Rattle.pie_aqm.specs.Calls.{Call, after_call}
-use Rattle.pie_book.specs.{Held, Command, Event, Opening, IsOpening, IsStep, after_calls, call_at, calls_of, held_after_calls, opened_by, call_of}
-use Rattle.pie_book.specs.{CoreView, Shows, closed, refusal_of, IsLegal, answer_by, decision, refusal_by_rule, waiting_after, after_command, call_in}
-use Rattle.pie_aqm.specs.Places.{Place, places}
-use Rattle.pie_aqm.proofs.Places.{place_of, places-push}
-use Rattle.pie_event.specs.Ranges.{CommandFits}
+use Rattle.pie_book.proofs.Names.{◌≡◌, ℕ, List, [], ◌∷◌, ◌++◌, map, refl, sym, ap, ◌∙◌, All, None, map-append, first_bad, after_call, Held, Command}
+use Rattle.pie_book.proofs.Names.{Event, Opening, opened_by, CoreView, Shows, closed, refusal_of, IsLegal, answer_by, decision, refusal_by_rule}
+use Rattle.pie_book.proofs.Names.{waiting_after, after_command, call_in, Place, places, place_of, places-push, CommandFits}
+use Rattle.pie_aqm.specs.Calls.{Call}
+use Rattle.pie_book.specs.{IsOpening, IsStep, after_calls, call_at, calls_of, held_after_calls, call_of}
 use Rattle.pie_book.proofs.CoreFacts.{held-is, next-decided, next-shows}
 use Rattle.pie_book.proofs.LegalFacts.{Stays, first-shows, first_core, run_of, threshold-of}
 

@@ -1,31 +1,26 @@
 -- What a core holds, where it shows a history, is what looking back over the history gives; and it shows the history with one event more
 -- after each command.
-use Rattle.std.proofs.Common.{◌≡◌, ◌≤◌, ◌<◌, ◌+◌, ℕ, List, [], ◌∷◌, ◌++◌, map, length, true, refl, ap, ◌∙◌, sym, arith, length-append}
-use Rattle.std.proofs.lemmas.Bool.Decides.{nat_tests}
-use Rattle.std.proofs.Common.{max, None, Some, All, is_some, append-nil, append_assoc}
-use Rattle.std.proofs.lemmas.List.{map-append}
-use Rattle.std.proofs.lemmas.List.Elements.{All-cons, All-head, All-nil, All-push, All-tail}
-use Rattle.std.proofs.lemmas.List.Sums.{sum_by-append}
-use Rattle.pie_book.specs.{Arrival, Packet, Waiting, One, Verdict, Held, Command, Arrive, Depart, Answer, Enqueued, Event, Opening, opened_by}
-use Rattle.pie_book.specs.{arrival_of, departure_call, cause_after, CoreView, Shows, closed, counted, refusal_of, registers_of, with_queue, IsLegal}
-use Rattle.pie_book.specs.{IsLegalAt, answer_by, answer_to_departure, decision, refusal_by_rule, refusal_with, active_after, delay_after}
-use Rattle.pie_book.specs.{delay_answered, held_after, admitted, bytes_after, departed_count, effective_moment, waiting_after, registers_after}
-use Rattle.pie_book.specs.{event_of, arriving_size, event_shown, oldest_since, opened_of, shown, shown_at, age_of_oldest, largest_delay}
-use Rattle.pie_book.specs.{largest_queue, no_stats, stats_after, waited, after_command, answer_in, call_in, waiting_next}
-use Rattle.pie_queue.specs.Queue.{bytes_of}
-use Rattle.pie_event.specs.declared.verdict.Verdict.TheVariants as verdict
-use Rattle.pie_aqm.specs.Calls.{HasThreshold, after_call, shown_by}
-use Rattle.pie_aqm.specs.Steps.{cause}
+use Rattle.pie_book.proofs.Names.{◌≡◌, ◌≤◌, ◌<◌, ◌+◌, ℕ, List, [], ◌∷◌, ◌++◌, map, length, true, refl, ap, ◌∙◌, sym, arith, length-append, nat_tests}
+use Rattle.pie_book.proofs.Names.{max, None, Some, All, is_some, append-nil, map-append, All-cons, All-head, All-nil, All-push, All-tail}
+use Rattle.pie_book.proofs.Names.{sum_by-append, ArrivingPacket, Packet, Waiting, One, Verdict, Held, Command, Arrive, Depart, Answer, Enqueued}
+use Rattle.pie_book.proofs.Names.{Event, Opening, opened_by, arrival_of, departure_call, cause_after, CoreView, Shows, closed, counted, refusal_of}
+use Rattle.pie_book.proofs.Names.{registers_of, with_queue, IsLegal, IsLegalAt, answer_by, answer_to_departure, decision, refusal_by_rule}
+use Rattle.pie_book.proofs.Names.{delay_after, delay_answered, held_after, admitted, bytes_after, departed_count, effective_moment, waiting_after}
+use Rattle.pie_book.proofs.Names.{registers_after, event_of, opened_of, shown, age_of_oldest, largest_delay, largest_queue, no_stats, stats_after}
+use Rattle.pie_book.proofs.Names.{waited, after_command, answer_in, call_in, waiting_next, bytes_of, HasThreshold, after_call, cause, Place, places}
+use Rattle.pie_book.proofs.Names.{greatest, anew, bytes_with, judged, now_at, place_of, places-push, answer_of, Deed, arrival_deed, deed, departure}
+use Rattle.pie_book.proofs.Names.{departure_deed, fits, handed_in}
+use Rattle.std.proofs.Common.{append_assoc}
+use Rattle.pie_book.specs.{refusal_with, active_after, arriving_size, event_shown, oldest_since, shown_at}
+use Rattle.pie_aqm.specs.Calls.{shown_by}
 use Rattle.pie_aqm.specs.Events.{Arrived}
-use Rattle.pie_aqm.specs.History as Controller
-use Rattle.pie_aqm.specs.Places.{Place, places, after, greatest}
-use Rattle.pie_aqm.specs.Steps as Steps
-use Rattle.pie_aqm.specs.Steps.{anew, bytes_with, judged, now_at}
+use Rattle.pie_aqm.specs.Places.{after}
 use Rattle.pie_aqm.proofs.Laws.{Shows_call, Shows_opened, held_is}
 use Rattle.pie_aqm.proofs.Looks.{one_is_active}
-use Rattle.pie_aqm.proofs.Places.{place_of, places-push}
-use Rattle.pie_event.specs.Verdict.{answer_of}
-use Rattle.pie_event.specs.Deed.{Deed, arrival_deed, deed, departure, departure_deed, fits, handed_in, with_ce}
+use Rattle.pie_event.specs.Deed.{with_ce}
+use Rattle.pie_event.specs.declared.verdict.Verdict.TheVariants as verdict
+use Rattle.pie_aqm.specs.History as Controller
+use Rattle.pie_aqm.specs.Steps as Steps
 use Rattle.pie_book.proofs.HistoryFacts.{departed-push, effective_moment-push, waiting_after-push}
 use Rattle.pie_book.proofs.StatisticsFacts.{stats_after-push}
 
@@ -177,7 +172,7 @@ command-shown core now (Depart moment) = by core.waiting
 command-shown core now _ = refl
 
 -- the effective moment after a call
-arrived-moment : (h : Held) (a : Arrival) (moment : ℕ) → (Steps.arrived h a moment).moment ≡ max h.moment moment
+arrived-moment : (h : Held) (a : ArrivingPacket) (moment : ℕ) → (Steps.arrived h a moment).moment ≡ max h.moment moment
 arrived-moment h a moment = grind (arith, nat_tests)
 
 moment-next : (core : CoreView) (command : Command) → (after_call core.held (call_in core command)).moment ≡ now_at core.held (handed_in command)

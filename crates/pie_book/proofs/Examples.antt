@@ -1,36 +1,29 @@
 -- The definitions on worked histories: each theorem computes. What an event did, and what looking back finds of moments,
 -- parameters and packets.
-use Rattle.std.specs.Prelude.{ℕ, ◌≡◌, List, [], ◌∷◌, Some, None, true, false, map, ⊤}
-use Rattle.std.proofs.Common.{refl}
-use Rattle.pie_params.specs.Profile.{default_profile}
-use Rattle.pie_params.specs.Elements.{usual}
-use Rattle.pie_book.specs.{RawParams, Packet, Waiting, One, Command, Arrive, Depart, Update, Reset, SetParams, Answer, Enqueued, Marked, DroppedEarly}
-use Rattle.pie_book.specs.{DroppedBytes, DroppedPackets, Empty, Left, Updated, Done, Event, Mode, Bounded, Opening, registers_after, answers}
-use Rattle.pie_book.specs.{outcomes, progress_after, largest_queue, largest_delay, stats_after, waited, held_after, params_after, effective_moment}
-use Rattle.pie_book.specs.{admitted, departed_count, waiting_after, bytes_after, opened_of, shown}
-use Rattle.pie_queue.specs.declared.ecn.Ecn.TheVariants.{NotEct, Ect0, Ce}
+use Rattle.pie_book.proofs.Names.{⊤, refl, default_profile, usual, RawParams, Packet, Waiting, One, Command, Arrive, Depart, Update, Reset, SetParams}
+use Rattle.pie_book.proofs.Names.{Answer, Enqueued, Marked, DroppedEarly, DroppedBytes, DroppedPackets, Empty, Left, Updated, Done, Event, Bounded}
+use Rattle.pie_book.proofs.Names.{Opening, registers_after, answers, outcomes, progress_after, largest_queue, largest_delay, stats_after, waited}
+use Rattle.pie_book.proofs.Names.{held_after, effective_moment, admitted, departed_count, waiting_after, bytes_after, opened_of, shown, NotEct, Ect0}
+use Rattle.pie_book.proofs.Names.{Ce, Limits, are_in_range, opening_refusal, Deed, deed, fits, admission, queued, marked, departed, Place, places}
+use Rattle.pie_book.proofs.Names.{up_to, greatest, delay_of, cause, considered_cause, early_cause}
+use Rattle.std.specs.Prelude.{ℕ, ◌≡◌, List, [], ◌∷◌, Some, None, true, false, map}
+use Rattle.pie_book.specs.{Mode, params_after}
 use Rattle.pie_rate.specs.Departures.{Departure}
 use Rattle.pie_control.specs.Events.{ControlEvent}
 use Rattle.pie_early.specs.Events.{EarlyEvent}
-use Rattle.pie_event.specs.declared.opening.Limits.{Limits}
-use Rattle.pie_event.specs.declared.refusal.OpenRefusal.TheVariants as open_refusal
-use Rattle.pie_event.specs.Opening.{are_in_range, are_of_version_two, opening_refusal}
-use Rattle.pie_event.specs.Deed.{Deed, deed, fits, admission, queued, marked, dropped_early, dropped_bytes}
-use Rattle.pie_event.specs.Deed.{dropped_packets, departed, found_none, updated, was_reset, set, nothing}
+use Rattle.pie_event.specs.Opening.{are_of_version_two}
+use Rattle.pie_event.specs.Deed.{dropped_early, dropped_bytes, dropped_packets, found_none, updated, was_reset, set, nothing}
 use Rattle.pie_aqm.specs.History.{active_of, arrivals_shown, control_of, delay_noted, departures_of, departures_shown, early_of, held_of}
-use Rattle.pie_aqm.specs.History.{waited_noted, waited_of}
-use Rattle.pie_aqm.specs.History.{is_active, noted, noted_after, now_of, params_of, updates_shown}
-use Rattle.pie_aqm.specs.Places.{Place, places, up_to, greatest, last_or}
+use Rattle.pie_aqm.specs.History.{waited_noted, waited_of, is_active, noted, noted_after, now_of, params_of, updates_shown}
+use Rattle.pie_aqm.specs.Places.{last_or}
 use Rattle.pie_rate.specs.Average.{average, samples}
 use Rattle.pie_rate.specs.Cycles.{cycles, begun, first_position, first_opening, first_closing, first_cycle, cycles_from}
-use Rattle.pie_control.specs.Delay.{delay_of}
 use Rattle.pie_control.specs.History.{probability, last_delay, last_moment, granted_burst, burst_allowance}
 use Rattle.pie_control.specs.Next.{raw_step, tuning_divisor, tuned_step, decayed, next}
 use Rattle.pie_early.specs.Decision.{is_considered, is_picked}
 use Rattle.pie_early.specs.History.{accumulated}
-use Rattle.pie_aqm.specs.Steps.{cause}
-use Rattle.pie_early.specs.Cause.{considered_cause, early_cause}
 use Rattle.pie_aqm.specs.Steps.{verdict}
+use Rattle.pie_event.specs.declared.refusal.OpenRefusal.TheVariants as open_refusal
 
 -- all that a theorem on a worked history computes with
 unfoldable pub worked : Type 0

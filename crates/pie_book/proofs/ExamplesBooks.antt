@@ -1,13 +1,10 @@
 -- The definitions on worked histories: each theorem computes. Which histories are legal, which core shows a history, and which book
 -- tells it.
-use Rattle.std.proofs.Common.{ap, refl, ◌≡◌, List, [], ◌∷◌, take, Some, None, true, map, drop, All}
-use Rattle.std.proofs.lemmas.List.Elements.{All-cons, All-head, All-nil, All-take}
-use Rattle.pie_queue.specs.declared.ecn.Ecn.TheVariants.{Ce}
-use Rattle.pie_params.specs.Elements.{usual}
-use Rattle.pie_book.specs.{One, Arrive, Depart, Enqueued, Marked, Empty, Left, Event, Bounded, Rolling, Opening}
-use Rattle.pie_book.specs.{IsLegal, IsLegalAt, decision, refusal_by_rule, CoreView, Shows}
-use Rattle.pie_book.specs.{last_events, without_last, tail_with}
-use Rattle.pie_aqm.specs.Places.{Place, places}
+use Rattle.pie_book.proofs.Names.{ap, refl, ◌≡◌, List, [], ◌∷◌, take, Some, None, true, map, drop, All, All-cons, All-head, All-nil, Ce, usual, One}
+use Rattle.pie_book.proofs.Names.{Arrive, Depart, Enqueued, Marked, Empty, Left, Event, Bounded, Rolling, Opening, IsLegal, IsLegalAt, decision}
+use Rattle.pie_book.proofs.Names.{refusal_by_rule, CoreView, Shows, last_events, without_last, Place, places}
+use Rattle.std.proofs.lemmas.List.Elements.{All-take}
+use Rattle.pie_book.specs.{tail_with}
 use Rattle.pie_aqm.specs.History as Controller
 use Rattle.pie_book.proofs.Examples.{limits, opened, opened_with, packet, waits, event, place, three, arrival, departure_of_it, late_departure}
 use Rattle.pie_book.proofs.Examples.{worked}

@@ -1,17 +1,14 @@
 -- What decides an arrival, on worked histories and at single numbers: each theorem computes, and each cause is met.
-use Rattle.std.proofs.Common.{refl, ℕ, ◌≡◌, List, [], ◌∷◌, map, Some, None}
-use Rattle.pie_params.specs.Profile.{default_profile}
+use Rattle.pie_book.proofs.Names.{refl, ℕ, ◌≡◌, List, [], ◌∷◌, map, Some, None, default_profile, NotEct, Ect0, Ce, Arrive, Depart, Update, Reset}
+use Rattle.pie_book.proofs.Names.{SetParams, Event, Bounded, Opening, cause_after, considered_cause, early_cause, usual}
 use Rattle.pie_queue.specs.declared.ecn.Ecn.{Ecn}
-use Rattle.pie_queue.specs.declared.ecn.Ecn.TheVariants.{NotEct, Ect0, Ce}
 use Rattle.pie_event.specs.declared.cause.Cause.{Cause}
 use Rattle.pie_event.specs.declared.cause.Cause.TheVariants.{NoRoomInBytes, NoRoomInPackets, Inactive, BurstAllowed, LowDelay, ShortQueue}
 use Rattle.pie_event.specs.declared.cause.Cause.TheVariants.{NoProbability, LittleAccumulated, PickedBySum, PickedByWord, WordNotBelow}
 use Rattle.pie_event.specs.declared.cause.Fate.TheVariants.{Marked, NotCapable, NotBelow}
-use Rattle.pie_book.specs.{Two, Arrive, Depart, Update, Reset, SetParams, Event, Bounded, Opening, cause_after}
-use Rattle.pie_event.specs.declared.command.Answer.TheVariants as answer
-use Rattle.pie_early.specs.Cause.{considered_cause, early_cause}
-use Rattle.pie_params.specs.Elements.{usual}
+use Rattle.pie_book.specs.{Two}
 use Rattle.pie_early.specs.declared.decision.Offered.{Offered}
+use Rattle.pie_event.specs.declared.command.Answer.TheVariants as answer
 use Rattle.pie_book.proofs.Examples.{limits, opened_with, packet, event, worked}
 use Rattle.pie_book.proofs.ExamplesMarks.{opening, parts, two_departed}
 

@@ -1,8 +1,7 @@
 -- The definitions on worked histories: each theorem computes. Marks, drops and a lone enqueue: three updates raise the
 -- probability, and three packets meet it.
-use Rattle.std.proofs.Common.{refl, ℕ, ◌≡◌, List, [], ◌∷◌, ◌++◌, map}
-use Rattle.pie_book.specs.{RawParams, Arrive, Depart, Update, Reset, SetParams, Enqueued, Marked, DroppedEarly, Left, Updated, Done, Event, Bounded}
-use Rattle.pie_book.specs.{Opening, Stats, delay_after}
+use Rattle.pie_book.proofs.Names.{refl, ℕ, ◌≡◌, List, [], ◌∷◌, ◌++◌, map, RawParams, Arrive, Depart, Update, Reset, SetParams, Enqueued, Marked}
+use Rattle.pie_book.proofs.Names.{DroppedEarly, Left, Updated, Done, Event, Bounded, Opening, Stats, delay_after}
 use Rattle.pie_control.specs.Parts.{Parts}
 use Rattle.pie_book.proofs.Examples.{limits, opened_with, nine, packet, capable, event, worked}
 

@@ -1,14 +1,11 @@
 -- The definitions on worked histories: each theorem computes. Refusals, and runs of steps with folds.
-use Rattle.std.proofs.Common.{Bool, refl, ℕ, ◌≡◌, List, [], ◌∷◌, Some, None, Ok, Err, true, false, map}
-use Rattle.pie_params.specs.Profile.{default_profile}
-use Rattle.pie_params.specs.Elements.{usual}
-use Rattle.pie_book.specs.{One, Held, Command, Arrive, Depart, Update, Reset, SetParams, Answer, Enqueued, DroppedBytes, DroppedPackets, Empty, Done}
-use Rattle.pie_book.specs.{Event, Rolling, Opening, Refusal, answer_by, refusal_by_rule, refusal_after, asked, folded, Outcome, was_asked, was_folded}
-use Rattle.pie_book.specs.{outcomes, progress_after, start, without_folds, answers, before_full}
-use Rattle.pie_event.specs.declared.refusal.Refusal.TheVariants.{Moment, Size, TooSoon, Exhausted, HistoryFull}
+use Rattle.pie_book.proofs.Names.{Bool, refl, ℕ, ◌≡◌, List, [], ◌∷◌, Some, None, Ok, Err, true, false, map, default_profile, usual, One, Held}
+use Rattle.pie_book.proofs.Names.{Command, Arrive, Depart, Update, Reset, SetParams, Answer, Enqueued, DroppedBytes, DroppedPackets, Empty, Done}
+use Rattle.pie_book.proofs.Names.{Event, Rolling, Opening, Refusal, answer_by, refusal_by_rule, outcomes, progress_after, answers, HistoryFull, Step}
+use Rattle.pie_book.specs.{refusal_after, asked, folded, Outcome, was_asked, was_folded, start, without_folds, before_full}
+use Rattle.pie_event.specs.declared.refusal.Refusal.TheVariants.{Moment, Size, TooSoon, Exhausted}
 use Rattle.pie_event.specs.declared.refusal.FoldRefusal.TheVariants.{TooMany}
 use Rattle.pie_aqm.specs.Steps as Steps
-use Rattle.pie_book.specs.Run.{Step}
 use Rattle.pie_book.proofs.Examples.{limits, opened, opened_with, packet, waits, event, three, worked}
 
 abbrev pub rolling : ℕ → ℕ → ℕ → Opening

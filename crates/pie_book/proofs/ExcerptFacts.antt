@@ -1,11 +1,9 @@
 -- Events that follow from a core are legal after each history that the core shows.
-use Rattle.std.proofs.Common.{◌≡◌, List, [], ◌∷◌, ◌++◌, sym, subst, All, None, ◌↔◌, append-nil, append_assoc}
-use Rattle.std.proofs.lemmas.List.Elements.{All-head, All-tail}
-use Rattle.pie_params.specs.Range.{first_bad}
-use Rattle.pie_book.specs.{Event, Opening, CoreView, Shows, closed, IsLegal, IsLegalAt, waiting_after, Follows, IsNext, StandsFor, core_of}
-use Rattle.pie_book.specs.{after_command}
-use Rattle.pie_book.specs.declared.standing.Standing.{Standing}
-use Rattle.pie_event.specs.Ranges.{CommandFits}
+use Rattle.pie_book.proofs.Names.{◌≡◌, List, [], ◌∷◌, ◌++◌, sym, subst, All, None, append-nil, All-head, All-tail, first_bad, Event, Opening}
+use Rattle.pie_book.proofs.Names.{CoreView, Shows, closed, IsLegal, IsLegalAt, waiting_after, IsNext, StandsFor, core_of, after_command, Standing}
+use Rattle.pie_book.proofs.Names.{CommandFits}
+use Rattle.std.proofs.Common.{◌↔◌, append_assoc}
+use Rattle.pie_book.specs.{Follows}
 use Rattle.pie_book.proofs.CoreFacts.{at_place}
 use Rattle.pie_book.proofs.LegalFacts.{good-next, next-core, next-legal}
 

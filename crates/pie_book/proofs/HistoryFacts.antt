@@ -1,13 +1,10 @@
 -- What one more event at the end of a history does to the moment and the packets that wait.
-use Rattle.std.proofs.Common.{◌≡◌, ◌≤◌, ◌<◌, ◌+◌, ◌-◌, ℕ, List, [], ◌∷◌, ◌++◌, map, length, drop, Bool, true, cond, sym, ap, ◌∙◌, arith}
-use Rattle.std.proofs.lemmas.Bool.Decides.{nat_tests}
-use Rattle.std.proofs.Common.{length-append, max, Option, Some, None, is_some, filter_map, drop-drop, length-drop}
-use Rattle.std.proofs.lemmas.List.{map-append, drop-append-le}
-use Rattle.std.proofs.lemmas.List.Sums.{sum_by_push}
-use Rattle.pie_book.specs.{Waiting, Event, Opening, effective_moment, admitted_at, admitted, departed_count, waiting_after, waiting_next}
-use Rattle.pie_event.specs.Deed.{Deed, handed_in, deed_of, admission, departure, departed, marked, queued}
-use Rattle.pie_aqm.proofs.Places.{from_places-push, greatest-push, with_one}
-use Rattle.pie_aqm.specs.Places.{places}
+use Rattle.pie_book.proofs.Names.{◌≡◌, ◌≤◌, ◌<◌, ◌+◌, ◌-◌, ℕ, List, [], ◌∷◌, ◌++◌, map, length, drop, Bool, true, cond, sym, ap, ◌∙◌, arith}
+use Rattle.pie_book.proofs.Names.{nat_tests, length-append, max, Option, Some, None, is_some, filter_map, drop-drop, length-drop, map-append}
+use Rattle.pie_book.proofs.Names.{drop-append-le, sum_by_push, Waiting, Event, Opening, effective_moment, admitted, departed_count, waiting_after}
+use Rattle.pie_book.proofs.Names.{waiting_next, Deed, handed_in, deed_of, admission, departure, departed, marked, queued, from_places-push}
+use Rattle.pie_book.proofs.Names.{greatest-push, with_one, places}
+use Rattle.pie_book.specs.{admitted_at}
 
 -- the effective moment after one more event is the greater of the one before it and the moment handed in
 pub effective_moment-push : (opening : Opening) (history : List Event) (event : Event)

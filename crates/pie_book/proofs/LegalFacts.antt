@@ -1,18 +1,12 @@
 -- Each legal history is shown by a core that made its commands, one after another.
-use Rattle.std.proofs.Common.{arith, ◌≡◌, ℕ, List, [], ◌∷◌, ◌++◌, refl, sym, subst, ap, ◌∙◌, All, None}
-use Rattle.std.proofs.lemmas.Bool.Decides.{nat_tests}
-use Rattle.std.proofs.lemmas.List.{append-nil, append_assoc}
-use Rattle.std.proofs.lemmas.List.Elements.{All-head, All-tail}
-use Rattle.pie_params.specs.Range.{first_bad}
-use Rattle.pie_book.specs.{Waiting, Arrival, Held, Command, Arrive, Depart, SetParams, Answer, Event, Opening, arrival_of, departure_call, CoreView}
-use Rattle.pie_book.specs.{Shows, closed, refusal_of, IsLegal, IsLegalAt, event_of, no_stats, IsNext, after_command, answer_in, call_in}
-use Rattle.pie_aqm.specs.Calls.{HasThreshold, after_call}
-use Rattle.pie_aqm.specs.Steps as Steps
-use Rattle.pie_aqm.specs.Steps.{anew, bytes_with, judged}
-use Rattle.pie_aqm.proofs.InRange.{threshold-holds}
+use Rattle.pie_book.proofs.Names.{arith, ◌≡◌, ℕ, List, [], ◌∷◌, ◌++◌, refl, sym, subst, ap, ◌∙◌, All, None, nat_tests, append_assoc, All-head}
+use Rattle.pie_book.proofs.Names.{All-tail, first_bad, Waiting, ArrivingPacket, Held, Command, Arrive, Depart, SetParams, Answer, Event, Opening}
+use Rattle.pie_book.proofs.Names.{arrival_of, departure_call, CoreView, Shows, closed, refusal_of, IsLegal, IsLegalAt, event_of, no_stats, IsNext}
+use Rattle.pie_book.proofs.Names.{after_command, answer_in, call_in, HasThreshold, after_call, anew, bytes_with, judged, threshold-holds, place_of}
+use Rattle.pie_book.proofs.Names.{CommandFits}
+use Rattle.std.proofs.lemmas.List.{append-nil}
 use Rattle.pie_aqm.proofs.Laws.{has_threshold}
-use Rattle.pie_aqm.proofs.Places.{place_of}
-use Rattle.pie_event.specs.Ranges.{CommandFits}
+use Rattle.pie_aqm.specs.Steps as Steps
 use Rattle.pie_book.proofs.CoreFacts.{Shows-opened, at_place, next-decided, next-shows, refusal-is}
 
 -- a core as it opens
@@ -31,7 +25,7 @@ first-shows opening = Shows-opened opening (first_core opening) refl refl refl r
 
 -- ---- parameters stay in their ranges
 
-params-arrived : (h : Held) (a : Arrival) (moment : ℕ) → (Steps.arrived h a moment).params ≡ h.params
+params-arrived : (h : Held) (a : ArrivingPacket) (moment : ℕ) → (Steps.arrived h a moment).params ≡ h.params
 params-arrived h a moment = grind (arith, nat_tests)
 
 pub good-next : (core : CoreView) (command : Command) → first_bad core.held.params ≡ None → CommandFits command

@@ -1,3 +1,4 @@
+mod Names
 pub mod HistoryFacts
 pub mod StatisticsFacts
 pub mod CoreFacts

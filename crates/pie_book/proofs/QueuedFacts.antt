@@ -1,16 +1,10 @@
 -- The packets that wait after a legal history are taken, one by one, by a core that goes on from what they wait at.
-use Rattle.std.proofs.Common.{◌≡◌, ◌≤◌, ◌<◌, ◌+◌, ◌-◌, ℕ, suc, List, [], ◌∷◌, ◌++◌, length, false, sym, subst, ap, ◌∙◌, arith}
-use Rattle.std.proofs.Common.{length-append, All, None, slice_get}
-use Rattle.std.specs.Option.{option_map_or}
-use Rattle.std.proofs.lemmas.Bool.Decides.{nat_tests}
-use Rattle.std.proofs.lemmas.List.Elements.{All-cons, All-head, All-nil, All-tail}
-use Rattle.std.proofs.lemmas.List.Sums.{sum_by-append, sum_by-cons}
-use Rattle.pie_params.specs.Range.{first_bad}
-use Rattle.pie_queue.specs.Queue.{IsSize, bytes_of}
-use Rattle.pie_book.specs.{Waiting, Event, Opening, IsLegal, is_bad_size, effective_moment, waiting_after, StandsFor, begun_with, core_of}
-use Rattle.pie_book.specs.{end_refusal, newest_since, queue_refusal}
-use Rattle.pie_book.specs.declared.standing.Standing.{Standing}
-use Rattle.pie_event.specs.Ranges.{CommandFits}
+use Rattle.pie_book.proofs.Names.{◌≡◌, ◌≤◌, ◌<◌, ◌+◌, ◌-◌, ℕ, suc, List, [], ◌∷◌, ◌++◌, length, false, sym, subst, ap, ◌∙◌, arith, length-append, All}
+use Rattle.pie_book.proofs.Names.{None, slice_get, option_map_or, nat_tests, All-cons, All-head, All-nil, All-tail, sum_by-append, first_bad, IsSize}
+use Rattle.pie_book.proofs.Names.{bytes_of, Waiting, Event, Opening, IsLegal, is_bad_size, effective_moment, waiting_after, StandsFor, core_of}
+use Rattle.pie_book.proofs.Names.{Standing, CommandFits}
+use Rattle.std.proofs.lemmas.List.Sums.{sum_by-cons}
+use Rattle.pie_book.specs.{begun_with, end_refusal, newest_since, queue_refusal}
 use Rattle.pie_book.proofs.LegalFacts.{run_of}
 use Rattle.pie_book.proofs.RangeFacts.{ArrivedBy, ArrivedFrom, InOrder, IsQueued, Queues, WaitingHolds, queued-none, queues-next}
 

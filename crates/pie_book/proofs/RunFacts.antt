@@ -1,11 +1,11 @@
 -- Folds change no answer: up to the first that says that the tail is full, the answers of a run are those that the rules give
 -- its commands, whatever was folded.
-use Rattle.std.proofs.Common.{◌≡◌, ◌≤◌, ◌+◌, ◌==◌, ℕ, List, [], ◌∷◌, ◌++◌, Bool, true, false, cond, take, refl, sym, ap, ◌∙◌, arith, one-add, min}
-use Rattle.std.proofs.Common.{not, Option, Some, None, Result, Ok, Err, filter_map, take-take}
+use Rattle.pie_book.proofs.Names.{◌≡◌, ◌≤◌, ◌+◌, ◌==◌, ℕ, List, [], ◌∷◌, ◌++◌, Bool, true, false, cond, take, refl, sym, ap, ◌∙◌, arith, min, Option}
+use Rattle.pie_book.proofs.Names.{Some, None, Result, Ok, Err, filter_map, Step, HistoryFull}
+use Rattle.std.proofs.Common.{one-add, not, take-take}
 use Rattle.pie_book.specs.Types.{Command, Answer, Event, Mode, Bounded, Rolling, Opening, Refusal}
 use Rattle.pie_book.specs.Decision.{decision, refusal_by_rule, or_full, is_refused_full}
-use Rattle.pie_book.specs.Run.{Step, asked, folded, Progress, Asked, event_of, refused_or, recorded, held_after_fold, outcomes, answer_of, answers}
-use Rattle.pie_event.specs.declared.refusal.Refusal.TheVariants.{HistoryFull}
+use Rattle.pie_book.specs.Run.{asked, folded, Progress, Asked, event_of, refused_or, recorded, held_after_fold, outcomes, answer_of, answers}
 use Rattle.pie_book.specs.Run.{without_folds, is_full, before_full, AreSameUntilFull}
 
 abbrev Given : Type 0

@@ -1,16 +1,13 @@
 -- What one more event at the end of a history does to the statistics.
-use Rattle.std.proofs.Common.{◌≡◌, ℕ, ◌+◌, List, [], ◌∷◌, ◌++◌, map, Bool, true, false, cond, refl, ap, ◌∙◌, arith, max, Option, Some, None}
-use Rattle.std.proofs.lemmas.Bool.Decides.{nat_tests}
-use Rattle.std.proofs.Common.{if◌then◌else◌, sum_by, is_some, filter_map}
-use Rattle.std.specs.Option.{option_map_or}
-use Rattle.std.proofs.lemmas.List.{map-append}
-use Rattle.std.proofs.lemmas.List.Sums.{sum_by_push}
-use Rattle.pie_book.specs.{Packet, Event, Opening, effective_moment, waiting_after, bytes_after, delay_answered, count_of, is_queued, is_marked}
-use Rattle.pie_book.specs.{is_dropped_early, is_dropped_bytes, is_dropped_packets, is_departure, is_found_none, is_reset, bytes_departed}
-use Rattle.pie_book.specs.{age_of_oldest, wait_at, delay_at, largest_queue, largest_delay, waited, stats_after, counted, with_queue}
-use Rattle.pie_event.specs.Deed.{Deed, deed_of, departure, is_arrival, is_update, sets_params}
-use Rattle.pie_aqm.specs.Places.{Place, places, up_to, greatest}
-use Rattle.pie_aqm.proofs.Places.{place_of, places-push, from_places-push, greatest-push, with_one}
+use Rattle.pie_book.proofs.Names.{◌≡◌, ℕ, ◌+◌, List, [], ◌∷◌, ◌++◌, map, Bool, true, false, cond, refl, ap, ◌∙◌, arith, max, Option, Some, None}
+use Rattle.pie_book.proofs.Names.{nat_tests, if◌then◌else◌, is_some, filter_map, option_map_or, map-append, sum_by_push, Packet, Event, Opening}
+use Rattle.pie_book.proofs.Names.{effective_moment, waiting_after, bytes_after, delay_answered, count_of, is_queued, is_marked, is_dropped_early}
+use Rattle.pie_book.proofs.Names.{is_dropped_bytes, is_dropped_packets, is_departure, is_found_none, is_reset, bytes_departed, age_of_oldest}
+use Rattle.pie_book.proofs.Names.{largest_queue, largest_delay, waited, stats_after, counted, with_queue, Deed, deed_of, departure, is_arrival}
+use Rattle.pie_book.proofs.Names.{is_update, sets_params, Place, places, up_to, greatest, place_of, places-push, from_places-push, greatest-push}
+use Rattle.pie_book.proofs.Names.{with_one}
+use Rattle.std.proofs.Common.{sum_by}
+use Rattle.pie_book.specs.{wait_at, delay_at}
 
 -- one more, where there is one
 more_of : (b : Bool) (n m : ℕ) → n + cond b m 0 ≡ (if b then n + m else n)

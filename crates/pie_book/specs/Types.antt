@@ -18,5 +18,5 @@ pub use Rattle.pie_event.specs.declared.opening.Opening.{Opening}
 pub use Rattle.pie_event.specs.declared.refusal.Refusal.{Refusal}
 pub use Rattle.pie_event.specs.declared.stats.Stats.{Stats}
 pub use Rattle.pie_event.specs.declared.registers.Registers.{Registers}
-pub use Rattle.pie_aqm.specs.declared.verdict.Arrival.{Arrival}
+pub use Rattle.pie_aqm.specs.declared.verdict.ArrivingPacket.{ArrivingPacket}
 pub use Rattle.pie_aqm.specs.Held.{Held}

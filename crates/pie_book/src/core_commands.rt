@@ -9,7 +9,7 @@ ghost use Rattle.pie_event.specs.Deed.{arrival_deed};
 
 use crate::deciding_core::Core;
 use crate::recorded::{Happened, Recorded};
-use pie_aqm::{Arrival, Verdict};
+use pie_aqm::{ArrivingPacket, Verdict};
 use pie_fixed::Nanos;
 use pie_params::Params;
 use pie_queue::{Ecn, Packet};
@@ -48,10 +48,10 @@ impl Core {
 
     /// An arriving packet, and the queue that it meets.
     #[inline(always)]
-    pub(crate) fn arrival(&self, packet: Packet, word: u64) -> Arrival
+    pub(crate) fn arrival(&self, packet: Packet, word: u64) -> ArrivingPacket
         ensures { result ≡ arrival_of self.now.waiting self.now.packets packet word }
     {
-        Arrival {
+        ArrivingPacket {
             queued: self.queue.bytes(),
             is_full: self.queue.len() == self.queue.packets(),
             size: packet.size,

@@ -1,20 +1,20 @@
 -- The optional elements by their flags.
-use Rattle.std.proofs.Common.{◌≡◌, ℕ, zero, suc, ◌≤◌, ◌==◌, ◌&&◌, if◌then◌else◌, Bool, true, false, refl, arith}
-use Rattle.std.proofs.lemmas.Bool.{eqb-true}
-use Rattle.std.proofs.lemmas.Bool.Decides.{Decides-below_and, Decides-eqb, nat_tests}
+use Rattle.pie_c.proofs.Names.{◌≡◌, ℕ, suc, ◌≤◌, ◌==◌, ◌&&◌, if◌then◌else◌, Bool, true, false, refl, arith, eqb-true, nat_tests, Half, Stamp, Random}
+use Rattle.pie_c.proofs.Names.{Uncapped, Scaled, usual, choices_of, elements_of}
+use Rattle.std.proofs.Common.{zero}
+use Rattle.std.proofs.lemmas.Bool.Decides.{Decides-below_and, Decides-eqb}
 use Rattle.pie_params.specs.declared.elements.Elements.{Elements}
 use Rattle.pie_params.specs.declared.elements.Decay.{Decay}
-use Rattle.pie_params.specs.declared.elements.Decay.TheVariants.{Half, Zero}
+use Rattle.pie_params.specs.declared.elements.Decay.TheVariants.{Zero}
 use Rattle.pie_params.specs.declared.elements.Delay.{Delay}
-use Rattle.pie_params.specs.declared.elements.Delay.TheVariants.{Rate, Stamp}
+use Rattle.pie_params.specs.declared.elements.Delay.TheVariants.{Rate}
 use Rattle.pie_params.specs.declared.elements.Picking.{Picking}
-use Rattle.pie_params.specs.declared.elements.Picking.TheVariants.{Derandomized, Random}
+use Rattle.pie_params.specs.declared.elements.Picking.TheVariants.{Derandomized}
 use Rattle.pie_params.specs.declared.elements.Step.{Step}
-use Rattle.pie_params.specs.declared.elements.Step.TheVariants.{Capped, Uncapped}
+use Rattle.pie_params.specs.declared.elements.Step.TheVariants.{Capped}
 use Rattle.pie_params.specs.declared.elements.Size.{Size}
-use Rattle.pie_params.specs.declared.elements.Size.TheVariants.{Unscaled, Scaled}
-use Rattle.pie_params.specs.Elements.{usual}
-use Rattle.pie_abi.specs.Choices.{choices_of, decay_flag, delay_flag, elements_of, picking_flag, size_flag, step_flag}
+use Rattle.pie_params.specs.declared.elements.Size.TheVariants.{Unscaled}
+use Rattle.pie_abi.specs.Choices.{decay_flag, delay_flag, picking_flag, size_flag, step_flag}
 
 of-parts : (d : Delay) (p : Picking) (t : Step) (z : Size) (c : Decay)
     → elements_of (choices_of (record { delay = d; picking = p; step = t; size = z; decay = c }))

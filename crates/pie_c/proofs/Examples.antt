@@ -1,28 +1,15 @@
 -- The definitions on worked rows: each theorem computes.
-use Rattle.std.proofs.Common.{◌≡◌, ◌+◌, ◌^◌, ◌-◌, true, false, refl}
+use Rattle.pie_c.proofs.Names.{◌≡◌, ◌^◌, true, false, refl, PieParams, PieState, usual, Half, Stamp, Random, Uncapped, Scaled, One, Held, accu_left}
+use Rattle.pie_c.proofs.Names.{arrived, capped, departed, opened, updated, verdict, arrival_of, arrival_refusal, packet_refusal, waited_refusal}
+use Rattle.pie_c.proofs.Names.{departure_refusal, moment_refusal, reset_refusal, update_refusal, opening_refusal, raw_of, PieOpening, choices_of}
+use Rattle.pie_c.proofs.Names.{elements_of, are_in_range, is_choice_sound, held_in, is_activity_sound, is_control_sound, is_rate_sound, is_sound}
+use Rattle.pie_c.proofs.Names.{state_of, with_arrival, with_rate}
+use Rattle.std.proofs.Common.{◌+◌, ◌-◌}
 use Rattle.pie_control.specs.Delay.{delay_of}
 use Rattle.pie_control.specs.Next.{raw_step, tuning_divisor, tuned_step, decayed, next}
 use Rattle.pie_early.specs.Decision.{is_considered, is_picked}
-use Rattle.pie_abi.specs.declared.params.PieParams.{PieParams}
-use Rattle.pie_c.specs.declared.state.PieState.{PieState}
-use Rattle.pie_params.specs.Elements.{usual}
-use Rattle.pie_params.specs.declared.elements.Decay.TheVariants.{Half}
-use Rattle.pie_params.specs.declared.elements.Delay.TheVariants.{Stamp}
-use Rattle.pie_params.specs.declared.elements.Picking.TheVariants.{Random}
-use Rattle.pie_params.specs.declared.elements.Step.TheVariants.{Uncapped}
-use Rattle.pie_params.specs.declared.elements.Size.TheVariants.{Scaled}
-use Rattle.pie_event.specs.declared.profile.Profile.TheVariants.{One}
-use Rattle.pie_aqm.specs.Held.{Held}
-use Rattle.pie_aqm.specs.Steps.{accu_left, arrived, capped, departed, opened, updated, verdict}
-use Rattle.pie_c.specs.Calls.{arrival_of, arrival_refusal, packet_refusal, waited_refusal, departure_refusal, moment_refusal, reset_refusal, state_refusal}
-use Rattle.pie_c.specs.Calls.{update_refusal}
-use Rattle.pie_abi.specs.Opening.{opening_refusal}
+use Rattle.pie_c.specs.Calls.{state_refusal}
 use Rattle.pie_c.specs.Opening.{default_opening}
-use Rattle.pie_abi.specs.Params.{raw_of}
-use Rattle.pie_abi.specs.declared.opening.PieOpening.{PieOpening}
-use Rattle.pie_abi.specs.Choices.{choices_of, elements_of}
-use Rattle.pie_abi.specs.Params.{are_in_range}
-use Rattle.pie_c.specs.State.{is_choice_sound, held_in, is_activity_sound, is_control_sound, is_rate_sound, is_sound, state_of, with_arrival, with_rate}
 
 -- the default parameters, and a controller that is opened with them at 0
 abbrev defaults : PieParams

@@ -1,3 +1,4 @@
+mod Names
 pub mod Choices
 mod Sound
 mod Examples

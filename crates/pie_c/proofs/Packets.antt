@@ -1,37 +1,21 @@
 -- What the calls for each packet leave of a sound state is what the controller then holds.
-use Rattle.std.proofs.Common.{◌≡◌, ℕ, ◌≤◌, ◌<◌, ◌^◌, ◌==◌, ◌&&◌, ◌||◌, not, max, min, if◌then◌else◌, nat_lt, Bool, true, false, List, [], ◌∷◌, Some, Ok}
-use Rattle.std.proofs.Common.{◌++◌, arith, refl, sym, ap, ◌∙◌}
-use Rattle.std.proofs.lemmas.Bool.{eqb-true}
-use Rattle.std.proofs.lemmas.Bool.Decides.{nat_tests}
-use Rattle.pie_aqm.specs.declared.verdict.Arrival.{Arrival}
-use Rattle.pie_event.specs.declared.verdict.Verdict.{Verdict}
-use Rattle.pie_c.proofs.Choices.{choices-back}
-use Rattle.pie_aqm.specs.Calls.{Call, Depart, IsTaken, after_call, shown_by}
+use Rattle.pie_c.proofs.Names.{◌≡◌, ℕ, ◌≤◌, ◌<◌, ◌^◌, ◌==◌, ◌&&◌, min, if◌then◌else◌, nat_lt, Bool, true, false, List, [], ◌∷◌, Some, ◌++◌, arith}
+use Rattle.pie_c.proofs.Names.{refl, sym, ap, ◌∙◌, eqb-true, nat_tests, ArrivingPacket, Verdict, Depart, RawParams, first_bad, One, Two, Held}
+use Rattle.pie_c.proofs.Names.{accu_left, arrived, capped, count_kept_open, departed, is_unmeasured, cause, opened, passed, verdict, with_count}
+use Rattle.pie_c.proofs.Names.{name_of, place_of_cause, PieParams, PieState, is_bad_size, departure_refusal, if_taken, packet_refusal, unless_refused}
+use Rattle.pie_c.proofs.Names.{PieOpening, Opening, opening_in, opening_of, opening_refusal, held_by_opening, params_of, raw_of, choices_of}
+use Rattle.pie_c.proofs.Names.{elements_of, last_moment, profile_number, profile_of, held_in, is_sound, state_of, takes_stamps, are_in_range}
+use Rattle.pie_c.proofs.Names.{with_arrival, with_departure, with_rate, with_registers}
+use Rattle.std.proofs.Common.{◌||◌, not, max, Ok}
+use Rattle.pie_aqm.specs.Calls.{Call, IsTaken, after_call, shown_by}
 use Rattle.pie_aqm.specs.Events.{ControllerEvent, Opened}
-use Rattle.pie_params.specs.declared.raw.RawParams.{RawParams}
-use Rattle.pie_params.specs.Range.{first_bad, is_dq_threshold}
+use Rattle.pie_params.specs.Range.{is_dq_threshold}
 use Rattle.std.specs.Prelude.{IsTrue, None}
-use Rattle.pie_event.specs.declared.profile.Profile.TheVariants.{One, Two}
-use Rattle.pie_aqm.specs.Held.{Held}
 use Rattle.pie_aqm.specs.History.{Shows}
-use Rattle.pie_aqm.specs.Steps.{anew, accu_left, arrived, bytes_with, capped, changed, count_kept_open, departed, is_unmeasured}
-use Rattle.pie_aqm.specs.Steps.{cause, judged, opened, passed, reset, turns_on, verdict, with_count}
-use Rattle.pie_event.specs.CauseName.{name_of, place_of_cause}
-use Rattle.pie_abi.specs.declared.params.PieParams.{PieParams}
-use Rattle.pie_c.specs.declared.state.PieState.{PieState}
-use Rattle.pie_abi.specs.Packets.{is_bad_size}
-use Rattle.pie_c.specs.Calls.{Arrives, Leaves, Makes, departure_refusal, if_taken, kept_if_refused}
+use Rattle.pie_aqm.specs.Steps.{anew, bytes_with, changed, judged, reset, turns_on}
+use Rattle.pie_c.specs.Calls.{Arrives, Leaves, Makes, kept_if_refused}
 use Rattle.pie_c.specs.Laws.{KeepsSound, LooksBack}
-use Rattle.pie_c.specs.Calls.{packet_refusal, unless_refused}
-use Rattle.pie_abi.specs.declared.opening.PieOpening.{PieOpening}
-use Rattle.pie_event.specs.declared.opening.Opening.{Opening}
-use Rattle.pie_abi.specs.Opening.{opening_in, opening_of, opening_refusal}
-use Rattle.pie_c.specs.Opening.{held_by_opening}
-use Rattle.pie_abi.specs.Params.{params_of, raw_of}
-use Rattle.pie_abi.specs.Choices.{choices_of, elements_of, last_moment, profile_number, profile_of}
-use Rattle.pie_c.specs.State.{held_in, is_sound, state_of, takes_stamps}
-use Rattle.pie_abi.specs.Params.{are_in_range}
-use Rattle.pie_c.specs.State.{with_arrival, with_departure, with_rate, with_registers}
+use Rattle.pie_c.proofs.Choices.{choices-back}
 use Rattle.pie_c.proofs.Sound.{choice-from, held-sound, held-state, kept-by, params-from, parts-of, profile-back, state-held}
 use Rattle.pie_c.proofs.Sound.{state-sound}
 
@@ -125,7 +109,7 @@ unmade s call refusal code is some = rw (← is) record {
 }
 
 -- a refused arrival leaves all as it was
-pub untouched : (s : PieState) (a : Arrival) (refusal moment code : ℕ) → code ≡ refusal → (code == 0) ≡ false → Arrives s a refusal moment code s
+pub untouched : (s : PieState) (a : ArrivingPacket) (refusal moment code : ℕ) → code ≡ refusal → (code == 0) ≡ false → Arrives s a refusal moment code s
 untouched s a refusal moment code is some = rw (← is) record {
   answer = rw some refl;
   fields = rw some refl;
@@ -156,7 +140,7 @@ kind-back s sound = let parts = parts-of s sound in profile-back (s.profile == 2
 chosen-back : (s : PieState) → is_sound s ≡ true → choices_of (elements_of s.choices) ≡ s.choices
 chosen-back s sound = let parts = parts-of s sound in choices-back s.choices (choice-from s parts.choice).known
 
-pub arrived-state : (s : PieState) (a : Arrival) (moment : ℕ) → is_sound s ≡ true
+pub arrived-state : (s : PieState) (a : ArrivingPacket) (moment : ℕ) → is_sound s ≡ true
     → with_arrival s (arrived (held_in s) a moment) ≡ state_of (arrived (held_in s) a moment)
 unfolding held_in state_of
 arrived-state s a moment sound = by (turns_on (held_in s) (bytes_with (verdict (held_in s) a) a.queued a.size)) refl
@@ -247,36 +231,36 @@ passed-state s moment sound = kept-by s (passed (held_in s) moment) (λ (t : Pie
 abbrev pub at_later : PieState → ℕ → PieState
 at_later s moment = record s { moment = max s.moment moment }
 
-arrived-later : (s : PieState) (a : Arrival) (moment later : ℕ) → later ≡ max s.moment moment
+arrived-later : (s : PieState) (a : ArrivingPacket) (moment later : ℕ) → later ≡ max s.moment moment
     → arrived (held_in (record s { moment = later })) a later ≡ arrived (held_in s) a moment
 unfolding held_in accu_left verdict
 arrived-later s a moment later at =
     let same : max later later ≡ later = grind arith in
     rw (same, at) refl
 
-pub kept-later : (s t : PieState) (a b : Arrival) (moment : ℕ) (h g : Held) → t ≡ at_later s moment → h ≡ held_in t → g ≡ arrived h a t.moment → a ≡ b
+pub kept-later : (s t : PieState) (a b : ArrivingPacket) (moment : ℕ) (h g : Held) → t ≡ at_later s moment → h ≡ held_in t → g ≡ arrived h a t.moment → a ≡ b
     → with_arrival t g ≡ with_arrival s (arrived (held_in s) b moment)
 kept-later s t a b moment h g at held after same =
     let is : g ≡ arrived (held_in s) b moment = rw (after, held, same, at) (arrived-later s b moment (max s.moment moment) refl) in
     rw (is, at) refl
 
-arrived-moment : (h : Held) (a : Arrival) (moment : ℕ) → (arrived h a moment).moment ≡ max h.moment moment
+arrived-moment : (h : Held) (a : ArrivingPacket) (moment : ℕ) → (arrived h a moment).moment ≡ max h.moment moment
 arrived-moment h a moment = grind (arith, nat_tests)
 
-pub moment-later : (t : PieState) (a : Arrival) (h g : Held) → h ≡ held_in t → g ≡ arrived h a t.moment → g.moment ≡ t.moment
+pub moment-later : (t : PieState) (a : ArrivingPacket) (h g : Held) → h ≡ held_in t → g ≡ arrived h a t.moment → g.moment ≡ t.moment
 unfolding held_in
 moment-later t a h g held after =
     let most : max t.moment t.moment ≡ t.moment = grind arith in
     ap (λ (k : Held). k.moment) after ∙ arrived-moment h a t.moment ∙ ap (λ (k : Held). max k.moment t.moment) held ∙ most
 
-pub verdict-later : (s t : PieState) (a b : Arrival) (moment : ℕ) (h : Held) (v : Verdict) → t ≡ at_later s moment → h ≡ held_in t → v ≡ verdict h a
+pub verdict-later : (s t : PieState) (a b : ArrivingPacket) (moment : ℕ) (h : Held) (v : Verdict) → t ≡ at_later s moment → h ≡ held_in t → v ≡ verdict h a
     → a ≡ b
     → v ≡ verdict (held_in s) b
 unfolding held_in verdict
 verdict-later s t a b moment h v at held is same = rw (is, held, same, at) refl
 
 -- .. and the place of what decides it, which the moment has no part in
-pub place-later : (s t : PieState) (a b : Arrival) (moment packets : ℕ) (h : Held) (place : ℕ) → t ≡ at_later s moment → h ≡ held_in t
+pub place-later : (s t : PieState) (a b : ArrivingPacket) (moment packets : ℕ) (h : Held) (place : ℕ) → t ≡ at_later s moment → h ≡ held_in t
     → ((n : ℕ) → place ≡ place_of_cause (name_of (cause h a n))) → a ≡ b
     → place ≡ place_of_cause (name_of (cause (held_in s) b packets))
 unfolding held_in cause

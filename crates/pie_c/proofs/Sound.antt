@@ -1,20 +1,13 @@
 -- A state says what a controller holds, and is sound where that is.
-use Rattle.std.proofs.Common.{◌≡◌, ◌<◌, ◌≤◌, ◌^◌, ◌==◌, ◌&&◌, nat_lt, nat_le, if◌then◌else◌, Bool, true, false, Option, Some, None, is_none}
-use Rattle.std.proofs.Common.{arith, refl, sym, ap, ◌∙◌}
-use Rattle.std.proofs.lemmas.Bool.Decides.{nat_tests}
-use Rattle.pie_params.specs.declared.raw.RawParams.{RawParams}
-use Rattle.pie_params.specs.Range.{first_bad}
+use Rattle.pie_c.proofs.Names.{◌≡◌, ◌<◌, ◌≤◌, ◌^◌, ◌==◌, ◌&&◌, nat_lt, nat_le, if◌then◌else◌, Bool, true, false, Some, None, arith, refl, sym, ap}
+use Rattle.pie_c.proofs.Names.{◌∙◌, nat_tests, RawParams, first_bad, One, Two, Held, IsSound, PieParams, PieState, params_of, raw_of, are_in_range}
+use Rattle.pie_c.proofs.Names.{held_in, is_activity_sound, is_control_sound, is_rate_sound, is_sound, last_moment, profile_number, profile_of}
+use Rattle.pie_c.proofs.Names.{is_choice_sound, state_of}
+use Rattle.std.proofs.Common.{Option, is_none}
 use Rattle.pie_rate.specs.Estimate.{Begun}
 use Rattle.pie_event.specs.declared.profile.Profile.{Profile}
-use Rattle.pie_event.specs.declared.profile.Profile.TheVariants.{One, Two}
-use Rattle.pie_aqm.specs.Held.{Held, IsSound, IsWithin}
-use Rattle.pie_abi.specs.declared.params.PieParams.{PieParams}
-use Rattle.pie_c.specs.declared.state.PieState.{PieState}
-use Rattle.pie_abi.specs.Params.{params_of, raw_of}
-use Rattle.pie_abi.specs.Params.{are_in_range}
-use Rattle.pie_c.specs.State.{begun_in, count_of, flag, flag_of, held_in, is_activity_sound, is_control_sound, is_rate_sound, is_sound}
-use Rattle.pie_abi.specs.Choices.{last_moment, profile_number, profile_of}
-use Rattle.pie_c.specs.State.{is_choice_sound, start_of, state_of}
+use Rattle.pie_aqm.specs.Held.{IsWithin}
+use Rattle.pie_c.specs.State.{begun_in, count_of, flag, flag_of, start_of}
 use Rattle.pie_c.proofs.Choices.{choices-back, elements-back, few-choices}
 
 -- ---- what a state says of what is held is what is held

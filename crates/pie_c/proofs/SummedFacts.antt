@@ -1,11 +1,9 @@
 -- What the calls that sum up add to a period.
-use Rattle.std.proofs.Common.{◌≡◌, ◌≤◌, min, ◌==◌, arith, ℕ, Bool, true, false, nat_le, List, [], ◌∷◌, ◌++◌, refl, sym, ap, ◌∙◌, subst}
+use Rattle.pie_c.proofs.Names.{◌≡◌, ◌≤◌, min, ◌==◌, arith, ℕ, Bool, true, false, nat_le, List, [], ◌∷◌, ◌++◌, refl, sym, ap, ◌∙◌, subst, eqb-true}
+use Rattle.pie_c.proofs.Names.{nat_tests, Event, Verdict, verdict_number, PieState, arrival_refusal, if_taken, moment_refusal, unless_refused}
+use Rattle.pie_c.proofs.Names.{update_refusal, held_in, takes_stamps, with_departure, with_rate, Held, waiting_after, Opening}
 use Rattle.std.specs.Prelude.{Option, if◌then◌else◌}
-use Rattle.std.proofs.lemmas.Bool.{eqb-true}
-use Rattle.std.proofs.lemmas.Bool.Decides.{nat_tests}
 use Rattle.pie_event.specs.declared.cause.Cause.{Cause}
-use Rattle.pie_event.specs.declared.command.Event.{Event}
-use Rattle.pie_event.specs.declared.verdict.Verdict.{Verdict}
 use Rattle.pie_event.specs.declared.verdict.Verdict.TheVariants.{Enqueued}
 use Rattle.pie_event.specs.Verdict.{answer_of}
 use Rattle.pie_record.specs.declared.clock.Clock.{Clock}
@@ -15,20 +13,13 @@ use Rattle.pie_summary.specs.declared.noted.Met.{Met}
 use Rattle.pie_summary.specs.declared.noted.Noted.{Noted}
 use Rattle.pie_summary.specs.Live.{Holds, IsSet, Meets, clock_of, noted_of}
 use Rattle.pie_summary.specs.Sums.{answer_place}
-use Rattle.pie_abi.specs.Packets.{verdict_number}
-use Rattle.pie_c.specs.declared.state.PieState.{PieState}
-use Rattle.pie_c.specs.Calls.{arrival_refusal, if_taken, moment_refusal, unless_refused, update_refusal}
 use Rattle.pie_c.specs.Calls.{updated_by}
-use Rattle.pie_c.specs.State.{held_in, takes_stamps, with_departure, with_rate}
-use Rattle.pie_aqm.specs.Held.{Held}
 use Rattle.pie_c.specs.Summed.{Adds, Tells}
 use Rattle.pie_book.specs.Cause.{cause_after}
 use Rattle.pie_book.specs.Estimates.{held_after}
-use Rattle.pie_book.specs.History.{waiting_after}
 use Rattle.pie_book.specs.Registers.{registers_after}
 use Rattle.pie_book.specs.Statistics.{wait_of}
 use Rattle.pie_event.specs.Deed.{deed_of}
-use Rattle.pie_event.specs.declared.opening.Opening.{Opening}
 use Rattle.pie_event.specs.declared.setter.Setter.{Setter}
 use Rattle.pie_explain.specs.Explanation.{explanation, moment_of, with_after}
 

@@ -1,28 +1,19 @@
 -- What is written of packets that wait and of events is their records.
-use Rattle.std.proofs.Common.{◌≡◌, ℕ, suc, ◌==◌, ◌++◌, List, [], ◌∷◌, true, false, Some, None, refl, arith}
+use Rattle.pie_c.proofs.Names.{◌≡◌, ℕ, suc, ◌==◌, ◌++◌, List, [], ◌∷◌, true, false, Some, None, refl, arith, nat_tests, Ecn, Event, waiting_after}
+use Rattle.pie_c.proofs.Names.{PieOpening, PieState, is_bad_size, opening_in, opening_of, opening_refusal, last_moment, is_sound}
 use Rattle.std.specs.Prelude.{All, map, nat_le}
 use Rattle.std.specs.List.{flat_map}
-use Rattle.std.proofs.lemmas.Bool.Decides.{nat_tests}
 use Rattle.std.proofs.lemmas.Grind.{flat_map-append}
-use Rattle.pie_queue.specs.declared.ecn.Ecn.{Ecn}
 use Rattle.pie_queue.specs.declared.ecn.Ecn.TheVariants.{NotEct}
 use Rattle.pie_queue.specs.declared.packet.Waiting.{Waiting}
-use Rattle.pie_event.specs.declared.command.Event.{Event}
-use Rattle.pie_book.specs.History.{waiting_after}
 use Rattle.pie_record.specs.Text.{rows_text, text_of}
 use Rattle.pie_record.specs.Write.{event_row, written_rows}
 use Rattle.pie_excerpt.specs.Rows.{queued_row}
 use Rattle.pie_excerpt.specs.Written.{part_rows}
 use Rattle.pie_abi.specs.declared.event.PieEvent.{PieEvent}
-use Rattle.pie_abi.specs.declared.opening.PieOpening.{PieOpening}
 use Rattle.pie_abi.specs.declared.stats.PieStats.{PieStats}
-use Rattle.pie_c.specs.declared.state.PieState.{PieState}
-use Rattle.pie_abi.specs.Packets.{is_bad_size}
 use Rattle.pie_c.specs.Events.{Kept, event_of, opening_text, stands_for, written_text}
-use Rattle.pie_abi.specs.Opening.{opening_in, opening_of, opening_refusal}
 use Rattle.pie_c.specs.Resuming.{CanWait, ecn_number, is_standing, queued_text, resume_of, resume_text, set_by_of, standing_in, waiting_text}
-use Rattle.pie_abi.specs.Choices.{last_moment}
-use Rattle.pie_c.specs.State.{is_sound}
 
 -- lost events stand for none
 lost-none : (e : PieEvent) → (e.kind == 6) ≡ true → event_of e ≡ None

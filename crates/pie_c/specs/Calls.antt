@@ -1,6 +1,6 @@
 -- Why each call is refused, and what it answers. What a call leaves is what the controller makes of what was held.
 use Rattle.std.specs.Prelude.{ℕ, ◌≡◌, ◌^◌, ◌==◌, ◌&&◌, true, nat_lt, not, List, [], ◌∷◌, ◌++◌, if◌then◌else◌}
-use Rattle.pie_aqm.specs.declared.verdict.Arrival.{Arrival}
+use Rattle.pie_aqm.specs.declared.verdict.ArrivingPacket.{ArrivingPacket}
 use Rattle.pie_aqm.specs.Calls.{Arrive, Call, after_call, shown_by}
 use Rattle.pie_aqm.specs.Events.{ControllerEvent, Opened}
 use Rattle.pie_aqm.specs.Held.{Held}
@@ -41,7 +41,7 @@ arrival_refusal queued size ecn moment =
     else 0
 
 -- an arriving packet and the queue that it meets, as the caller says them
-abbrev pub arrival_of : ℕ → ℕ → ℕ → ℕ → ℕ → Arrival
+abbrev pub arrival_of : ℕ → ℕ → ℕ → ℕ → ℕ → ArrivingPacket
 arrival_of queued size room bits word = record { queued = queued; is_full = room == 0; size = size; ecn = ecn_at bits; word = word }
 
 -- ---- what a call for one packet leaves
@@ -65,7 +65,7 @@ pub record Makes (before : PieState) (call : Call) (refusal : ℕ) (left : PieSt
 
 -- what an arrival answers and leaves, where it is refused by this number: of any state each field, and of a sound one what the
 -- controller then holds
-pub record Arrives (before : PieState) (arrival : Arrival) (refusal moment code : ℕ) (left : PieState) : Type 0 where
+pub record Arrives (before : PieState) (arrival : ArrivingPacket) (refusal moment code : ℕ) (left : PieState) : Type 0 where
   pub answer : code ≡ unless_refused refusal (verdict_number (verdict (held_in before) arrival))
   pub fields : left ≡ if_taken refusal before (with_arrival before (arrived (held_in before) arrival moment))
   pub held : Leaves before (Arrive arrival moment) refusal left

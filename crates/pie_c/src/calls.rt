@@ -25,7 +25,7 @@ use pie_abi::code::{
 };
 use pie_abi::packet::{ecn, is_bad_size};
 use pie_abi::params::are_in_range;
-use pie_aqm::{Arrival, calls_keep_it_sound, calls_look_back};
+use pie_aqm::{ArrivingPacket, calls_keep_it_sound, calls_look_back};
 use pie_fixed::MAX_NANOS;
 use pie_params::Elements;
 
@@ -104,7 +104,7 @@ pub(crate) fn arrive(
     if queued > MAX_QUEUED {
         return (BAD_QUEUE, 0);
     }
-    let arrival = Arrival {
+    let arrival = ArrivingPacket {
         queued,
         is_full: room == 0,
         size,

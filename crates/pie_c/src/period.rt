@@ -12,7 +12,8 @@ ghost use Rattle.pie_summary.specs.Summary.{header, said_of};
 use pie_abi::code::{BAD_MOMENT, DONE};
 use pie_abi::write_text;
 use pie_fixed::MAX_NANOS;
-use pie_summary::{Line, LivePeriod};
+use pie_page::LongRow;
+use pie_summary::LivePeriod;
 
 /// Refused: a length of periods out of its range.
 pub const BAD_EVERY: u32 = 128;
@@ -60,7 +61,7 @@ pub extern "C" fn pie_write_period(period: &LivePeriod, out: &mut [u8]) -> usize
     ensures bytes { (all : List Explained) → Holds period.now all
         → out.new ≡ after_writing (said_of (form_in period.now) (last_events (length_of period.now) all)) out.old }
 {
-    let mut line = Line::new();
+    let mut line = LongRow::new();
     period.put_record(&mut line);
     write_text(line.as_bytes(), out)
 }
@@ -71,7 +72,7 @@ pub extern "C" fn pie_write_period_header(period: &LivePeriod, out: &mut [u8]) -
     ensures count { result ≡ count_written (header (form_in period.now)) out.old }
     ensures bytes { out.new ≡ after_writing (header (form_in period.now)) out.old }
 {
-    let mut line = Line::new();
+    let mut line = LongRow::new();
     period.put_header(&mut line);
     write_text(line.as_bytes(), out)
 }

@@ -4,11 +4,11 @@
 //! that tells none, one that comes to no whole number, and one that is too great; the number then stays as it was.
 ghost use Rattle.std.specs.Prelude.{◌≡◌};
 ghost use Rattle.pie_c.specs.Reading.{fault_number, read_code, read_or_kept};
-ghost use Rattle.pie_units.specs.declared.unit.Kind.TheVariants.{Packets, Rate, Size, Time};
+ghost use Rattle.pie_units.specs.declared.unit.Quantity.TheVariants.{Packets, Rate, Size, Time};
 ghost use Rattle.pie_units.specs.Written.{value_of};
 
 use pie_abi::code::{DONE, NOT_A_NUMBER, TOO_GREAT, TOO_PRECISE};
-use pie_units::{Kind, UnitFault, read};
+use pie_units::{Quantity, UnitFault, read};
 
 /// The number of a refusal.
 fn of_fault(why: UnitFault) -> u32
@@ -41,7 +41,7 @@ pub extern "C" fn pie_read_time(text: &[u8], nanoseconds: &mut u64) -> u32
     ensures code { result ≡ read_code (value_of Time text.now) }
     ensures number { nanoseconds.new ≡ read_or_kept (value_of Time text.now) nanoseconds.old }
 {
-    kept(read(Kind::Time, text), nanoseconds)
+    kept(read(Quantity::Time, text), nanoseconds)
 }
 
 /// Reads a rate in bits a second: a number with `bit`, `kbit`, `mbit`, `gbit` or `tbit`, such as `100mbit`, or in bytes `bps`, `kbps`
@@ -51,7 +51,7 @@ pub extern "C" fn pie_read_rate(text: &[u8], bits: &mut u64) -> u32
     ensures code { result ≡ read_code (value_of Rate text.now) }
     ensures number { bits.new ≡ read_or_kept (value_of Rate text.now) bits.old }
 {
-    kept(read(Kind::Rate, text), bits)
+    kept(read(Quantity::Rate, text), bits)
 }
 
 /// Reads a size in bytes: a number with `b`, `kb`, `mb` or `gb`, such as `256kb`, which count by 1024, or without a unit.
@@ -60,7 +60,7 @@ pub extern "C" fn pie_read_size(text: &[u8], bytes: &mut u64) -> u32
     ensures code { result ≡ read_code (value_of Size text.now) }
     ensures number { bytes.new ≡ read_or_kept (value_of Size text.now) bytes.old }
 {
-    kept(read(Kind::Size, text), bytes)
+    kept(read(Quantity::Size, text), bytes)
 }
 
 /// Reads a number of packets, with or without `p`, such as `1000p`.
@@ -69,5 +69,5 @@ pub extern "C" fn pie_read_packets(text: &[u8], packets: &mut u64) -> u32
     ensures code { result ≡ read_code (value_of Packets text.now) }
     ensures number { packets.new ≡ read_or_kept (value_of Packets text.now) packets.old }
 {
-    kept(read(Kind::Packets, text), packets)
+    kept(read(Quantity::Packets, text), packets)
 }

@@ -1,5 +1,5 @@
 -- Which events the words of `pie explain` and `pie cut` choose, worked out.
-use Rattle.pie_commands.proofs.Names.{◌≡◌, [], ◌∷◌, Some, None, codes, refl, Text, Choice, options_in, choice_of, Part, Last, Every, around}
+use Rattle.pie_commands.proofs.Names.{◌≡◌, [], ◌∷◌, Some, None, codes, refl, Text, Selection, options_in, choice_of, Part, Last, Every, around}
 use Rattle.pie_commands.proofs.Names.{between, wanted_of}
 use Rattle.clap.proofs.OnLiterals.{clap_on_literals}
 use Rattle.pie_explain.specs.declared.which.Which.{Which}
@@ -11,7 +11,7 @@ use Rattle.pie_units.specs.Scale.{is_word, time_scale}
 use Rattle.pie_units.specs.Written.{digit_count, number_after}
 
 -- these events, at every moment
-abbrev at_all_moments : Which → Choice
+abbrev at_all_moments : Which → Selection
 at_all_moments which = record { which = which; from = None; to = None }
 
 event-chosen : (name : Text) → choice_of (options_in (name ∷ codes "explain" ∷ codes "--csv" ∷ codes "--event" ∷ codes "10" ∷ []))

@@ -32,7 +32,7 @@ pub use Rattle.pie_commands.specs.declared.end.End.TheVariants.{Done, Failed, Fa
 pub use Rattle.pie_cut.specs.Joined.{EndView, JoinsText}
 pub use Rattle.pie_cut.specs.Last.{LastEither}
 pub use Rattle.pie_cut.specs.declared.joined.Joined.{Joined}
-pub use Rattle.pie_explain.specs.declared.choice.Choice.{Choice}
+pub use Rattle.pie_explain.specs.declared.selection.Selection.{Selection}
 pub use Rattle.pie_explain.specs.declared.explanation.Explained.{Explained}
 pub use Rattle.pie_files.proofs.FileFacts.{Stays, reads-given, stays-on}
 pub use Rattle.pie_files.specs.Files.{Name, ReadsNamed, file_of, text_given}

@@ -2,7 +2,7 @@
 use Rattle.std.specs.Prelude.{ℕ, ◌==◌, ◌&&◌, ◌||◌, Bool, true, false, not, List, Option, Some, None, Result, Ok, Err, codes, if◌then◌else◌, is_some, nat_le}
 use Rattle.clap.specs.Words.{Row, Text, one_of}
 use Rattle.pie_options.specs.Words.{flag_given, number_given}
-use Rattle.pie_explain.specs.declared.choice.Choice.{Choice}
+use Rattle.pie_explain.specs.declared.selection.Selection.{Selection}
 use Rattle.pie_explain.specs.declared.form.Form.{Form}
 use Rattle.pie_explain.specs.declared.form.Form.TheVariants.{Text as Words, Csv, TextByWall, CsvByWall}
 use Rattle.pie_explain.specs.declared.explanation.Explained.{Explained}
@@ -105,13 +105,13 @@ in_order _ _ = true
 
 -- these events, from one bound to another, where both can be read and so can the length of a period, which is above 0; and only where this holds
 abbrev pub choice_at : Option Which → Result (Option When) WhenFault → Result (Option When) WhenFault → Result (Option ℕ) MomentFault → Bool
-    → Option Choice
+    → Option Selection
 choice_at (Some which) (Ok from) (Ok to) (Ok every) told =
     if lasts every && (told && in_order from to) then Some (record { which = which; from = from; to = to }) else None
 choice_at _ _ _ _ told = None
 
 -- what these options choose; nothing where they don't say it as they have to
-unfoldable pub choice_of : List Row → Option Choice
+unfoldable pub choice_of : List Row → Option Selection
 choice_of options =
     choice_at (which_of options) (bound_given (codes "from") options) (bound_given (codes "to") options) (moment_given (codes "every") options)
     (is_either (is_digest options) (flows_of options))

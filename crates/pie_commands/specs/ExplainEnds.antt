@@ -5,7 +5,7 @@ use Rattle.pie_record.specs.Text.{records_of}
 use Rattle.pie_explain.specs.declared.explanation.Explained.{Explained}
 use Rattle.pie_explain.specs.declared.fault.ExplainFault.{ExplainFault}
 use Rattle.pie_explain.specs.declared.fault.ExplainFault.TheVariants as fault
-use Rattle.pie_explain.specs.declared.choice.Choice.{Choice}
+use Rattle.pie_explain.specs.declared.selection.Selection.{Selection}
 use Rattle.pie_explain.specs.Either.{ExplainsEither}
 use Rattle.pie_commands.specs.declared.end.End.{End}
 use Rattle.pie_commands.specs.declared.end.End.TheVariants.{Done, Differs, Fault, Failed}
@@ -24,7 +24,7 @@ end_of_explain (Err fault.NoneWithin) = Failed
 
 -- a text of either kind is explained: what a tale tells of the chosen events is written, up to its first fault and the first event that differs, and
 -- the end is that of the answer. Options that choose no events fail, and nothing is written
-abbrev pub explain_ends : Option Choice → (List Explained → List ℕ) → List ℕ → End → Option (List ℕ) → Option (List ℕ) → Type 0
+abbrev pub explain_ends : Option Selection → (List Explained → List ℕ) → List ℕ → End → Option (List ℕ) → Option (List ℕ) → Type 0
 explain_ends None tale input end before now = WritesNothing end before now
 explain_ends (Some choice) tale input end before now = EndsBy end_of_explain (ExplainsEither choice tale (records_of input)) end before now
 

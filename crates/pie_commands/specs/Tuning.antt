@@ -3,7 +3,7 @@ use Rattle.std.specs.Prelude.{ℕ, ◌≡◌, ◌<◌, ◌≤◌, ◌^◌, ◌�
 use Rattle.std.specs.Io.KnownBytes.{Appends}
 use Rattle.clap.specs.Words.{Row, Text, first_of}
 use Rattle.pie_params.specs.Range.{IsInRange}
-use Rattle.pie_tuning.specs.declared.asked.Asked.{Asked}
+use Rattle.pie_tuning.specs.declared.options.TuningOptions.{TuningOptions}
 use Rattle.pie_tuning.specs.declared.units.OptionFault.{OptionFault}
 use Rattle.pie_record.specs.Text.{text_of}
 use Rattle.pie_record.specs.Write.{opening_row}
@@ -21,7 +21,7 @@ given_or reads unnamed None = Ok unnamed
 given_or reads unnamed (Some text) = reads text
 
 -- the options ask for this
-pub record AsksFor (options : List Row) (asked : Asked) : Type 0 where
+pub record AsksFor (options : List Row) (asked : TuningOptions) : Type 0 where
   pub rate : given_or rate_of 0 (first_of (codes "rate") options) ≡ Ok asked.rate
   pub target : given_or time_of 15_000_000 (first_of (codes "target") options) ≡ Ok asked.target
   pub t_update : given_or time_of 15_000_000 (first_of (codes "tupdate") options) ≡ Ok asked.t_update
@@ -38,18 +38,18 @@ pub record AsksFor (options : List Row) (asked : Asked) : Type 0 where
 
 -- the record of what the options ask for was written: its parameters are in their ranges, and so many packets may wait
 pub record WritesParams (options : List Row) (before now : Option (List ℕ)) : Type 0 where
-  pub asked : Asked
+  pub asked : TuningOptions
   pub asks : AsksFor options asked
   pub in_range : IsInRange (params_for asked)
   pub packets : (1 ≤ asked.packets) × (asked.packets ≤ 2 ^ 20)
   pub written : Appends before now (text_of (opening_row (opening_for asked.packets (elements_for asked) (params_for asked))))
 
 -- no such record is asked for: a text writes no number of its kind or names no choice, or a number is out of its range
-abbrev pub IsOutOfRange : Asked → Type 0
+abbrev pub IsOutOfRange : TuningOptions → Type 0
 IsOutOfRange asked = (IsInRange (params_for asked) → ⊥) ⊎ (asked.packets ≡ 0) ⊎ (2 ^ 20 < asked.packets)
 
 abbrev pub RefusesParams : List Row → Type 0
-RefusesParams options = ((asked : Asked) → AsksFor options asked → ⊥) ⊎ ((asked : Asked) × AsksFor options asked × IsOutOfRange asked)
+RefusesParams options = ((asked : TuningOptions) → AsksFor options asked → ⊥) ⊎ ((asked : TuningOptions) × AsksFor options asked × IsOutOfRange asked)
 
 -- that record is written; or the writer failed; or no such record is asked for, and nothing is written; or it could not begin
 abbrev pub EndsParams : List Row → End → Option (List ℕ) → Option (List ℕ) → Type 0

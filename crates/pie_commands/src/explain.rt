@@ -10,7 +10,7 @@ ghost use Rattle.pie_commands.specs.ExplainEnds.{EndsExplain, end_of_explain, ex
 use crate::end::{End, failed, faulted};
 use crate::moments::{NO_ORDER, bound, in_order, moment, said};
 use clap::ArgMatches;
-use pie_explain::{Choice, ExplainFault, Form, Which};
+use pie_explain::{ExplainFault, Form, Selection, Which};
 use pie_files::{Watched, fault};
 use pie_options::{flag, number};
 use pie_summary::{ByFlow, Summary};
@@ -97,8 +97,8 @@ fn which_of(options: &ArgMatches<'_>) -> Option<Which>
 }
 
 /// What these options choose, with a line on `errors` where they don't say it as they have to.
-#[tactic(auto, unfolding(crate::specs::Choice::choice_of))]
-fn choice_of<E: Write>(options: &ArgMatches<'_>, errors: &mut E) -> Option<Choice>
+#[tactic(auto, unfolding(crate::specs::Selection::choice_of))]
+fn choice_of<E: Write>(options: &ArgMatches<'_>, errors: &mut E) -> Option<Selection>
     ensures { result ≡ choice_of (rows_of (found_of options.now)) }
 {
     let Some(which) = which_of(options) else {
@@ -126,7 +126,7 @@ fn choice_of<E: Write>(options: &ArgMatches<'_>, errors: &mut E) -> Option<Choic
         fault(errors, NO_ORDER);
         return None;
     }
-    Some(Choice { which, from, to })
+    Some(Selection { which, from, to })
 }
 
 /// In which form these options want the explanations.
@@ -173,7 +173,7 @@ fn tell_sums<R: Read + Drop, W: Write>(
     alloc: Global,
     input: R,
     output: &mut W,
-    choice: Choice,
+    choice: Selection,
     tale: Tale,
 ) -> Result<u64, ExplainFault>
     ensures { IfSome (R.remaining input) (λ text. ExplainsEither choice (tale_by true tale.digest tale.flows tale.every tale.form) (records_of text)
@@ -201,7 +201,7 @@ fn tell<R: Read + Drop, W: Write>(
     alloc: Global,
     input: R,
     output: &mut W,
-    choice: Choice,
+    choice: Selection,
     tale: Tale,
 ) -> Result<u64, ExplainFault>
     ensures { IfSome (R.remaining input) (λ text. ExplainsEither choice (told_by tale) (records_of text) result (W.contents output.old)
@@ -234,7 +234,7 @@ fn explain_chosen<H: Clock, R: Read + Drop, W: Write, E: Write>(
     rt: &H,
     alloc: Global,
     is_shown: bool,
-    choice: Choice,
+    choice: Selection,
     tale: Tale,
     input: R,
     output: &mut W,

@@ -2,7 +2,7 @@
 ghost use Rattle.std.specs.Prelude.{◌≡◌, ℕ, codes, IfSome, None, Ok};
 ghost use Rattle.clap.specs.Words.{first_of, found_of, rows_of};
 ghost use Rattle.pie_tuning.specs.Units.{packets_of, rate_of, time_of};
-ghost use Rattle.pie_tuning.specs.declared.asked.Asked.{Asked};
+ghost use Rattle.pie_tuning.specs.declared.options.TuningOptions.{TuningOptions};
 ghost use Rattle.pie_commands.specs.Tuning.{AsksFor, EndsParams, given_or};
 
 use crate::end::{End, failed, faulted};
@@ -13,8 +13,8 @@ use pie_options::{flag, number, number_or};
 use pie_params::{Params, RawParams};
 use pie_trace::TraceFault;
 use pie_tuning::{
-    Asked, OptionFault, can_stall, elements_for, gain_of, is_short, opening_for, packets_of,
-    params_for, rate_of, time_of, write_opening,
+    OptionFault, TuningOptions, can_stall, elements_for, gain_of, is_short, opening_for,
+    packets_of, params_for, rate_of, time_of, write_opening,
 };
 use std::io::Write;
 
@@ -63,9 +63,9 @@ fn read_of<E: Write>(read: Result<u64, OptionFault>, name: &str, errors: &mut E)
 }
 
 /// What the options ask for; none, with a line on `errors`, where a text writes no number of its kind or names no choice.
-fn asked_in<E: Write>(options: &ArgMatches<'_>, errors: &mut E) -> Option<Asked>
+fn asked_in<E: Write>(options: &ArgMatches<'_>, errors: &mut E) -> Option<TuningOptions>
     ensures asked { IfSome result (AsksFor (rows_of (found_of options.now))) }
-    ensures none { result ≡ None → (asked : Asked) → AsksFor (rows_of (found_of options.now)) asked → ⊥ }
+    ensures none { result ≡ None → (asked : TuningOptions) → AsksFor (rows_of (found_of options.now)) asked → ⊥ }
 {
     let Some(rate) = read_of(rate_in(options), "rate", errors) else {
         return None;
@@ -83,7 +83,7 @@ fn asked_in<E: Write>(options: &ArgMatches<'_>, errors: &mut E) -> Option<Asked>
         let _ = writeln!(errors, "pie: --decay is zero or half");
         return None;
     };
-    Some(Asked {
+    Some(TuningOptions {
         rate,
         target,
         t_update,
@@ -113,7 +113,7 @@ fn say_rounded<E: Write>(options: &ArgMatches<'_>, errors: &mut E) {
 }
 
 /// Says that the queue is full before it can wait for the target.
-fn say_short<E: Write>(asked: &Asked, params: &RawParams, errors: &mut E) {
+fn say_short<E: Write>(asked: &TuningOptions, params: &RawParams, errors: &mut E) {
     if is_short(asked.rate, params) {
         let limit = params.limit_bytes;
         let _ = writeln!(
@@ -124,7 +124,7 @@ fn say_short<E: Write>(asked: &Asked, params: &RawParams, errors: &mut E) {
 }
 
 /// Says that the departure rate's estimator can stall.
-fn say_stall<E: Write>(asked: &Asked, params: &RawParams, errors: &mut E) {
+fn say_stall<E: Write>(asked: &TuningOptions, params: &RawParams, errors: &mut E) {
     if can_stall(asked, params) {
         let threshold = params.dq_threshold;
         let _ = writeln!(

@@ -1,6 +1,6 @@
 -- Which events an excerpt has.
 use Rattle.std.specs.Prelude.{ℕ, Bool, true, false, not, ◌&&◌, ◌||◌, nat_le, nat_lt, Option, Some, None}
-use Rattle.pie_explain.specs.Choice.{is_from, is_to}
+use Rattle.pie_explain.specs.Selection.{is_from, is_to}
 use Rattle.pie_units.specs.declared.when.When.{When}
 use Rattle.pie_units.specs.declared.when.When.TheVariants.{Moment, Unix}
 use Rattle.pie_cut.specs.declared.span.Met.{Met}

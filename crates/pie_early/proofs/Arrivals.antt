@@ -1,16 +1,9 @@
 -- What an arrival leaves of the accumulated probability, and what early drop shows after it.
-use Rattle.std.proofs.Common.{◌≡◌, ℕ, ◌+◌, ◌<◌, ◌==◌, ◌||◌, if◌then◌else◌, Bool, true, false, List, [], ◌∷◌, ◌++◌, refl, arith}
-use Rattle.std.proofs.lemmas.Bool.Decides.{nat_tests}
-use Rattle.pie_params.specs.declared.raw.RawParams.{RawParams}
-use Rattle.pie_params.specs.declared.elements.Picking.{Picking}
-use Rattle.pie_params.specs.declared.elements.Picking.TheVariants.{Derandomized, Random}
-use Rattle.pie_params.specs.Elements.{accumulates}
-use Rattle.pie_control.specs.Parts.{Parts}
-use Rattle.pie_queue.specs.declared.ecn.Ecn.{Ecn}
-use Rattle.pie_early.specs.Decision.{accu_at, always_picked, choice_at, is_considered, is_picked, joined, picked_choice}
-use Rattle.pie_early.specs.declared.early.Choice.TheVariants.{Enqueue}
-use Rattle.pie_early.specs.Events.{EarlyEvent, arrival}
-use Rattle.pie_early.specs.History.{Shows}
+use Rattle.pie_early.proofs.Names.{◌≡◌, ℕ, ◌+◌, ◌<◌, Bool, true, false, List, [], ◌∷◌, ◌++◌, refl, arith, nat_tests, RawParams, Picking, Derandomized}
+use Rattle.pie_early.proofs.Names.{Random, accumulates, Parts, Ecn, accu_at, always_picked, choice_at, is_considered, is_picked, picked_choice}
+use Rattle.pie_early.proofs.Names.{Enqueue, EarlyEvent, arrival, Shows}
+use Rattle.std.proofs.Common.{◌==◌, ◌||◌, if◌then◌else◌}
+use Rattle.pie_early.specs.Decision.{joined}
 use Rattle.pie_early.proofs.Laws.{shows-next}
 use Rattle.pie_early.proofs.Picking.{below_always, is_pick-picked_choice, picked_zero_at}
 

@@ -1,22 +1,13 @@
 -- The cause of a considered arrival is that of its case, and the verdict of a choice that depends on a test.
-use Rattle.std.proofs.Common.{◌≡◌, ◌<◌, ◌+◌, ◌∙◌, ℕ, Bool, true, false, ap, sym, refl, arith}
-use Rattle.std.specs.Prelude.{◌&&◌, if◌then◌else◌, nat_le, nat_lt}
-use Rattle.std.proofs.lemmas.Bool.Decides.{nat_tests}
-use Rattle.pie_params.specs.declared.raw.RawParams.{RawParams}
-use Rattle.pie_params.specs.declared.elements.Elements.{Elements}
-use Rattle.pie_params.specs.declared.elements.Picking.{Picking}
-use Rattle.pie_params.specs.declared.elements.Picking.TheVariants.{Derandomized, Random}
-use Rattle.pie_params.specs.Elements.{accumulates}
-use Rattle.pie_control.specs.Parts.{Parts}
-use Rattle.pie_event.specs.CauseName.{name_of, place_of_cause}
+use Rattle.pie_early.proofs.Names.{◌≡◌, ◌<◌, ◌+◌, ◌∙◌, ℕ, Bool, true, false, ap, sym, refl, arith, if◌then◌else◌, nat_tests, RawParams, Elements}
+use Rattle.pie_early.proofs.Names.{Picking, Derandomized, Random, accumulates, Parts, name_of, place_of_cause, Offered, Choice, Enqueue, fate_of}
+use Rattle.pie_early.proofs.Names.{always_picked, counted, is_considered, is_picked, never_picked}
+use Rattle.std.specs.Prelude.{◌&&◌, nat_le, nat_lt}
 use Rattle.pie_event.specs.declared.cause.Cause.TheVariants.{NoProbability, PickedBySum, PickedByWord}
 use Rattle.pie_event.specs.declared.cause.Fate.{Fate}
 use Rattle.pie_event.specs.declared.verdict.Verdict.TheVariants.{Enqueued}
-use Rattle.pie_early.specs.declared.decision.Offered.{Offered}
-use Rattle.pie_early.specs.declared.early.Choice.{Choice}
-use Rattle.pie_early.specs.declared.early.Choice.TheVariants.{Enqueue}
-use Rattle.pie_early.specs.Cause.{considered_cause, early_cause, fate_of}
-use Rattle.pie_early.specs.Decision.{always_picked, chosen, counted, is_considered, is_picked, never_picked}
+use Rattle.pie_early.specs.Cause.{considered_cause, early_cause}
+use Rattle.pie_early.specs.Decision.{chosen}
 
 pub chosen-if : (picked : Bool) (choice : Choice) → (if picked then chosen choice else Enqueued) ≡ chosen (if picked then choice else Enqueue)
 chosen-if true choice = refl

@@ -1,21 +1,14 @@
 -- The definitions on worked arrivals: each theorem computes.
+use Rattle.pie_early.proofs.Names.{Elements, Derandomized, Random, Parts, Ecn, Offered, Choice, Enqueue, Mark, Drop, a_fifth, accu_after}
+use Rattle.pie_early.proofs.Names.{always_picked, choice_of, is_considered, is_picked, never_picked, EarlyEvent, arrival, cleared, accumulated}
 use Rattle.std.specs.Prelude.{◌≡◌, ℕ, ◌^◌, ◌*◌, ◌-◌, true, false, List, [], ◌∷◌, ◌++◌, map, replicate, refl}
 use Rattle.pie_fixed.specs.declared.TheConstants.{ALWAYS_PICKED, ONE}
 use Rattle.pie_params.specs.Profile.{default_profile}
-use Rattle.pie_params.specs.declared.elements.Elements.{Elements}
-use Rattle.pie_params.specs.declared.elements.Picking.TheVariants.{Derandomized, Random}
 use Rattle.pie_params.specs.declared.elements.Size.TheVariants.{Unscaled, Scaled}
 use Rattle.pie_params.specs.Elements.{usual}
-use Rattle.pie_control.specs.Parts.{Parts}
-use Rattle.pie_queue.specs.declared.ecn.Ecn.{Ecn}
 use Rattle.pie_queue.specs.declared.ecn.Ecn.TheVariants.{NotEct, Ect0}
-use Rattle.pie_early.specs.declared.decision.Offered.{Offered}
 use Rattle.pie_early.specs.declared.early.TheConstants.{LOW_PROB, NEVER_PICKED}
-use Rattle.pie_early.specs.declared.early.Choice.{Choice}
-use Rattle.pie_early.specs.declared.early.Choice.TheVariants.{Enqueue, Mark, Drop}
-use Rattle.pie_early.specs.Decision.{a_fifth, accu_after, always_picked, choice_of, counted_as, is_considered, is_picked, never_picked}
-use Rattle.pie_early.specs.Events.{EarlyEvent, arrival, cleared}
-use Rattle.pie_early.specs.History.{accumulated}
+use Rattle.pie_early.specs.Decision.{counted_as}
 
 -- the bounds, of the definitions and of the code: a fifth, 0.85 and 8.5
 one : ONE ≡ 10 ^ 12

@@ -1,16 +1,13 @@
 -- How the accumulated probability changes when one more event joins the list at its end.
-use Rattle.std.proofs.Common.{◌≡◌, ℕ, zero, suc, ◌+◌, ◌-◌, ◌*◌, ◌<◌, Bool, true, false, cond, not, List, [], ◌∷◌, ◌++◌, length, drop, filter}
-use Rattle.std.proofs.Common.{replicate, refl, sym, ap, ◌∙◌, arith, zero-add, add-one, append_assoc, add-zero}
-use Rattle.std.specs.Prelude.{sum_by, if◌then◌else◌}
+use Rattle.pie_early.proofs.Names.{◌≡◌, ℕ, ◌+◌, ◌*◌, ◌<◌, Bool, true, false, cond, List, [], ◌∷◌, ◌++◌, refl, sym, ap, ◌∙◌, arith, if◌then◌else◌}
+use Rattle.pie_early.proofs.Names.{ne_eqb, Derandomized, Enqueue, EarlyEvent, arrival, accumulated, Shows}
+use Rattle.std.proofs.Common.{zero, suc, ◌-◌, not, length, drop, filter, replicate, zero-add, add-one, append_assoc, add-zero}
+use Rattle.std.specs.Prelude.{sum_by}
 use Rattle.std.specs.List.{after_last, suffix_len}
 use Rattle.std.proofs.lemmas.List.{drop-append-le, drop_all, length_push, reverse-append, replicate_more}
-use Rattle.std.proofs.lemmas.Bool.{ne_eqb}
 use Rattle.std.proofs.lemmas.List.Elements.{filter-append}
 use Rattle.std.proofs.lemmas.List.Sums.{sum_by-append, suffix_len-le-length}
-use Rattle.pie_params.specs.declared.elements.Picking.TheVariants.{Derandomized}
-use Rattle.pie_early.specs.declared.early.Choice.TheVariants.{Enqueue}
-use Rattle.pie_early.specs.Events.{EarlyEvent, arrival, is_clearing, joins, prob_of}
-use Rattle.pie_early.specs.History.{accumulated, Shows}
+use Rattle.pie_early.specs.Events.{is_clearing, joins, prob_of}
 
 suffix_len-push : {X : Type 0} (p : X → Bool) (xs : List X) (x : X) → suffix_len p (xs ++ x ∷ []) ≡ cond (p x) (1 + suffix_len p xs) 0
 suffix_len-push p xs x = rw reverse-append refl

@@ -1,3 +1,4 @@
+mod Names
 mod Examples
 pub mod Scaling
 pub mod Laws

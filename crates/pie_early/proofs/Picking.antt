@@ -1,20 +1,13 @@
 -- What the tests of the decision say in facts.
-use Rattle.std.proofs.Common.{eqb, inl, inr, ltb, ◌≡◌, ℕ, ◌+◌, ◌*◌, ◌<◌, ◌≤◌, ◌⊎◌, ◌↔◌, Bool, true, false, cond, ◌&&◌, refl, sym, ap, ◌∙◌, arith}
-use Rattle.std.specs.Prelude.{IsTrue, ◌||◌, not, if◌then◌else◌}
-use Rattle.std.proofs.lemmas.Bool.Decides.{nat_tests}
-use Rattle.std.proofs.lemmas.Bool.{and_parts, and_from, false≢true, ne_eqb}
+use Rattle.pie_early.proofs.Names.{◌≡◌, ℕ, ◌+◌, ◌*◌, ◌<◌, ◌≤◌, Bool, true, false, cond, refl, sym, ap, ◌∙◌, arith, if◌then◌else◌, nat_tests, ne_eqb}
+use Rattle.pie_early.proofs.Names.{RawParams, Picking, Derandomized, Random, accumulates, Parts, Ecn, Choice, Enqueue, Mark, Drop, a_fifth}
+use Rattle.pie_early.proofs.Names.{never_picked, always_picked, is_considered, is_picked, picked_choice, accu_at, choice_at}
+use Rattle.std.proofs.Common.{eqb, inl, inr, ltb, ◌⊎◌, ◌↔◌, ◌&&◌}
+use Rattle.std.specs.Prelude.{IsTrue, ◌||◌, not}
+use Rattle.std.proofs.lemmas.Bool.{and_parts, and_from, false≢true}
 use Rattle.pie_fixed.specs.Fixed.{Picks}
-use Rattle.pie_params.specs.declared.raw.RawParams.{RawParams}
-use Rattle.pie_params.specs.declared.elements.Picking.{Picking}
-use Rattle.pie_params.specs.declared.elements.Picking.TheVariants.{Derandomized, Random}
-use Rattle.pie_params.specs.Elements.{accumulates}
-use Rattle.pie_control.specs.Parts.{Parts}
-use Rattle.pie_queue.specs.declared.ecn.Ecn.{Ecn}
 use Rattle.pie_queue.specs.Ecn.{is_capable}
-use Rattle.pie_early.specs.declared.early.Choice.{Choice}
-use Rattle.pie_early.specs.declared.early.Choice.TheVariants.{Enqueue, Mark, Drop}
-use Rattle.pie_early.specs.Decision.{a_fifth, never_picked, always_picked, is_considered, is_picked, picked_choice}
-use Rattle.pie_early.specs.Decision.{accu_at, choice_at, is_pick, IsPicked}
+use Rattle.pie_early.specs.Decision.{is_pick, IsPicked}
 
 considered_facts : (params : RawParams) (control : Parts) (bytes : ℕ) → is_considered params control bytes ≡ true
     → (control.burst ≡ 0) × (2 * params.mean_pkt < bytes) × ((params.target ≤ 2 * control.old_delay) ⊎ (a_fifth ≤ control.prob))

@@ -1,5 +1,6 @@
 -- What a scaled probability is at most.
-use Rattle.std.proofs.Common.{ℕ, ◌*◌, ◌/◌, ◌<◌, ◌≤◌, arith}
+use Rattle.pie_early.proofs.Names.{ℕ, ◌*◌, ◌<◌, ◌≤◌, arith}
+use Rattle.std.proofs.Common.{◌/◌}
 use Rattle.std.proofs.Math.Nat.{div-le_of_le-mul}
 
 -- a part of a whole is at most the whole

@@ -7,7 +7,6 @@
 pub mod beginning;
 pub mod fits;
 pub mod law;
-mod line;
 pub mod reading;
 pub mod resume;
 mod writing;
@@ -16,7 +15,6 @@ mod written;
 pub use beginning::{Begun, begin_resumed, is_resume};
 pub use fits::{params_are_good, resume_fits};
 pub use law::{beginnings_are_written_again, beginnings_go_on, records_are_read_back};
-pub use line::Line;
 pub use resume::Resume;
 pub use writing::{make_resume, put_queued};
 pub use written::{add_queue, add_resume, resume_of_excerpt, write_excerpt};

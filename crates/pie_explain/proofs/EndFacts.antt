@@ -1,7 +1,7 @@
 -- How explaining a history ends, and what it has written.
 use Rattle.pie_explain.proofs.Names.{◌≡◌, ℕ, List, ◌++◌, length, Bool, true, false, refl, sym, ap, ◌∙◌, append_assoc, Option, Some, None, Result, Ok}
 use Rattle.pie_explain.proofs.Names.{Err, OnOk, ◌&&◌, nat_le, nat_lt, if◌then◌else◌, Appends, append_known, Opening, TraceFault, Line, Finding}
-use Rattle.pie_explain.proofs.Names.{event_count, first_difference, Explained, Choice, Explains, answered, is_whole, Grows, Start, explanations_since}
+use Rattle.pie_explain.proofs.Names.{event_count, first_difference, Explained, Selection, Explains, answered, is_whole, Grows, Start, explanations_since}
 use Rattle.std.proofs.Common.{◌==◌, subst}
 use Rattle.pie_audit.specs.declared.auditor.Finding.TheVariants.{Clean, Differs}
 use Rattle.pie_audit.specs.declared.following.Follower.{Follower}
@@ -30,7 +30,7 @@ appends-whole old mid now page ended tale whole h grows w =
     subst (λ (l : List ℕ). Appends old now l) (sym grows.turned) (appends-ended old mid now page ended tale grows.more h grows.grown w)
 
 -- how many were explained counts only where none differs
-pub answered-same : (start : Start) (opening : Opening) (choice : Choice) (lines : List Line) (differs : Option ℕ) (explained : ℕ)
+pub answered-same : (start : Start) (opening : Opening) (choice : Selection) (lines : List Line) (differs : Option ℕ) (explained : ℕ)
     → differs ≡ first_difference opening lines → (differs ≡ None → explained ≡ length (explanations_since start opening choice lines))
     → answered choice start.events explained (finding opening lines)
     ≡ answered choice start.events (length (explanations_since start opening choice lines)) (finding opening lines)
@@ -44,7 +44,7 @@ answered-same start opening choice lines differs explained is counted = by (firs
     by None counted = ap (λ (n : ℕ). answered choice start.events n (finding_by None (event_count lines))) (counted refl)
 
 -- .. so the text is written, and all lines were looked at
-pub closes : (start : Start) (opening : Opening) (choice : Choice) (tale whole : List Explained → List ℕ) (shows : List Explained → Type 0)
+pub closes : (start : Start) (opening : Opening) (choice : Selection) (tale whole : List Explained → List ℕ) (shows : List Explained → Type 0)
     (lines : List Line) (follower : Follower) (explained : ℕ) (written : Result (Unit {0}) TraceFault) (old mid now : Option (List ℕ))
     (page ended : List ℕ) → start.events ≡ follower.before
     → Explains start opening choice tale shows lines follower.auditor follower.set_by explained old (append_known mid page)
@@ -81,7 +81,7 @@ none-audited audited false Lost before events is = (events, is)
 none-audited audited false Marked before events is = (events, is)
 none-audited audited false All before events is = (events, is)
 
-as-audited : (audited : Result Finding TraceFault) (choice : Choice) (before explained : ℕ) (found : Finding) → audited ≡ Ok found
+as-audited : (audited : Result Finding TraceFault) (choice : Selection) (before explained : ℕ) (found : Finding) → audited ≡ Ok found
     → IsAsAudited audited (answered choice before explained found)
 as-audited audited choice before explained (Differs event) is = is
 as-audited audited choice before explained (Clean events) is = by (explained == 0)
@@ -90,7 +90,7 @@ as-audited audited choice before explained (Clean events) is = by (explained == 
     by true = none-audited audited (is_whole choice) choice.which before events is
     by false = (events, is)
 
-pub since-audited : (start : Start) (choice : Choice) (opening : Opening) (lines : List Line) (fault : Option TraceFault)
+pub since-audited : (start : Start) (choice : Selection) (opening : Opening) (lines : List Line) (fault : Option TraceFault)
     → IsAsAudited (judged opening lines fault) (answer_since choice start opening lines fault)
 since-audited start choice opening lines (Some why) = λ _. refl
 since-audited start choice opening lines None = as-audited (Ok (finding opening lines)) choice start.events

@@ -10,5 +10,5 @@ pub use Rattle.pie_explain.specs.{Opening, Result, Setter, Start, TraceFault, an
 pub use Rattle.pie_explain.specs.{from_opening, is_event, is_whole, latest_clock, moment_of, nat_lt, no_event, option_map, picks, setter_after}
 pub use Rattle.pie_explain.specs.{setter_by, setter_told, told_after, told_at, told_if, told_unless, told_unless_differs, with_after}
 unfoldable pub use Rattle.pie_explain.specs.{explanation, explanations_since}
-pub use Rattle.pie_explain.specs.Names.{Choice, Explanation}
+pub use Rattle.pie_explain.specs.Names.{Selection, Explanation}
 pub use Rattle.pie_record.specs.declared.clock.Clock.{Clock}

@@ -1,7 +1,7 @@
 -- How explaining a history ends: as its audit would, or with nothing to explain.
 use Rattle.std.specs.Prelude.{◌≡◌, ◌==◌, ◌≤◌, nat_le, ◌&&◌, Ok, if◌then◌else◌}
 use Rattle.pie_explain.specs.Names.{ℕ, nat_lt, List, length, Bool, true, false, Option, Some, None, Result, Err, Appends, Opening, TraceFault, Line}
-use Rattle.pie_explain.specs.Names.{Finding, Audits, AuditorView, event_count, Explained, Setter, Choice, is_whole, Start}
+use Rattle.pie_explain.specs.Names.{Finding, Audits, AuditorView, event_count, Explained, Setter, Selection, is_whole, Start}
 use Rattle.pie_record.specs.Fault.{is_device}
 use Rattle.pie_audit.specs.declared.auditor.Finding.TheVariants.{Clean}
 use Rattle.pie_audit.specs.declared.following.Follower.{Follower}
@@ -29,12 +29,12 @@ none_picked whole Marked before events = Ok 0
 none_picked whole All before events = Ok 0
 
 -- the answer where so many events were before a text, this many of its own were explained, and the audit of the history finds this
-abbrev pub answered : Choice → ℕ → ℕ → Finding → Result ℕ ExplainFault
+abbrev pub answered : Selection → ℕ → ℕ → Finding → Result ℕ ExplainFault
 answered choice before explained (finding.Differs event) = Err (Differs event)
 answered choice before explained (Clean events) = if explained == 0 then none_picked (is_whole choice) choice.which before events else Ok explained
 
 -- the answer to a history of these lines, of which a text has those after its beginning, and the fault after them
-abbrev pub answer_since : Choice → Start → Opening → List Line → Option TraceFault → Result ℕ ExplainFault
+abbrev pub answer_since : Selection → Start → Opening → List Line → Option TraceFault → Result ℕ ExplainFault
 answer_since choice start opening lines (Some why) = Err (Trace why)
 answer_since choice start opening lines None =
     answered choice start.events (length (explanations_since start opening choice lines)) (finding_of opening lines)
@@ -53,7 +53,7 @@ IsAsAudited audited (Err NoneWithin) = (events : ℕ) × (audited ≡ Ok (Clean 
 
 -- these lines were looked at, of which a text has those after its beginning, and were shown their chosen events, of which the tale joined what was
 -- there before; where none differs, these were counted
-pub record Explains (start : Start) (opening : Opening) (choice : Choice) (tale : List Explained → List ℕ) (shows : List Explained → Type 0)
+pub record Explains (start : Start) (opening : Opening) (choice : Selection) (tale : List Explained → List ℕ) (shows : List Explained → Type 0)
     (lines : List Line) (auditor : AuditorView) (set_by : Setter) (explained : ℕ) (before now : Option (List ℕ)) : Type 0 where
   pub follows : Follows start opening lines auditor set_by
   pub counted : auditor.differs ≡ None → explained ≡ length (explanations_since start opening choice lines)
@@ -64,10 +64,10 @@ pub record Explains (start : Start) (opening : Opening) (choice : Choice) (tale 
 -- ---- how it ends
 
 -- what is written: the whole tale of the chosen events, of those that a text has after its beginning
-abbrev pub IsSaid : Choice → (List Explained → List ℕ) → Start → Opening → List Line → List ℕ → Type 0
+abbrev pub IsSaid : Selection → (List Explained → List ℕ) → Start → Opening → List Line → List ℕ → Type 0
 IsSaid choice whole start opening lines said = said ≡ whole (explanations_since start opening choice lines)
 
 -- all lines were looked at, and the explained events counted
-abbrev pub HasExplained : Choice → Start → Opening → List Line → Follower → ℕ → Type 0
+abbrev pub HasExplained : Selection → Start → Opening → List Line → Follower → ℕ → Type 0
 HasExplained choice start opening lines follower explained = (start.events ≡ follower.before) × Audits opening follower.auditor lines
     × (follower.auditor.differs ≡ None → explained ≡ length (explanations_since start opening choice lines))

@@ -1,5 +1,5 @@
 -- What explaining a text answers and writes: a whole history, or one that goes on from the middle of a history.
-use Rattle.pie_explain.specs.Names.{ℕ, List, Option, Result, Err, Choice, Explained}
+use Rattle.pie_explain.specs.Names.{ℕ, List, Option, Result, Err, Selection, Explained}
 use Rattle.pie_record.specs.Text.{Row}
 use Rattle.pie_excerpt.specs.Beginning.{is_resumed}
 use Rattle.pie_audit.specs.Told.{TextToldBy}
@@ -10,6 +10,6 @@ use Rattle.pie_explain.specs.Answer.{IsSaid, answer_since}
 -- the first fault of its beginning is answered; and else, whatever history it goes on after, if it tells of it what set the probability, the answer
 -- to
 -- that history and its explanations, both of the events of the text
-abbrev pub ExplainsEither : Choice → (List Explained → List ℕ) → List Row → Result ℕ ExplainFault → Option (List ℕ) → Option (List ℕ) → Type 0
+abbrev pub ExplainsEither : Selection → (List Explained → List ℕ) → List Row → Result ℕ ExplainFault → Option (List ℕ) → Option (List ℕ) → Type 0
 ExplainsEither choice whole rows result old now =
     TextToldBy (λ why. Err (Trace why)) (answer_since choice) (IsSaid choice whole) (is_resumed rows) rows result old now

@@ -1,7 +1,7 @@
 -- What there is to say of the events of a history's lines.
 use Rattle.std.specs.Prelude.{◌+◌, ◌∷◌, ◌++◌}
 use Rattle.pie_explain.specs.Names.{ℕ, Bool, true, false, List, [], Option, Some, None, option_map, filter_map, Opening, Line, Made, event_count}
-use Rattle.pie_explain.specs.Names.{latest_clock, events_of, first_difference, Explained, Explanation, Choice, Setter, picks, explanation, moment_of}
+use Rattle.pie_explain.specs.Names.{latest_clock, events_of, first_difference, Explained, Explanation, Selection, Setter, picks, explanation, moment_of}
 use Rattle.pie_explain.specs.Names.{with_after, setter_after, setter_by}
 use Rattle.pie_record.specs.declared.history_record.Line.TheVariants.{Unmakeable, Note}
 use Rattle.pie_audit.specs.Finding.{LinePlace, line_places}
@@ -13,7 +13,7 @@ told_if true told = Some told
 told_if false told = None
 
 -- what there is to say of a line after these lines: it tells an event, which has the next number and is chosen
-abbrev pub told_after : Opening → Choice → List Line → Setter → Line → Option Explanation
+abbrev pub told_after : Opening → Selection → List Line → Setter → Line → Option Explanation
 told_after opening choice lines set_by (Made event) =
     told_if (picks choice (event_count lines + 1) (moment_of opening (events_of lines) event) (latest_clock lines) event)
     (explanation opening (events_of lines) (event_count lines + 1) event set_by (latest_clock lines))
@@ -30,12 +30,12 @@ abbrev pub told_unless_differs : Opening → List Line → Option Explanation �
 told_unless_differs opening lines told = told_unless (first_difference opening lines) told
 
 -- what there is to say at a place, where no event up to it, itself included, differs
-abbrev pub told_at : Opening → Choice → LinePlace → Option Explained
+abbrev pub told_at : Opening → Selection → LinePlace → Option Explained
 told_at opening choice place =
     option_map (with_after opening (events_of (place.before ++ place.line ∷ [])))
     (told_unless_differs opening (place.before ++ place.line ∷ [])
     (told_after opening choice place.before (setter_by (setter_after opening place.before)) place.line))
 
 -- what there is to say of the chosen events of these lines, in their order
-unfoldable pub explanations : Opening → Choice → List Line → List Explained
+unfoldable pub explanations : Opening → Selection → List Line → List Explained
 explanations opening choice lines = filter_map (told_at opening choice) (line_places lines)

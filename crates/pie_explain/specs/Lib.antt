@@ -1,5 +1,5 @@
 pub mod Which
-pub mod Choice
+pub mod Selection
 pub mod Explanation
 pub mod Record
 pub mod Words

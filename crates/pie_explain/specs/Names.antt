@@ -10,11 +10,11 @@ pub use Rattle.pie_audit.specs.declared.auditor.Finding.{Finding}
 pub use Rattle.pie_event.specs.declared.command.Event.{Event}
 pub use Rattle.pie_event.specs.declared.opening.Opening.{Opening}
 pub use Rattle.pie_event.specs.declared.setter.Setter.{Setter}
-pub use Rattle.pie_explain.specs.Choice.{is_whole, picks}
+pub use Rattle.pie_explain.specs.Selection.{is_whole, picks}
 pub use Rattle.pie_explain.specs.Explanation.{moment_of, with_after}
 unfoldable pub use Rattle.pie_explain.specs.Explanation.{explanation}
 pub use Rattle.pie_explain.specs.Report.{Grows}
-pub use Rattle.pie_explain.specs.declared.choice.Choice.{Choice}
+pub use Rattle.pie_explain.specs.declared.selection.Selection.{Selection}
 pub use Rattle.pie_explain.specs.declared.explanation.Explained.{Explained}
 pub use Rattle.pie_explain.specs.declared.explanation.Explanation.{Explanation}
 pub use Rattle.pie_record.specs.HistoryLines.{event_count, is_event, latest_clock}

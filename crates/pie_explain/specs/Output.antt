@@ -4,7 +4,7 @@ use Rattle.std.specs.List.{flat_map}
 use Rattle.pie_explain.specs.declared.form.Form.{Form}
 use Rattle.pie_explain.specs.declared.form.Form.TheVariants.{Text, Csv, TextByWall, CsvByWall}
 use Rattle.pie_explain.specs.declared.explanation.Explained.{Explained}
-use Rattle.pie_explain.specs.Choice.{time_of}
+use Rattle.pie_explain.specs.Selection.{time_of}
 use Rattle.pie_explain.specs.Record.{line_of, record_of, wall_field}
 use Rattle.pie_explain.specs.Words.{words, words_by}
 

@@ -2,7 +2,7 @@
 ghost use Rattle.std.specs.Prelude.{◌≡◌, ◌++◌, map};
 ghost use Rattle.pie_explain.specs.{List, Option, length, true, false, Event, Opening, Line, Made, TraceFault, Start, from_opening};
 ghost use Rattle.pie_explain.specs.{IsAsAudited, answer_since, explanations, as_told, explanations_since};
-ghost use Rattle.pie_explain.specs.Names.{Choice};
+ghost use Rattle.pie_explain.specs.Names.{Selection};
 ghost use Rattle.pie_audit.specs.Text.{judged};
 
 /// The law of excerpts. A whole history gives all explanations (`whole`). A text that goes on after some events of a history, and tells what set the
@@ -10,12 +10,12 @@ ghost use Rattle.pie_audit.specs.Text.{judged};
 /// explanations that the whole history gives after those of these events (`rest`). One that doesn't tell it gives the same, but for what set
 /// the probability as long as no event of the text did (`untold`). It does nothing: its contract is the law.
 pub fn excerpts_are_explained_as_the_whole()
-    ensures whole { (opening : Opening) (choice : Choice) (lines : List Line)
+    ensures whole { (opening : Opening) (choice : Selection) (lines : List Line)
         → explanations_since from_opening opening choice lines ≡ explanations opening choice lines }
-    ensures rest { (opening : Opening) (choice : Choice) (past : List Event) (lines : List Line)
+    ensures rest { (opening : Opening) (choice : Selection) (past : List Event) (lines : List Line)
         → explanations opening choice (map Made past ++ lines) ≡ explanations opening choice (map Made past)
         ++ explanations_since (record { events = length past; tells = true }) opening choice (map Made past ++ lines) }
-    ensures untold { (opening : Opening) (choice : Choice) (past : List Event) (lines : List Line)
+    ensures untold { (opening : Opening) (choice : Selection) (past : List Event) (lines : List Line)
         → explanations_since (record { events = length past; tells = false }) opening choice (map Made past ++ lines)
         ≡ map (as_told (record { events = length past; tells = false }))
         (explanations_since (record { events = length past; tells = true }) opening choice (map Made past ++ lines)) }
@@ -25,6 +25,6 @@ pub fn excerpts_are_explained_as_the_whole()
 ///
 /// It does nothing: its contract is the law.
 pub fn explaining_is_auditing()
-    ensures { (start : Start) (choice : Choice) (opening : Opening) (lines : List Line) (fault : Option TraceFault)
+    ensures { (start : Start) (choice : Selection) (opening : Opening) (lines : List Line) (fault : Option TraceFault)
         → IsAsAudited (judged opening lines fault) (answer_since choice start opening lines fault) }
 {}

@@ -1,7 +1,7 @@
 //! Why an event of a saved history went as it did: which case of the rules decided it, and on which numbers, as values, in words or as CSV.
 //!
 //! `Explained::begin` answers, over every history that the core shows, exactly the look-back's numbers and the first case of the decision that
-//! holds there; `Explained` adds what the controller held after it; `Choice::picks` says which events are explained. `Report` is what writes
+//! holds there; `Explained` adds what the controller held after it; `Selection::picks` says which events are explained. `Report` is what writes
 //! explanations one after another, and `Form` the reports in words and as CSV.
 //!
 //! `explain` reads a history as an audit does and decides each event again; it explains the chosen ones from what the core held
@@ -10,7 +10,6 @@
 //! event, in order; and of a text that goes on what the whole history gives from there on (`ExplainsEither`).
 #![tactic(auto)]
 
-pub mod choice;
 pub mod explainer;
 pub mod explanation;
 pub mod fault;
@@ -19,11 +18,11 @@ mod held;
 pub mod law;
 mod record;
 pub mod report;
+pub mod selection;
 mod text;
 pub mod units;
 pub mod which;
 
-pub use choice::{Choice, is_from, is_to, time_of};
 pub use explainer::explain;
 pub use explanation::{Explained, Explanation, moment_of};
 pub use fault::ExplainFault;
@@ -31,5 +30,6 @@ pub use form::Form;
 pub use law::{excerpts_are_explained_as_the_whole, explaining_is_auditing};
 pub use pie_event::Setter;
 pub use report::{Report, push_header, push_words};
+pub use selection::{Selection, is_from, is_to, time_of};
 pub use units::{Millis, PerCent, Share};
 pub use which::Which;

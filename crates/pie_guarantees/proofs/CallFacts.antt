@@ -2,14 +2,14 @@
 use Rattle.pie_guarantees.proofs.Names.{◌≡◌, ◌+◌, ◌-◌, ◌&&◌, ◌||◌, ◌==◌, ℕ, Bool, true, false, refl, if◌then◌else◌, nat_lt, not, Enqueue}
 use Rattle.pie_guarantees.proofs.Names.{is_considered, is_picked, joined, counted, picked_choice, deed, is_update, Held, anew, bytes_with}
 use Rattle.pie_guarantees.proofs.Names.{chosen, judged}
-use Rattle.pie_guarantees.proofs.Names.{is_calm, offered, Arrival, Verdict, Command, Arrive, Depart, Update, Answer, Enqueued}
+use Rattle.pie_guarantees.proofs.Names.{is_calm, offered, ArrivingPacket, Verdict, Command, Arrive, Depart, Update, Answer, Enqueued}
 use Rattle.pie_event.specs.declared.verdict.Verdict.TheVariants as verdict
 use Rattle.pie_aqm.specs.Steps as Steps
 
 -- ---- an arrival
 
 -- the controller is as it was judged, or is turned on and started anew
-pub after-arrival : (P : Held → Type 0) (h : Held) (a : Arrival) (moment : ℕ) → P (judged h a moment)
+pub after-arrival : (P : Held → Type 0) (h : Held) (a : ArrivingPacket) (moment : ℕ) → P (judged h a moment)
     → (Steps.turns_on h (bytes_with (Steps.verdict h a) a.queued a.size) ≡ true → P (record (anew (judged h a moment)) { active = true }))
     → P (Steps.arrived h a moment)
 after-arrival P h a moment stays wakes = by (Steps.turns_on h (bytes_with (Steps.verdict h a) a.queued a.size)) refl
@@ -20,7 +20,7 @@ after-arrival P h a moment stays wakes = by (Steps.turns_on h (bytes_with (Steps
     by false on = stays
 
 -- the verdict, and the accumulated probability that it leaves: a tail drop; not considered; picked; or considered and not picked
-module _ (h : Held) (a : Arrival) where
+module _ (h : Held) (a : ArrivingPacket) where
   abbrev pub counts : ℕ
   counts = counted h.elements h.params h.control (offered a)
 
@@ -30,7 +30,7 @@ module _ (h : Held) (a : Arrival) where
   abbrev pub picks : Bool
   picks = is_picked h.elements.picking counts (h.accu + counts) a.word
 
-pub after-verdict : (h : Held) (a : Arrival) (P : Verdict → ℕ → Type 0) → P verdict.DroppedBytes 0 → P verdict.DroppedPackets 0
+pub after-verdict : (h : Held) (a : ArrivingPacket) (P : Verdict → ℕ → Type 0) → P verdict.DroppedBytes 0 → P verdict.DroppedPackets 0
     → (h.active && con h a ≡ false → P verdict.Enqueued h.accu)
     → (h.active ≡ true → con h a ≡ true → picks h a ≡ true → P (chosen (picked_choice h.params h.control.prob a.ecn)) 0)
     → (h.active && con h a ≡ true → (counts h a == 0) ≡ true → P verdict.Enqueued 0)

@@ -2,7 +2,7 @@
 use Rattle.pie_guarantees.proofs.Names.{◌≡◌, ◌≤◌, ◌<◌, ◌+◌, ◌*◌, ◌&&◌, ◌⊎◌, inl, inr, ℕ, List, [], ◌∷◌, ◌++◌, Bool, true, false, refl, sym, ap, ◌∙◌}
 use Rattle.pie_guarantees.proofs.Names.{if◌then◌else◌, nat_lt, arith, nat_tests, is_capable, bytes_of, Mark, Drop, counted}
 use Rattle.pie_guarantees.proofs.Names.{is_considered, is_picked, picked_choice, Held, chosen, offered, verdict, Verdict, answer_of, Packet, Waiting}
-use Rattle.pie_guarantees.proofs.Names.{Arrival, Arrive, Depart, Answer, DroppedEarly, Marked, Command, Event, Opening}
+use Rattle.pie_guarantees.proofs.Names.{ArrivingPacket, Arrive, Depart, Answer, DroppedEarly, Marked, Command, Event, Opening}
 use Rattle.pie_guarantees.proofs.Names.{arrival_of, answer_by, held_after, waiting_after, IsLawful, IsArrivalOf}
 use Rattle.pie_guarantees.proofs.Names.{MarksOnlyCapable, OnlyMarks, SparesCapable, is_early}
 use Rattle.pie_queue.specs.declared.ecn.Ecn.{Ecn}
@@ -23,13 +23,13 @@ considered-facts : (params : RawParams) (control : Parts) (bytes : ℕ) → is_c
 unfolding is_considered
 considered-facts params control bytes e = grind (arith, nat_tests)
 
-pub record IsChosen (h : Held) (a : Arrival) : Type 0 where
+pub record IsChosen (h : Held) (a : ArrivingPacket) : Type 0 where
   pub picked : IsPicked h a.queued
   pub by_sum : is_picked h.elements.picking (counted h.elements h.params h.control (offered a)) (h.accu
       + counted h.elements h.params h.control (offered a)) a.word ≡ true
   pub verdict : verdict h a ≡ chosen (picked_choice h.params h.control.prob a.ecn)
 
-chosen-of : (h : Held) (a : Arrival) → is_early (answer_of (verdict h a)) ≡ true → IsChosen h a
+chosen-of : (h : Held) (a : ArrivingPacket) → is_early (answer_of (verdict h a)) ≡ true → IsChosen h a
 chosen-of h a e =
     after-verdict h a (λ (v : Verdict) (left : ℕ). verdict h a ≡ v → is_early (answer_of v) ≡ true → IsChosen h a) (λ v e. cc) (λ v e. cc)
     (λ off v e. cc)
@@ -123,7 +123,7 @@ arrival-chosen : (opening : Opening) (before : List Event) (event : Event) (pack
 arrival-chosen opening before event packet step arrival e =
     let h = held_after opening before in
     let w = waiting_after opening before in
-    let a : Arrival = arrival_of w opening.limits.packets packet arrival.1 in
+    let a : ArrivingPacket = arrival_of w opening.limits.packets packet arrival.1 in
     let is : event.answer ≡ answer_of (verdict h a) =
     step.here.answered ∙ ap (λ (c : Command). answer_by h w opening.limits.packets c) arrival.2 in
     is ∙ ap answer_of (chosen-of h a (ap (λ (x : Answer). is_early x) (sym is) ∙ e)).verdict

@@ -30,7 +30,7 @@ unfoldable pub use Rattle.pie_book.specs.Estimates.{held_after}
 pub use Rattle.pie_book.specs.History.{bytes_after, effective_moment, waiting_after}
 pub use Rattle.pie_book.specs.Statistics.{count_of, is_dropped_bytes, is_dropped_early, is_dropped_packets, is_marked, is_queued, is_reset}
 pub use Rattle.pie_book.specs.Step.{after_command, answer_in, call_in, waiting_next}
-pub use Rattle.pie_book.specs.Types.{Answer, Arrival, Arrive, Command, Depart, DroppedBytes, DroppedEarly, DroppedPackets, Empty, Enqueued, Event}
+pub use Rattle.pie_book.specs.Types.{Answer, ArrivingPacket, Arrive, Command, Depart, DroppedBytes, DroppedEarly, DroppedPackets, Empty, Enqueued, Event}
 pub use Rattle.pie_book.specs.Types.{Left, Marked, Opening, Packet, Refusal, Reset, SetParams, Update, Verdict, Waiting}
 pub use Rattle.pie_control.proofs.Quotients.{bounded_of-below, decay-below, int_div-below}
 pub use Rattle.pie_control.specs.Next.{decays}

@@ -3,7 +3,7 @@ use Rattle.pie_guarantees.proofs.Names.{◌≡◌, ◌≤◌, ◌<◌, ◌+◌, 
 use Rattle.pie_guarantees.proofs.Names.{if◌then◌else◌, nat_lt, arith, subst, not, nat_tests, append-nil, append_assoc, Elements}
 use Rattle.pie_guarantees.proofs.Names.{is_capable, bytes_of, Mark, Drop, counted_as, is_considered, is_picked, joined}
 use Rattle.pie_guarantees.proofs.Names.{deed, answer_of, after_call, Held, chosen, Waiting}
-use Rattle.pie_guarantees.proofs.Names.{Arrival, Verdict, Command, Arrive, Depart, Reset, Answer, Event, Opening, arrival_of}
+use Rattle.pie_guarantees.proofs.Names.{ArrivingPacket, Verdict, Command, Arrive, Depart, Reset, Answer, Event, Opening, arrival_of}
 use Rattle.pie_guarantees.proofs.Names.{call_of, answer_by, held_after, waiting_after, is_dropped_bytes, is_dropped_packets, is_reset, AllAlong}
 use Rattle.pie_guarantees.proofs.Names.{IsLawful, IsEarly, is_early}
 use Rattle.pie_params.specs.declared.elements.Picking.{Picking}
@@ -52,7 +52,7 @@ grows h waiting packets _ = omega arith
 
 -- ---- a pick starts anew
 
-left-zero : (h : Held) (a : Arrival) → is_early (answer_of (Steps.verdict h a)) ≡ true → Steps.accu_left h a ≡ 0
+left-zero : (h : Held) (a : ArrivingPacket) → is_early (answer_of (Steps.verdict h a)) ≡ true → Steps.accu_left h a ≡ 0
 left-zero h a =
     after-verdict h a (λ (v : Verdict) (left : ℕ). is_early (answer_of v) ≡ true → left ≡ 0) (λ e. refl) (λ e. refl) (λ unseen e. cc)
     (λ on seen picked e. refl) (λ seen none e. refl) (λ seen some e. cc)
@@ -64,7 +64,7 @@ starts_anew opening before event later lawful early =
     let it = early_arrival opening before event step early in
     let h = held_after opening before in
     let w = waiting_after opening before in
-    let a : Arrival = arrival_of w opening.limits.packets it.packet it.word in
+    let a : ArrivingPacket = arrival_of w opening.limits.packets it.packet it.word in
     let verdict : event.answer ≡ answer_of (Steps.verdict h a) =
     step.here.answered ∙ ap (λ (c : Command). answer_by h w opening.limits.packets c) it.is in
     ap (λ (g : Held). g.accu) step.held
@@ -193,7 +193,7 @@ keeps h least waiting packets (Arrive moment packet word) spaced on some large n
     (λ seen more on large. rw seen (joined-keeps h.elements.picking h.accu (q-of h packet.size) least spaced (large seen))) on large)
     (λ wakes still. let wrong : true ≡ false = still (off-before h.active _ wakes) in cc) no_start
   where
-    a : Arrival
+    a : ArrivingPacket
     a = arrival_of waiting packets packet word
 keeps h least [] packets (Depart moment) spaced on some large no_start = omega arith
 keeps h least (oldest ∷ others) packets (Depart moment) spaced on some large no_start = omega arith

@@ -1,14 +1,7 @@
 -- Entries at small values that were worked out by hand.
+use Rattle.pie_kept.proofs.Names.{refl, Depart, Empty, Event, Bounded, Opening, Entry, Made, Folded, events_in, left_when_rolling, tail_in}
+use Rattle.pie_kept.proofs.Names.{handed_out}
 use Rattle.std.specs.Prelude.{ℕ, ◌≡◌, List, [], ◌∷◌}
-use Rattle.std.proofs.Common.{refl}
-use Rattle.pie_event.specs.declared.command.Command.TheVariants.{Depart}
-use Rattle.pie_event.specs.declared.command.Answer.TheVariants.{Empty}
-use Rattle.pie_event.specs.declared.command.Event.{Event}
-use Rattle.pie_event.specs.declared.opening.Mode.TheVariants.{Bounded}
-use Rattle.pie_event.specs.declared.opening.Opening.{Opening}
-use Rattle.pie_kept.specs.declared.entry.Entry.{Entry}
-use Rattle.pie_kept.specs.declared.entry.Entry.TheVariants.{Made, Folded}
-use Rattle.pie_kept.specs.Entries.{events_in, left_when_rolling, tail_in, handed_out}
 
 -- a departure that a caller asked for where no packet waited
 abbrev asked : ℕ → Event

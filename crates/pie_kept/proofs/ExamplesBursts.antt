@@ -1,28 +1,21 @@
 -- Bursts that were worked out by hand.
+use Rattle.pie_kept.proofs.Names.{refl, held_after, waiting_after, Command, Arrive, Depart, Answer, Empty, Bounded, Opening, Entry, Made, Reply}
+use Rattle.pie_kept.proofs.Names.{entries_to, replies_to}
 use Rattle.std.specs.Prelude.{ℕ, ◌≡◌, List, [], ◌∷◌, Ok, Err, ⊤}
-use Rattle.std.proofs.Common.{refl}
 use Rattle.pie_params.specs.Profile.{default_profile}
 use Rattle.pie_params.specs.Elements.{usual}
 use Rattle.pie_queue.specs.declared.ecn.Ecn.TheVariants.{NotEct}
 use Rattle.pie_queue.specs.declared.packet.Packet.{Packet}
-use Rattle.pie_aqm.specs.History.{active_of, arrivals_shown, control_of, delay_noted, departures_of, departures_shown, early_of, held_of}
-use Rattle.pie_aqm.specs.History.{is_active, noted, noted_after, now_of, params_of, updates_shown, waited_noted, waited_of}
+use Rattle.pie_aqm.specs.History.{active_of, arrivals_shown, control_of, delay_noted, departures_of, departures_shown, early_of, held_of, is_active}
+use Rattle.pie_aqm.specs.History.{noted, noted_after, now_of, params_of, updates_shown, waited_noted, waited_of}
 use Rattle.pie_aqm.specs.Places.{places, greatest, last_or}
 use Rattle.pie_aqm.specs.Steps.{verdict}
 use Rattle.pie_event.specs.declared.profile.Profile.TheVariants.{One}
-use Rattle.pie_book.specs.Estimates.{held_after}
-use Rattle.pie_book.specs.History.{effective_moment, admitted, departed_count, waiting_after}
+use Rattle.pie_book.specs.History.{effective_moment, admitted, departed_count}
 use Rattle.pie_book.specs.Shown.{shown}
-use Rattle.pie_event.specs.declared.command.Command.{Command}
-use Rattle.pie_event.specs.declared.command.Command.TheVariants.{Arrive, Depart}
-use Rattle.pie_event.specs.declared.command.Answer.{Answer}
-use Rattle.pie_event.specs.declared.command.Answer.TheVariants.{DroppedBytes, Enqueued, Empty, Left}
-use Rattle.pie_event.specs.declared.opening.Mode.TheVariants.{Bounded}
-use Rattle.pie_event.specs.declared.opening.Opening.{Opening}
+use Rattle.pie_event.specs.declared.command.Answer.TheVariants.{DroppedBytes, Enqueued, Left}
 use Rattle.pie_event.specs.declared.refusal.Refusal.TheVariants.{HistoryFull, Size}
-use Rattle.pie_kept.specs.declared.entry.Entry.{Entry}
-use Rattle.pie_kept.specs.declared.entry.Entry.TheVariants.{Made}
-use Rattle.pie_kept.specs.Bursts.{Reply, always, departures, entries_to, has_left, replies_to}
+use Rattle.pie_kept.specs.Bursts.{always, departures, has_left}
 
 -- all that a burst of these computes with
 unfoldable worked : Type 0

@@ -1,3 +1,4 @@
+mod Names
 pub mod EntryLists
 pub mod KeptFacts
 pub mod Outcomes

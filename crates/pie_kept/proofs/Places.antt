@@ -1,8 +1,8 @@
 -- What is asked from a place of a list on.
-use Rattle.std.proofs.Common.{◌≡◌, ◌+◌, ◌-◌, ◌<◌, ℕ, suc, List, ◌∷◌, ap, sym, ◌∙◌, length, map, drop, get_or, length-drop, arith}
+use Rattle.pie_kept.proofs.Names.{◌≡◌, ◌+◌, ◌-◌, ◌<◌, ℕ, suc, List, ◌∷◌, ap, sym, ◌∙◌, length, drop, length-drop, arith, Command}
+use Rattle.std.proofs.Common.{map, get_or}
 use Rattle.std.proofs.lemmas.List.{drop_more, length-map, length-replicate}
 use lib.ListN.{replicate}
-use Rattle.pie_event.specs.declared.command.Command.{Command}
 
 module _ {A : Type 0} (f : A → Command) where
   -- what the element at a place asks, which is this command, and what those after it ask

@@ -1,11 +1,6 @@
 -- A burst without a budget.
-use Rattle.std.proofs.Common.{◌≡◌, ℕ, Bool, List, [], ◌∷◌, ◌++◌, None, refl, ap, sym, ◌∙◌, append_assoc}
-use Rattle.std.specs.Prelude.{if◌then◌else◌}
-use Rattle.std.proofs.lemmas.List.{append-nil}
-use Rattle.pie_event.specs.declared.command.Command.{Command}
-use Rattle.pie_event.specs.declared.opening.Opening.{Opening}
-use Rattle.pie_kept.specs.declared.entry.Entry.{Entry}
-use Rattle.pie_kept.specs.Bursts.{Reply, entries_by, entries_to, entries_within, replies_to, replies_within, reply_in}
+use Rattle.pie_kept.proofs.Names.{◌≡◌, ℕ, Bool, List, [], ◌∷◌, ◌++◌, None, refl, ap, sym, ◌∙◌, append_assoc, if◌then◌else◌, append-nil, Command}
+use Rattle.pie_kept.proofs.Names.{Opening, Entry, Reply, entries_by, entries_to, entries_within, replies_to, replies_within, reply_in}
 use Rattle.pie_kept.specs.BudgetLaws.{BurstsNeedNoBudget}
 
 module _ (goes_on : Reply → Bool) (opening : Opening) (caller : ℕ) where

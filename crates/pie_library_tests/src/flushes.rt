@@ -3,7 +3,7 @@
 
 use pie_audit::{Finding, write_finding};
 use pie_book::{Answer, Command, Event, Opening};
-use pie_explain::{Choice, ExplainFault, Form, Which, explain};
+use pie_explain::{ExplainFault, Form, Selection, Which, explain};
 use pie_params::{Elements, Params};
 use pie_trace::{TraceFault, migrate, run_trace, run_trace_within, write_history};
 use pie_tuning::{opening_for, write_opening};
@@ -90,7 +90,7 @@ fn migrated(alloc: Global, text: &[u8], writer: &mut Sink) -> bool {
 }
 
 fn explained(alloc: Global, text: &[u8], writer: &mut Sink) -> bool {
-    let answer = explain(alloc, text, writer, Choice::of(Which::All), Form::Csv);
+    let answer = explain(alloc, text, writer, Selection::of(Which::All), Form::Csv);
     matches!(answer, Err(ExplainFault::Trace(TraceFault::Write)))
 }
 

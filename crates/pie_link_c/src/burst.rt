@@ -2,12 +2,12 @@
 ghost use Rattle.std.specs.Prelude.{◌≡◌, ◌<◌, drop, length, map, slice_index_or, slice_set};
 ghost use Rattle.pie_kept.specs.Bursts.{has_left_or_updated};
 ghost use Rattle.pie_abi.specs.declared.event.PieEvent.{PieEvent};
-ghost use Rattle.pie_link_c.specs.declared.asked.Asked.TheVariants.{Arrive};
+ghost use Rattle.pie_link_c.specs.declared.event_call.EventCall.TheVariants.{Arrive};
 ghost use Rattle.pie_link_c.specs.Bursts.{asks, asks_unless, goes_on_after, riding, told_event, told_events};
 ghost use Rattle.pie_link_c.specs.Events.{has_bad_ecn};
 
-use crate::asked::Asked;
 use crate::code::of_refusal;
+use crate::event_call::EventCall;
 use crate::filling::{fill_answer, fill_number};
 use crate::port::has_bad_ecn;
 use pie_abi::PieEvent;
@@ -28,16 +28,16 @@ pub(crate) struct Asking<'a> {
     /// The number under which they stand.
     pub(crate) caller: u16,
     /// What they ask.
-    pub(crate) asked: Asked,
+    pub(crate) asked: EventCall,
 }
 
 // What an event of a burst asks.
 #[inline(always)]
-fn riding(asked: Asked, event: &PieEvent) -> Asked
+fn riding(asked: EventCall, event: &PieEvent) -> EventCall
     ensures { result ≡ riding asked event.now }
 {
     if event.kind == UPDATE {
-        Asked::Update
+        EventCall::Update
     } else {
         asked
     }
@@ -65,21 +65,21 @@ fn arrival_of(event: &PieEvent) -> Command
 
 // What an event of a burst asks, as a command.
 #[inline(always)]
-fn command_of(asked: Asked, event: &PieEvent) -> Command
+fn command_of(asked: EventCall, event: &PieEvent) -> Command
     ensures { result ≡ asks asked event.now }
 {
     let moment = event.moment;
     match riding(asked, event) {
-        Asked::Arrive => arrival_of(event),
-        Asked::Depart => Command::Depart { moment },
-        Asked::Update => Command::Update { moment },
-        Asked::Reset => Command::Reset { moment },
+        EventCall::Arrive => arrival_of(event),
+        EventCall::Depart => Command::Depart { moment },
+        EventCall::Update => Command::Update { moment },
+        EventCall::Reset => Command::Reset { moment },
     }
 }
 
 // Fills in what an event of a burst was told, under the caller's number.
 #[inline(always)]
-fn tell(event: &mut PieEvent, asked: Asked, caller: u16, reply: &Reply)
+fn tell(event: &mut PieEvent, asked: EventCall, caller: u16, reply: &Reply)
     ensures { event.new ≡ told_event asked caller event.old reply.now }
 {
     let asked = riding(asked, event);
@@ -96,7 +96,7 @@ fn tell(event: &mut PieEvent, asked: Asked, caller: u16, reply: &Reply)
 
 // Fills in what the event at a place was told.
 #[inline(always)]
-fn tell_at(events: &mut [PieEvent], place: usize, asked: Asked, caller: u16, reply: &Reply)
+fn tell_at(events: &mut [PieEvent], place: usize, asked: EventCall, caller: u16, reply: &Reply)
     requires { place < length events.old }
     ensures { (d : PieEvent) → events.new
         ≡ slice_set events.old place (told_event asked caller (slice_index_or events.old place d) reply.now) }
@@ -117,12 +117,12 @@ fn has_left_or_updated(reply: &Reply) -> bool
 
 // Whether a burst goes on after this reply.
 #[inline(always)]
-fn goes_on(asked: Asked, reply: &Reply) -> bool
+fn goes_on(asked: EventCall, reply: &Reply) -> bool
     ensures { result ≡ goes_on_after asked reply.now }
 {
     match asked {
-        Asked::Depart => has_left_or_updated(reply),
-        Asked::Arrive | Asked::Update | Asked::Reset => true,
+        EventCall::Depart => has_left_or_updated(reply),
+        EventCall::Arrive | EventCall::Update | EventCall::Reset => true,
     }
 }
 

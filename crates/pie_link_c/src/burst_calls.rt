@@ -1,12 +1,12 @@
 //! Several events in one turn. No call waits, and none takes memory.
 ghost use Rattle.std.specs.Prelude.{◌≡◌, ℕ, None};
 ghost use Rattle.pie_kept.specs.Bursts.{always, has_left_or_updated};
-ghost use Rattle.pie_link_c.specs.declared.asked.Asked.TheVariants.{Arrive, Depart};
+ghost use Rattle.pie_link_c.specs.declared.event_call.EventCall.TheVariants.{Arrive, Depart};
 ghost use Rattle.pie_link_c.specs.Bursts.{IsTriedAll, TriesAll, budget_of, goes_on_after};
 
-use crate::asked::Asked;
 use crate::burst::Asking;
 use crate::code::{BUSY, CLOSED};
+use crate::event_call::EventCall;
 use crate::handle::PiePort;
 use crate::port::Port;
 use pie_abi::PieEvent;
@@ -44,7 +44,7 @@ impl Port {
     // The same of events.
     fn begin<'a>(
         &mut self,
-        asked: Asked,
+        asked: EventCall,
         budget: Option<u64>,
         events: &'a mut [PieEvent],
         code: &mut u32,
@@ -65,7 +65,7 @@ impl Port {
     /// Asks for each of the events, one after another within a budget of bytes, and updates ride among them. It also answers how many were asked.
     fn try_all(
         &mut self,
-        asked: Asked,
+        asked: EventCall,
         budget: Option<u64>,
         events: &mut [PieEvent],
     ) -> (u32, usize)
@@ -80,7 +80,7 @@ impl Port {
     fn try_arrive_all(&mut self, events: &mut [PieEvent]) -> u32
         ensures { (count : ℕ) × IsTriedAll Arrive None always self.old events.old count result events.new self.new }
     {
-        self.try_all(Asked::Arrive, None, events).0
+        self.try_all(EventCall::Arrive, None, events).0
     }
 }
 
@@ -119,7 +119,7 @@ pub extern "C" fn pie_link_try_depart_all(
         *made = 0;
         return CLOSED;
     };
-    let (code, asked) = held.try_all(Asked::Depart, budget_of(bytes), events);
+    let (code, asked) = held.try_all(EventCall::Depart, budget_of(bytes), events);
     port.put(held);
     *made = asked;
     code

@@ -1,17 +1,10 @@
 -- The definitions at small values that were worked out by hand: a lock over a counter with three numbers, after two calls.
-use Rattle.std.proofs.Common.{◌≡◌, ℕ, zero, suc, ◌+◌, ◌<◌, List, [], ◌∷◌, Option, Some, refl, sym, subst, inl, arith}
-use Rattle.std.proofs.lemmas.List.Elements.{All-nil, All-cons}
-use mathlib.Core.Option.{some, some-injective, some-ne-none}
-use lib.ListN.{get_elem?}
-use Rattle.atomic_table.specs.Table.{State}
-use Rattle.pie_lock.specs.declared.view.Shown.{Shown}
-use Rattle.pie_lock.specs.declared.view.Place.{Place}
-use Rattle.pie_lock.specs.declared.view.Place.TheVariants.{Waits, Holds}
+use Rattle.pie_lock.proofs.Names.{◌≡◌, ℕ, zero, suc, ◌+◌, ◌<◌, List, [], ◌∷◌, Option, Some, refl, sym, subst, inl, arith, All-nil, some}
+use Rattle.pie_lock.proofs.Names.{some-injective, some-ne-none, get_elem?, State, Shown, Place, Waits, Holds, own, IsNumberAt, EachPass, Follows}
+use Rattle.pie_lock.proofs.Names.{Ruled, longer}
+use Rattle.std.proofs.lemmas.List.Elements.{All-cons}
 use Rattle.pie_lock.specs.declared.lock.TheConstants.{WORD, SLOT, FREE, HELD}
 use Rattle.pie_lock.specs.declared.counter.CounterEntry.{CounterEntry}
-use Rattle.pie_lock.specs.Own.{own}
-use Rattle.pie_lock.specs.Rule.{IsNumberAt, EachPass, Follows, Ruled}
-use Rattle.pie_lock.specs.Steps.{longer}
 use Rattle.pie_lock.specs.Tally.{Tally, Tells}
 
 -- the constants of the code are the numbers of the rule: the one word and the one slot, and what the word shows

@@ -1,19 +1,14 @@
 -- What a pass follows, as its numbers are cut, as the history grows, and as two passes become one.
-use Rattle.std.proofs.Common.{◌≡◌, ℕ, ◌<◌, ◌≤◌, ◌⊎◌, Bool, true, false, cond, min, max, List, [], ◌∷◌, ◌++◌, length, refl, sym, subst}
-use Rattle.std.proofs.Common.{◌∙◌, inl, inr, ⊎_elim, arith}
+use Rattle.pie_lock.proofs.Names.{◌≡◌, ℕ, ◌<◌, ◌≤◌, ◌⊎◌, Bool, true, false, cond, List, [], ◌∷◌, ◌++◌, length, refl, sym, subst, ◌∙◌, inl, inr}
+use Rattle.pie_lock.proofs.Names.{⊎_elim, arith, nat_tests, All, All-head, All-tail, All-weaker, IsPrefix, Shown, Place, Spent, Waits, Holds, Meets}
+use Rattle.pie_lock.proofs.Names.{is_within, own, IsNumberAt, EachPass, Follows, with_front, with_numbers, made_one, longer, AreAdjacent}
+use Rattle.std.proofs.Common.{min, max}
 use Rattle.std.proofs.Math.Dec.{ltb}
-use Rattle.std.proofs.lemmas.Bool.Decides.{nat_tests}
-use Rattle.std.specs.List.{All}
-use Rattle.std.proofs.lemmas.List.Elements.{All-append, All-head, All-tail, All-weaker}
-use mathlib.Core.List.{IsPrefix}
+use Rattle.std.proofs.lemmas.List.Elements.{All-append}
 use mathlib.Core.Logic.{dite}
 use native.Mathlib.Decide.{dec_le}
-use Rattle.pie_lock.specs.declared.view.Shown.{Shown}
-use Rattle.pie_lock.specs.declared.view.Place.{Place}
-use Rattle.pie_lock.specs.declared.view.Place.TheVariants.{Spent, Waits, Holds, Meets}
-use Rattle.pie_lock.specs.Own.{is_within, own}
-use Rattle.pie_lock.specs.Rule.{IsNumberOf, IsNumberAt, EachPass, Follows}
-use Rattle.pie_lock.specs.Steps.{with_front, with_numbers, made_one, longer, AreAdjacent, GoesOn}
+use Rattle.pie_lock.specs.Rule.{IsNumberOf}
+use Rattle.pie_lock.specs.Steps.{GoesOn}
 use Rattle.pie_lock.proofs.Prefixes.{prefix_self, prefix_trans, prefix_shorter}
 use Rattle.pie_lock.proofs.Owns.{same_over_quiet, same_between, same_either, within, within_low, within_high, not_within}
 

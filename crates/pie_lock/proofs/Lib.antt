@@ -1,3 +1,4 @@
+mod Names
 pub mod Prefixes
 pub mod Owns
 pub mod Seats

@@ -1,12 +1,8 @@
 -- A new table meets the rule.
-use Rattle.std.proofs.Common.{◌≡◌, ◌≢◌, ℕ, zero, suc, ◌<◌, List, [], ◌∷◌, Option, Some, refl, ap, sym, subst, inl, arith}
-use Rattle.std.proofs.lemmas.List.Elements.{All-nil}
-use mathlib.Core.Option.{some, some-injective, some-ne-none}
-use lib.ListN.{get_elem?}
+use Rattle.pie_lock.proofs.Names.{◌≡◌, ◌≢◌, ℕ, zero, suc, ◌<◌, List, [], ◌∷◌, Option, Some, refl, ap, sym, subst, inl, arith, All-nil, some}
+use Rattle.pie_lock.proofs.Names.{some-injective, some-ne-none, get_elem?, Place, Holds, EachPass, Follows, Ruled}
 use Rattle.atomic_table.specs.Table.{opening}
-use Rattle.pie_lock.specs.declared.view.Place.{Place}
-use Rattle.pie_lock.specs.declared.view.Place.TheVariants.{Holds}
-use Rattle.pie_lock.specs.Rule.{EachPass, Follows, Ruled, opened}
+use Rattle.pie_lock.specs.Rule.{opened}
 use Rattle.pie_lock.proofs.Prefixes.{prefix_self}
 
 alone : {A : Type 0} (v w : A) (seat : ℕ) → get_elem? (v ∷ []) seat ≡ some w → (seat ≡ 0) × (v ≡ w)

@@ -1,13 +1,10 @@
 -- What passes a test in a list and in a beginning of it, and with that what a pass owns.
-use Rattle.std.proofs.Common.{◌≡◌, ℕ, ◌<◌, ◌≤◌, ◌⊎◌, Bool, true, false, cond, List, [], ◌∷◌, ◌++◌, length, refl, ap, sym, ◌∙◌, subst, ⊎_elim, arith}
-use Rattle.std.proofs.Common.{append_assoc, length-append}
-use Rattle.std.proofs.lemmas.List.{append-nil}
-use Rattle.std.proofs.lemmas.List.Elements.{filter-append, All-head, All-tail}
+use Rattle.pie_lock.proofs.Names.{◌≡◌, ℕ, ◌<◌, ◌≤◌, ◌⊎◌, Bool, true, false, cond, List, [], ◌∷◌, ◌++◌, length, refl, ap, sym, ◌∙◌, subst, ⊎_elim}
+use Rattle.pie_lock.proofs.Names.{arith, append_assoc, append-nil, All-head, All-tail, nat_tests, All, IsPrefix, is_within}
+use Rattle.std.proofs.Common.{length-append}
+use Rattle.std.proofs.lemmas.List.Elements.{filter-append}
 use Rattle.std.proofs.lemmas.Bool.{false_from_ne_true}
-use Rattle.std.proofs.lemmas.Bool.Decides.{nat_tests}
-use Rattle.std.specs.List.{filter, All}
-use mathlib.Core.List.{IsPrefix}
-use Rattle.pie_lock.specs.Own.{is_within}
+use Rattle.std.specs.List.{filter}
 
 not_either : (s t v : Bool) → s ≡ false → t ≡ false → (v ≡ true → (s ≡ true) ⊎ (t ≡ true)) → v ≡ false
 not_either s t true a b covers = absurd (⊎_elim (λ h. cc (h, a)) (λ h. cc (h, b)) (covers refl))

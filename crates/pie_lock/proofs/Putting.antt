@@ -1,17 +1,9 @@
 -- The store of FREE, by the seat that has the state, keeps the rule.
-use Rattle.std.proofs.Common.{◌≡◌, ℕ, ◌<◌, List, [], ◌∷◌, ◌++◌, Option, Some, refl, ap, sym, ◌∙◌, subst, inl, ⊎_elim, arith, length-set}
-use Rattle.std.proofs.Common.{get_or-set_same}
-use Rattle.std.specs.List.{All}
-use mathlib.Core.Option.{none, some, some-injective}
-use lib.ListN.{get_elem?}
-use Rattle.atomic_table.specs.Table.{Me, State, gives, step, Allows}
-use Rattle.atomic_table.proofs.Lists.{at_set}
-use Rattle.pie_lock.specs.declared.view.Shown.{Shown}
-use Rattle.pie_lock.specs.declared.view.Place.{Place}
-use Rattle.pie_lock.specs.declared.view.Place.TheVariants.{Waits, Holds}
-use Rattle.pie_lock.specs.Rule.{EachPass, Follows, WhileHeld, Ruled}
-use Rattle.pie_lock.specs.Seating.{IsLeaving}
-use Rattle.pie_lock.specs.Steps.{with_front, pass_at, freed}
+use Rattle.pie_lock.proofs.Names.{◌≡◌, ℕ, ◌<◌, List, [], ◌∷◌, ◌++◌, Option, Some, refl, ap, sym, ◌∙◌, subst, inl, ⊎_elim, arith, length-set}
+use Rattle.pie_lock.proofs.Names.{get_or-set_same, All, none, some, some-injective, get_elem?, Me, State, step, Allows, at_set, Shown, Place, Waits}
+use Rattle.pie_lock.proofs.Names.{Holds, EachPass, Follows, WhileHeld, Ruled, IsLeaving, with_front, pass_at}
+use Rattle.atomic_table.specs.Table.{gives}
+use Rattle.pie_lock.specs.Steps.{freed}
 use Rattle.pie_lock.proofs.Following.{follows_whole, each_longer, below_longer}
 use Rattle.pie_lock.proofs.Seats.{set_at, agreed_set}
 

@@ -1,13 +1,9 @@
 -- The views of the seats against one history, as one of them changes or a new one comes.
-use Rattle.std.proofs.Common.{◌≡◌, ◌≢◌, ℕ, zero, suc, ◌<◌, ◌⊎◌, ◌↔◌, List, [], ◌∷◌, ◌++◌, length, set, refl, ap, sym, ◌∙◌, subst, inl, inr, ⊎_elim}
-use Rattle.std.specs.List.{All}
-use mathlib.Core.Option.{some, some-injective, some-ne-none}
-use lib.ListN.{get_elem?}
-use Rattle.atomic_table.proofs.Lists.{at_set, at_longer, set_else}
-use Rattle.pie_lock.specs.declared.view.Shown.{Shown}
-use Rattle.pie_lock.specs.declared.view.Place.{Place}
-use Rattle.pie_lock.specs.declared.view.Place.TheVariants.{Holds}
-use Rattle.pie_lock.specs.Rule.{IsNumberAt, EachPass, Follows, Agreed}
+use Rattle.pie_lock.proofs.Names.{◌≡◌, ◌≢◌, ℕ, zero, suc, ◌<◌, ◌⊎◌, List, [], ◌∷◌, ◌++◌, length, set, refl, ap, sym, ◌∙◌, subst, inl, inr, ⊎_elim}
+use Rattle.pie_lock.proofs.Names.{All, some, some-injective, some-ne-none, get_elem?, at_set, set_else, Shown, Place, Holds, IsNumberAt, EachPass}
+use Rattle.pie_lock.proofs.Names.{Follows, Agreed}
+use Rattle.std.proofs.Common.{◌↔◌}
+use Rattle.atomic_table.proofs.Lists.{at_longer}
 
 module _ {A : Type 0} where
   -- a place that has an element has the new one once it is set

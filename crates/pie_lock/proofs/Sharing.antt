@@ -1,16 +1,11 @@
 -- A seat that is split, or takes in another, keeps the rule.
-use Rattle.std.proofs.Common.{◌≡◌, ◌≢◌, ℕ, zero, suc, ◌+◌, ◌-◌, ◌<◌, ◌⊎◌, List, [], ◌∷◌, ◌++◌, Option, get_or, set, refl, ap, sym, ◌∙◌, subst, inl}
-use Rattle.std.proofs.Common.{inr, ⊎_elim, arith, ◌==◌, true, false, cond, length}
-use Rattle.std.proofs.lemmas.Bool.Decides.{nat_tests}
-use mathlib.Core.Option.{none, some}
-use lib.ListN.{get_elem?}
-use Rattle.atomic_table.specs.Table.{Me, State, keeps, step, stepped, Splits, Joins, Allows}
-use Rattle.atomic_table.proofs.Lists.{at_set, set_else}
-use Rattle.pie_lock.specs.declared.view.Shown.{Shown}
-use Rattle.pie_lock.specs.declared.view.Place.{Place}
-use Rattle.pie_lock.specs.declared.view.Place.TheVariants.{Spent, Waits, Meets}
-use Rattle.pie_lock.specs.Rule.{IsNumberAt, EachPass, Follows, Agreed, WhileFree, WhileHeld, Ruled}
-use Rattle.pie_lock.specs.Steps.{pass_at, with_numbers, all_but_highest, highest, meeting, made_one, AreAdjacent, merged}
+use Rattle.pie_lock.proofs.Names.{◌≡◌, ◌≢◌, ℕ, zero, suc, ◌+◌, ◌<◌, ◌⊎◌, List, [], ◌∷◌, ◌++◌, Option, get_or, set, refl, ap, sym, ◌∙◌, subst, inl}
+use Rattle.pie_lock.proofs.Names.{inr, ⊎_elim, arith, ◌==◌, true, false, cond, length, nat_tests, none, some, get_elem?, Me, State, keeps, step}
+use Rattle.pie_lock.proofs.Names.{stepped, Allows, at_set, set_else, Shown, Place, Spent, Waits, Meets, IsNumberAt, EachPass, Follows, Agreed}
+use Rattle.pie_lock.proofs.Names.{WhileFree, WhileHeld, Ruled, pass_at, with_numbers, made_one, AreAdjacent}
+use Rattle.std.proofs.Common.{◌-◌}
+use Rattle.atomic_table.specs.Table.{Splits, Joins}
+use Rattle.pie_lock.specs.Steps.{all_but_highest, highest, meeting, merged}
 use Rattle.pie_lock.proofs.Following.{follows_fewer, follows_both, in_either}
 use Rattle.pie_lock.proofs.Taking.{word_again}
 use Rattle.pie_lock.proofs.Seats.{HoldAlike, IsNoHolder, agreed_by, agreed_longer, agreed_set, alike_both, alike_longer, alike_set}

@@ -1,20 +1,13 @@
 -- A look at the word keeps the rule, and so does the exchange of FREE for HELD, won or lost.
-use Rattle.std.proofs.Common.{◌≡◌, ◌≢◌, ℕ, ◌==◌, ◌<◌, true, List, [], ◌∷◌, Option, Some, length, get_or, set, refl, ap, sym, ◌∙◌, subst, inr, ⊎_elim}
-use Rattle.std.proofs.Common.{arith, length-set, get_or-set_same}
-use Rattle.std.specs.List.{All}
-use Rattle.std.proofs.lemmas.List.Elements.{All-weaker}
-use mathlib.Core.Option.{none, some, some-injective}
-use lib.ListN.{get_elem?}
+use Rattle.pie_lock.proofs.Names.{◌≡◌, ◌≢◌, ℕ, ◌==◌, ◌<◌, true, List, [], ◌∷◌, Option, Some, length, get_or, set, refl, ap, sym, ◌∙◌, subst, inr}
+use Rattle.pie_lock.proofs.Names.{⊎_elim, arith, length-set, get_or-set_same, All, All-weaker, none, some, some-injective, get_elem?, State, Me}
+use Rattle.pie_lock.proofs.Names.{keeps, step, stepped, Allows, at_set, Shown, Place, Waits, Holds, is_within, Follows, Agreed, WhileFree, WhileHeld}
+use Rattle.pie_lock.proofs.Names.{Ruled, with_front, pass_at}
 use prog.Atomic.{either}
-use Rattle.atomic_table.specs.Table.{State, Me, Act, keeps, takes, step, stepped, carried_after, Valid, Allows}
-use Rattle.atomic_table.proofs.Lists.{at_set, set_again, exchanged}
-use Rattle.pie_lock.specs.declared.view.Shown.{Shown}
-use Rattle.pie_lock.specs.declared.view.Place.{Place}
-use Rattle.pie_lock.specs.declared.view.Place.TheVariants.{Waits, Holds}
-use Rattle.pie_lock.specs.Own.{is_within}
-use Rattle.pie_lock.specs.Rule.{Follows, Agreed, WhileFree, WhileHeld, Ruled}
+use Rattle.atomic_table.specs.Table.{Act, takes, carried_after, Valid}
+use Rattle.atomic_table.proofs.Lists.{set_again, exchanged}
 use Rattle.pie_lock.specs.Seating.{IsIdle}
-use Rattle.pie_lock.specs.Steps.{with_front, HasAll, pass_at, Won, looked, taken}
+use Rattle.pie_lock.specs.Steps.{HasAll, Won, looked, taken}
 use Rattle.pie_lock.proofs.Owns.{whole_is_front, within}
 use Rattle.pie_lock.proofs.Following.{follows_whole}
 use Rattle.pie_lock.proofs.Seats.{set_at, agreed_set}

@@ -1,11 +1,9 @@
 -- Counts with one more.
-use Rattle.std.proofs.Common.{◌≡◌, ◌+◌, ◌<◌, ◌≤◌, ◌==◌, arith, ℕ, zero, suc, Bool, true, false, cond, List, [], ◌∷◌, ◌++◌, map, refl, sym, ap, ◌∙◌}
-use Rattle.std.specs.Prelude.{min, count_by, nat_lt, replicate, slice_index, slice_set, if◌then◌else◌}
-use Rattle.std.specs.List.{range_with_len, sum}
-use Rattle.std.proofs.lemmas.Bool.{eq-eqb, ne_eqb}
-use Rattle.std.proofs.lemmas.Bool.Decides.{nat_tests}
-use Rattle.std.proofs.lemmas.List.Sums.{sum_by-cons, sum_by_push}
-use Rattle.pie_summary.specs.Counts.{count_at, counts_of, kept}
+use Rattle.pie_summary.proofs.Names.{◌≡◌, ◌+◌, ◌<◌, ◌≤◌, ◌==◌, arith, ℕ, zero, suc, Bool, true, false, cond, List, [], ◌∷◌, ◌++◌, map, refl, sym, ap}
+use Rattle.pie_summary.proofs.Names.{◌∙◌, min, count_by, nat_lt, replicate, slice_index, slice_set, if◌then◌else◌, range_with_len, sum, eq-eqb}
+use Rattle.pie_summary.proofs.Names.{ne_eqb, nat_tests, sum_by_push, kept}
+use Rattle.std.proofs.lemmas.List.Sums.{sum_by-cons}
+use Rattle.pie_summary.specs.Counts.{count_at, counts_of}
 
 -- a number that is kept at a greatest one, with more
 pub kept-more : (n more most : ℕ) → min (min n most + more) most ≡ min (n + more) most

@@ -1,38 +1,31 @@
 -- The definitions on worked lists: each theorem computes.
-use Rattle.std.specs.Prelude.{ℕ, ◌≡◌, ◌-◌, ◌*◌, ◌^◌, Bool, true, false, List, [], ◌∷◌, ◌++◌, take, map, Option, Some, None, codes, refl, ⊤}
-use Rattle.std.specs.Fmt.{digits}
+use Rattle.pie_summary.proofs.Names.{◌^◌, take, Option, Some, None, codes, ⊤, digits, NotEct, Packet, word_of_cause, greatest, last_or, places}
+use Rattle.pie_summary.proofs.Names.{Answer, Enqueued, Empty, Left, Updated, Done, Arrive, Depart, Update, Csv, CsvByWall, Explained, utc_text}
+use Rattle.pie_summary.proofs.Names.{Bounds, begins, last_events, last_period, period_of, record_of, kept, first_up_to, range_of, ranges_of}
+use Rattle.pie_summary.proofs.Names.{bounds_of, moment_at, peak_of, total_in, total_of, header, noted, above_by, cause_place, excess_by, late_at}
+use Rattle.pie_summary.proofs.Names.{meter_of, sums_of, waits_of, cause_words}
+use Rattle.std.specs.Prelude.{ℕ, ◌≡◌, ◌-◌, ◌*◌, Bool, true, false, List, [], ◌∷◌, ◌++◌, map, refl}
 use Rattle.pie_params.specs.Profile.{default_profile}
-use Rattle.pie_queue.specs.declared.ecn.Ecn.TheVariants.{NotEct, Ect0}
-use Rattle.pie_queue.specs.declared.packet.Packet.{Packet}
+use Rattle.pie_queue.specs.declared.ecn.Ecn.TheVariants.{Ect0}
 use Rattle.pie_event.specs.declared.cause.Cause.{Cause}
 use Rattle.pie_event.specs.declared.cause.Cause.TheVariants.{NoRoomInBytes, NoRoomInPackets, Inactive, PickedBySum, PickedByWord, WordNotBelow}
-use Rattle.pie_event.specs.declared.cause.Fate.TheVariants as fate
-use Rattle.pie_event.specs.CauseName.{word_of_cause}
-use Rattle.pie_aqm.specs.Places.{greatest, last_or, places}
 use Rattle.pie_record.specs.declared.clock.Clock.{Clock}
-use Rattle.pie_event.specs.declared.command.Answer.{Answer}
-use Rattle.pie_event.specs.declared.command.Answer.TheVariants.{Enqueued, Marked, DroppedEarly, DroppedBytes, DroppedPackets, Empty, Left, Updated}
-use Rattle.pie_event.specs.declared.command.Answer.TheVariants.{Done}
+use Rattle.pie_event.specs.declared.command.Answer.TheVariants.{Marked, DroppedEarly, DroppedBytes, DroppedPackets}
 use Rattle.pie_event.specs.declared.command.Command.{Command}
-use Rattle.pie_event.specs.declared.command.Command.TheVariants.{Arrive, Depart, Update, Reset}
+use Rattle.pie_event.specs.declared.command.Command.TheVariants.{Reset}
 use Rattle.pie_event.specs.declared.registers.Registers.{Registers}
-use Rattle.pie_event.specs.declared.setter.Setter.TheVariants as setter
-use Rattle.pie_explain.specs.declared.form.Form.TheVariants.{Text, Csv, TextByWall, CsvByWall}
-use Rattle.pie_explain.specs.declared.explanation.Explained.{Explained}
+use Rattle.pie_explain.specs.declared.form.Form.TheVariants.{Text, TextByWall}
 use Rattle.pie_explain.specs.Words.{millis, per_cent, share}
 use Rattle.pie_units.specs.Date.{date_in, date_of, year_among, year_day}
-use Rattle.pie_units.specs.Utc.{utc_text}
-use Rattle.pie_summary.specs.declared.spans.Bounds.{Bounds}
-use Rattle.pie_summary.specs.Period.{begins, last_events, last_period, period_of}
-use Rattle.pie_summary.specs.Record.{first_fields, last_fields, record_of}
-use Rattle.pie_summary.specs.Counts.{kept}
-use Rattle.pie_summary.specs.Ranges.{end_within, first_up_to, range_end, range_of, ranges_of}
-use Rattle.pie_summary.specs.Spans.{bounds_of, mean_in, moment_at, peak_of, sum_in, total_in, total_of}
-use Rattle.pie_summary.specs.Summary.{header, noted, summary_of}
-use Rattle.pie_summary.specs.Sums.{above_by, cause_place, excess_by, late_at, meter_of, sums_of, turned_at, waits_of}
-use Rattle.pie_summary.specs.Words.{arrival_words, arrived_words, cause_row, cause_words, disagree, disagree_words, head_words, late_words}
-use Rattle.pie_summary.specs.Words.{later_words, left_words, row_words, target_words, time_words, turned_words, turning_words, update_words}
-use Rattle.pie_summary.specs.Words.{verdict_words, words}
+use Rattle.pie_summary.specs.Record.{first_fields, last_fields}
+use Rattle.pie_summary.specs.Ranges.{end_within, range_end}
+use Rattle.pie_summary.specs.Spans.{mean_in, sum_in}
+use Rattle.pie_summary.specs.Summary.{summary_of}
+use Rattle.pie_summary.specs.Sums.{turned_at}
+use Rattle.pie_summary.specs.Words.{arrival_words, arrived_words, cause_row, disagree, disagree_words, head_words, late_words, later_words}
+use Rattle.pie_summary.specs.Words.{left_words, row_words, target_words, time_words, turned_words, turning_words, update_words, verdict_words, words}
+use Rattle.pie_event.specs.declared.cause.Fate.TheVariants as fate
+use Rattle.pie_event.specs.declared.setter.Setter.TheVariants as setter
 
 -- all that a theorem on a worked list computes with
 unfoldable worked : Type 0

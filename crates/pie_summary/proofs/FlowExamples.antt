@@ -1,14 +1,8 @@
 -- Sums by flow on worked lists: each theorem computes.
-use Rattle.std.specs.Prelude.{ℕ, ◌≡◌, ◌+◌, ◌*◌, ◌^◌, [], ◌∷◌, map, Some, None, codes, refl, ⊤}
-use Rattle.std.specs.Fmt.{digits}
-use Rattle.pie_event.specs.declared.command.Answer.TheVariants.{Enqueued, Left, Empty}
-use Rattle.pie_event.specs.declared.command.Command.TheVariants.{Arrive, Depart, Update}
-use Rattle.pie_queue.specs.declared.ecn.Ecn.TheVariants.{NotEct}
-use Rattle.pie_queue.specs.declared.packet.Packet.{Packet}
-use Rattle.pie_summary.specs.declared.flow.Flow.{Flow}
+use Rattle.pie_summary.proofs.Names.{◌^◌, Some, None, codes, ⊤, digits, Enqueued, Left, Empty, Arrive, Depart, Update, NotEct, Packet, Flow, distinct}
+use Rattle.pie_summary.proofs.Names.{first_of, in_order, flow_text}
+use Rattle.std.specs.Prelude.{ℕ, ◌≡◌, ◌+◌, ◌*◌, [], ◌∷◌, map, refl}
 use Rattle.pie_summary.specs.FlowSums.{flow_by}
-use Rattle.pie_summary.specs.Flows.{distinct, first_of, in_order}
-use Rattle.pie_summary.specs.FlowWords.{flow_text}
 
 -- all that a theorem on a worked list computes with
 unfoldable worked : Type 0

@@ -1,23 +1,22 @@
 -- The flows of events with one more.
-use Rattle.std.proofs.Common.{◌≡◌, ◌||◌, ℕ, suc, zero, Bool, true, false, cond, not, List, [], ◌∷◌, ◌++◌, map, filter, refl, sym, ap, ◌∙◌}
-use Rattle.std.proofs.Common.{nat_eq, take, true≢false, subst, append-nil, length, ◌<◌, ◌+◌}
-use Rattle.std.specs.Prelude.{Option, Some, None, if◌then◌else◌, slice_index_or}
+use Rattle.pie_summary.proofs.Names.{◌≡◌, ℕ, suc, zero, Bool, true, false, cond, not, List, [], ◌∷◌, ◌++◌, map, filter, refl, sym, ap, ◌∙◌, subst}
+use Rattle.pie_summary.proofs.Names.{append-nil, length, ◌<◌, ◌+◌, Option, Some, None, if◌then◌else◌, cons_option, filter_map, values_of, eqb-true}
+use Rattle.pie_summary.proofs.Names.{eq-eqb, map_push, filter_map-append, Explained, Flow, FlowSums, added_up, flow_sums, is_of, together, HasFlows}
+use Rattle.pie_summary.proofs.Names.{distinct, first_of, flows_in, in_order, placed, sums_beside}
+use Rattle.std.proofs.Common.{◌||◌, nat_eq, take, true≢false}
+use Rattle.std.specs.Prelude.{slice_index_or}
 use Rattle.std.specs.Cmp.{nat_eq_equiv}
-use Rattle.std.specs.List.{AllByRecursion, IsDistinct, cons_option, filter_map, list_any}
-use Rattle.std.specs.Map.{lookup, values_of}
-use Rattle.std.proofs.lemmas.Bool.{eqb-true, eq-eqb, or_parts}
-use Rattle.std.proofs.lemmas.List.{map_push, take_more}
-use Rattle.std.proofs.lemmas.List.Elements.{filter-append, filter_map-append}
+use Rattle.std.specs.List.{AllByRecursion, IsDistinct, list_any}
+use Rattle.std.specs.Map.{lookup}
+use Rattle.std.proofs.lemmas.Bool.{or_parts}
+use Rattle.std.proofs.lemmas.List.{take_more}
+use Rattle.std.proofs.lemmas.List.Elements.{filter-append}
 use Rattle.std.proofs.lemmas.List.Folds.{list_any-append}
 use Rattle.std.proofs.lemmas.List.Sums.{fold_push}
 use Rattle.std.proofs.lemmas.Map.Keys.{IsDistinct-push}
 use Rattle.indexmap.specs.IndexMap.{insert_entry}
-use Rattle.pie_explain.specs.declared.explanation.Explained.{Explained}
-use Rattle.pie_summary.specs.declared.flow.Flow.{Flow}
-use Rattle.pie_summary.specs.declared.flow_sums.FlowSums.{FlowSums}
-use Rattle.pie_summary.specs.FlowSums.{added_up, flow_in, flow_sums, is_of, is_this, together}
-use Rattle.pie_summary.specs.Flows.{HasFlows, distinct, first_of, flow_of, flows_in, in_order, is_among, placed, precedes, sums_beside}
-use Rattle.pie_summary.specs.Flows.{with_new}
+use Rattle.pie_summary.specs.FlowSums.{flow_in, is_this}
+use Rattle.pie_summary.specs.Flows.{flow_of, is_among, precedes, with_new}
 use Rattle.pie_summary.proofs.FlowSumsFacts.{added-push}
 
 -- ---- numbers, each once

@@ -1,16 +1,10 @@
 -- Numbers of flows with more.
-use Rattle.std.proofs.Common.{◌≡◌, ◌+◌, ◌-◌, ℕ, List, [], ◌∷◌, ◌++◌, map, length, sym, ap, ◌∙◌, arith, refl, append-nil}
-use Rattle.std.specs.Fmt.{char_count, digits, format_spec, padded_integral}
-use Rattle.std.specs.Prelude.{false, max, replicate}
-use Rattle.std.specs.List.{sum}
-use Rattle.std.proofs.lemmas.List.{map_push}
-use Rattle.std.proofs.lemmas.List.Sums.{sum_by_push}
-use Rattle.pie_aqm.specs.Places.{greatest}
-use Rattle.pie_aqm.proofs.Places.{greatest-push}
-use Rattle.pie_explain.specs.declared.explanation.Explained.{Explained}
-use Rattle.pie_summary.specs.declared.flow_sums.FlowSums.{FlowSums}
-use Rattle.pie_summary.specs.Counts.{kept}
-use Rattle.pie_summary.specs.FlowSums.{added_up, flow_sums, numbers_of, together}
+use Rattle.pie_summary.proofs.Names.{◌≡◌, ◌+◌, ◌-◌, ℕ, List, [], ◌∷◌, ◌++◌, map, length, sym, ap, ◌∙◌, arith, refl, append-nil, digits, max}
+use Rattle.pie_summary.proofs.Names.{replicate, sum, map_push, sum_by_push, greatest, greatest-push, Explained, FlowSums, kept, added_up, flow_sums}
+use Rattle.pie_summary.proofs.Names.{together}
+use Rattle.std.specs.Fmt.{char_count, format_spec, padded_integral}
+use Rattle.std.specs.Prelude.{false}
+use Rattle.pie_summary.specs.FlowSums.{numbers_of}
 use Rattle.pie_summary.proofs.CountFacts.{kept-more}
 
 -- a sum, and a greatest number, with one more

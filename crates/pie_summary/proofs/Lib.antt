@@ -1,3 +1,4 @@
+mod Names
 pub mod CountFacts
 pub mod RangeFacts
 mod Examples

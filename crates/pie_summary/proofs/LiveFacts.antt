@@ -1,24 +1,12 @@
 -- What is kept of a period that is summed up as it goes, with one more event.
-use Rattle.std.proofs.Common.{◌≡◌, ◌≤◌, ◌<◌, ◌+◌, ◌*◌, ◌-◌, ◌/◌, ◌==◌, arith, ℕ, Bool, true, false, cond, not, List, [], ◌∷◌, ◌++◌}
-use Rattle.std.proofs.Common.{refl, subst, sym, ap, ◌∙◌}
-use Rattle.std.specs.Prelude.{◌&&◌, nat_le, nat_lt, min, count_by, Option, Some, None, if◌then◌else◌}
-use Rattle.std.proofs.lemmas.Bool.{eq-eqb, ne_eqb}
-use Rattle.std.proofs.lemmas.Bool.Decides.{nat_tests}
-use Rattle.std.proofs.lemmas.List.Sums.{sum_by_push}
+use Rattle.pie_summary.proofs.Names.{◌≡◌, ◌≤◌, ◌<◌, ◌+◌, ◌*◌, ◌-◌, ◌/◌, ◌==◌, arith, ℕ, Bool, true, false, cond, not, List, [], ◌∷◌, ◌++◌, refl}
+use Rattle.pie_summary.proofs.Names.{subst, sym, ap, ◌∙◌, nat_le, nat_lt, min, count_by, Option, Some, None, if◌then◌else◌, eq-eqb, ne_eqb, nat_tests}
+use Rattle.pie_summary.proofs.Names.{sum_by_push, Place, places, time_of, Explained, Csv, CsvByWall, LivePeriod, Meter, kept, Holds, clock_of}
+use Rattle.pie_summary.proofs.Names.{length_of, number_in, last_events, last_period, period_at, since, starts, ranges_of, record_of, said_of}
+use Rattle.pie_summary.proofs.Names.{meter_of, reached, sums_of, waits_of}
+use Rattle.std.specs.Prelude.{◌&&◌}
 use Rattle.std.proofs.lemmas.Nat.{div-mul-add}
-use Rattle.pie_aqm.specs.Places.{Place, places}
-use Rattle.pie_explain.specs.Choice.{time_of}
-use Rattle.pie_explain.specs.declared.explanation.Explained.{Explained}
-use Rattle.pie_explain.specs.declared.form.Form.TheVariants.{Csv, CsvByWall}
-use Rattle.pie_summary.specs.declared.live.LivePeriod.{LivePeriod}
-use Rattle.pie_summary.specs.declared.meter.Meter.{Meter}
-use Rattle.pie_summary.specs.Counts.{kept}
-use Rattle.pie_summary.specs.Live.{Awaits, Holds, IsSet, Spans, clock_of, is_first, length_of, number_in, periods_begun}
-use Rattle.pie_summary.specs.Period.{last_events, last_period, period_at, since, starts}
-use Rattle.pie_summary.specs.Ranges.{ranges_of}
-use Rattle.pie_summary.specs.Record.{record_of}
-use Rattle.pie_summary.specs.Summary.{said_of}
-use Rattle.pie_summary.specs.Sums.{meter_of, reached, sums_of, waits_of}
+use Rattle.pie_summary.specs.Live.{Awaits, IsSet, Spans, is_first, periods_begun}
 use Rattle.pie_summary.specs.Words.{wait_99}
 use Rattle.pie_summary.proofs.CountFacts.{kept-more}
 use Rattle.pie_summary.proofs.PeriodFacts.{Begins, last_events-push, last_period-push, since-begun, some-events, under-way}

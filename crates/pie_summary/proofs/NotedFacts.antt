@@ -1,15 +1,10 @@
 -- What a meter takes of an event, by what it met and its answer.
-use Rattle.std.proofs.Common.{◌≡◌, ℕ, refl, sym, ap}
-use Rattle.std.specs.Prelude.{Option, Some, None}
-use Rattle.pie_event.specs.declared.command.Answer.{Answer}
-use Rattle.pie_event.specs.declared.command.Answer.TheVariants.{Done}
+use Rattle.pie_summary.proofs.Names.{◌≡◌, ℕ, refl, sym, ap, Option, Some, None, Answer, Done, answer_of, Explained, cause_of, cause_place, size_in}
 use Rattle.pie_event.specs.declared.verdict.Verdict.{Verdict}
 use Rattle.pie_event.specs.declared.verdict.Verdict.TheVariants.{Enqueued, Marked, DroppedEarly, DroppedBytes, DroppedPackets}
-use Rattle.pie_event.specs.Verdict.{answer_of}
-use Rattle.pie_explain.specs.declared.explanation.Explained.{Explained}
 use Rattle.pie_summary.specs.declared.noted.Met.{Met}
 use Rattle.pie_summary.specs.Live.{Meets, noted_by, noted_of}
-use Rattle.pie_summary.specs.Sums.{answer_place, cause_of, cause_place, size_in}
+use Rattle.pie_summary.specs.Sums.{answer_place}
 
 pub noted-by : (met : Met) (one : Explained) (answer : Answer) (cause : ℕ) (arrived : Option ℕ) → Meets met one → one.told.event.answer ≡ answer
     → cause_of one ≡ cause → size_in one ≡ arrived → noted_of one ≡ noted_by met answer cause arrived one.told.waited

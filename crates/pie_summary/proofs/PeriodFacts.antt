@@ -1,13 +1,9 @@
 -- The last events of a list with one more.
-use Rattle.std.proofs.Common.{◌≡◌, ◌==◌, ◌⊎◌, ℕ, Bool, true, false, not, List, [], ◌∷◌, ◌++◌, map, refl, sym, ap, ◌∙◌, inl, inr}
-use Rattle.std.specs.Prelude.{Option, Some, None}
-use Rattle.std.proofs.lemmas.Bool.{eq-eqb, eqb-true}
-use Rattle.std.proofs.lemmas.List.{map_push}
-use Rattle.pie_aqm.specs.Places.{last_or}
+use Rattle.pie_summary.proofs.Names.{◌≡◌, ◌==◌, ℕ, Bool, true, false, not, List, [], ◌∷◌, ◌++◌, map, refl, sym, ap, ◌∙◌, Option, Some, None, eq-eqb}
+use Rattle.pie_summary.proofs.Names.{eqb-true, map_push, last_or, last_or-push, Explained, last_events, last_period, period_at, since, starts}
+use Rattle.std.proofs.Common.{◌⊎◌, inl, inr}
 use Rattle.pie_early.proofs.Laws.{after_last-push_no, after_last-push_yes}
-use Rattle.pie_aqm.proofs.Places.{last_or-push}
-use Rattle.pie_explain.specs.declared.explanation.Explained.{Explained}
-use Rattle.pie_summary.specs.Period.{is_elsewhere, last_events, last_period, period_at, since, starts}
+use Rattle.pie_summary.specs.Period.{is_elsewhere}
 
 -- a list is empty, or has a last element
 abbrev Ends : {X : Type 0} → List X → Type 0

@@ -1,12 +1,11 @@
 -- Ranges of numbers.
-use Rattle.std.proofs.Common.{◌≡◌, ◌+◌, ◌-◌, ◌*◌, ◌/◌, ◌^◌, ◌<◌, ◌≤◌, arith, ℕ, lit≤, suc, zero, Bool, true, false, List}
-use Rattle.std.proofs.Common.{[], ◌∷◌, ◌++◌, length, refl, sym, ap, ◌∙◌}
-use Rattle.std.specs.Prelude.{if◌then◌else◌, min, nat_le, nat_lt, slice_index, slice_set, take, Option, Some}
-use Rattle.std.specs.List.{find, range_with_len, sum}
-use Rattle.std.proofs.lemmas.Bool.Decides.{nat_tests}
+use Rattle.pie_summary.proofs.Names.{◌≡◌, ◌+◌, ◌-◌, ◌*◌, ◌/◌, ◌<◌, ◌≤◌, arith, ℕ, lit≤, suc, zero, Bool, true, false, List, [], ◌∷◌, ◌++◌, length}
+use Rattle.pie_summary.proofs.Names.{refl, sym, ap, ◌∙◌, if◌then◌else◌, min, nat_le, nat_lt, slice_index, slice_set, take, Option, Some, find}
+use Rattle.pie_summary.proofs.Names.{range_with_len, sum, nat_tests, first_up_to, range_of, ranges_of}
+use Rattle.std.proofs.Common.{◌^◌}
 use Rattle.std.proofs.lemmas.List.Sums.{sum_by_more}
 use Rattle.std.proofs.Math.Nat.{div-div-eq-div-mul, pow-suc}
-use Rattle.pie_summary.specs.Ranges.{first_up_to, range_of, range_within, ranges_of}
+use Rattle.pie_summary.specs.Ranges.{range_within}
 use Rattle.pie_summary.proofs.CountFacts.{counted-push}
 
 -- without its last digit a number has one less

@@ -1,20 +1,13 @@
 -- What is kept of a list of numbers, with one more.
-use Rattle.std.proofs.Common.{◌≡◌, ◌≤◌, ◌<◌, ◌+◌, ◌/◌, ◌%◌, ◌==◌, arith, ℕ, suc, Bool, true, false, List, [], ◌∷◌, ◌++◌, append-nil, length, map}
-use Rattle.std.proofs.Common.{refl, subst, sym, ap, ◌∙◌}
-use Rattle.std.specs.Prelude.{max, min, slice_index, Option, Some, None, unwrap_or, if◌then◌else◌}
-use Rattle.std.specs.List.{cons_option, filter_map, sum}
-use Rattle.std.proofs.lemmas.Bool.{eq-eqb, eqb-true, false≢true}
-use Rattle.std.proofs.lemmas.List.{length_push, map_push}
-use Rattle.std.proofs.lemmas.List.Elements.{filter_map-append}
-use Rattle.std.proofs.lemmas.List.Sums.{sum_by_push}
-use Rattle.pie_aqm.specs.Places.{greatest, last_or}
-use Rattle.pie_aqm.proofs.Places.{greatest-push, last_or-push}
-use Rattle.pie_explain.specs.declared.explanation.Explained.{Explained}
-use Rattle.pie_summary.specs.declared.spans.Bounds.{Bounds}
+use Rattle.pie_summary.proofs.Names.{◌≡◌, ◌≤◌, ◌<◌, ◌+◌, ◌/◌, ◌%◌, ◌==◌, arith, ℕ, suc, Bool, true, false, List, [], ◌∷◌, ◌++◌, append-nil, length}
+use Rattle.pie_summary.proofs.Names.{map, refl, subst, sym, ap, ◌∙◌, max, min, slice_index, Option, Some, None, unwrap_or, if◌then◌else◌, cons_option}
+use Rattle.pie_summary.proofs.Names.{filter_map, sum, eq-eqb, eqb-true, map_push, filter_map-append, sum_by_push, greatest, last_or, greatest-push}
+use Rattle.pie_summary.proofs.Names.{last_or-push, Explained, Bounds, kept, bounds_of, peak_of, total_in, total_of}
+use Rattle.std.proofs.lemmas.Bool.{false≢true}
+use Rattle.std.proofs.lemmas.List.{length_push}
 use Rattle.pie_summary.specs.declared.spans.Peak.{Peak}
 use Rattle.pie_summary.specs.declared.spans.Total.{Total}
-use Rattle.pie_summary.specs.Counts.{kept}
-use Rattle.pie_summary.specs.Spans.{bounds_of, carried_over, counted_some, held_or, peak_of, total_in, total_of}
+use Rattle.pie_summary.specs.Spans.{carried_over, counted_some, held_or}
 use Rattle.pie_summary.proofs.CountFacts.{kept-more}
 
 -- ---- numbers of events, where a list of numbers has its step

@@ -1,18 +1,9 @@
 -- The numbers of a list of events with one more.
-use Rattle.std.proofs.Common.{◌≡◌, ◌+◌, arith, ℕ, suc, List, [], ◌∷◌, ◌++◌, length, map, refl, sym, ap, ◌∙◌}
-use Rattle.std.specs.Prelude.{min, Option, None}
-use Rattle.std.specs.List.{cons_option, filter_map, sum}
-use Rattle.std.proofs.lemmas.List.{map_push}
-use Rattle.std.proofs.lemmas.List.Elements.{filter_map-append}
-use Rattle.std.proofs.lemmas.List.Sums.{sum_by_push}
-use Rattle.pie_explain.specs.declared.explanation.Explained.{Explained}
-use Rattle.pie_aqm.specs.Places.{last_or}
+use Rattle.pie_summary.proofs.Names.{◌≡◌, ◌+◌, arith, ℕ, suc, List, [], ◌∷◌, ◌++◌, length, map, refl, sym, ap, ◌∙◌, min, Option, None, cons_option}
+use Rattle.pie_summary.proofs.Names.{filter_map, sum, map_push, filter_map-append, sum_by_push, Explained, last_or, Meter, kept, ranges_of, moment_at}
+use Rattle.pie_summary.proofs.Names.{time_at, meter_of, reached, timed_by, wait_in, waits_of}
+use Rattle.pie_summary.specs.Sums.{awaiting}
 pub use Rattle.pie_aqm.proofs.Places.{last_or-push, place_of, places-push}
-use Rattle.pie_summary.specs.declared.meter.Meter.{Meter}
-use Rattle.pie_summary.specs.Counts.{kept}
-use Rattle.pie_summary.specs.Ranges.{ranges_of}
-use Rattle.pie_summary.specs.Spans.{moment_at, time_at}
-use Rattle.pie_summary.specs.Sums.{awaiting, meter_of, reached, timed_by, wait_in, waits_of}
 use Rattle.pie_summary.proofs.CountFacts.{kept-more}
 use Rattle.pie_summary.proofs.SpanFacts.{some-of-push}
 

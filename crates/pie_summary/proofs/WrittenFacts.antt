@@ -1,12 +1,9 @@
 -- What is written of events with one more, and at their end.
-use Rattle.std.proofs.Common.{◌≡◌, ◌∷◌, ◌++◌, [], List, ap, sym, ◌∙◌, ℕ}
-use Rattle.std.specs.Prelude.{Err, Ok, OnOk, Result}
+use Rattle.pie_summary.proofs.Names.{◌≡◌, ◌∷◌, ◌++◌, [], List, ap, sym, ◌∙◌, ℕ, Err, Ok, OnOk, Result, Place, places, Explained}
 use Rattle.std.specs.List.{flat_map}
 use Rattle.std.proofs.lemmas.List.{flat_map_more}
-use Rattle.pie_aqm.specs.Places.{Place, places}
 use Rattle.pie_aqm.proofs.Places.{place_of, places-push}
 use Rattle.pie_explain.specs.Report.{Grows}
-use Rattle.pie_explain.specs.declared.explanation.Explained.{Explained}
 
 pub written-push : (header : List ℕ) (at : Place Explained → List ℕ) (shown : List Explained) (one : Explained) (text : List ℕ)
     → text ≡ at (place_of shown one)

@@ -1,19 +1,19 @@
 //! A period that is summed up as it goes, in memory that its owner has.
 ghost use Rattle.std.specs.Prelude.{◌≡◌, ◌<◌, ◌++◌, ◌∷◌, [], ℕ, List, not, if◌then◌else◌};
 ghost use Rattle.std.specs.List.{cons_option};
-ghost use Rattle.pie_explain.specs.Choice.{time_of};
+ghost use Rattle.pie_explain.specs.Selection.{time_of};
 ghost use Rattle.pie_summary.specs.Live.{Awaits, Holds, IsSet, clock_of, form_in, is_within, length_of, noted_of, number_in};
 ghost use Rattle.pie_summary.specs.Period.{last_events, starts};
 ghost use Rattle.pie_summary.specs.Summary.{header, said_of};
 ghost use Rattle.pie_summary.specs.Sums.{timed_by};
 ghost use Rattle.pie_explain.specs.declared.explanation.Explained.{Explained};
 
-use crate::line::Line;
 use crate::meter::Meter;
 use crate::noted::Noted;
 use crate::ranges::{RANGES, clear_counts, count_some, most_of};
 use crate::record::{NAMES, push_record};
 use pie_explain::time_of;
+use pie_page::LongRow;
 use pie_record::Clock;
 
 /// The numbers of the last events, as far back as they are in the same period, as `pie explain --every` sums them up.
@@ -172,7 +172,7 @@ impl LivePeriod {
 
     /// Adds the header row of the records to an empty line.
     #[tactic(auto, unfolding(crate::specs::Summary::header, pie_event::specs::CauseName::word_of_cause))]
-    pub fn put_header(&self, line: &mut Line)
+    pub fn put_header(&self, line: &mut LongRow)
         requires { line.old ≡ [] }
         ensures { line.new ≡ header (form_in self.now) }
     {
@@ -185,7 +185,7 @@ impl LivePeriod {
     }
 
     /// Adds the record of the period under way to an empty line.
-    pub fn put_record(&self, line: &mut Line)
+    pub fn put_record(&self, line: &mut LongRow)
         requires { line.old ≡ [] }
         ensures { (shown : List Explained) → Holds self.now shown → line.new ≡ said_of (form_in self.now) (last_events (length_of self.now) shown) }
     {

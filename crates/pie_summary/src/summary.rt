@@ -5,7 +5,6 @@ ghost use Rattle.pie_summary.specs.Record.{record_of};
 ghost use Rattle.pie_summary.specs.Words.{words};
 ghost use Rattle.pie_summary.specs.Summary.{clock_for, ended, is_lost_or_marked, noted, said};
 
-use crate::line::Line;
 use crate::meter::Meter;
 use crate::period::{Period, begins, period_of};
 use crate::ranges::most_of;
@@ -13,7 +12,7 @@ use crate::record::{NAMES, push_record};
 use crate::sums::Sums;
 use crate::words::push_words;
 use pie_explain::{Explained, Form, Report, Which, push_header};
-use pie_page::Page;
+use pie_page::{LongRow, Page};
 use pie_record::Clock;
 use std::alloc::AllocError;
 
@@ -50,7 +49,7 @@ fn push_as_record(
 ) -> Result<(), AllocError>
     ensures { OnOk result (page.new ≡ page.old ++ record_of by_wall meter.now most) }
 {
-    let mut line = Line::new();
+    let mut line = LongRow::new();
     push_record(&mut line, by_wall, meter, most);
     page.push(line.as_bytes())
 }

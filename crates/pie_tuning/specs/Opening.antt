@@ -15,14 +15,14 @@ use Rattle.pie_params.specs.Profile.{default_profile, profile_for}
 use Rattle.pie_event.specs.declared.profile.Profile.TheVariants.{One}
 use Rattle.pie_event.specs.declared.opening.Mode.TheVariants.{Rolling}
 use Rattle.pie_event.specs.declared.opening.Opening.{Opening}
-use Rattle.pie_tuning.specs.declared.asked.Asked.{Asked}
+use Rattle.pie_tuning.specs.declared.options.TuningOptions.{TuningOptions}
 
 -- a gain of `tc` counts sixteenths per second
 abbrev pub gain_of : ℕ → ℕ
 gain_of gain = gain * 1000 / 16
 
 -- the defaults at the rate but for these: a packet's mean size is the MTU where its size is a part of that, and a mark may be forbidden
-abbrev pub params_for : Asked → RawParams
+abbrev pub params_for : TuningOptions → RawParams
 params_for asked = record (profile_for asked.rate) {
   target = asked.target;
   t_update = asked.t_update;
@@ -54,7 +54,7 @@ abbrev pub size_for : Bool → Size
 size_for true = Scaled
 size_for false = Unscaled
 
-abbrev pub elements_for : Asked → Elements
+abbrev pub elements_for : TuningOptions → Elements
 elements_for asked = record {
   delay = delay_for asked.dq_rate_estimator;
   picking = picking_for asked.no_derandomization;
@@ -66,7 +66,7 @@ elements_for asked = record {
 -- ---- the estimator of the departure rate
 
 -- where it is asked for, at a known rate in bits a second: half of what waits at the target, in bytes, is less than it counts in a cycle
-abbrev pub can_stall : Asked → RawParams → Bool
+abbrev pub can_stall : TuningOptions → RawParams → Bool
 can_stall asked params =
     asked.dq_rate_estimator && not (asked.rate == 0) && nat_lt (asked.rate * params.target) (params.dq_threshold * 16_000_000_000)
 

@@ -1,6 +1,6 @@
 -- The numbers of `tc`'s options, with units.
 use Rattle.std.specs.Prelude.{ℕ, ◌==◌, List, Result, Ok, Err, if◌then◌else◌}
-use Rattle.pie_units.specs.declared.unit.Kind.TheVariants.{Time, Rate, Packets}
+use Rattle.pie_units.specs.declared.unit.Quantity.TheVariants.{Time, Rate, Packets}
 use Rattle.pie_units.specs.declared.written.UnitFault.{UnitFault}
 use Rattle.pie_units.specs.declared.written.UnitFault.TheVariants.{NotANumber, TooPrecise, TooGreat}
 use Rattle.pie_units.specs.Written.{value_of}

@@ -5,10 +5,10 @@
 //! opening (`opening_for`).
 #![tactic(auto)]
 
-mod asked;
 mod opening;
+mod options;
 mod units;
 
-pub use asked::{Asked, can_stall, elements_for, gain_of, is_short, params_for};
 pub use opening::{opening_for, write_opening};
+pub use options::{TuningOptions, can_stall, elements_for, gain_of, is_short, params_for};
 pub use units::{OptionFault, packets_of, rate_of, time_of};

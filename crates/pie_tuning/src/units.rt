@@ -2,7 +2,7 @@
 ghost use Rattle.std.specs.Prelude.{◌≡◌};
 ghost use Rattle.pie_tuning.specs.Units.{packets_fault, packets_of, rate_fault, rate_of, time_fault, time_of};
 
-use pie_units::{Kind, UnitFault, read};
+use pie_units::{Quantity, UnitFault, read};
 use std::fmt;
 use thiserror::Error;
 
@@ -92,7 +92,7 @@ fn packets_fault(why: UnitFault) -> OptionFault
 pub fn time_of(text: &str) -> Result<u64, OptionFault>
     ensures { result ≡ time_of text.now }
 {
-    match read(Kind::Time, text.as_bytes()) {
+    match read(Quantity::Time, text.as_bytes()) {
         Ok(time) => Ok(time),
         Err(why) => Err(time_fault(why)),
     }
@@ -106,7 +106,7 @@ pub fn time_of(text: &str) -> Result<u64, OptionFault>
 pub fn rate_of(text: &str) -> Result<u64, OptionFault>
     ensures { result ≡ rate_of text.now }
 {
-    match read(Kind::Rate, text.as_bytes()) {
+    match read(Quantity::Rate, text.as_bytes()) {
         Ok(0) => Err(OptionFault::NoRate),
         Ok(rate) => Ok(rate),
         Err(why) => Err(rate_fault(why)),
@@ -121,7 +121,7 @@ pub fn rate_of(text: &str) -> Result<u64, OptionFault>
 pub fn packets_of(text: &str) -> Result<u64, OptionFault>
     ensures { result ≡ packets_of text.now }
 {
-    match read(Kind::Packets, text.as_bytes()) {
+    match read(Quantity::Packets, text.as_bytes()) {
         Ok(packets) => Ok(packets),
         Err(why) => Err(packets_fault(why)),
     }

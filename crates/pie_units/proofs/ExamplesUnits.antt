@@ -1,7 +1,7 @@
 -- Texts with units, worked out: as tc(8) has the units, and as `tc` of iproute2 reads them.
 use Rattle.std.proofs.Common.{◌≡◌, ◌^◌, ◌-◌, codes, refl}
 use Rattle.std.specs.Prelude.{Ok, Err, ⊤}
-use Rattle.pie_units.specs.declared.unit.Kind.TheVariants.{Moment, Time, Rate, Size, Packets}
+use Rattle.pie_units.specs.declared.unit.Quantity.TheVariants.{Moment, Time, Rate, Size, Packets}
 use Rattle.pie_units.specs.declared.written.UnitFault.TheVariants.{NotANumber, TooPrecise, TooGreat}
 use Rattle.pie_units.specs.Scale.{is_word, prefix_scale, rate_scale, size_scale, time_scale}
 use Rattle.pie_units.specs.Written.{digit_count, number_after, value_of}

@@ -3,7 +3,7 @@ use Rattle.std.specs.Prelude.{ℕ, ◌≡◌, List, Result, Ok, Err}
 use Rattle.pie_units.specs.declared.moment.Moment.{Moment as Moment}
 use Rattle.pie_units.specs.declared.moment.MomentFault.{MomentFault}
 use Rattle.pie_units.specs.declared.moment.MomentFault.TheVariants.{NotAMoment, TooFine, TooLate}
-use Rattle.pie_units.specs.declared.unit.Kind.TheVariants.{Moment as AMoment}
+use Rattle.pie_units.specs.declared.unit.Quantity.TheVariants.{Moment as AMoment}
 use Rattle.pie_units.specs.declared.written.UnitFault.{UnitFault}
 use Rattle.pie_units.specs.declared.written.UnitFault.TheVariants.{NotANumber, TooPrecise, TooGreat}
 use Rattle.pie_units.specs.Written.{value_of}

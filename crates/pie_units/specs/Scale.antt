@@ -2,8 +2,8 @@
 use Rattle.std.specs.Prelude.{ℕ, ◌-◌, ◌*◌, ◌^◌, ◌==◌, ◌&&◌, ◌||◌, Bool, true, false, List, [], ◌∷◌, length, take, drop, Option, Some, None}
 use Rattle.std.specs.Prelude.{if◌then◌else◌, codes}
 use Rattle.std.specs.Char.{to_ascii_lowercase}
-use Rattle.pie_units.specs.declared.unit.Kind.{Kind}
-use Rattle.pie_units.specs.declared.unit.Kind.TheVariants.{Moment, Time, Rate, Size, Packets}
+use Rattle.pie_units.specs.declared.unit.Quantity.{Quantity}
+use Rattle.pie_units.specs.declared.unit.Quantity.TheVariants.{Moment, Time, Rate, Size, Packets}
 
 -- a text is this word, its letters of any case
 unfoldable pub is_word : List ℕ → List ℕ → Bool
@@ -79,7 +79,7 @@ moment_scale unit =
     else time_scale unit
 
 -- how many of the smallest a unit of this kind is
-abbrev pub scale_of : Kind → List ℕ → Option ℕ
+abbrev pub scale_of : Quantity → List ℕ → Option ℕ
 scale_of Moment unit = moment_scale unit
 scale_of Time unit = time_scale unit
 scale_of Rate unit = rate_scale unit

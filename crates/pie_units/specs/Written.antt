@@ -2,7 +2,7 @@
 use Rattle.std.specs.Prelude.{ℕ, ◌+◌, ◌-◌, ◌*◌, ◌/◌, ◌%◌, ◌^◌, ◌==◌, ◌&&◌, List, [], ◌∷◌, ◌++◌, length, take, drop, Option, Some, None}
 use Rattle.std.specs.Prelude.{Result, Ok, Err, nat_lt, if◌then◌else◌, codes}
 use Rattle.std.specs.Char.{is_ascii_digit}
-use Rattle.pie_units.specs.declared.unit.Kind.{Kind}
+use Rattle.pie_units.specs.declared.unit.Quantity.{Quantity}
 use Rattle.pie_units.specs.declared.written.UnitFault.{UnitFault}
 use Rattle.pie_units.specs.declared.written.UnitFault.TheVariants.{NotANumber, TooPrecise, TooGreat}
 use Rattle.pie_units.specs.Scale.{scale_of}
@@ -46,9 +46,9 @@ value_by whole decimals (Some scale) =
     else whole_in (parts_of whole decimals * scale)
 
 -- .. where these digits stand first, and this text behind them
-abbrev pub value_with : Kind → List ℕ → List ℕ → Result ℕ UnitFault
+abbrev pub value_with : Quantity → List ℕ → List ℕ → Result ℕ UnitFault
 value_with kind whole rest = value_by whole (decimals_in rest) (scale_of kind (unit_in (length (decimals_in rest)) rest))
 
 -- what a text of this kind comes to
-abbrev pub value_of : Kind → List ℕ → Result ℕ UnitFault
+abbrev pub value_of : Quantity → List ℕ → Result ℕ UnitFault
 value_of kind text = value_with kind (take (digit_count text) text) (drop (digit_count text) text)

@@ -14,7 +14,7 @@ mod written;
 
 pub use date::{Date, date_of};
 pub use moment::{Moment, MomentFault};
-pub use unit::Kind;
+pub use unit::Quantity;
 pub use utc::{Utc, UtcFault};
 pub use when::{When, WhenFault};
 pub use written::{UnitFault, read};

@@ -2,7 +2,7 @@
 ghost use Rattle.std.specs.Prelude.{◌≡◌};
 ghost use Rattle.pie_units.specs.Moment.{moment_fault, moment_in};
 
-use crate::unit::Kind;
+use crate::unit::Quantity;
 use crate::written::{UnitFault, read};
 use std::str::FromStr;
 use thiserror::Error;
@@ -40,7 +40,7 @@ fn moment_fault(why: UnitFault) -> MomentFault
 pub(crate) fn moment_in(text: &[u8]) -> Result<u64, MomentFault>
     ensures { result ≡ moment_in text.now }
 {
-    match read(Kind::Moment, text) {
+    match read(Quantity::Moment, text) {
         Ok(number) => Ok(number),
         Err(why) => Err(moment_fault(why)),
     }

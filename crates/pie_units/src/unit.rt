@@ -5,7 +5,7 @@ ghost use Rattle.pie_units.specs.Scale.{rate_scale, scale_of, size_scale, time_s
 
 /// What a text tells.
 #[derive(Clone, Copy, Debug, PartialEq, Eq)]
-pub enum Kind {
+pub enum Quantity {
     /// A moment, in nanoseconds: a time, also in minutes, `m`, or hours, `h`; or whole nanoseconds without a unit.
     Moment,
     /// A time, in nanoseconds: `ns`, `us`, `ms` or `s`, or longer `nsec`, `nsecs`, `usec` and so on.
@@ -151,16 +151,16 @@ fn size_scale(unit: &[u8]) -> Option<u64>
 }
 
 /// What a unit of this kind comes to, in nanoseconds, bits a second, bytes or packets.
-pub(crate) fn scale_of(kind: Kind, unit: &[u8]) -> Option<u64>
+pub(crate) fn scale_of(kind: Quantity, unit: &[u8]) -> Option<u64>
     ensures scale { result ≡ scale_of kind unit.now }
     ensures some { IfSome result (λ scale. 1 ≤ scale) }
 {
     match kind {
-        Kind::Moment => moment_scale(unit),
-        Kind::Time => time_scale(unit),
-        Kind::Rate => rate_scale(unit),
-        Kind::Size => size_scale(unit),
-        Kind::Packets => packets_scale(unit),
+        Quantity::Moment => moment_scale(unit),
+        Quantity::Time => time_scale(unit),
+        Quantity::Rate => rate_scale(unit),
+        Quantity::Size => size_scale(unit),
+        Quantity::Packets => packets_scale(unit),
     }
 }
 

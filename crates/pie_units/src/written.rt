@@ -2,7 +2,7 @@
 ghost use Rattle.std.specs.Prelude.{◌≡◌, ◌≤◌, ◌+◌, ◌-◌, ◌*◌, ◌^◌, Some, length, min};
 ghost use Rattle.pie_units.specs.Written.{decimals_in, digit_count, number_after, parts_of, unit_in, value_by, value_of, value_with, whole_in};
 
-use crate::unit::{Kind, scale_of};
+use crate::unit::{Quantity, scale_of};
 
 /// The greatest number that is read.
 const GREATEST: u128 = (1 << 60) - 1;
@@ -127,7 +127,7 @@ fn value_by(whole: &[u8], decimals: &[u8], scale: u64) -> Result<u64, UnitFault>
 }
 
 /// What the number with these digits, and this text behind them, comes to.
-fn value_with(kind: Kind, whole: &[u8], rest: &[u8]) -> Result<u64, UnitFault>
+fn value_with(kind: Quantity, whole: &[u8], rest: &[u8]) -> Result<u64, UnitFault>
     ensures { result ≡ value_with kind whole.now rest.now }
 {
     let decimals = decimals_in(rest);
@@ -143,7 +143,7 @@ fn value_with(kind: Kind, whole: &[u8], rest: &[u8]) -> Result<u64, UnitFault>
 /// # Errors
 ///
 /// In this order: `NotANumber`, `TooPrecise` for more than 18 decimals, `TooGreat`, `TooPrecise` for what is no whole number.
-pub fn read(kind: Kind, text: &[u8]) -> Result<u64, UnitFault>
+pub fn read(kind: Quantity, text: &[u8]) -> Result<u64, UnitFault>
     ensures { result ≡ value_of kind text.now }
 {
     let (whole, rest) = text.split_at(digit_count(text));

@@ -1,13 +1,6 @@
-use Rattle.std.proofs.Common.{◌≡◌, ◌==◌, ◌∙◌, ap, arith, refl, rules}
-use Rattle.std.proofs.lemmas.Bool.Decides.{nat_tests}
-use Rattle.pie_queue.specs.declared.ecn.Ecn.{Ecn}
-use Rattle.pie_aqm.specs.declared.verdict.Arrival.{Arrival}
+use Rattle.pie_c.proofs.Names.{◌≡◌, ◌==◌, ◌∙◌, ap, arith, refl, rules, nat_tests, Ecn, ArrivingPacket, arrived, verdict, PieState, verdict_number}
+use Rattle.pie_c.proofs.Names.{arrival_of, arrival_refusal, held_in, with_arrival}
 use Rattle.pie_aqm.specs.Calls.{Arrive}
-use Rattle.pie_aqm.specs.Steps.{arrived, verdict}
-use Rattle.pie_c.specs.declared.state.PieState.{PieState}
-use Rattle.pie_abi.specs.Packets.{verdict_number}
-use Rattle.pie_c.specs.Calls.{arrival_of, arrival_refusal}
-use Rattle.pie_c.specs.State.{held_in, with_arrival}
 use Rattle.pie_c.proofs.Packets.{arrived-state, handed, kept-later, leaves, moment-later, place-later, untouched, verdict-later}
 use Rattle.pie_c.proofs.calls.arrive.Goals as goal
 use Rattle.pie_c.proofs.calls.arrive.Goals.{After-of_verdict}
@@ -16,10 +9,10 @@ module _ (c : After-of_verdict) where
   abbrev state : PieState
   state = c.args.state.now
 
-  abbrev arrival : Arrival
+  abbrev arrival : ArrivingPacket
   arrival = arrival_of c.args.queued c.args.size c.args.room c.args.bits c.args.word
 
-  abbrev with_ecn : Ecn → Arrival
+  abbrev with_ecn : Ecn → ArrivingPacket
   with_ecn ecn = record { queued = c.args.queued; is_full = c.args.room == 0; size = c.args.size; ecn = ecn; word = c.args.word }
 
   taken : arrival_refusal c.args.queued c.args.size c.args.bits c.args.moment ≡ 0

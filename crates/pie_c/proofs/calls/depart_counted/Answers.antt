@@ -1,9 +1,5 @@
-use Rattle.std.proofs.Common.{◌≡◌, ◌∙◌, Some, ap, subst, sym, arith, false}
-use Rattle.std.proofs.lemmas.Bool.Decides.{nat_tests}
-use Rattle.pie_aqm.specs.Held.{Held}
-use Rattle.pie_aqm.specs.Steps.{capped, count_kept_open, departed, with_count}
-use Rattle.pie_abi.specs.Packets.{is_bad_size}
-use Rattle.pie_c.specs.State.{held_in}
+use Rattle.pie_c.proofs.Names.{◌≡◌, ◌∙◌, Some, ap, subst, sym, arith, false, nat_tests, Held, capped, count_kept_open, departed, with_count}
+use Rattle.pie_c.proofs.Names.{is_bad_size, held_in}
 use Rattle.pie_c.proofs.Packets.{counted-facts, counted-state, departure-taken}
 use Rattle.pie_c.proofs.calls.depart_counted.Goals as goal
 use Rattle.pie_c.proofs.calls.depart_counted.Goals.{After-keep_counted}

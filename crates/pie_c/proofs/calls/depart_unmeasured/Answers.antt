@@ -1,8 +1,4 @@
-use Rattle.std.proofs.Common.{◌≡◌, ◌≤◌, ◌^◌, ◌∙◌, ap, subst, sym, arith, true}
-use Rattle.std.proofs.lemmas.Bool.Decides.{nat_tests}
-use Rattle.pie_aqm.specs.Held.{Held}
-use Rattle.pie_aqm.specs.Steps.{capped, departed, is_unmeasured, passed}
-use Rattle.pie_c.specs.State.{held_in}
+use Rattle.pie_c.proofs.Names.{◌≡◌, ◌≤◌, ◌^◌, ◌∙◌, ap, subst, sym, arith, true, nat_tests, Held, capped, departed, is_unmeasured, passed, held_in}
 use Rattle.pie_c.proofs.Packets.{departure-taken, unmeasured-facts, unmeasured-state}
 use Rattle.pie_c.proofs.calls.depart_unmeasured.Goals as goal
 use Rattle.pie_c.proofs.calls.depart_unmeasured.Goals.{After-keep_unmeasured}

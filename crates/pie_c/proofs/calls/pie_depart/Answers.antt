@@ -1,5 +1,4 @@
-use Rattle.std.proofs.Common.{rules}
-use Rattle.pie_aqm.specs.Calls.{Depart}
+use Rattle.pie_c.proofs.Names.{rules, Depart}
 use Rattle.pie_c.proofs.Packets.{departed-after, departed-moment, leaves, rate-after}
 use Rattle.pie_c.proofs.calls.pie_depart.Goals as goal
 

@@ -1,6 +1,5 @@
-use Rattle.std.proofs.Common.{◌≡◌, rules}
+use Rattle.pie_c.proofs.Names.{◌≡◌, rules, moment_refusal}
 use Rattle.pie_aqm.specs.Calls.{Pass}
-use Rattle.pie_c.specs.Calls.{moment_refusal}
 use Rattle.pie_c.proofs.Packets.{handed, leaves, passed-state}
 use Rattle.pie_c.proofs.calls.pie_empty.Goals as goal
 use Rattle.pie_c.proofs.calls.pie_empty.Goals.{After-laws}

@@ -1,7 +1,5 @@
-use Rattle.std.proofs.Common.{◌≡◌, ◌∙◌, true, arith, refl, rules, sym}
+use Rattle.pie_c.proofs.Names.{◌≡◌, ◌∙◌, true, arith, refl, rules, sym, reset_refusal, is_sound}
 use Rattle.pie_aqm.specs.Calls.{Restart}
-use Rattle.pie_c.specs.Calls.{reset_refusal}
-use Rattle.pie_c.specs.State.{is_sound}
 use Rattle.pie_c.proofs.Packets.{makes, reset-state, unmade}
 use Rattle.pie_c.proofs.calls.pie_reset.Goals as goal
 use Rattle.pie_c.proofs.calls.pie_reset.Goals.{After-laws}

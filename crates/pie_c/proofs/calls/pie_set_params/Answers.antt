@@ -1,8 +1,6 @@
-use Rattle.std.proofs.Common.{◌≡◌, ◌∙◌, true, arith, refl, rules, sym}
+use Rattle.pie_c.proofs.Names.{◌≡◌, ◌∙◌, true, arith, refl, rules, sym, are_in_range, raw_of, is_sound}
 use Rattle.pie_aqm.specs.Calls.{Change}
 use Rattle.pie_c.specs.Calls.{params_refusal}
-use Rattle.pie_abi.specs.Params.{are_in_range, raw_of}
-use Rattle.pie_c.specs.State.{is_sound}
 use Rattle.pie_c.proofs.Packets.{changed-state, makes, unmade}
 use Rattle.pie_c.proofs.Sound.{params-from}
 use Rattle.pie_c.proofs.calls.pie_set_params.Goals as goal

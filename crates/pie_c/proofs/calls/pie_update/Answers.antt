@@ -1,9 +1,8 @@
-use Rattle.std.proofs.Common.{◌≡◌, ℕ, ◌∙◌, true, ap, arith, refl, rules, subst, sym}
+use Rattle.pie_c.proofs.Names.{◌≡◌, ℕ, ◌∙◌, true, ap, arith, refl, rules, subst, sym, Held, IsSound, held_by, updated, update_refusal, held_in}
+use Rattle.pie_c.proofs.Names.{is_sound, state_of}
 use Rattle.pie_aqm.specs.Calls.{Update}
-use Rattle.pie_aqm.specs.Held.{Held, IsSound, held_by}
-use Rattle.pie_aqm.specs.Steps.{delay_answered, updated}
-use Rattle.pie_c.specs.Calls.{update_refusal, updated_with}
-use Rattle.pie_c.specs.State.{held_in, is_sound, state_of}
+use Rattle.pie_aqm.specs.Steps.{delay_answered}
+use Rattle.pie_c.specs.Calls.{updated_with}
 use Rattle.pie_c.proofs.Packets.{makes, unmade}
 use Rattle.pie_c.proofs.Sound.{held-sound}
 use Rattle.pie_c.proofs.calls.pie_update.Goals as goal

@@ -1,10 +1,4 @@
-use Rattle.std.proofs.Common.{◌≡◌, ◌∙◌, sym, ap}
-use Rattle.pie_aqm.specs.Held.{Held, held_by}
-use Rattle.pie_abi.specs.Opening.{opening_refusal}
-use Rattle.pie_c.specs.Opening.{held_by_opening}
-use Rattle.pie_abi.specs.Params.{raw_of}
-use Rattle.pie_abi.specs.Choices.{elements_of, profile_of}
-use Rattle.pie_c.specs.State.{with_registers}
+use Rattle.pie_c.proofs.Names.{◌≡◌, ◌∙◌, sym, ap, Held, held_by, opening_refusal, held_by_opening, raw_of, elements_of, profile_of, with_registers}
 use Rattle.pie_c.proofs.Packets.{opened-in, opened-state, opening-taken, says-opening}
 use Rattle.pie_c.proofs.Sound.{held-state, params-from, state-sound}
 use Rattle.pie_c.proofs.opening.pie_open.Goals as goal

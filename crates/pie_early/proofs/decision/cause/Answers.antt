@@ -1,5 +1,4 @@
-use Rattle.std.proofs.Common.{sym, ◌∙◌}
-use Rattle.pie_control.specs.Parts.{parts_of}
+use Rattle.pie_early.proofs.Names.{sym, ◌∙◌, parts_of}
 use Rattle.pie_early.proofs.Causes.{cause-considered}
 use Rattle.pie_early.proofs.decision.cause.Goals as goal
 

@@ -1,8 +1,5 @@
-use Rattle.std.proofs.Common.{◌∙◌, ap, arith, sym}
-use Rattle.pie_control.specs.Parts.{parts_of}
+use Rattle.pie_early.proofs.Names.{◌∙◌, ap, arith, sym, parts_of, name_of, place_of_cause, fate_of}
 use Rattle.pie_event.specs.declared.cause.Cause.{Cause}
-use Rattle.pie_event.specs.CauseName.{name_of, place_of_cause}
-use Rattle.pie_early.specs.Cause.{fate_of}
 use Rattle.pie_early.proofs.Causes.{cause-considered, cause-nothing, cause-picked, place-picked, place-unpicked}
 use Rattle.pie_early.proofs.decision.decide.Goals as goal
 

@@ -1,10 +1,10 @@
 use Rattle.pie_explain.proofs.Names.{◌≡◌, ◌+◌, ℕ, Bool, List, true, false, refl, rules, Option, None, Event, Opening, Clock, Line, Made, Audits}
-use Rattle.pie_explain.proofs.Names.{AuditorView, events_of, Choice, Setter, picks, explanation, moment_of, event_count, told_after, told_if}
+use Rattle.pie_explain.proofs.Names.{AuditorView, events_of, Selection, Setter, picks, explanation, moment_of, event_count, told_after, told_if}
 use Rattle.pie_book.specs.Core.{Shows}
 use Rattle.pie_explain.proofs.explainer.chosen.Goals as goal
 
 -- what is said of the next event, by the numbers that an auditor holds
-told-next : (opening : Opening) (choice : Choice) (lines : List Line) (set_by : Setter) (event : Event) (auditor : AuditorView) (number moment : ℕ)
+told-next : (opening : Opening) (choice : Selection) (lines : List Line) (set_by : Setter) (event : Event) (auditor : AuditorView) (number moment : ℕ)
     (clock : Option Clock) (picked : Bool) → auditor.differs ≡ None → Audits opening auditor lines
     → number ≡ event_count lines + 1 → moment ≡ moment_of opening (events_of lines) event → clock ≡ auditor.clock
     → picks choice number moment clock event ≡ picked

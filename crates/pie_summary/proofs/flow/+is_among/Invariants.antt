@@ -1,4 +1,4 @@
-use Rattle.std.proofs.Common.{length}
+use Rattle.pie_summary.proofs.Names.{length}
 use Rattle.pie_summary.proofs.flow.+is_among.Given as goal
 
 abbrev pub decreases-is_among : goal.decreases-is_among

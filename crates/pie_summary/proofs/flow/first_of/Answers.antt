@@ -1,4 +1,4 @@
-use Rattle.std.proofs.Common.{rules}
+use Rattle.pie_summary.proofs.Names.{rules}
 use Rattle.pie_summary.proofs.FlowFacts.{none-first}
 use Rattle.pie_summary.proofs.flow.first_of.Goals as goal
 

@@ -1,5 +1,5 @@
-use Rattle.std.proofs.Common.{◌≡◌, take}
-use Rattle.pie_summary.specs.Flows.{first_of}
+use Rattle.pie_summary.proofs.Names.{◌≡◌, first_of}
+use Rattle.std.proofs.Common.{take}
 use Rattle.pie_summary.proofs.flow.first_of.Given as goal
 
 abbrev pub invariant-loop-at : goal.invariant-loop-at

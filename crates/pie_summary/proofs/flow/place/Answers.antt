@@ -1,7 +1,6 @@
-use Rattle.std.proofs.Common.{List, ◌∙◌, ap, sym, take}
+use Rattle.pie_summary.proofs.Names.{List, ◌∙◌, ap, sym, Flow, placed}
+use Rattle.std.proofs.Common.{take}
 use Rattle.std.specs.Prelude.{insert}
-use Rattle.pie_summary.specs.declared.flow.Flow.{Flow}
-use Rattle.pie_summary.specs.Flows.{placed}
 use Rattle.pie_summary.proofs.FlowFacts.{first_of-push}
 use Rattle.pie_summary.proofs.flow.place.Goals as goal
 

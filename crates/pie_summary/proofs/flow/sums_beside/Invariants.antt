@@ -1,5 +1,5 @@
-use Rattle.std.proofs.Common.{◌≡◌, take}
-use Rattle.pie_summary.specs.Flows.{sums_beside}
+use Rattle.pie_summary.proofs.Names.{◌≡◌, sums_beside}
+use Rattle.std.proofs.Common.{take}
 use Rattle.pie_summary.proofs.flow.sums_beside.Given as goal
 
 abbrev pub invariant-loop-at : goal.invariant-loop-at

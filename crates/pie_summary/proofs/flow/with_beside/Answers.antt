@@ -1,6 +1,4 @@
-use Rattle.std.proofs.Common.{◌∙◌, ap, sym}
-use Rattle.pie_summary.specs.declared.flow_sums.FlowSums.{FlowSums}
-use Rattle.pie_summary.specs.FlowSums.{together}
+use Rattle.pie_summary.proofs.Names.{◌∙◌, ap, sym, FlowSums, together}
 use Rattle.pie_summary.proofs.FlowFacts.{beside-more, beside-same}
 use Rattle.pie_summary.proofs.flow.with_beside.Goals as goal
 

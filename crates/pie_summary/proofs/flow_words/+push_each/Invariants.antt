@@ -1,4 +1,4 @@
-use Rattle.std.proofs.Common.{length}
+use Rattle.pie_summary.proofs.Names.{length}
 use Rattle.pie_summary.proofs.flow_words.+push_each.Given as goal
 
 abbrev pub decreases-push_each : goal.decreases-push_each

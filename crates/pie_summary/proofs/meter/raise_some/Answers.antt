@@ -1,8 +1,4 @@
-use Rattle.std.proofs.Common.{[], ℕ, ◌++◌, ◌∙◌, ap, sym}
-use Rattle.std.specs.List.{cons_option}
-use Rattle.std.specs.Prelude.{Option, max}
-use Rattle.pie_aqm.specs.Places.{greatest}
-use Rattle.pie_aqm.proofs.Places.{greatest-push}
+use Rattle.pie_summary.proofs.Names.{[], ℕ, ◌++◌, ◌∙◌, ap, sym, cons_option, Option, max, greatest, greatest-push}
 use Rattle.pie_summary.proofs.meter.raise_some.Goals as goal
 
 pub returns-in-Some : goal.returns-in-Some

@@ -1,4 +1,4 @@
-use Rattle.std.proofs.Common.{arith}
+use Rattle.pie_summary.proofs.Names.{arith}
 use Rattle.pie_summary.proofs.RangeFacts.{shorter}
 use Rattle.pie_summary.proofs.ranges.+range_within.Goals as goal
 

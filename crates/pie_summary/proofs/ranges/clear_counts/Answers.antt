@@ -1,4 +1,4 @@
-use Rattle.pie_summary.specs.Ranges.{range_of, ranges_of}
+use Rattle.pie_summary.proofs.Names.{range_of, ranges_of}
 use Rattle.pie_summary.proofs.CountFacts.{none-counted}
 use Rattle.pie_summary.proofs.ranges.clear_counts.Goals as goal
 

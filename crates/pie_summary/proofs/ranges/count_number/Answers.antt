@@ -1,4 +1,4 @@
-use Rattle.std.proofs.Common.{arith, refl}
+use Rattle.pie_summary.proofs.Names.{arith, refl}
 use Rattle.pie_summary.proofs.RangeFacts.{ranges-push}
 use Rattle.pie_summary.proofs.ranges.count_number.Goals as goal
 

@@ -1,4 +1,4 @@
-use Rattle.std.proofs.Common.{◌<◌, arith, length, rules}
+use Rattle.pie_summary.proofs.Names.{◌<◌, arith, length, rules}
 use Rattle.pie_summary.proofs.RangeFacts.{search-ends, search-goes-on}
 use Rattle.pie_summary.proofs.ranges.first_up_to.Goals as goal
 

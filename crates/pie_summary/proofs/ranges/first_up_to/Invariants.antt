@@ -1,6 +1,4 @@
-use Rattle.std.proofs.Common.{◌≡◌, ◌+◌, ◌-◌, length}
-use Rattle.std.specs.Prelude.{nat_le, take}
-use Rattle.std.specs.List.{find, range_with_len, sum}
+use Rattle.pie_summary.proofs.Names.{◌≡◌, ◌+◌, ◌-◌, length, nat_le, take, find, range_with_len, sum}
 use Rattle.pie_summary.proofs.ranges.first_up_to.Given as goal
 
 abbrev pub invariant-loop-place : goal.invariant-loop-place

@@ -1,5 +1,4 @@
-use Rattle.std.proofs.Common.{arith, lit≤, sym}
-use Rattle.pie_summary.specs.Ranges.{range_of}
+use Rattle.pie_summary.proofs.Names.{arith, lit≤, sym, range_of}
 use Rattle.pie_summary.proofs.RangeFacts.{range_at}
 use Rattle.pie_summary.proofs.ranges.range_place.Goals as goal
 

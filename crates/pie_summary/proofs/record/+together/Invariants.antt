@@ -1,4 +1,4 @@
-use Rattle.std.proofs.Common.{length}
+use Rattle.pie_summary.proofs.Names.{length}
 use Rattle.pie_summary.proofs.record.+together.Given as goal
 
 abbrev pub decreases-together : goal.decreases-together

@@ -1,5 +1,4 @@
-use Rattle.std.proofs.Common.{◌≡◌, ◌-◌, ◌≤◌, ℕ, ap, append_assoc, arith, length, ◌∙◌}
-use Rattle.std.specs.Prelude.{codes, replicate, take}
+use Rattle.pie_summary.proofs.Names.{◌≡◌, ◌-◌, ◌≤◌, ℕ, ap, append_assoc, arith, length, ◌∙◌, codes, replicate, take}
 use Rattle.std.proofs.lemmas.List.{take-replicate}
 use Rattle.pie_summary.proofs.record.push_padded.Goals as goal
 

@@ -1,5 +1,4 @@
-use Rattle.std.proofs.Common.{append_assoc}
-use Rattle.pie_summary.specs.Record.{record_of}
+use Rattle.pie_summary.proofs.Names.{append_assoc, record_of}
 use Rattle.pie_summary.proofs.record.push_record.Goals as goal
 
 pub returns : goal.returns

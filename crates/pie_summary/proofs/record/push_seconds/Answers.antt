@@ -1,4 +1,4 @@
-use Rattle.std.proofs.Common.{append_assoc}
+use Rattle.pie_summary.proofs.Names.{append_assoc}
 use Rattle.pie_summary.proofs.record.push_seconds.Goals as goal
 
 pub returns-clause-text : goal.returns-clause-text

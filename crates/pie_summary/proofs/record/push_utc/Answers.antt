@@ -1,7 +1,6 @@
-use Rattle.std.proofs.Common.{◌++◌, ◌/◌, ◌%◌, ◌∙◌, ap}
-use Rattle.std.specs.Prelude.{codes}
+use Rattle.pie_summary.proofs.Names.{◌++◌, ◌/◌, ◌%◌, ◌∙◌, ap, codes, utc_text}
 use Rattle.pie_units.specs.declared.date.Date.{Date}
-use Rattle.pie_units.specs.Utc.{date_text, seconds_text, utc_text, with_zeros}
+use Rattle.pie_units.specs.Utc.{date_text, seconds_text, with_zeros}
 use Rattle.pie_summary.proofs.record.push_utc.Goals as goal
 
 pub returns-clause-text : goal.returns-clause-text

@@ -1,4 +1,4 @@
-use Rattle.std.proofs.Common.{length}
+use Rattle.pie_summary.proofs.Names.{length}
 use Rattle.pie_summary.proofs.words.+push_rows.Given as goal
 
 abbrev pub decreases-push_rows : goal.decreases-push_rows

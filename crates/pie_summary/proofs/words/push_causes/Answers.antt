@@ -1,7 +1,6 @@
-use Rattle.std.proofs.Common.{◌≡◌, ◌++◌, ◌∙◌, List, ap, append_assoc, ℕ}
-use Rattle.std.specs.Prelude.{Result, Ok, Err, OnOk, codes}
+use Rattle.pie_summary.proofs.Names.{◌≡◌, ◌++◌, ◌∙◌, List, ap, append_assoc, ℕ, Result, Ok, Err, OnOk, codes, cause_words}
 use Rattle.pie_event.specs.CauseName.{cause_names}
-use Rattle.pie_summary.specs.Words.{cause_rows, cause_words}
+use Rattle.pie_summary.specs.Words.{cause_rows}
 use Rattle.pie_summary.proofs.words.push_causes.Goals as goal
 
 -- a text, and then another

@@ -1,4 +1,4 @@
-use Rattle.std.proofs.Common.{ap, ◌∙◌, refl}
+use Rattle.pie_book.proofs.Names.{ap, ◌∙◌, refl}
 use Rattle.pie_book.specs.Types.{Event}
 use Rattle.pie_book.proofs.CoreFacts.{next-decided, next-shows}
 use Rattle.pie_book.proofs.deciding_core.Core.advance.Goals as goal

@@ -1,4 +1,4 @@
-use Rattle.std.proofs.Common.{◌≡◌, ap, sym, length}
+use Rattle.pie_book.proofs.Names.{◌≡◌, ap, sym, length}
 use Rattle.pie_event.specs.declared.command.Command.TheVariants.{Arrive}
 use Rattle.pie_book.specs.Core.{CoreView}
 use Rattle.pie_book.proofs.CoreFacts.{cause-is}

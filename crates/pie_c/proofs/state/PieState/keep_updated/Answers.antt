@@ -1,5 +1,4 @@
-use Rattle.std.proofs.Common.{rules}
-use Rattle.pie_aqm.specs.Held.{held_by}
+use Rattle.pie_c.proofs.Names.{rules, held_by}
 use Rattle.pie_c.proofs.Sound.{kept-updated}
 use Rattle.pie_c.proofs.state.PieState.keep_updated.Goals as goal
 

@@ -1,4 +1,5 @@
-use Rattle.std.proofs.Common.{◌≡◌, ◌∙◌, rules}
+use Rattle.pie_early.proofs.Names.{◌≡◌, ◌∙◌}
+use Rattle.std.proofs.Common.{rules}
 use Rattle.pie_early.proofs.Laws.{accumulated-run}
 use Rattle.pie_early.proofs.early.Early.accu.Goals as goal
 

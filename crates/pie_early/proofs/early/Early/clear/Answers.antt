@@ -1,4 +1,4 @@
-use Rattle.pie_early.specs.Events.{cleared}
+use Rattle.pie_early.proofs.Names.{cleared}
 use Rattle.pie_early.proofs.Laws.{shows-next}
 use Rattle.pie_early.proofs.early.Early.clear.Goals as goal
 

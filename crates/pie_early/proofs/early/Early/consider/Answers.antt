@@ -1,7 +1,6 @@
 -- The decision by the registers' numbers is that by the registers.
-use Rattle.std.proofs.Common.{◌≡◌}
+use Rattle.pie_early.proofs.Names.{◌≡◌, accu_after, choice_of, counted}
 use Rattle.pie_early.specs.declared.decision.Decision.{Decision}
-use Rattle.pie_early.specs.Decision.{accu_after, choice_of, counted}
 use Rattle.pie_early.proofs.Arrivals.{accu_below, shows_arrival}
 use Rattle.pie_early.proofs.Picking.{grown, picked}
 use Rattle.pie_early.proofs.early.Early.consider.Goals as goal

@@ -1,5 +1,4 @@
-use Rattle.std.proofs.Common.{refl}
-use Rattle.pie_early.specs.History.{accumulated}
+use Rattle.pie_early.proofs.Names.{refl, accumulated}
 use Rattle.pie_early.proofs.early.Early.opened.Goals as goal
 
 pub returns-clause-shows : goal.returns-clause-shows

@@ -1,4 +1,4 @@
-use Rattle.pie_event.specs.declared.command.Command.TheVariants.{Depart}
+use Rattle.pie_kept.proofs.Names.{Depart}
 use Rattle.pie_kept.proofs.Places.{is_one_of, one_of}
 use Rattle.pie_kept.proofs.vectors.DeparturesBurst.command.Goals as goal
 

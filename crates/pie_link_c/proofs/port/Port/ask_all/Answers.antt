@@ -1,4 +1,5 @@
-use Rattle.std.proofs.Common.{◌≡◌, [], inl, inr, rules, subst, sym, ◌∙◌, refl}
+use Rattle.pie_link_c.proofs.Names.{◌≡◌, [], subst, sym, ◌∙◌, refl}
+use Rattle.std.proofs.Common.{inl, inr, rules}
 use Rattle.pie_link_c.specs.declared.burst.Asking.{Asking}
 use Rattle.pie_link_c.specs.Bursts.{IsTriedAll, goes_on_after}
 use Rattle.pie_link_c.proofs.Bursting.{answered, begun, not_tried}

@@ -1,4 +1,4 @@
-use Rattle.std.proofs.Common.{[], ◌∷◌, ◌++◌, Some, ap, sym, ◌∙◌, subst}
+use Rattle.pie_lock.proofs.Names.{[], ◌∷◌, ◌++◌, Some, ap, sym, ◌∙◌, subst}
 use Rattle.pie_lock.proofs.Opening.{opens}
 use Rattle.pie_lock.proofs.lock.RuledLock.new.Goals as goal
 

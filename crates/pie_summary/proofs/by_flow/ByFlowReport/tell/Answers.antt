@@ -1,6 +1,5 @@
-use Rattle.std.proofs.Common.{◌∙◌}
-use Rattle.pie_summary.specs.ByFlow.{ended_by_flow, flow_header, flows_at}
-use Rattle.pie_summary.specs.Period.{begins, last_events}
+use Rattle.pie_summary.proofs.Names.{◌∙◌, flow_header, begins, last_events}
+use Rattle.pie_summary.specs.ByFlow.{ended_by_flow, flows_at}
 use Rattle.pie_summary.proofs.WrittenFacts.{written-push}
 use Rattle.pie_summary.proofs.by_flow.ByFlowReport.tell.Goals as goal
 

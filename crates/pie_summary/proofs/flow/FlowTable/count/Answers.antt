@@ -1,5 +1,4 @@
-use Rattle.std.proofs.Common.{filter}
-use Rattle.pie_summary.specs.FlowSums.{is_of}
+use Rattle.pie_summary.proofs.Names.{filter, is_of}
 use Rattle.pie_summary.proofs.FlowFacts.{flow-taken}
 use Rattle.pie_summary.proofs.flow.FlowTable.count.Goals as goal
 

@@ -1,6 +1,4 @@
-use Rattle.std.proofs.Common.{ℕ, List, [], sym, subst}
-use Rattle.pie_summary.specs.declared.flow.Flow.{Flow}
-use Rattle.pie_summary.specs.Flows.{HasFlows}
+use Rattle.pie_summary.proofs.Names.{ℕ, List, [], sym, subst, Flow, HasFlows}
 use Rattle.pie_summary.proofs.FlowFacts.{none-shown}
 use Rattle.pie_summary.proofs.flow.FlowTable.empty.Goals as goal
 

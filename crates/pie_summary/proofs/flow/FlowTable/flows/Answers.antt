@@ -1,6 +1,4 @@
-use Rattle.std.proofs.Common.{◌∙◌, ap}
-use Rattle.std.specs.Map.{values_of}
-use Rattle.pie_summary.specs.Flows.{flows_in}
+use Rattle.pie_summary.proofs.Names.{◌∙◌, ap, values_of, flows_in}
 use Rattle.pie_summary.proofs.FlowFacts.{values-rows}
 use Rattle.pie_summary.proofs.flow.FlowTable.flows.Goals as goal
 

@@ -1,4 +1,4 @@
-use Rattle.std.proofs.Common.{◌∙◌, ap}
+use Rattle.pie_summary.proofs.Names.{◌∙◌, ap}
 use Rattle.pie_summary.proofs.FlowFacts.{found-is, sums_found}
 use Rattle.pie_summary.proofs.flow.FlowTable.sums_of.Goals as goal
 

@@ -1,7 +1,4 @@
-use Rattle.std.proofs.Common.{◌∙◌, ap, subst, sym}
-use Rattle.pie_summary.specs.ByFlow.{HoldsFlows}
-use Rattle.pie_summary.specs.Flows.{HasFlows}
-use Rattle.pie_summary.specs.Spans.{span_of}
+use Rattle.pie_summary.proofs.Names.{◌∙◌, ap, subst, sym, HoldsFlows, HasFlows, span_of}
 use Rattle.pie_summary.proofs.PeriodFacts.{since-begun, since-same}
 use Rattle.pie_summary.proofs.flow_period.FlowPeriod.begin.Goals as goal
 

@@ -1,9 +1,5 @@
-use Rattle.std.proofs.Common.{ℕ, ◌∙◌, ap, Some, subst, sym}
-use Rattle.std.specs.Prelude.{Err, Ok, OnOk, Result}
-use Rattle.pie_summary.specs.ByFlow.{HoldsFlows}
-use Rattle.pie_summary.specs.Flows.{HasFlows}
-use Rattle.pie_summary.specs.Period.{period_at, since}
-use Rattle.pie_summary.specs.Spans.{span_of}
+use Rattle.pie_summary.proofs.Names.{ℕ, ◌∙◌, ap, subst, sym, Err, Ok, OnOk, Result, HoldsFlows, HasFlows, period_at, since, span_of}
+use Rattle.std.proofs.Common.{Some}
 use Rattle.pie_summary.proofs.PeriodFacts.{last_events-push, last_period-push}
 use Rattle.pie_summary.proofs.flow_period.FlowPeriod.take.Goals as goal
 

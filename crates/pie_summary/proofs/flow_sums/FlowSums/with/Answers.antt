@@ -1,5 +1,4 @@
-use Rattle.std.proofs.Common.{◌∙◌}
-use Rattle.pie_summary.specs.FlowSums.{together}
+use Rattle.pie_summary.proofs.Names.{◌∙◌, together}
 use Rattle.pie_summary.proofs.FlowSumsFacts.{flow_sums-push}
 use Rattle.pie_summary.proofs.flow_sums.FlowSums.with.Goals as goal
 

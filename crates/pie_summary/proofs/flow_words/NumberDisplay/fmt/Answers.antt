@@ -1,6 +1,5 @@
-use Rattle.std.proofs.Common.{refl}
+use Rattle.pie_summary.proofs.Names.{refl, flow_text}
 use Rattle.std.proofs.Output.{has_written_of_eq}
-use Rattle.pie_summary.specs.FlowWords.{flow_text}
 use Rattle.pie_summary.proofs.FlowSumsFacts.{eight-digits}
 use Rattle.pie_summary.proofs.flow_words.NumberDisplay.fmt.Goals as goal
 

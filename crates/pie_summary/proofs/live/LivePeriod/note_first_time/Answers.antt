@@ -1,7 +1,4 @@
-use Rattle.std.proofs.Common.{ap, ◌∙◌, [], ◌++◌}
-use Rattle.std.specs.List.{cons_option}
-use Rattle.pie_explain.specs.Choice.{time_of}
-use Rattle.pie_summary.specs.Sums.{timed_by}
+use Rattle.pie_summary.proofs.Names.{ap, ◌∙◌, [], ◌++◌, cons_option, time_of, timed_by}
 use Rattle.pie_summary.proofs.live.LivePeriod.note_first_time.Goals as goal
 
 pub returns-clause-noted : goal.returns-clause-noted

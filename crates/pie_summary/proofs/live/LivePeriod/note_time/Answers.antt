@@ -1,6 +1,4 @@
-use Rattle.std.proofs.Common.{arith}
-use Rattle.pie_explain.specs.Choice.{time_of}
-use Rattle.pie_summary.specs.Live.{clock_of}
+use Rattle.pie_summary.proofs.Names.{arith, time_of, clock_of}
 use Rattle.pie_summary.proofs.LiveFacts.{untold}
 use Rattle.pie_summary.proofs.SumsFacts.{times-kept}
 use Rattle.pie_summary.proofs.live.LivePeriod.note_time.Goals as goal

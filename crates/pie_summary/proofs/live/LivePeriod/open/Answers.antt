@@ -1,8 +1,4 @@
-use Rattle.std.proofs.Common.{arith, refl}
-use Rattle.pie_aqm.specs.Places.{last_or, places}
-use Rattle.pie_summary.specs.Sums.{meter_of}
-use Rattle.pie_summary.specs.Ranges.{range_of, ranges_of}
-use Rattle.pie_summary.specs.Sums.{waits_of}
+use Rattle.pie_summary.proofs.Names.{arith, refl, last_or, places, meter_of, range_of, ranges_of, waits_of}
 use Rattle.pie_summary.proofs.CountFacts.{none-counted}
 use Rattle.pie_summary.proofs.live.LivePeriod.open.Goals as goal
 

@@ -1,7 +1,5 @@
-use Rattle.std.proofs.Common.{◌∙◌}
+use Rattle.pie_summary.proofs.Names.{◌∙◌, length_of, last_events}
 use Rattle.std.specs.Prelude.{◌==◌}
-use Rattle.pie_summary.specs.Live.{length_of}
-use Rattle.pie_summary.specs.Period.{last_events}
 use Rattle.pie_summary.proofs.LiveFacts.{said-live}
 use Rattle.pie_summary.proofs.live.LivePeriod.put_record.Goals as goal
 

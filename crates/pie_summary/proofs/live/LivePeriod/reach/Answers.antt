@@ -1,6 +1,4 @@
-use Rattle.std.proofs.Common.{◌∙◌, ap, sym}
-use Rattle.pie_summary.specs.Live.{length_of}
-use Rattle.pie_summary.specs.Period.{period_at, period_of}
+use Rattle.pie_summary.proofs.Names.{◌∙◌, ap, sym, length_of, period_at, period_of}
 use Rattle.pie_summary.proofs.LiveFacts.{awaits-same, both-ends, not-started}
 use Rattle.pie_summary.proofs.live.LivePeriod.reach.Goals as goal
 

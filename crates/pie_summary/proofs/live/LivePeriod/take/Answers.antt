@@ -1,11 +1,5 @@
-use Rattle.std.proofs.Common.{List, ◌∷◌, [], ◌++◌, ◌∙◌, ap, subst, sym}
-use Rattle.std.specs.Prelude.{Some}
-use Rattle.pie_explain.specs.Choice.{time_of}
-use Rattle.pie_explain.specs.declared.explanation.Explained.{Explained}
-use Rattle.pie_summary.specs.declared.live.LivePeriod.{LivePeriod}
-use Rattle.pie_summary.specs.declared.noted.Noted.{Noted}
-use Rattle.pie_summary.specs.Live.{Holds, length_of}
-use Rattle.pie_summary.specs.Period.{period_at, since}
+use Rattle.pie_summary.proofs.Names.{List, ◌∷◌, [], ◌++◌, ◌∙◌, ap, subst, sym, Some, time_of, Explained, LivePeriod, Noted, Holds, length_of}
+use Rattle.pie_summary.proofs.Names.{period_at, since}
 use Rattle.pie_summary.proofs.LiveFacts.{clock-same, holds-taken}
 use Rattle.pie_summary.proofs.SumsFacts.{awaited, noted-times, waits-push}
 use Rattle.pie_summary.proofs.live.LivePeriod.take.Goals as goal

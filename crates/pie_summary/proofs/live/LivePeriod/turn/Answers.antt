@@ -1,8 +1,4 @@
-use Rattle.std.proofs.Common.{[], ◌≡◌, ◌∙◌, ◌/◌, ◌*◌, ◌≤◌, arith, ℕ, ap, refl, sym}
-use Rattle.std.specs.Prelude.{max}
-use Rattle.pie_summary.specs.Live.{number_in}
-use Rattle.pie_summary.specs.Period.{starts}
-use Rattle.pie_summary.specs.Sums.{meter_of}
+use Rattle.pie_summary.proofs.Names.{[], ◌≡◌, ◌∙◌, ◌/◌, ◌*◌, ◌≤◌, arith, ℕ, ap, refl, sym, max, number_in, starts, meter_of}
 use Rattle.pie_summary.proofs.LiveFacts.{awaits-new, awaits-same, within-period}
 use Rattle.pie_summary.proofs.live.LivePeriod.turn.Goals as goal
 

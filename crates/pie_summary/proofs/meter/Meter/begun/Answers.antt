@@ -1,6 +1,4 @@
-use Rattle.std.proofs.Common.{[]}
-use Rattle.pie_aqm.specs.Places.{greatest, last_or, places}
-use Rattle.pie_summary.specs.Sums.{meter_of}
+use Rattle.pie_summary.proofs.Names.{[], greatest, last_or, places, meter_of}
 use Rattle.pie_summary.proofs.meter.Meter.begun.Goals as goal
 
 pub returns : goal.returns

@@ -1,7 +1,4 @@
-use Rattle.std.proofs.Common.{[], ◌++◌, ◌∙◌, ap, sym, ℕ}
-use Rattle.std.specs.List.{cons_option}
-use Rattle.std.specs.Prelude.{Option}
-use Rattle.pie_summary.specs.Sums.{timed_by}
+use Rattle.pie_summary.proofs.Names.{[], ◌++◌, ◌∙◌, ap, sym, ℕ, cons_option, Option, timed_by}
 use Rattle.pie_summary.proofs.SumsFacts.{time-noted, times-kept}
 use Rattle.pie_summary.proofs.meter.Meter.note_time.Goals as goal
 

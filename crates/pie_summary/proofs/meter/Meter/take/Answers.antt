@@ -1,14 +1,7 @@
-use Rattle.std.proofs.Common.{◌≡◌, ◌-◌, ◌∷◌, [], ◌++◌, ◌∙◌, ap, length, map, sym, List, ℕ}
-use Rattle.std.specs.List.{filter_map, sum}
-use Rattle.std.specs.Prelude.{slice_index, unwrap_or}
-use Rattle.std.proofs.lemmas.List.Elements.{filter_map-append}
-use Rattle.pie_aqm.specs.Places.{greatest, last_or, places}
-use Rattle.pie_summary.specs.declared.meter.Meter.{Meter}
-use Rattle.pie_summary.specs.declared.noted.Noted.{Noted}
-use Rattle.pie_summary.specs.Counts.{kept}
-use Rattle.pie_summary.specs.Spans.{bounds_of, moment_at, peak_of, total_of}
-use Rattle.pie_summary.specs.Sums.{above_in, answer_of, carried_in, cause_of, delay_in, excess_in, excess_within, late_at, left_at, meter_of}
-use Rattle.pie_summary.specs.Sums.{size_in, turned_off, turned_on, wait_in}
+use Rattle.pie_summary.proofs.Names.{◌≡◌, ◌-◌, ◌∷◌, [], ◌++◌, ◌∙◌, ap, length, map, sym, List, ℕ, filter_map, sum, slice_index, unwrap_or}
+use Rattle.pie_summary.proofs.Names.{filter_map-append, greatest, last_or, places, Meter, Noted, kept, bounds_of, moment_at, peak_of, total_of}
+use Rattle.pie_summary.proofs.Names.{cause_of, late_at, meter_of, size_in, wait_in}
+use Rattle.pie_summary.specs.Sums.{above_in, answer_of, carried_in, delay_in, excess_in, excess_within, left_at, turned_off, turned_on}
 use Rattle.pie_summary.proofs.CountFacts.{counted-among, counted-push}
 use Rattle.pie_summary.proofs.SpanFacts.{count-some, each-of-push, since-push, some-of-push}
 use Rattle.pie_summary.proofs.SumsFacts.{last-push, place_of, places-push, sum-push}

@@ -1,7 +1,4 @@
-use Rattle.std.proofs.Common.{◌∙◌, ap, sym}
-use Rattle.std.specs.Prelude.{Some}
-use Rattle.pie_event.specs.Verdict.{answer_of}
-use Rattle.pie_summary.specs.declared.noted.Noted.{Noted}
+use Rattle.pie_summary.proofs.Names.{◌∙◌, ap, sym, Some, answer_of, Noted}
 use Rattle.pie_summary.proofs.NotedFacts.{arrival-noted, noted-by}
 use Rattle.pie_summary.proofs.noted.Met.arrived.Goals as goal
 

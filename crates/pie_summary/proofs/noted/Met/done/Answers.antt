@@ -1,5 +1,4 @@
-use Rattle.std.proofs.Common.{◌∙◌}
-use Rattle.pie_event.specs.declared.command.Answer.TheVariants.{Done}
+use Rattle.pie_summary.proofs.Names.{◌∙◌, Done}
 use Rattle.pie_summary.proofs.NotedFacts.{other-noted}
 use Rattle.pie_summary.proofs.noted.Met.done.Goals as goal
 

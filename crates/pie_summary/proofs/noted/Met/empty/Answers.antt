@@ -1,5 +1,4 @@
-use Rattle.std.proofs.Common.{◌∙◌}
-use Rattle.pie_event.specs.declared.command.Answer.TheVariants.{Empty}
+use Rattle.pie_summary.proofs.Names.{◌∙◌, Empty}
 use Rattle.pie_summary.proofs.NotedFacts.{other-noted}
 use Rattle.pie_summary.proofs.noted.Met.empty.Goals as goal
 

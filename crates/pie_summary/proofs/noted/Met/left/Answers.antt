@@ -1,7 +1,4 @@
-use Rattle.std.proofs.Common.{ℕ, ◌∙◌, ap, sym}
-use Rattle.std.specs.Prelude.{Some}
-use Rattle.pie_event.specs.declared.command.Answer.TheVariants.{Left}
-use Rattle.pie_summary.specs.Sums.{excess_by}
+use Rattle.pie_summary.proofs.Names.{ℕ, ◌∙◌, ap, sym, Some, Left, excess_by}
 use Rattle.pie_summary.proofs.NotedFacts.{other-noted}
 use Rattle.pie_summary.proofs.noted.Met.left.Goals as goal
 

@@ -1,6 +1,4 @@
-use Rattle.std.proofs.Common.{ℕ, ◌∙◌, ap}
-use Rattle.pie_event.specs.declared.command.Answer.TheVariants.{Updated}
-use Rattle.pie_summary.specs.Sums.{above_by}
+use Rattle.pie_summary.proofs.Names.{ℕ, ◌∙◌, ap, Updated, above_by}
 use Rattle.pie_summary.proofs.NotedFacts.{other-noted}
 use Rattle.pie_summary.proofs.noted.Met.updated.Goals as goal
 

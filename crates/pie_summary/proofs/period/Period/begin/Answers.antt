@@ -1,6 +1,4 @@
-use Rattle.std.proofs.Common.{◌∙◌, ap, subst, sym}
-use Rattle.pie_summary.specs.Summary.{HoldsSums}
-use Rattle.pie_summary.specs.Sums.{sums_of, waits_of}
+use Rattle.pie_summary.proofs.Names.{◌∙◌, ap, subst, sym, HoldsSums, sums_of, waits_of}
 use Rattle.pie_summary.proofs.PeriodFacts.{since-begun, since-same}
 use Rattle.pie_summary.proofs.period.Period.begin.Goals as goal
 

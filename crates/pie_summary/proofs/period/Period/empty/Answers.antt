@@ -1,6 +1,4 @@
-use Rattle.std.proofs.Common.{refl, ◌∙◌}
-use Rattle.pie_summary.specs.Ranges.{range_of, ranges_of}
-use Rattle.pie_summary.specs.Sums.{waits_of}
+use Rattle.pie_summary.proofs.Names.{refl, ◌∙◌, range_of, ranges_of, waits_of}
 use Rattle.pie_summary.proofs.CountFacts.{none-counted}
 use Rattle.pie_summary.proofs.period.Period.empty.Goals as goal
 

@@ -1,7 +1,5 @@
-use Rattle.std.proofs.Common.{ℕ, ◌∙◌, ap, Some, subst, sym}
-use Rattle.pie_summary.specs.Period.{period_at, since}
-use Rattle.pie_summary.specs.Summary.{HoldsSums}
-use Rattle.pie_summary.specs.Sums.{sums_of, waits_of}
+use Rattle.pie_summary.proofs.Names.{ℕ, ◌∙◌, ap, subst, sym, period_at, since, HoldsSums, sums_of, waits_of}
+use Rattle.std.proofs.Common.{Some}
 use Rattle.pie_summary.proofs.PeriodFacts.{last_events-push, last_period-push}
 use Rattle.pie_summary.proofs.SumsFacts.{waits-push}
 use Rattle.pie_summary.proofs.period.Period.take.Goals as goal

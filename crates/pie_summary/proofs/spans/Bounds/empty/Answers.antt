@@ -1,5 +1,4 @@
-use Rattle.std.proofs.Common.{refl}
-use Rattle.pie_aqm.specs.Places.{greatest, last_or}
+use Rattle.pie_summary.proofs.Names.{refl, greatest, last_or}
 use Rattle.pie_summary.proofs.spans.Bounds.empty.Goals as goal
 
 pub returns : goal.returns

@@ -1,6 +1,5 @@
-use Rattle.std.proofs.Common.{ap, refl}
+use Rattle.pie_summary.proofs.Names.{ap, refl, bounds_of, moment_at, time_at}
 use Rattle.pie_summary.specs.declared.spans.Span.{Span}
-use Rattle.pie_summary.specs.Spans.{bounds_of, moment_at, time_at}
 use Rattle.pie_summary.proofs.SpanFacts.{each-of-push, some-of-push}
 use Rattle.pie_summary.proofs.spans.Span.take.Goals as goal
 

@@ -1,5 +1,5 @@
-use Rattle.pie_summary.specs.Period.{last_events}
-use Rattle.pie_summary.specs.Summary.{said, said_of, summaries}
+use Rattle.pie_summary.proofs.Names.{last_events, said_of}
+use Rattle.pie_summary.specs.Summary.{said, summaries}
 use Rattle.pie_summary.proofs.WrittenFacts.{written-end}
 use Rattle.pie_summary.proofs.summary.SummaryReport.end.Goals as goal
 

@@ -1,6 +1,5 @@
-use Rattle.std.proofs.Common.{◌++◌, ◌∙◌, ap, append_assoc}
-use Rattle.pie_summary.specs.Period.{begins}
-use Rattle.pie_summary.specs.Summary.{ended, header, noted, written_at}
+use Rattle.pie_summary.proofs.Names.{◌++◌, ◌∙◌, ap, append_assoc, begins, header, noted}
+use Rattle.pie_summary.specs.Summary.{ended, written_at}
 use Rattle.pie_summary.proofs.WrittenFacts.{written-push}
 use Rattle.pie_summary.proofs.summary.SummaryReport.tell.Goals as goal
 

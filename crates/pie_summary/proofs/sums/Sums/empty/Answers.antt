@@ -1,5 +1,4 @@
-use Rattle.pie_aqm.specs.Places.{last_or, places}
-use Rattle.pie_summary.specs.Sums.{meter_of, sums_of}
+use Rattle.pie_summary.proofs.Names.{last_or, places, meter_of, sums_of}
 use Rattle.pie_summary.proofs.sums.Sums.empty.Goals as goal
 
 pub returns : goal.returns

@@ -1,6 +1,4 @@
-use Rattle.std.proofs.Common.{ap, sym, ◌∙◌}
-use Rattle.pie_summary.specs.declared.sums.Sums.{Sums}
-use Rattle.pie_summary.specs.Sums.{sums_of}
+use Rattle.pie_summary.proofs.Names.{ap, sym, ◌∙◌, Sums, sums_of}
 use Rattle.pie_summary.proofs.SumsFacts.{reached-later, reached-none}
 use Rattle.pie_summary.proofs.sums.Sums.reach.Goals as goal
 

@@ -1,9 +1,5 @@
-use Rattle.std.proofs.Common.{ap, sym, ◌∙◌}
-use Rattle.pie_explain.specs.Choice.{time_of}
-use Rattle.pie_summary.specs.declared.noted.Noted.{Noted}
-use Rattle.pie_summary.specs.declared.sums.Sums.{Sums}
-use Rattle.pie_summary.specs.Spans.{bounds_of}
-use Rattle.pie_summary.specs.Sums.{off_time, on_time, sums_of, time_where}
+use Rattle.pie_summary.proofs.Names.{ap, sym, ◌∙◌, time_of, Noted, Sums, bounds_of, sums_of}
+use Rattle.pie_summary.specs.Sums.{off_time, on_time, time_where}
 use Rattle.pie_summary.proofs.SpanFacts.{some-of-push}
 use Rattle.pie_summary.proofs.SumsFacts.{awaited}
 use Rattle.pie_summary.proofs.sums.Sums.take.Goals as goal

@@ -3,7 +3,7 @@ use Rattle.std.specs.Prelude.{ℕ, Bool, true, false, not, ◌&&◌, ◌||◌, O
 use Rattle.pie_event.specs.declared.command.Event.{Event}
 use Rattle.pie_record.specs.declared.clock.Clock.{Clock}
 use Rattle.pie_record.specs.Clock.{unix_at}
-use Rattle.pie_explain.specs.declared.choice.Choice.{Choice}
+use Rattle.pie_explain.specs.declared.selection.Selection.{Selection}
 use Rattle.pie_units.specs.declared.when.When.{When}
 use Rattle.pie_units.specs.declared.when.When.TheVariants.{Moment, Unix}
 use Rattle.pie_explain.specs.Which.{chooses}
@@ -28,13 +28,13 @@ is_to (Some (Unix last)) moment (Some time) = nat_le time last
 is_to (Some (Unix last)) moment None = false
 
 -- it is wanted
-abbrev pub is_within : Choice → ℕ → Option ℕ → Bool
+abbrev pub is_within : Selection → ℕ → Option ℕ → Bool
 is_within choice moment time = is_from choice.from moment time && is_to choice.to moment time
 
 -- the event with this number and this effective moment is explained, where this is the last record before it that tells the time of day
-abbrev pub picks : Choice → ℕ → ℕ → Option Clock → Event → Bool
+abbrev pub picks : Selection → ℕ → ℕ → Option Clock → Event → Bool
 picks choice number moment clock event = chooses choice.which number event && is_within choice moment (time_of clock moment)
 
 -- every moment is wanted
-abbrev pub is_whole : Choice → Bool
+abbrev pub is_whole : Selection → Bool
 is_whole choice = not (is_some choice.from || is_some choice.to)

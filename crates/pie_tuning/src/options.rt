@@ -7,7 +7,7 @@ use pie_params::{Decay, Delay, Elements, Params, Picking, RawParams, Size, Step}
 
 /// What is asked for.
 #[derive(Clone, Copy, Debug, PartialEq, Eq)]
-pub struct Asked {
+pub struct TuningOptions {
     /// The link's rate, in bits a second; 0 where it isn't known.
     pub rate: u64,
     /// The reference queueing delay, in nanoseconds.
@@ -89,7 +89,7 @@ fn size_for(bytemode: bool) -> Size
 }
 
 /// RFC 8033's optional elements of what is asked for, as `tc` and ns-3 have them.
-pub fn elements_for(asked: &Asked) -> Elements
+pub fn elements_for(asked: &TuningOptions) -> Elements
     ensures { result ≡ elements_for asked.now }
 {
     Elements {
@@ -103,7 +103,7 @@ pub fn elements_for(asked: &Asked) -> Elements
 
 /// The nine parameters of what is asked for. Those that `tc` has no option for are the defaults at the link's rate, but for `mean_pkt`, which is
 /// the MTU in `bytemode`. Packets are marked up to the default, or never.
-pub fn params_for(asked: &Asked) -> RawParams
+pub fn params_for(asked: &TuningOptions) -> RawParams
     ensures { result ≡ params_for asked.now }
 {
     let usual = Params::for_rate(asked.rate).raw();
@@ -133,7 +133,7 @@ pub fn is_short(rate: u64, params: &RawParams) -> bool
 
 /// Whether the departure rate's estimator, where it is asked for, can stall at this rate: `dq_threshold` is above half of what waits where the
 /// queue is at the target, so a cycle may not begin for long, and the estimate stands still (RFC 8033, section 5.2).
-pub fn can_stall(asked: &Asked, params: &RawParams) -> bool
+pub fn can_stall(asked: &TuningOptions, params: &RawParams) -> bool
     ensures { result ≡ can_stall asked.now params.now }
 {
     let wanted = u128::from(asked.rate) * u128::from(params.target);

@@ -1,6 +1,6 @@
 //! Which events are explained: those that are chosen, at the moments that are wanted.
 ghost use Rattle.std.specs.Prelude.{◌≡◌};
-ghost use Rattle.pie_explain.specs.Choice.{is_from, is_to, time_of};
+ghost use Rattle.pie_explain.specs.Selection.{is_from, is_to, time_of};
 
 use crate::which::Which;
 use pie_book::Event;
@@ -9,7 +9,7 @@ use pie_units::When;
 
 /// Which events of a history are explained.
 #[derive(Clone, Copy, Debug, PartialEq, Eq)]
-pub struct Choice {
+pub struct Selection {
     /// Which events are chosen.
     pub which: Which,
     /// The first effective moment or time of day that is wanted; none where every earlier one is.
@@ -53,15 +53,15 @@ pub fn is_to(last: Option<When>, moment: u64, time: Option<u64>) -> bool
     }
 }
 
-impl Choice {
+impl Selection {
     ghost use Rattle.std.specs.Prelude.{None};
-    ghost use Rattle.pie_explain.specs.Choice.{is_whole, is_within, picks};
+    ghost use Rattle.pie_explain.specs.Selection.{is_whole, is_within, picks};
 
     /// These events, at every moment.
-    pub fn of(which: Which) -> Choice
+    pub fn of(which: Which) -> Selection
         ensures { result ≡ record { which = which; from = None; to = None } }
     {
-        Choice {
+        Selection {
             which,
             from: None,
             to: None,

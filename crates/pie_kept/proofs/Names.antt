@@ -1,0 +1,29 @@
+-- What the files of this folder take from below, in one place.
+pub use Rattle.std.proofs.Common.{Bool, Err, List, None, Ok, Option, Result, Some, [], ap, append_assoc, arith, drop, false, length, length-append}
+pub use Rattle.std.proofs.Common.{length-drop, refl, rules, subst, suc, sym, take, true, ℕ, ◌++◌, ◌+◌, ◌-◌, ◌<◌, ◌∙◌, ◌∷◌, ◌≡◌, ◌≤◌}
+pub use Rattle.std.proofs.lemmas.Bool.Decides.{nat_tests}
+pub use Rattle.std.proofs.lemmas.List.{append-nil}
+pub use Rattle.std.specs.Prelude.{IsOk, if◌then◌else◌}
+pub use Rattle.pie_book.specs.Book.{BookView, Tells}
+pub use Rattle.pie_book.specs.Decision.{decision}
+unfoldable pub use Rattle.pie_book.specs.Estimates.{held_after}
+unfoldable pub use Rattle.pie_book.specs.History.{waiting_after}
+pub use Rattle.pie_event.specs.declared.command.Answer.{Answer}
+pub use Rattle.pie_event.specs.declared.command.Answer.TheVariants.{Empty}
+pub use Rattle.pie_event.specs.declared.command.Command.{Command}
+pub use Rattle.pie_event.specs.declared.command.Command.TheVariants.{Arrive, Depart}
+pub use Rattle.pie_event.specs.declared.command.Event.{Event}
+pub use Rattle.pie_event.specs.declared.opening.Mode.TheVariants.{Bounded}
+pub use Rattle.pie_event.specs.declared.opening.Opening.{Opening}
+pub use Rattle.pie_event.specs.declared.refusal.FoldRefusal.{FoldRefusal}
+pub use Rattle.pie_event.specs.declared.refusal.FoldRefusal.TheVariants.{TooMany}
+pub use Rattle.pie_event.specs.declared.refusal.Refusal.{Refusal}
+pub use Rattle.pie_kept.specs.Bursts.{Reply, answer_bytes, asked_bytes, departed_bytes, entries_by, fits, refused_or_told, reply_in}
+unfoldable pub use Rattle.pie_kept.specs.Bursts.{entries_to, entries_within, replies_to, replies_within}
+pub use Rattle.pie_kept.specs.Commands.{IsDecided, refusal_in}
+pub use Rattle.pie_kept.specs.Entries.{events_in, folded_in, handed_out, left_in, left_when_rolling, tail_in}
+pub use Rattle.pie_kept.specs.Excerpts.{IsExcerptOf}
+pub use Rattle.pie_kept.specs.Folds.{IsWhyNotFolded}
+pub use Rattle.pie_kept.specs.Kept.{IsKept, KeptView, TellsEntries}
+pub use Rattle.pie_kept.specs.declared.entry.Entry.{Entry}
+pub use Rattle.pie_kept.specs.declared.entry.Entry.TheVariants.{Folded, Made}

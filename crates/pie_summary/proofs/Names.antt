@@ -1,0 +1,52 @@
+-- What the files of this folder take from below, in one place.
+pub use Rattle.std.proofs.Common.{Bool, List, [], ap, append-nil, append_assoc, arith, cond, false, filter, length, lit≤, map, not, refl, rules}
+pub use Rattle.std.proofs.Common.{subst, suc, sym, true, zero, ℕ, ◌%◌, ◌*◌, ◌++◌, ◌+◌, ◌-◌, ◌/◌, ◌<◌, ◌==◌, ◌∙◌, ◌∷◌, ◌≡◌, ◌≤◌}
+pub use Rattle.std.proofs.lemmas.Bool.{eq-eqb, eqb-true, ne_eqb}
+pub use Rattle.std.proofs.lemmas.Bool.Decides.{nat_tests}
+pub use Rattle.std.proofs.lemmas.List.{map_push}
+pub use Rattle.std.proofs.lemmas.List.Elements.{filter_map-append}
+pub use Rattle.std.proofs.lemmas.List.Sums.{sum_by_push}
+unfoldable pub use Rattle.std.specs.Fmt.{digits}
+pub use Rattle.std.specs.List.{cons_option, filter_map, find, range_with_len, sum}
+pub use Rattle.std.specs.Map.{values_of}
+pub use Rattle.std.specs.Prelude.{Err, None, Ok, OnOk, Option, Result, Some, codes, count_by, if◌then◌else◌, max, min, nat_le, nat_lt, replicate}
+pub use Rattle.std.specs.Prelude.{slice_index, slice_set, take, unwrap_or, ⊤, ◌^◌}
+pub use Rattle.pie_aqm.proofs.Places.{greatest-push, last_or-push}
+pub use Rattle.pie_aqm.specs.Places.{Place}
+unfoldable pub use Rattle.pie_aqm.specs.Places.{greatest, last_or, places}
+unfoldable pub use Rattle.pie_event.specs.CauseName.{word_of_cause}
+pub use Rattle.pie_event.specs.Verdict.{answer_of}
+pub use Rattle.pie_event.specs.declared.command.Answer.{Answer}
+pub use Rattle.pie_event.specs.declared.command.Answer.TheVariants.{Done, Empty, Enqueued, Left, Updated}
+pub use Rattle.pie_event.specs.declared.command.Command.TheVariants.{Arrive, Depart, Update}
+pub use Rattle.pie_explain.specs.Selection.{time_of}
+pub use Rattle.pie_explain.specs.declared.explanation.Explained.{Explained}
+pub use Rattle.pie_explain.specs.declared.form.Form.TheVariants.{Csv, CsvByWall}
+pub use Rattle.pie_queue.specs.declared.ecn.Ecn.TheVariants.{NotEct}
+pub use Rattle.pie_queue.specs.declared.packet.Packet.{Packet}
+pub use Rattle.pie_summary.specs.ByFlow.{HoldsFlows, flow_header}
+pub use Rattle.pie_summary.specs.Counts.{kept}
+pub use Rattle.pie_summary.specs.FlowSums.{flow_sums, is_of, together}
+unfoldable pub use Rattle.pie_summary.specs.FlowSums.{added_up}
+unfoldable pub use Rattle.pie_summary.specs.FlowWords.{flow_text}
+pub use Rattle.pie_summary.specs.Flows.{HasFlows, first_of, flows_in, placed, sums_beside}
+unfoldable pub use Rattle.pie_summary.specs.Flows.{distinct, in_order}
+pub use Rattle.pie_summary.specs.Live.{Holds, clock_of, length_of, number_in}
+pub use Rattle.pie_summary.specs.Period.{begins, last_events, last_period, period_at, period_of, since, starts}
+pub use Rattle.pie_summary.specs.Ranges.{first_up_to}
+unfoldable pub use Rattle.pie_summary.specs.Ranges.{range_of, ranges_of}
+unfoldable pub use Rattle.pie_summary.specs.Record.{record_of}
+pub use Rattle.pie_summary.specs.Spans.{bounds_of, moment_at, peak_of, span_of, time_at, total_in, total_of}
+pub use Rattle.pie_summary.specs.Summary.{HoldsSums, said_of}
+unfoldable pub use Rattle.pie_summary.specs.Summary.{header, noted}
+pub use Rattle.pie_summary.specs.Sums.{above_by, cause_of, cause_place, excess_by, late_at, reached, size_in, timed_by, wait_in}
+unfoldable pub use Rattle.pie_summary.specs.Sums.{meter_of, sums_of, waits_of}
+unfoldable pub use Rattle.pie_summary.specs.Words.{cause_words}
+pub use Rattle.pie_summary.specs.declared.flow.Flow.{Flow}
+pub use Rattle.pie_summary.specs.declared.flow_sums.FlowSums.{FlowSums}
+pub use Rattle.pie_summary.specs.declared.live.LivePeriod.{LivePeriod}
+pub use Rattle.pie_summary.specs.declared.meter.Meter.{Meter}
+pub use Rattle.pie_summary.specs.declared.noted.Noted.{Noted}
+pub use Rattle.pie_summary.specs.declared.spans.Bounds.{Bounds}
+pub use Rattle.pie_summary.specs.declared.sums.Sums.{Sums}
+unfoldable pub use Rattle.pie_units.specs.Utc.{utc_text}

@@ -3,7 +3,7 @@
 # sends: so many runs (9) of both in turn, and of each the least, the median, the greatest and the ratio of the medians. Then bursts of 1, 8,
 # 32 and 128 packets by 1, 2, 3, 4 and 8 threads, but no more than there are processors, of which one sends: at the link, behind the mutex, and at
 # a book that one thread has alone. There an event is a packet that was queued or that left; where fewer than nine of ten packets were queued and
-# left the script fails.
+# left the script fails. A change is an event that follows on one of another thread.
 # usage: bench/pie_link.sh PIE_BENCH [RUNS]
 set -eu
 bench=$1
@@ -54,9 +54,9 @@ for burst in (1, 8, 32, 128):
     for threads in sys.argv[2:]:
         for place in ("link", "mutex"):
             name = f"burst_{place}_{burst}_threads_{threads}"
-            left = min(values[f"{name}_left"]) / 10
+            left, changes = min(values[f"{name}_left"]) / 10, median(f"{name}_changes")
             print(f"  {threads} threads, {place}: greatest {max(values[name]) / 1e6:.2f}, median {median(name) / 1e6:.2f} million events/s;"
-                  f" {left:.1f} % queued and left")
+                  f" {left:.1f} % queued and left, {changes:.0f} changes")
             if left < 90:
                 short.append(name)
         link, mutex = median(f"burst_link_{burst}_threads_{threads}"), median(f"burst_mutex_{burst}_threads_{threads}")

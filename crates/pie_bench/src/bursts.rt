@@ -1,7 +1,8 @@
 //! How many events a second bursts of packets make at a place, by threads that enqueue and one that sends.
 //!
 //! Only work that counts is counted: a packet that was queued, and one that left. So that packets are queued and leave, enqueuers hold back while many
-//! wait, and the sender while few do. Each measurement also says how many of a thousand packets were queued and left.
+//! wait, and the sender while few do. Each measurement also says how many of a thousand packets were queued and left, and how often an event was of
+//! another thread than the one before it.
 
 use crate::places::{Job, Place, Work, toil_at_once};
 use crate::report::Report;
@@ -48,6 +49,10 @@ pub trait Bursts {
 struct Room {
     arrivals: Vec<Arrival>,
     answers: Answers,
+    /// How many events followed on one of another thread.
+    changes: u64,
+    /// The number of the last event.
+    last: u64,
 }
 
 impl Room {
@@ -66,7 +71,12 @@ impl Room {
             });
         }
         match Vec::with_capacity(alloc, burst as usize) {
-            Ok(answers) => Ok(Room { arrivals, answers }),
+            Ok(answers) => Ok(Room {
+                arrivals,
+                answers,
+                changes: 0,
+                last: 0,
+            }),
             Err(why) => Err(why),
         }
     }
@@ -78,30 +88,35 @@ impl Room {
         }
         self.answers.clear();
         place.hand_in(rt, self.arrivals.as_slice(), &mut self.answers);
-        counted(&self.answers)
+        self.count()
     }
 
     /// Takes a burst out at this moment; the number is that of the packets that left.
     fn send<R: Wait, P: Bursts>(&mut self, rt: &R, place: &mut P, moment: u64) -> u64 {
         self.answers.clear();
         place.send(rt, moment, self.arrivals.len(), &mut self.answers);
-        counted(&self.answers)
+        self.count()
     }
-}
 
-/// How many packets were queued or left.
-fn counted(answers: &Answers) -> u64 {
-    let mut count: u64 = 0;
-    for answer in answers {
-        if let Ok(told) = answer {
-            let counts = matches!(
-                told.answer,
-                Answer::Enqueued | Answer::Marked | Answer::Left(_)
-            );
-            count = count.wrapping_add(u64::from(counts));
+    /// How many packets were queued or left; and counts the changes.
+    fn count(&mut self) -> u64 {
+        let (mut count, mut changes, mut last) = (0u64, self.changes, self.last);
+        for answer in &self.answers {
+            if let Ok(told) = answer {
+                let counts = matches!(
+                    told.answer,
+                    Answer::Enqueued | Answer::Marked | Answer::Left(_)
+                );
+                count = count.wrapping_add(u64::from(counts));
+                let follows = told.number == last.wrapping_add(1);
+                changes = changes.wrapping_add(u64::from(!follows));
+                last = told.number;
+            }
         }
+        self.changes = changes;
+        self.last = last;
+        count
     }
-    count
 }
 
 /// What the threads do, and how far they have come.
@@ -112,6 +127,7 @@ struct Course {
     enqueuers: u64,
     queued: AtomicU64,
     left: AtomicU64,
+    changes: AtomicU64,
     /// How many enqueuers have handed in all.
     ended: AtomicU64,
 }
@@ -124,6 +140,7 @@ impl Course {
             enqueuers: u64::from(many.threads).saturating_sub(1),
             queued: AtomicU64::new(0),
             left: AtomicU64::new(0),
+            changes: AtomicU64::new(0),
             ended: AtomicU64::new(0),
         }
     }
@@ -170,6 +187,7 @@ impl Course {
                 self.queued.fetch_add(queued, Ordering::SeqCst);
             }
         }
+        self.changes.fetch_add(room.changes, Ordering::SeqCst);
         if !job.sends {
             self.ended.fetch_add(1, Ordering::SeqCst);
         }
@@ -191,15 +209,27 @@ impl<P: Bursts + Drop> Work<P> for Course {
     }
 }
 
-/// One thread that has its place alone: a burst of packets, and then of departures, in turn. The numbers are of those that were queued, and that left.
-fn work_alone<R: Wait, P: Bursts>(rt: &R, place: &mut P, room: &mut Room) -> (u64, u64) {
+/// What was made: how many packets were queued, how many left, and how often an event was of another thread than the one before.
+#[derive(Clone, Copy)]
+struct Made {
+    queued: u64,
+    left: u64,
+    changes: u64,
+}
+
+/// One thread that has its place alone: a burst of packets, and then of departures, in turn.
+fn work_alone<R: Wait, P: Bursts>(rt: &R, place: &mut P, room: &mut Room) -> Made {
     let (mut queued, mut left) = (0u64, 0u64);
     for turn in 0..bursts_of(room.arrivals.len() as u64) {
         let moment = turn.wrapping_mul(BETWEEN);
         queued = queued.wrapping_add(room.hand_in(rt, place, moment));
         left = left.wrapping_add(room.send(rt, place, moment));
     }
-    (queued, left)
+    Made {
+        queued,
+        left,
+        changes: room.changes,
+    }
 }
 
 /// A measurement: so many threads, with bursts of so many packets.
@@ -210,22 +240,27 @@ pub struct Many {
 }
 
 impl Many {
-    /// Prints what was made since then, of so many packets that were queued and left.
+    /// Prints what was made since then.
     fn tell<R: Clock + Print>(
         self,
         report: &mut Report<R>,
         place: &'static str,
         start: Option<Instant>,
-        (queued, left): (u64, u64),
+        made: Made,
     ) {
         let Many { burst, threads } = self;
         let packets = u128::from(threads.max(2) - 1) * u128::from(PACKETS);
-        let rate = report.rate(start, queued.saturating_add(left));
-        let done = u128::from(queued.min(left)) * 1000 / packets.max(1);
+        let rate = report.rate(start, made.queued.saturating_add(made.left));
+        let done = u128::from(made.queued.min(made.left)) * 1000 / packets.max(1);
         let said = println!(report.rt; "burst_{place}_{burst}_threads_{threads} {rate} events/s");
         report.printed(said);
         let said = println!(report.rt;
             "burst_{place}_{burst}_threads_{threads}_left {done} per_mille"
+        );
+        report.printed(said);
+        let changes = made.changes;
+        let said = println!(report.rt;
+            "burst_{place}_{burst}_threads_{threads}_changes {changes} changes"
         );
         report.printed(said);
     }
@@ -263,11 +298,10 @@ pub fn time<R: Threads + Wait + Clock + Print + Sync, P: Bursts + Place + Send +
     }
     let course = Course::new(alloc, many);
     let start = toil_at_once(report, alloc, &mut place, many.threads, &course);
-    let queued = course.queued.load(Ordering::SeqCst);
-    many.tell(
-        report,
-        name,
-        start,
-        (queued, course.left.load(Ordering::SeqCst)),
-    );
+    let made = Made {
+        queued: course.queued.load(Ordering::SeqCst),
+        left: course.left.load(Ordering::SeqCst),
+        changes: course.changes.load(Ordering::SeqCst),
+    };
+    many.tell(report, name, start, made);
 }

@@ -38,20 +38,17 @@ pub use Rattle.pie_cut.specs.declared.joined.Joint.{Joint}
 pub use Rattle.pie_cut.specs.declared.joined.Joint.TheVariants.{Follows, Gap, Unlike}
 pub use Rattle.pie_cut.specs.declared.span.Met.{Met}
 pub use Rattle.pie_cut.specs.declared.span.Span.{Span}
-pub use Rattle.pie_event.specs.Ranges.{CommandFits, ParamsFit}
+pub use Rattle.pie_event.specs.Ranges.{CommandFits}
 pub use Rattle.pie_excerpt.proofs.GoesFacts.{packets-some, text-back}
 pub use Rattle.pie_excerpt.specs.Beginning.{Beginning}
 unfoldable pub use Rattle.pie_excerpt.specs.Beginning.{resumed_of}
 pub use Rattle.pie_excerpt.specs.Fits.{ResumeFits}
 pub use Rattle.pie_excerpt.specs.declared.resume.Resume.{Resume}
 pub use Rattle.pie_params.specs.Range.{first_bad}
-pub use Rattle.pie_record.proofs.Laws.{LineFits, event_count-cons, lines_from-failed, lines_from-line, lines_from-none, ltb-false}
-pub use Rattle.pie_record.proofs.Laws.{records_left-written, told_by-flaw, told_by-line, told_by-long}
+pub use Rattle.pie_record.proofs.Laws.{LineFits, event_count-cons, lines_from-failed, lines_from-line, lines_from-none, records_left-written}
 pub use Rattle.pie_record.specs.HistoryLines.{after_opening, clock_told, history_version, is_event, lines_from}
-pub use Rattle.pie_record.specs.HistoryRecord.{line_of}
 unfoldable pub use Rattle.pie_record.specs.ReadBack.{TellEach}
 pub use Rattle.pie_record.specs.Text.{HasField}
 pub use Rattle.pie_record.specs.Write.{line_rows, without_notes}
-pub use Rattle.pie_record.specs.declared.fault.Flaw.{Flaw}
 pub use Rattle.pie_record.specs.declared.version.Version.{Version}
 pub use Rattle.pie_record.specs.declared.version.Version.TheVariants.{Three}

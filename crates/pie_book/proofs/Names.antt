@@ -23,12 +23,13 @@ unfoldable pub use Rattle.pie_aqm.specs.Steps.{cause}
 pub use Rattle.pie_book.specs.{Answer, Arrive, ArrivingPacket, BookView, Bounded, Command, CoreView, Depart, Done, DroppedBytes, DroppedEarly}
 pub use Rattle.pie_book.specs.{DroppedPackets, Empty, Enqueued, Event, Held, IsLegal, IsLegalAt, IsNext, Left, Marked, One, Opening, Packet}
 pub use Rattle.pie_book.specs.{RawParams, Refusal, Reset, Rolling, SetParams, Shows, StandsFor, Stats, Tells, Update, Updated, Verdict, Waiting}
-pub use Rattle.pie_book.specs.{admitted, after_command, age_of_oldest, answer_by, answer_in, answer_to_departure, answers, arrival_of, bytes_after}
-pub use Rattle.pie_book.specs.{bytes_departed, call_in, cause_after, closed, core_of, count_of, counted, decision, delay_after, delay_answered}
-pub use Rattle.pie_book.specs.{departed_count, departure_call, effective_moment, event_of, first_run, held_after, is_bad_size, is_departure}
-pub use Rattle.pie_book.specs.{is_dropped_bytes, is_dropped_early, is_dropped_packets, is_found_none, is_marked, is_queued, is_reset, largest_delay}
-pub use Rattle.pie_book.specs.{largest_queue, last_events, no_stats, opened_by, opened_of, outcomes, progress_after, refusal_by_rule, refusal_of}
-pub use Rattle.pie_book.specs.{registers_after, registers_of, shown, stats_after, waited, waiting_after, waiting_next, with_queue, without_last}
+pub use Rattle.pie_book.specs.{after_command, age_of_oldest, answer_by, answer_in, answer_to_departure, arrival_of, bytes_after, bytes_departed}
+pub use Rattle.pie_book.specs.{call_in, cause_after, closed, core_of, count_of, counted, decision, delay_after, delay_answered, departure_call}
+pub use Rattle.pie_book.specs.{event_of, first_run, is_bad_size, is_departure, is_dropped_bytes, is_dropped_early, is_dropped_packets, is_found_none}
+pub use Rattle.pie_book.specs.{is_marked, is_queued, is_reset, last_events, no_stats, opened_by, opened_of, refusal_by_rule, refusal_of, registers_of}
+pub use Rattle.pie_book.specs.{waiting_next, with_queue, without_last}
+unfoldable pub use Rattle.pie_book.specs.{admitted, answers, departed_count, effective_moment, held_after, largest_delay, largest_queue, outcomes}
+unfoldable pub use Rattle.pie_book.specs.{progress_after, registers_after, shown, stats_after, waited, waiting_after}
 pub use Rattle.pie_book.specs.Run.{Step}
 pub use Rattle.pie_book.specs.Tally.{TallyView}
 pub use Rattle.pie_book.specs.declared.standing.Standing.{Standing}

@@ -97,7 +97,7 @@ fn which_of(options: &ArgMatches<'_>) -> Option<Which>
 }
 
 /// What these options choose, with a line on `errors` where they don't say it as they have to.
-#[tactic(auto, unfolding(crate::specs::Selection::choice_of))]
+#[tactic(auto, unfolding(crate::specs::Choice::choice_of))]
 fn choice_of<E: Write>(options: &ArgMatches<'_>, errors: &mut E) -> Option<Selection>
     ensures { result ≡ choice_of (rows_of (found_of options.now)) }
 {

@@ -1,31 +1,31 @@
 -- One event more of a burst is told.
-use Rattle.pie_link_c.proofs.Names.{◌≡◌, ◌+◌, ◌<◌, ℕ, zero, suc, List, [], ◌∷◌, ◌++◌, refl, ap, sym, ◌∙◌, subst, length, map, add-one, arith, get_or}
-use Rattle.pie_link_c.proofs.Names.{drop_more, CallerView, LinkView, StaysOne, PieEvent}
-use Rattle.std.proofs.Common.{Bool, Option, drop, length-append, length-drop}
+use Rattle.std.proofs.Common.{◌≡◌, ◌+◌, ◌<◌, ℕ, zero, suc, Bool, Option, List, [], ◌∷◌, ◌++◌, refl, ap, sym, ◌∙◌, subst, length, drop, map, add-one}
+use Rattle.std.proofs.Common.{arith, get_or, length-append, length-drop}
 use Rattle.std.proofs.Math.ListN.{set}
-use Rattle.std.proofs.lemmas.List.{length-map}
+use Rattle.std.proofs.lemmas.List.{drop_more, length-map}
 use Rattle.pie_event.specs.declared.command.Command.{Command}
 use Rattle.pie_kept.specs.Bursts.{Reply}
 use Rattle.pie_link.specs.Bursts.{AnswersWithin}
-use Rattle.pie_link.specs.Views.{WasBusy}
-use Rattle.pie_link_c.specs.declared.event_call.EventCall.{EventCall}
+use Rattle.pie_link.specs.Views.{CallerView, LinkView, StaysOne, WasBusy}
+use Rattle.pie_abi.specs.declared.event.PieEvent.{PieEvent}
+use Rattle.pie_link_c.specs.declared.asked.Asked.{Asked}
 use Rattle.pie_link_c.specs.Bursts.{IsAnswered, Took, WasNotTried, asks, told_event, told_events}
 
 -- what is asked from a place on: its event's command, and those after it
-pub is_at : (asked : EventCall) (es : List PieEvent) (i : ℕ) (d : PieEvent) (command : Command) → i < length es → command ≡ asks asked (get_or es i d)
+pub is_at : (asked : Asked) (es : List PieEvent) (i : ℕ) (d : PieEvent) (command : Command) → i < length es → command ≡ asks asked (get_or es i d)
     → map (asks asked) (drop i es) ≡ command ∷ map (asks asked) (drop (i + 1) es)
 is_at asked es i d command some is =
     ap (map (asks asked)) (drop_more es i d some) ∙ ap (λ (first : Command). first ∷ map (asks asked) (drop (i + 1) es)) (sym is)
 
 -- a place from which something is asked is one of an event
-pub is_place : (asked : EventCall) (es : List PieEvent) (i : ℕ) → 0 < length (map (asks asked) (drop i es)) → i < length es
+pub is_place : (asked : Asked) (es : List PieEvent) (i : ℕ) → 0 < length (map (asks asked) (drop i es)) → i < length es
 is_place asked es i some = omega (arith, some, length-map (drop i es) (asks asked), length-drop i es)
 
-none_told : (asked : EventCall) (caller : ℕ) (es : List PieEvent) → told_events asked caller es [] ≡ es
+none_told : (asked : Asked) (caller : ℕ) (es : List PieEvent) → told_events asked caller es [] ≡ es
 none_told asked caller [] = refl
 none_told asked caller (e ∷ es) = refl
 
-told-more : (asked : EventCall) (caller : ℕ) (es : List PieEvent) (rs : List Reply) (r : Reply) (d : PieEvent) → length rs < length es
+told-more : (asked : Asked) (caller : ℕ) (es : List PieEvent) (rs : List Reply) (r : Reply) (d : PieEvent) → length rs < length es
     → told_events asked caller es (rs ++ r ∷ [])
     ≡ set (told_events asked caller es rs) (length rs) (told_event asked caller (get_or (told_events asked caller es rs) (length rs) d) r)
 told-more asked caller [] rs r d some = absurd (omega (arith, some))
@@ -33,7 +33,7 @@ told-more asked caller (e ∷ es) [] r d some = ap (λ (l : List PieEvent). told
 told-more asked caller (e ∷ es) (q ∷ rs) r d some =
     ap (λ (l : List PieEvent). told_event asked caller e q ∷ l) (told-more asked caller es rs r d (omega (arith, some)))
 
-length-told : (asked : EventCall) (caller : ℕ) (es : List PieEvent) (rs : List Reply) → length (told_events asked caller es rs) ≡ length es
+length-told : (asked : Asked) (caller : ℕ) (es : List PieEvent) (rs : List Reply) → length (told_events asked caller es rs) ≡ length es
 length-told asked caller [] rs = refl
 length-told asked caller (e ∷ es) [] = refl
 length-told asked caller (e ∷ es) (r ∷ rs) = omega (arith, length-told asked caller es rs)
@@ -56,7 +56,7 @@ zeros = record {
 }
 
 -- a burst took one reply more: the event at its place was told it
-pub took : (asked : EventCall) (caller number : ℕ) (events now next : List PieEvent) (place done : ℕ) (replies : List Reply) (reply : Reply)
+pub took : (asked : Asked) (caller number : ℕ) (events now next : List PieEvent) (place done : ℕ) (replies : List Reply) (reply : Reply)
     (d : PieEvent)
     → Took asked caller number events now done replies → done ≡ place → place < length now
     → next ≡ set now place (told_event asked number (get_or now place d) reply)
@@ -86,7 +86,7 @@ drop-set [] i e = refl
 drop-set (x ∷ l) zero e = refl
 drop-set (x ∷ l) (suc i) e = drop-set l i e
 
-pub later_stay : (asked : EventCall) (l now : List PieEvent) (i : ℕ) (e : PieEvent) → now ≡ set l i e
+pub later_stay : (asked : Asked) (l now : List PieEvent) (i : ℕ) (e : PieEvent) → now ≡ set l i e
     → map (asks asked) (drop (i + 1) now) ≡ map (asks asked) (drop (i + 1) l)
 later_stay asked l now i e is =
     ap (λ (k : List PieEvent). map (asks asked) (drop (i + 1) k)) is
@@ -94,11 +94,11 @@ later_stay asked l now i e is =
     ∙ (ap (map (asks asked)) (drop-set l i e) ∙ ap (λ (n : ℕ). map (asks asked) (drop n l)) (sym (add-one i))))
 
 -- a burst begins
-pub begun : (asked : EventCall) (caller : ℕ) (events : List PieEvent) (done : ℕ) → done ≡ 0 → Took asked caller caller events events done []
+pub begun : (asked : Asked) (caller : ℕ) (events : List PieEvent) (done : ℕ) → done ≡ 0 → Took asked caller caller events events done []
 begun asked caller events done none = record { told = sym (none_told asked caller events); so_many = none; same = refl }
 
 -- it was answered
-pub answered : (asked : EventCall) (budget : Option ℕ) (go : Reply → Bool) (link : LinkView) (before inside after : CallerView)
+pub answered : (asked : Asked) (budget : Option ℕ) (go : Reply → Bool) (link : LinkView) (before inside after : CallerView)
     (events now : List PieEvent) (number its done code : ℕ) (replies : List Reply) → before ≡ inside → inside.lock ≡ link
     → AnswersWithin budget go link inside (map (asks asked) events) [] replies after → StaysOne inside after
     → Took asked number its events now done replies → number ≡ before.first → code ≡ 0
@@ -114,7 +114,7 @@ answered asked budget go link before inside after events now number its done cod
 }
 
 -- or it was not
-pub not_tried : (asked : EventCall) (before inside after : CallerView) (events : List PieEvent) (done code : ℕ) → before ≡ inside
+pub not_tried : (asked : Asked) (before inside after : CallerView) (events : List PieEvent) (done code : ℕ) → before ≡ inside
     → WasBusy inside after → done ≡ 0 → (length (map (asks asked) events) ≡ 0 → ⊥) → code ≡ 121
     → WasNotTried before events done code events after
 not_tried asked before inside after events done code same busy none some told = record {

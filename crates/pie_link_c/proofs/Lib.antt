@@ -1,4 +1,3 @@
-mod Names
 pub mod Values
 pub mod Handles
 pub mod Gathers

@@ -2,63 +2,58 @@
 use Rattle.std.specs.Prelude.{ℕ, ◌≡◌, ◌==◌, ◌⊎◌, Bool, true, false, List, [], ◌∷◌, map, length, Option, Some, None, Ok, Err, if◌then◌else◌}
 use Rattle.pie_event.specs.declared.command.Command.{Command}
 use Rattle.pie_event.specs.declared.command.Command.TheVariants as command
-use Rattle.pie_kept.specs.Bursts.{Reply, always, has_left_or_updated}
+use Rattle.pie_kept.specs.Bursts.{Reply}
 use Rattle.pie_link.specs.Bursts.{AnswersWithin}
 use Rattle.pie_link.specs.Views.{CallerView, StaysOne, WasBusy}
 use Rattle.pie_abi.specs.declared.event.PieEvent.{PieEvent}
-use Rattle.pie_link_c.specs.declared.event_call.EventCall.{EventCall}
-use Rattle.pie_link_c.specs.declared.event_call.EventCall.TheVariants.{Depart, Update}
+use Rattle.pie_link_c.specs.declared.asked.Asked.{Asked}
+use Rattle.pie_link_c.specs.declared.asked.Asked.TheVariants.{Update}
 use Rattle.pie_link_c.specs.Codes.{refusal_number}
 use Rattle.pie_link_c.specs.Events.{answered_event, command_in, has_bad_ecn, numbered_event, packet_in, under}
 
 -- ---- an event of a burst
 
 -- what an event of a burst asks: an update rides in any burst
-abbrev pub riding : EventCall → PieEvent → EventCall
+abbrev pub riding : Asked → PieEvent → Asked
 riding asked e = if e.kind == 3 then Update else asked
 
 -- .. as a command. An ECN field that is none asks for what is always refused, and changes nothing: an arrival of no bytes
-abbrev pub asks_unless : Bool → EventCall → PieEvent → Command
+abbrev pub asks_unless : Bool → Asked → PieEvent → Command
 asks_unless true asked e = command.Arrive e.moment (record (packet_in e) { size = 0 }) e.word
 asks_unless false asked e = command_in asked e
 
-abbrev pub asks : EventCall → PieEvent → Command
+abbrev pub asks : Asked → PieEvent → Command
 asks asked e = asks_unless (has_bad_ecn (riding asked e) e) (riding asked e) e
 
 -- what a reply leaves of an event, under this number
-abbrev pub replied : EventCall → ℕ → PieEvent → Reply → PieEvent
+abbrev pub replied : Asked → ℕ → PieEvent → Reply → PieEvent
 replied asked caller e (Ok told) = under caller (answered_event asked e told.answer)
 replied asked caller e (Err why) = under caller (numbered_event asked e (refusal_number why))
 
 -- .. unless its ECN field is none
-abbrev pub told_unless : Bool → EventCall → ℕ → PieEvent → Reply → PieEvent
+abbrev pub told_unless : Bool → Asked → ℕ → PieEvent → Reply → PieEvent
 told_unless true asked caller e reply = under caller (numbered_event asked e 111)
 told_unless false asked caller e reply = replied asked caller e reply
 
-abbrev pub told_event : EventCall → ℕ → PieEvent → Reply → PieEvent
+abbrev pub told_event : Asked → ℕ → PieEvent → Reply → PieEvent
 told_event asked caller e reply = told_unless (has_bad_ecn (riding asked e) e) (riding asked e) caller e reply
 
 -- what replies leave of events: each its own, and the events after them stay
-abbrev pub told_events : EventCall → ℕ → List PieEvent → List Reply → List PieEvent
+abbrev pub told_events : Asked → ℕ → List PieEvent → List Reply → List PieEvent
 told_events asked caller [] replies = []
 told_events asked caller (e ∷ es) [] = e ∷ es
 told_events asked caller (e ∷ es) (reply ∷ replies) = told_event asked caller e reply ∷ told_events asked caller es replies
 
 -- of these events, under that number, so many were asked and given these replies, and they are those now
-pub record Took (asked : EventCall) (caller number : ℕ) (events now : List PieEvent) (done : ℕ) (replies : List Reply) : Type 0 where
+pub record Took (asked : Asked) (caller number : ℕ) (events now : List PieEvent) (done : ℕ) (replies : List Reply) : Type 0 where
   pub told : now ≡ told_events asked caller events replies
   pub so_many : done ≡ length replies
   pub same : number ≡ caller
 
 -- ---- a burst
 
--- after which replies it goes on
-abbrev pub goes_on_after : EventCall → Reply → Bool
-goes_on_after Depart = has_left_or_updated
-goes_on_after _ = always
-
 -- it was answered: each event after those before it, with nothing of another caller between; and so many were asked
-pub record IsAnswered (asked : EventCall) (budget : Option ℕ) (goes_on : Reply → Bool) (before : CallerView) (events : List PieEvent) (count code : ℕ)
+pub record IsAnswered (asked : Asked) (budget : Option ℕ) (goes_on : Reply → Bool) (before : CallerView) (events : List PieEvent) (count code : ℕ)
     (written : List PieEvent) (after : CallerView) : Type 0 where
   pub replies : List Reply
   pub answered : AnswersWithin budget goes_on before.lock before (map (asks asked) events) [] replies after
@@ -76,12 +71,12 @@ pub record WasNotTried (before : CallerView) (events : List PieEvent) (count cod
   pub told : code ≡ 121
 
 -- what a burst at an open port comes to
-abbrev pub IsTriedAll : EventCall → Option ℕ → (Reply → Bool) → CallerView → List PieEvent → ℕ → ℕ → List PieEvent → CallerView → Type 0
+abbrev pub IsTriedAll : Asked → Option ℕ → (Reply → Bool) → CallerView → List PieEvent → ℕ → ℕ → List PieEvent → CallerView → Type 0
 IsTriedAll asked budget goes_on before events count code written after =
     IsAnswered asked budget goes_on before events count code written after ⊎ WasNotTried before events count code written after
 
 -- a closed port is told so, and the events stay
-unfoldable pub TriesAll : EventCall → Option ℕ → (Reply → Bool) → Option CallerView → List PieEvent → ℕ → ℕ → List PieEvent → Option CallerView → Type 0
+unfoldable pub TriesAll : Asked → Option ℕ → (Reply → Bool) → Option CallerView → List PieEvent → ℕ → ℕ → List PieEvent → Option CallerView → Type 0
 TriesAll asked budget goes_on None events count code written after = (code ≡ 122) × (written ≡ events) × (count ≡ 0) × (after ≡ None)
 TriesAll asked budget goes_on (Some before) events count code written after =
     (now : CallerView) × (after ≡ Some now) × IsTriedAll asked budget goes_on before events count code written now

@@ -16,7 +16,7 @@ use Rattle.pie_abi.specs.declared.params.PieParams.{PieParams}
 use Rattle.pie_abi.specs.Events.{bare_event}
 use Rattle.pie_abi.specs.Opening.{opening_in, opening_refusal}
 use Rattle.pie_abi.specs.Params.{are_in_range, raw_of}
-use Rattle.pie_link_c.specs.declared.event_call.EventCall.{EventCall}
+use Rattle.pie_link_c.specs.declared.asked.Asked.{Asked}
 use Rattle.pie_link_c.specs.Codes.{answer_number, code_of, refusal_number}
 use Rattle.pie_link_c.specs.Events.{command_in, filled, has_bad_ecn, numbered_event, under}
 
@@ -42,7 +42,7 @@ pub record IsOpened (IsKept : LinkView → Type 0) (o : PieOpening) (callers : �
 -- ---- a call for one event
 
 -- what an open port's caller was answered, or that the link was busy; and the code and the event that tell it
-pub record IsTried (asked : EventCall) (before : CallerView) (e : PieEvent) (code : ℕ) (written : PieEvent) (after : CallerView) : Type 0 where
+pub record IsTried (asked : Asked) (before : CallerView) (e : PieEvent) (code : ℕ) (written : PieEvent) (after : CallerView) : Type 0 where
   pub reply : Result (Told Answer) (Tried Refusal)
   pub tried : TriesToAnswer before.lock before (command_in asked e) reply after
   pub stays : StaysOne before after
@@ -50,13 +50,13 @@ pub record IsTried (asked : EventCall) (before : CallerView) (e : PieEvent) (cod
   pub filled : written ≡ filled asked before.first e reply
 
 -- the same, but an ECN field above 3 is refused before
-abbrev pub IsTriedUnless : Bool → EventCall → CallerView → PieEvent → ℕ → PieEvent → CallerView → Type 0
+abbrev pub IsTriedUnless : Bool → Asked → CallerView → PieEvent → ℕ → PieEvent → CallerView → Type 0
 IsTriedUnless true asked before e code written after =
     (code ≡ 111) × (written ≡ under before.first (numbered_event asked e 111)) × (after ≡ before)
 IsTriedUnless false asked before e code written after = IsTried asked before e code written after
 
 -- a closed port is told so, and the event stays
-unfoldable pub Tries : EventCall → Option CallerView → PieEvent → ℕ → PieEvent → Option CallerView → Type 0
+unfoldable pub Tries : Asked → Option CallerView → PieEvent → ℕ → PieEvent → Option CallerView → Type 0
 Tries asked None e code written after = (code ≡ 122) × (written ≡ e) × (after ≡ None)
 Tries asked (Some before) e code written after =
     (now : CallerView) × (after ≡ Some now) × IsTriedUnless (has_bad_ecn asked e) asked before e code written now

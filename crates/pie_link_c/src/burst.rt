@@ -1,13 +1,13 @@
 //! Bursts of events that lie where the caller has them: each is read and written in its place.
 ghost use Rattle.std.specs.Prelude.{◌≡◌, ◌<◌, drop, length, map, slice_index_or, slice_set};
-ghost use Rattle.pie_kept.specs.Bursts.{has_left_or_updated};
+ghost use Rattle.pie_kept.specs.Bursts.{always, has_left_or_updated};
 ghost use Rattle.pie_abi.specs.declared.event.PieEvent.{PieEvent};
-ghost use Rattle.pie_link_c.specs.declared.event_call.EventCall.TheVariants.{Arrive};
-ghost use Rattle.pie_link_c.specs.Bursts.{asks, asks_unless, goes_on_after, riding, told_event, told_events};
+ghost use Rattle.pie_link_c.specs.declared.asked.Asked.TheVariants.{Arrive, Depart};
+ghost use Rattle.pie_link_c.specs.Bursts.{asks, asks_unless, riding, told_event, told_events};
 ghost use Rattle.pie_link_c.specs.Events.{has_bad_ecn};
 
+use crate::asked::Asked;
 use crate::code::of_refusal;
-use crate::event_call::EventCall;
 use crate::filling::{fill_answer, fill_number};
 use crate::port::has_bad_ecn;
 use pie_abi::PieEvent;
@@ -18,26 +18,35 @@ use pie_event::{Answer, Command, Refusal};
 use pie_kept::{Burst, Reply};
 use pie_queue::{Ecn, Packet};
 
-/// Events that ask for one thing each, arrivals or departures, and updates among them.
+/// Packets that arrive, and updates among them.
 #[derive(Drop)]
-pub(crate) struct Asking<'a> {
+pub(crate) struct Arriving<'a> {
     /// Their events.
     pub(crate) events: &'a mut [PieEvent],
     /// How many have been asked.
     pub(crate) done: usize,
     /// The number under which they stand.
     pub(crate) caller: u16,
-    /// What they ask.
-    pub(crate) asked: EventCall,
+}
+
+/// Departures, and updates among them.
+#[derive(Drop)]
+pub(crate) struct Departing<'a> {
+    /// Their events.
+    pub(crate) events: &'a mut [PieEvent],
+    /// How many have been asked.
+    pub(crate) done: usize,
+    /// The number under which they stand.
+    pub(crate) caller: u16,
 }
 
 // What an event of a burst asks.
 #[inline(always)]
-fn riding(asked: EventCall, event: &PieEvent) -> EventCall
+fn riding(asked: Asked, event: &PieEvent) -> Asked
     ensures { result ≡ riding asked event.now }
 {
     if event.kind == UPDATE {
-        EventCall::Update
+        Asked::Update
     } else {
         asked
     }
@@ -65,21 +74,21 @@ fn arrival_of(event: &PieEvent) -> Command
 
 // What an event of a burst asks, as a command.
 #[inline(always)]
-fn command_of(asked: EventCall, event: &PieEvent) -> Command
+fn command_of(asked: Asked, event: &PieEvent) -> Command
     ensures { result ≡ asks asked event.now }
 {
     let moment = event.moment;
     match riding(asked, event) {
-        EventCall::Arrive => arrival_of(event),
-        EventCall::Depart => Command::Depart { moment },
-        EventCall::Update => Command::Update { moment },
-        EventCall::Reset => Command::Reset { moment },
+        Asked::Arrive => arrival_of(event),
+        Asked::Depart => Command::Depart { moment },
+        Asked::Update => Command::Update { moment },
+        Asked::Reset => Command::Reset { moment },
     }
 }
 
 // Fills in what an event of a burst was told, under the caller's number.
 #[inline(always)]
-fn tell(event: &mut PieEvent, asked: EventCall, caller: u16, reply: &Reply)
+fn tell(event: &mut PieEvent, asked: Asked, caller: u16, reply: &Reply)
     ensures { event.new ≡ told_event asked caller event.old reply.now }
 {
     let asked = riding(asked, event);
@@ -96,7 +105,7 @@ fn tell(event: &mut PieEvent, asked: EventCall, caller: u16, reply: &Reply)
 
 // Fills in what the event at a place was told.
 #[inline(always)]
-fn tell_at(events: &mut [PieEvent], place: usize, asked: EventCall, caller: u16, reply: &Reply)
+fn tell_at(events: &mut [PieEvent], place: usize, asked: Asked, caller: u16, reply: &Reply)
     requires { place < length events.old }
     ensures { (d : PieEvent) → events.new
         ≡ slice_set events.old place (told_event asked caller (slice_index_or events.old place d) reply.now) }
@@ -115,26 +124,15 @@ fn has_left_or_updated(reply: &Reply) -> bool
     }
 }
 
-// Whether a burst goes on after this reply.
-#[inline(always)]
-fn goes_on(asked: EventCall, reply: &Reply) -> bool
-    ensures { result ≡ goes_on_after asked reply.now }
-{
-    match asked {
-        EventCall::Depart => has_left_or_updated(reply),
-        EventCall::Arrive | EventCall::Update | EventCall::Reset => true,
-    }
-}
-
-impl Burst for Asking<'_> {
+impl Burst for Arriving<'_> {
     ghost use Rattle.pie_link_c.specs.Bursts.{Took};
 
-    ghost commands = { λ b place. map (asks b.asked) (drop place b.events.now) };
+    ghost commands = { λ b place. map (asks Arrive) (drop place b.events.now) };
 
-    ghost goes_on = { λ b. goes_on_after b.asked };
+    ghost goes_on = { λ b. always };
 
-    ghost shows = { λ first b replies. (b.events.ghost_name ≡ first.events.ghost_name) × (b.asked ≡ first.asked)
-        × Took b.asked first.caller b.caller first.events.now b.events.now b.done replies };
+    ghost shows = { λ first b replies. (b.events.ghost_name ≡ first.events.ghost_name)
+        × Took Arrive first.caller b.caller first.events.now b.events.now b.done replies };
 
     ghost room = { λ b. b.events.ghost_name };
 
@@ -148,13 +146,46 @@ impl Burst for Asking<'_> {
     #[inline(always)]
     fn command(&self, place: usize) -> Command {
         let events = &*self.events;
-        command_of(self.asked, &events[place])
+        command_of(Asked::Arrive, &events[place])
     }
 
     #[inline(always)]
     fn take(&mut self, place: usize, reply: Reply) -> bool {
-        tell_at(self.events, place, self.asked, self.caller, &reply);
+        tell_at(self.events, place, Asked::Arrive, self.caller, &reply);
         self.done = place + 1;
-        goes_on(self.asked, &reply)
+        true
+    }
+}
+
+impl Burst for Departing<'_> {
+    ghost use Rattle.pie_link_c.specs.Bursts.{Took};
+
+    ghost commands = { λ b place. map (asks Depart) (drop place b.events.now) };
+
+    ghost goes_on = { λ b. has_left_or_updated };
+
+    ghost shows = { λ first b replies. (b.events.ghost_name ≡ first.events.ghost_name)
+        × Took Depart first.caller b.caller first.events.now b.events.now b.done replies };
+
+    ghost room = { λ b. b.events.ghost_name };
+
+    ghost has_room = { λ b place. b.done ≡ place };
+
+    #[inline(always)]
+    fn count(&self) -> usize {
+        self.events.len()
+    }
+
+    #[inline(always)]
+    fn command(&self, place: usize) -> Command {
+        let events = &*self.events;
+        command_of(Asked::Depart, &events[place])
+    }
+
+    #[inline(always)]
+    fn take(&mut self, place: usize, reply: Reply) -> bool {
+        tell_at(self.events, place, Asked::Depart, self.caller, &reply);
+        self.done = place + 1;
+        has_left_or_updated(&reply)
     }
 }

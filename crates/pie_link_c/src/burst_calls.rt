@@ -1,12 +1,11 @@
 //! Several events in one turn. No call waits, and none takes memory.
 ghost use Rattle.std.specs.Prelude.{◌≡◌, ℕ, None};
 ghost use Rattle.pie_kept.specs.Bursts.{always, has_left_or_updated};
-ghost use Rattle.pie_link_c.specs.declared.event_call.EventCall.TheVariants.{Arrive, Depart};
-ghost use Rattle.pie_link_c.specs.Bursts.{IsTriedAll, TriesAll, budget_of, goes_on_after};
+ghost use Rattle.pie_link_c.specs.declared.asked.Asked.TheVariants.{Arrive, Depart};
+ghost use Rattle.pie_link_c.specs.Bursts.{IsTriedAll, TriesAll, budget_of};
 
-use crate::burst::Asking;
+use crate::burst::{Arriving, Departing};
 use crate::code::{BUSY, CLOSED};
-use crate::event_call::EventCall;
 use crate::handle::PiePort;
 use crate::port::Port;
 use pie_abi::PieEvent;
@@ -22,12 +21,40 @@ fn budget_of(bytes: u64) -> Option<u64>
 
 impl Port {
     // Asks a burst, and writes the code.
-    fn ask_all<'a>(&mut self, budget: Option<u64>, burst: Asking<'a>, code: &mut u32) -> Asking<'a>
+    fn ask_arrivals<'a>(
+        &mut self,
+        budget: Option<u64>,
+        burst: Arriving<'a>,
+        code: &mut u32,
+    ) -> Arriving<'a>
         requires fresh { burst.done ≡ 0 }
         requires caller { burst.caller ≡ self.old.first }
         ensures same { result.events.ghost_name ≡ burst.entry.events.ghost_name }
-        ensures tried { IsTriedAll burst.entry.asked budget (goes_on_after burst.entry.asked) self.old burst.entry.events.now result.done code.new
-            result.events.now self.new }
+        ensures tried { IsTriedAll Arrive budget always self.old burst.entry.events.now result.done code.new result.events.now self.new }
+    {
+        match self.link.try_answer_all(&mut self.caller, budget, burst) {
+            Ok(after) => {
+                *code = DONE;
+                after
+            }
+            Err(back) => {
+                *code = BUSY;
+                back
+            }
+        }
+    }
+
+    // Asks a burst, and writes the code.
+    fn ask_departures<'a>(
+        &mut self,
+        budget: Option<u64>,
+        burst: Departing<'a>,
+        code: &mut u32,
+    ) -> Departing<'a>
+        requires fresh { burst.done ≡ 0 }
+        requires caller { burst.caller ≡ self.old.first }
+        ensures same { result.events.ghost_name ≡ burst.entry.events.ghost_name }
+        ensures tried { IsTriedAll Depart budget has_left_or_updated self.old burst.entry.events.now result.done code.new result.events.now self.new }
     {
         match self.link.try_answer_all(&mut self.caller, budget, burst) {
             Ok(after) => {
@@ -42,45 +69,60 @@ impl Port {
     }
 
     // The same of events.
-    fn begin<'a>(
+    fn begin_arrivals<'a>(
         &mut self,
-        asked: EventCall,
         budget: Option<u64>,
         events: &'a mut [PieEvent],
         code: &mut u32,
-    ) -> Asking<'a>
+    ) -> Arriving<'a>
         ensures same { result.events.ghost_name ≡ events.entry.ghost_name }
-        ensures tried { IsTriedAll asked budget (goes_on_after asked) self.old events.entry.now result.done code.new result.events.now self.new }
+        ensures tried { IsTriedAll Arrive budget always self.old events.entry.now result.done code.new result.events.now self.new }
     {
         let caller = self.caller.first();
-        let burst = Asking {
+        let burst = Arriving {
             events,
             done: 0,
             caller,
-            asked,
         };
-        self.ask_all(budget, burst, code)
+        self.ask_arrivals(budget, burst, code)
     }
 
-    /// Asks for each of the events, one after another within a budget of bytes, and updates ride among them. It also answers how many were asked.
-    fn try_all(
+    // The same of events.
+    fn begin_departures<'a>(
         &mut self,
-        asked: EventCall,
         budget: Option<u64>,
-        events: &mut [PieEvent],
-    ) -> (u32, usize)
-        ensures { IsTriedAll asked budget (goes_on_after asked) self.old events.old result.1 result.0 events.new self.new }
+        events: &'a mut [PieEvent],
+        code: &mut u32,
+    ) -> Departing<'a>
+        ensures same { result.events.ghost_name ≡ events.entry.ghost_name }
+        ensures tried { IsTriedAll Depart budget has_left_or_updated self.old events.entry.now result.done code.new result.events.now self.new }
     {
-        let mut code = DONE;
-        let after = self.begin(asked, budget, events, &mut code);
-        (code, after.done)
+        let caller = self.caller.first();
+        let burst = Departing {
+            events,
+            done: 0,
+            caller,
+        };
+        self.ask_departures(budget, burst, code)
     }
 
-    /// The same of packets that arrive.
+    /// The packets that the events name arrive, one after another, and updates ride among them.
     fn try_arrive_all(&mut self, events: &mut [PieEvent]) -> u32
         ensures { (count : ℕ) × IsTriedAll Arrive None always self.old events.old count result events.new self.new }
     {
-        self.try_all(EventCall::Arrive, None, events).0
+        let mut code = DONE;
+        let _after = self.begin_arrivals(None, events, &mut code);
+        code
+    }
+
+    /// Packets leave, one after another, at the events' moments and within a budget of bytes, and updates ride among them. It also answers how
+    /// many events were asked.
+    fn try_depart_all(&mut self, bytes: u64, events: &mut [PieEvent]) -> (u32, usize)
+        ensures { IsTriedAll Depart (budget_of bytes) has_left_or_updated self.old events.old result.1 result.0 events.new self.new }
+    {
+        let mut code = DONE;
+        let after = self.begin_departures(budget_of(bytes), events, &mut code);
+        (code, after.done)
     }
 }
 
@@ -119,7 +161,7 @@ pub extern "C" fn pie_link_try_depart_all(
         *made = 0;
         return CLOSED;
     };
-    let (code, asked) = held.try_all(EventCall::Depart, budget_of(bytes), events);
+    let (code, asked) = held.try_depart_all(bytes, events);
     port.put(held);
     *made = asked;
     code

@@ -11,11 +11,11 @@
 //! (`specs/Excerpts.antt`).
 #![tactic(auto)]
 
+mod asked;
 mod burst;
 mod burst_calls;
 mod calls;
 mod code;
-mod event_call;
 mod excerpt_calls;
 mod excerpt_handle;
 mod excerpt_text;

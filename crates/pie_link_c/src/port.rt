@@ -3,8 +3,8 @@ ghost use Rattle.std.specs.Prelude.{◌≡◌, ◌≢◌, ◌==◌, ◌+◌, ◌
 ghost use Rattle.std.specs.Arc.{arc_value};
 ghost use Rattle.pie_link_c.specs.Events.{has_bad_ecn};
 
+use crate::asked::Asked;
 use crate::code::{NO_MEMORY, ONE_NUMBER};
-use crate::event_call::EventCall;
 use crate::excerpt_text::ExcerptText;
 use crate::filling::{fill, fill_number, fill_set};
 use crate::folding::{MOST, room, write_folded};
@@ -83,13 +83,13 @@ impl Port {
 
     /// Asks what the event says.
     #[inline(always)]
-    fn ask(&mut self, asked: EventCall, event: &PieEvent) -> Result<Told<Answer>, Tried<Refusal>>
+    fn ask(&mut self, asked: Asked, event: &PieEvent) -> Result<Told<Answer>, Tried<Refusal>>
         requires ecn { has_bad_ecn asked event.now ≡ false }
         ensures tried { TriesToAnswer self.old.lock self.old (command_in asked event.now) result self.new }
         ensures stays { StaysOne self.old self.new }
     {
         match asked {
-            EventCall::Arrive => {
+            Asked::Arrive => {
                 let Some(ecn) = ecn(u32::from(event.ecn)) else {
                     unreachable!()
                 };
@@ -101,15 +101,15 @@ impl Port {
                 self.link
                     .try_arrive(&mut self.caller, event.moment, packet, event.word)
             }
-            EventCall::Depart => self.link.try_depart(&mut self.caller, event.moment),
-            EventCall::Update => self.link.try_update(&mut self.caller, event.moment),
-            EventCall::Reset => self.link.try_reset(&mut self.caller, event.moment),
+            Asked::Depart => self.link.try_depart(&mut self.caller, event.moment),
+            Asked::Update => self.link.try_update(&mut self.caller, event.moment),
+            Asked::Reset => self.link.try_reset(&mut self.caller, event.moment),
         }
     }
 
     /// Asks what the event says, and fills in what was told.
     #[inline(always)]
-    pub(crate) fn try_event(&mut self, asked: EventCall, event: &mut PieEvent) -> u32
+    pub(crate) fn try_event(&mut self, asked: Asked, event: &mut PieEvent) -> u32
         ensures { IsTriedUnless (has_bad_ecn asked event.old) asked self.old event.old result event.new self.new }
     {
         let caller = self.caller.first();
@@ -225,10 +225,10 @@ impl Port {
 
 /// Whether the event names a packet whose ECN field is none.
 #[inline(always)]
-pub(crate) fn has_bad_ecn(asked: EventCall, event: &PieEvent) -> bool
+pub(crate) fn has_bad_ecn(asked: Asked, event: &PieEvent) -> bool
     ensures { result ≡ has_bad_ecn asked event.now }
 {
-    matches!(asked, EventCall::Arrive) && event.ecn > 3
+    matches!(asked, Asked::Arrive) && event.ecn > 3
 }
 
 /// A box of a port, or the caller back for want of memory.

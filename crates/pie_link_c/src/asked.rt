@@ -2,7 +2,7 @@
 
 /// A call for one event, but new parameters, which come beside it.
 #[derive(Clone, Copy)]
-pub enum EventCall {
+pub enum Asked {
     /// The packet that the event names arrives.
     Arrive,
     /// The link asks for the next packet.

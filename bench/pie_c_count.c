@@ -1,9 +1,9 @@
-/* So many calls of one kind on a state of the library, for bench/pie_c_count.sh to count their instructions. Ends with the status 2
+/* So many calls of one kind on a state of the library, or at a link, for bench/pie_c_count.sh to count their instructions. Ends with the status 2
  * where a call answered otherwise than its kind says.
  *
  * usage: pie_c_count KIND CALLS
  */
-#include "pie.h"
+#include "pie_link.h"
 
 #include <stdio.h>
 #include <stdlib.h>
@@ -13,6 +13,30 @@ static struct pie_params params;
 static struct pie_state state;
 static struct pie_event event;
 static unsigned char text[PIE_RECORD_ROOM];
+static struct pie_port port = PIE_PORT_CLOSED;
+static struct pie_event burst[32];
+
+/* So many packets arrive at the link, each as an event of its own or all in one burst, and leave it likewise. */
+static uint64_t pass(uint64_t i, size_t count, int together) {
+    size_t k, left;
+    for (k = 0; k < count; k++) {
+        burst[k].kind = PIE_EVENT_ARRIVE;
+        burst[k].moment = i;
+        burst[k].tag = i;
+        burst[k].size = 1000;
+        burst[k].ecn = PIE_ECT0;
+    }
+    if (together) {
+        if (pie_link_try_arrive_all(&port, burst, count) != PIE_DONE || burst[count - 1].answer != PIE_ENQUEUE)
+            return PIE_BYTES;
+        for (k = 0; k < count; k++)
+            burst[k].kind = PIE_EVENT_DEPART;
+        if (pie_link_try_depart_all(&port, UINT64_MAX, burst, count, &left) != PIE_DONE || left != count)
+            return PIE_BYTES;
+        return burst[count - 1].answer;
+    }
+    return pie_link_try_arrive(&port, burst) == PIE_ENQUEUE ? pie_link_try_depart(&port, burst) : PIE_BYTES;
+}
 
 /* One call of a kind, with a number that differs from call to call; what it answered. */
 static uint64_t call(const char *kind, uint64_t i) {
@@ -53,6 +77,8 @@ static uint64_t call(const char *kind, uint64_t i) {
         return pie_reset(&state, i);
     if (strcmp(kind, "set_params") == 0)
         return pie_set_params(&state, &params, i);
+    if (strncmp(kind, "link_", 5) == 0)
+        return strstr(kind, "_all") ? pass(i, 32, 1) : pass(i, 1, 0);
     return PIE_BYTES;
 }
 
@@ -66,6 +92,8 @@ int main(int count, char **words) {
     state.prob = 50000000000;
     state.old_delay = 15000000;
     state.burst = 0;
+    if (pie_link_open(&opening, 2, &port) != PIE_DONE)
+        return 2;
     uint64_t calls = strtoull(words[2], NULL, 10);
     for (uint64_t i = 1; i <= calls; i++)
         if (call(words[1], i) != PIE_DONE)

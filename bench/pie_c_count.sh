@@ -1,8 +1,9 @@
 #!/usr/bin/env bash
 # Counts by valgrind the instructions of the library's calls, which no load changes, beside the stored ones (bench/pie_c_count.txt): a
-# mean over 1000 calls of a kind (bench/pie_c_count.c), inside the library alone. Ends with the status 1 where a kind of call grew.
+# mean over 1000 calls of a kind (bench/pie_c_count.c), inside the library alone; at a link, of one event, or of a burst of 32 together. Ends with
+# the status 1 where a kind of call grew.
 #
-# usage: bench/pie_c_count.sh [--store | --within PERCENT]    after `rt lib` in crates/pie_c
+# usage: bench/pie_c_count.sh [--store | --within PERCENT]    after bindings/c/library.py
 #        --store: keeps what was counted; --within: only what grew by more than so many per cent ends with the status 1
 set -eu
 cd "$(dirname "$0")/.."
@@ -19,10 +20,14 @@ within=0
 if [ "${1-}" = --within ]; then
     within=$2
 fi
-"${CC:-cc}" -O2 -Iinclude -o "$work/count" bench/pie_c_count.c crates/pie_c/out/libpie_c.a
+"${CC:-cc}" -O2 -Iinclude -o "$work/count" bench/pie_c_count.c crates/pie_link_c/out/libpie_link_c.a crates/pie_c/out/libpie_c.a -pthread
 for kind in arrive_considered arrive_passed arrive_dropped depart_measured depart_unmeasured update update_too_soon empty reset set_params \
-    arrive_event write_event; do
-    case $kind in set_params | arrive_event | write_event) call=pie_$kind ;; *) call=pie_${kind%%_*} ;; esac
+    arrive_event write_event link_arrive link_depart link_arrive_all link_depart_all; do
+    case $kind in
+        set_params | arrive_event | write_event) call=pie_$kind ;;
+        link_*) call=pie_link_try_${kind#link_} ;;
+        *) call=pie_${kind%%_*} ;;
+    esac
     valgrind --tool=callgrind --callgrind-out-file=/dev/null --toggle-collect="$call" "$work/count" "$kind" 1000 2> "$work/said"
     echo "$kind $(($(awk '/Collected/ {print $NF}' "$work/said") / 1000))"
 done > "$work/counted"

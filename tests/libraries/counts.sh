@@ -6,5 +6,6 @@
 # needs: library
 set -eu
 cd "$(dirname "$0")/../.."
-[ -e crates/pie_c/out/libpie_c.a ] || (cd crates/pie_c && rt lib) > /dev/null
+bindings/c/library.py > /dev/null
+bindings/c/library.py pie_link_c > /dev/null
 exec bench/pie_c_count.sh --within 2

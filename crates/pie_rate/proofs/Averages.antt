@@ -24,9 +24,9 @@ module _ (threshold : ℕ) (ds : List Departure) (t : threshold ≤ 65536) where
       ∙ sym (cond-false (eqb (fold (averaged threshold) (sample_of ds cycle) (map (sample_of ds) rest)) 0) sample _ (ne_eqb _ 0 (λ e. omega arith)))
 
   -- an average of departures is 0 where they make no cycle, and there alone
-  pub average-zero : (average threshold ds ≡ 0) ↔ (cycles threshold ds ≡ [])
+  pub average_zero : (average threshold ds ≡ 0) ↔ (cycles threshold ds ≡ [])
   unfolding average samples
-  average-zero = by (cycles threshold ds)
+  average_zero = by (cycles threshold ds)
     where
       by : (cs : List Cycle) → (average_of threshold (map (sample_of ds) cs) ≡ 0) ↔ (cs ≡ [])
       by [] = (λ e. refl, λ e. refl)

@@ -9,7 +9,7 @@ use Rattle.std.proofs.lemmas.List.{map-append, drop-append-le, get_or_append_lef
 use Rattle.std.proofs.lemmas.List.Sums.{sum_by_push}
 use Rattle.std.proofs.lemmas.List.Folds.{find-append}
 use Rattle.std.proofs.Math.Numerals.{add-one}
-use Rattle.pie_rate.specs.{Departure, departure_at, bytes_of, bytes_after, bytes_after_to, sample_of, samples, Cycle, first_position, first_opening}
+use Rattle.pie_rate.specs.{Departure, departure, departure_at, bytes_of, bytes_after, bytes_after_to, sample_of, samples, Cycle, first_position, first_opening}
 use Rattle.pie_rate.specs.{first_closing, first_cycle, cycles_from, cycles, last_closed, begun}
 
 -- one more number at the end of a range
@@ -90,8 +90,12 @@ module _ (threshold : ℕ) (ds : List Departure) (d : Departure) where
       → first_opening threshold (ds ++ d ∷ []) from ≡ option_or o opens
   unfolding first_opening
   opening-push from o l e =
-      rw (length_push ds d, ← e, ← turned d.bytes_left threshold None (Some (length ds)),
-      ← ap (λ (x : Departure). nat_le threshold x.bytes_left) departure_at-push_new)
+      rw (
+        length_push ds d,
+        ← e,
+        ← turned d.bytes_left threshold None (Some (length ds)),
+        ← ap (λ (x : Departure). nat_le threshold x.bytes_left) departure_at-push_new,
+      )
       (first_position-push (λ i. nat_le threshold (departure_at (ds ++ d ∷ []) i).bytes_left) (λ i. nat_le threshold (departure_at ds i).bytes_left)
       from (length ds) l
       (λ k a b. ap (λ x. nat_le threshold x.bytes_left) (departure_at-push_old k b)))
@@ -183,16 +187,16 @@ module _ (threshold : ℕ) (ds : List Departure) (d : Departure) where
       closing : (i : ℕ) (c : Option ℕ) → (from ≤ i) × (i < length ds) → first_opening threshold ds from ≡ Some i → first_closing threshold ds i ≡ c
           → IfSome c (λ j. (i + 1 ≤ j) × (j < length ds)) → ((j : ℕ) → from + 1 ≤ j → j < length ds → GrowsFrom most j) → GrowsFrom (suc most) from
       closing i None w a b v later = rw (a, b) (
-        let opening = opening-push from (Some i) (omega (arith, w.0)) a in
-        let shorter = nat_lt (bytes_after ds i + d.size) threshold in
-        rw a (record {
-          grown = one_begun most from i shorter opening (closing-push i None w.1 b);
-          sampled = refl;
-          begins = begins_at from i shorter opening;
-          within = w.1;
-          unclosed = b;
-        })
-      )
+          let opening = opening-push from (Some i) (omega (arith, w.0)) a in
+          let shorter = nat_lt (bytes_after ds i + d.size) threshold in
+          rw a (record {
+            grown = one_begun most from i shorter opening (closing-push i None w.1 b);
+            sampled = refl;
+            begins = begins_at from i shorter opening;
+            within = w.1;
+            unclosed = b;
+          })
+          )
       closing i (Some j) w a b v later =
           let rest = later j (omega (arith, w.0, v.0)) v.1 in
           let opening = opening-push from (Some i) (omega (arith, w.0)) a in
@@ -225,10 +229,10 @@ module _ (threshold : ℕ) (ds : List Departure) (d : Departure) where
   pub begun-within : IfSome (begun threshold ds) (λ i. i < length ds)
   begun-within = all_grow.within
 
-  -- no departure closes the cycle that is begun
-  pub begun-unclosed : IfSome (begun threshold ds) (λ i. first_closing threshold ds i ≡ None)
-  begun-unclosed = all_grow.unclosed
-
   pub samples-push : samples threshold (ds ++ d ∷ []) ≡ samples threshold ds ++ map (sample_of (ds ++ d ∷ [])) (added (begun threshold ds))
   unfolding samples
   samples-push = rw (cycles-push, map-append, all_grow.sampled) refl
+
+-- no departure closes the cycle that is begun
+pub begun_unclosed : (threshold : ℕ) (ds : List Departure) → IfSome (begun threshold ds) (λ i. first_closing threshold ds i ≡ None)
+begun_unclosed threshold ds = (all_grow threshold ds (departure 0 0 0)).unclosed

@@ -1,16 +1,21 @@
 -- What an estimate shows after one more departure, for each way through the code.
-use Rattle.std.proofs.Common.{◌≡◌, ℕ, ◌+◌, ◌-◌, ◌^◌, ◌<◌, ◌≤◌, ◌==◌, Bool, true, false, List, [], ◌∷◌, ◌++◌, length, Option, Some, None, refl, sym, ap, ◌∙◌}
+use Rattle.std.proofs.Common.{◌≡◌, ℕ, ◌+◌, ◌-◌, ◌^◌, ◌<◌, ◌≤◌, Bool, true, false, List, [], ◌∷◌, ◌++◌, length, Option, Some, None, refl, sym, ap, ◌∙◌}
 use Rattle.std.proofs.Common.{arith, max, map}
 use Rattle.std.specs.Option.{ForSome}
 use Rattle.std.specs.Prelude.{option_map, nat_lt, if◌then◌else◌, IfSome}
 use Rattle.std.proofs.lemmas.Bool.Decides.{nat_tests}
 use Rattle.std.proofs.lemmas.List.{append-nil, drop_all, length_push}
-use Rattle.pie_rate.specs.{Departure, departure_at, bytes_after, begun, averaged, sample_of, samples, average_of, average, with_sample, cycles}
-use Rattle.pie_rate.specs.{IsWithin, Shows, begun_at, after_departure, opened_by, step_from}
+use Rattle.pie_rate.specs.{Departure, departure_at, bytes_after, begun, averaged, sample_of, samples, average_of, average, with_sample, cycles, cycles_from}
+use Rattle.pie_rate.specs.{IsWithin, Shows, begun_at, first_opening, first_position, after_departure, opened_by, step_from}
 use Rattle.pie_rate.specs.Estimate.{Begun, Estimate}
 use Rattle.pie_rate.proofs.Laws.{added, opens, begins, begun-push, begun-within, samples-push, departure_at-push_old, departure_at-push_new}
 use Rattle.pie_rate.proofs.Laws.{bytes_after-push}
 use Rattle.pie_rate.proofs.Averages.{average_of-push}
+
+-- cleared, an estimate shows no departures
+pub nothing_shown : (threshold : ℕ) → Shows threshold [] (record { average = 0; begun = None })
+unfolding average samples cycles cycles_from begun first_opening first_position
+nothing_shown threshold = record { average = refl; begun = refl }
 
 module _ (threshold : ℕ) (ds : List Departure) (d : Departure) where
   begun_at-new : begun_at (ds ++ d ∷ []) (length ds) ≡ record { start = d.moment; count = 0 }

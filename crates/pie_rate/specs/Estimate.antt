@@ -1,6 +1,6 @@
 -- What callers see of a rate estimate, and which departures it shows.
 use Rattle.std.specs.Option.{ForSome}
-use Rattle.std.specs.Prelude.{◌≡◌, ℕ, ◌^◌, ◌<◌, List, Option, option_map}
+use Rattle.std.specs.Prelude.{◌≡◌, ℕ, ◌^◌, ◌<◌, List, option_map}
 use Rattle.pie_rate.specs.declared.raw.RawCycle.{RawCycle}
 use Rattle.pie_rate.specs.declared.raw.RawRate.{RawRate}
 use Rattle.pie_rate.specs.Departures.{Departure, departure_at, bytes_after}

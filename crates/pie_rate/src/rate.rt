@@ -83,6 +83,7 @@ impl Rate {
     }
 
     /// Whether a cycle is begun (RFC 8033, section 5.2).
+    #[tactic(auto, using(crate::proofs::Laws::begun_unclosed))]
     pub fn is_measuring(&self) -> bool
         ensures value { IsTrue result ↔ IsSome self.now.begun }
         ensures look_back { (threshold : ℕ) (departures : List Departure) →

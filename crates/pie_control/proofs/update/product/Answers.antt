@@ -1,6 +1,6 @@
 use Rattle.std.proofs.Common.{arith}
 use Rattle.std.proofs.lemmas.Grind.{common_steps}
-use Rattle.pie_control.proofs.Products.{product-above, product-below, products}
+use Rattle.pie_control.proofs.Bounds.{product-above, product-below, products}
 use Rattle.pie_control.proofs.update.product.Goals as goal
 
 pub overflow_mul-result : goal.overflow_mul-result

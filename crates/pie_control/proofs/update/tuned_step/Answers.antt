@@ -1,6 +1,6 @@
 use Rattle.std.proofs.Common.{arith}
 use Rattle.std.proofs.lemmas.Grind.{common_steps}
-use Rattle.pie_control.proofs.Quotients.{quotients}
+use Rattle.pie_control.proofs.Bounds.{quotients}
 use Rattle.pie_control.proofs.update.tuned_step.Goals as goal
 
 pub nonzero_div-step : goal.nonzero_div-step

@@ -4,6 +4,3 @@ use Rattle.pie_control.proofs.control.Control.burst.Goals as goal
 
 pub returns-clause-granted : goal.returns-clause-granted
 returns-clause-granted c opening start events shows = rw shows.burst (burst_allowance-granted opening events)
-
-pub returns-clause-value : goal.returns-clause-value
-returns-clause-value c = search rules

@@ -90,6 +90,12 @@ wait-hold left since now = grind (arith, nat_tests)
 pub either : (b : Bool) (x y z : ℕ) → x ≤ z → y ≤ z → (if b then x else y) ≤ z
 either b x y z p q = grind (arith, nat_tests)
 
+pub record PartsHold (now : ℕ) (parts : Parts) : Type 0 where
+  pub prob : parts.prob ≤ 10 ^ 12
+  pub old_delay : parts.old_delay ≤ 2 ^ 40
+  pub burst : parts.burst ≤ 10 ^ 12
+  pub last : parts.last ≤ now
+
 stays-in-one : (profile : Profile) (active calm : Bool) → profile ≡ One → active ≡ true → (active && stays_active profile calm) ≡ true
 stays-in-one One active calm one on = rw on refl
 stays-in-one Two active calm one on = cc
@@ -113,33 +119,65 @@ Sound_opened profile elements params moment good within = record {
 }
 
 module _ (h : Held) (sound : IsSound h) where
-  Sound-pass : (moment : ℕ) → moment < 2 ^ 60 → IsSound (record h { moment = now_at h moment })
+  pub Sound-pass : (moment : ℕ) → moment < 2 ^ 60 → IsSound (record h { moment = now_at h moment })
   Sound-pass moment within =
       let before = sound.moment in
       let last = sound.last in
-      record sound {
+      record {
+        params = sound.params;
         moment = omega arith;
+        prob = sound.prob;
+        old_delay = sound.old_delay;
+        burst = sound.burst;
         last = omega arith;
+        accu = sound.accu;
+        average = sound.average;
         cycle = later-within h.params.dq_threshold h.moment (now_at h moment) h.rate.begun (omega arith) sound.cycle;
+        waited = sound.waited;
+        active = sound.active;
       }
 
-  Sound-anew : (active : Bool) → (h.profile ≡ One → active ≡ true) → IsSound (record (anew h) { active = active })
-  Sound-anew active always = record sound {
-    prob = omega arith;
-    old_delay = omega arith;
-    burst = (in-range h.params sound.params).max_burst;
-    accu = omega arith;
-    average = omega arith;
-    cycle = tt;
-    waited = omega arith;
+  measured : RateHolds h.params.dq_threshold h.moment h.rate
+  measured = record { average = sound.average; cycle = sound.cycle }
+
+  registers : PartsHold h.moment h.control
+  registers = record { prob = sound.prob; old_delay = sound.old_delay; burst = sound.burst; last = sound.last }
+
+  -- the same with other parts
+  Sound-with : (active : Bool) (rate : Estimate) (waited : ℕ) (control : Parts) (accu : ℕ) → (h.profile ≡ One → active ≡ true)
+      → RateHolds h.params.dq_threshold h.moment rate → waited ≤ 2 ^ 40
+      → PartsHold h.moment control → accu < 8_500_000_000_000
+      → IsSound (record h { active = active; rate = rate; waited = waited; control = control; accu = accu })
+  Sound-with active rate waited control accu always rated kept held small = record {
+    params = sound.params;
+    moment = sound.moment;
+    prob = held.prob;
+    old_delay = held.old_delay;
+    burst = held.burst;
+    last = held.last;
+    accu = small;
+    average = rated.average;
+    cycle = rated.cycle;
+    waited = kept;
     active = always;
   }
+
+  Sound-anew : (active : Bool) → (h.profile ≡ One → active ≡ true) → IsSound (record (anew h) { active = active })
+  Sound-anew active always =
+      Sound-with active no_estimate 0 (renewed h.params h.control) 0 always (record { average = omega arith; cycle = tt }) (omega arith)
+      (record { prob = omega arith; old_delay = omega arith; burst = (in-range h.params sound.params).max_burst; last = sound.last }) (omega arith)
 
 arrive-sound : (h : Held) → IsSound h → (a : ArrivingPacket) (moment : ℕ) → moment < 2 ^ 60 → IsSound (after_call h (Arrive a moment))
 arrive-sound h sound a moment within = by (turns_on h (bytes_with (verdict h a) a.queued a.size))
   where
+    passed : IsSound (record h { moment = now_at h moment })
+    passed = Sound-pass h sound moment within
+
     here : IsSound (judged h a moment)
-    here = record (Sound-pass h sound moment within) { accu = accu-small h a sound.accu }
+    here =
+        let old : Held = record h { moment = now_at h moment } in
+        Sound-with old passed h.active h.rate h.waited h.control (accu_left h a) sound.active (measured old passed) sound.waited
+        (registers old passed) (accu-small h a sound.accu)
 
     by : (on : Bool) → IsSound (if on then record (anew (judged h a moment)) { active = true } else judged h a moment)
     by true = Sound-anew (judged h a moment) here true (λ one. refl)
@@ -147,11 +185,23 @@ arrive-sound h sound a moment within = by (turns_on h (bytes_with (verdict h a) 
 
 depart-sound : (h : Held) → IsSound h → (size left since moment : ℕ) → moment < 2 ^ 60 → IsSound (after_call h (Depart size left since moment))
 depart-sound h sound size left since moment within =
-    let rate = rates (measures h.active h.elements.delay) in
-    record passed { average = rate.average; cycle = rate.cycle; waited = waits (keeps_wait h.active h.elements.delay) }
+    Sound-with here passed h.active (rate-by (measures h.active h.elements.delay)) (wait-by (keeps_wait h.active h.elements.delay)) h.control h.accu
+    sound.active (rates (measures h.active h.elements.delay)) (waits (keeps_wait h.active h.elements.delay)) (registers here passed) sound.accu
   where
+    now : ℕ
+    now = now_at h moment
+
+    here : Held
+    here = record h { moment = now_at h moment }
+
     passed : IsSound (record h { moment = now_at h moment })
     passed = Sound-pass h sound moment within
+
+    rate-by : Bool → Estimate
+    rate-by b = if b then after_departure h.params.dq_threshold h.rate (departure size left (now_at h moment)) else h.rate
+
+    wait-by : Bool → ℕ
+    wait-by b = if b then wait_of left since (now_at h moment) else h.waited
 
     rates : (b : Bool) → RateHolds h.params.dq_threshold (now_at h moment) (if b then after_departure h.params.dq_threshold h.rate
         (departure size left (now_at h moment)) else h.rate)
@@ -160,22 +210,26 @@ depart-sound h sound size left since moment within =
         let least = threshold.0 in
         step-holds h.params.dq_threshold h.rate.average size left (now_at h moment) h.rate.begun (omega arith) threshold.1 passed.moment
         sound.average passed.cycle
-    rates false = record { average = sound.average; cycle = passed.cycle }
+    rates false = measured here passed
 
     waits : (b : Bool) → (if b then wait_of left since (now_at h moment) else h.waited) ≤ 2 ^ 40
     waits true = wait-hold left since (now_at h moment)
     waits false = sound.waited
 
 update-sound : (h : Held) → IsSound h → (queued moment : ℕ) → moment < 2 ^ 60 → IsSound (after_call h (Update queued moment))
-update-sound h sound queued moment within = by h.active
+update-sound h sound queued moment within =
+    Sound-with here passed (h.active && stays_active h.profile (is_calm h queued)) h.rate h.waited (control_after h queued (now_at h moment)) h.accu
+    (λ one. stays-in-one h.profile h.active (is_calm h queued) one (sound.active one)) (measured here passed) sound.waited (by h.active) sound.accu
   where
-    by : (active : Bool) → IsSound (record h {
-          moment = now_at h moment;
-          active = h.active && stays_active h.profile (is_calm h queued);
-          control = if active then control_updated h.elements h.params h.control (delay_in h queued) (now_at h moment)
-              else record h.control { last = now_at h moment };
-        })
-    by true = record (Sound-pass h sound moment within) {
+    here : Held
+    here = record h { moment = now_at h moment }
+
+    passed : IsSound (record h { moment = now_at h moment })
+    passed = Sound-pass h sound moment within
+
+    by : (active : Bool) → PartsHold (now_at h moment) (if active then control_updated h.elements h.params h.control (delay_in h queued)
+        (now_at h moment) else record h.control { last = now_at h moment })
+    by true = record {
       prob = next-hold h.elements h.params h.control.prob (delay_in h queued) h.control.old_delay;
       old_delay = delay-by-hold h.elements.delay h.waited (delay_of queued h.rate.average h.params.dq_threshold) sound.waited
           (delay-hold queued h.rate.average h.params.dq_threshold);
@@ -183,11 +237,25 @@ update-sound h sound queued moment within = by h.active
           either (is_calm h queued)
           h.params.max_burst (h.control.burst - h.params.t_update) (10 ^ 12) (in-range h.params sound.params).max_burst (omega arith);
       last = omega arith;
-      active = λ one. stays-in-one h.profile h.active (is_calm h queued) one (sound.active one);
     }
-    by false = record (Sound-pass h sound moment within) {
-      last = omega arith;
-      active = λ one. stays-in-one h.profile h.active (is_calm h queued) one (sound.active one);
+    by false = record { prob = sound.prob; old_delay = sound.old_delay; burst = sound.burst; last = omega arith }
+
+change-sound : (h : Held) → IsSound h → (params : RawParams) (moment : ℕ) → moment < 2 ^ 60 → first_bad params ≡ None
+    → IsSound (after_call h (Change params moment))
+change-sound h sound params moment within good =
+    let passed : IsSound (record h { moment = now_at h moment }) = Sound-pass h sound moment within in
+    record {
+      params = good;
+      moment = passed.moment;
+      prob = sound.prob;
+      old_delay = sound.old_delay;
+      burst = sound.burst;
+      last = passed.last;
+      accu = sound.accu;
+      average = omega arith;
+      cycle = tt;
+      waited = sound.waited;
+      active = sound.active;
     }
 
 pub Sound_call : (h : Held) → IsSound h → (call : Call) → IsTaken call → IsSound (after_call h call)
@@ -196,8 +264,7 @@ Sound_call h sound (Depart size left since moment) taken = depart-sound h sound 
 Sound_call h sound (Pass moment) taken = Sound-pass h sound moment taken
 Sound_call h sound (Update queued moment) taken = update-sound h sound queued moment taken
 Sound_call h sound (Restart moment) taken = Sound-anew (record h { moment = now_at h moment }) (Sound-pass h sound moment taken) h.active sound.active
-Sound_call h sound (Change params moment) taken =
-    record (Sound-pass h sound moment taken.0) { params = taken.1; average = omega arith; cycle = tt }
+Sound_call h sound (Change params moment) taken = change-sound h sound params moment taken.0 taken.1
 
 pub stays_sound : (h g : Held) → g ≡ h → IsSound h → IsSound g
 stays_sound h g is sound = subst (λ (k : Held). IsSound k) (sym is) sound

@@ -2,6 +2,7 @@
 use Rattle.std.proofs.Common.{◌≡◌, ◌^◌, ◌∙◌, ℕ, zero, suc, Bool, true, false, refl, arith, ◌↔◌, ap, sym, not, List, [], ◌∷◌, find, slice_get}
 use Rattle.std.specs.Prelude.{Option, Some, None, is_none}
 use Rattle.std.proofs.lemmas.Bool.{le-leb, leb-true, lt-ltb, ltb-true}
+use Rattle.std.proofs.lemmas.Bool.Decides.{nat_tests}
 use Rattle.pie_params.specs.Range.{first_bad}
 use Rattle.pie_aqm.specs.{Begun, Profile, One, Two, IsSound, IsWithin, began_by, counts_below, first_unsound, fits_profile, is_sound_at, looked_at}
 use Rattle.pie_aqm.specs.Held.{Held}
@@ -17,13 +18,9 @@ cycle-from : (threshold now : ℕ) (o : Option Begun) → began_by now o ≡ tru
 cycle-from threshold now None b c = tt
 cycle-from threshold now (Some cycle) b c = (leb-true cycle.start now b, ltb-true cycle.count threshold c)
 
-began-to : (threshold now : ℕ) (o : Option Begun) → IsWithin threshold now o → began_by now o ≡ true
-began-to threshold now None w = refl
-began-to threshold now (Some cycle) w = le-leb cycle.start now w.0
-
-counts-to : (threshold now : ℕ) (o : Option Begun) → IsWithin threshold now o → counts_below threshold o ≡ true
-counts-to threshold now None w = refl
-counts-to threshold now (Some cycle) w = lt-ltb cycle.count threshold w.1
+cycle-to : (threshold now : ℕ) (o : Option Begun) → IsWithin threshold now o → (began_by now o ≡ true) × (counts_below threshold o ≡ true)
+cycle-to threshold now None w = (refl, refl)
+cycle-to threshold now (Some cycle) w = (le-leb cycle.start now w.0, lt-ltb cycle.count threshold w.1)
 
 active-from : (profile : Profile) (active : Bool) → fits_profile profile active ≡ true → profile ≡ One → active ≡ true
 active-from One active fits one = fits
@@ -70,22 +67,10 @@ sound_from h none =
 pub sound_to : (h : Held) → IsSound h → first_unsound h ≡ None
 unfolding first_unsound
 sound_to h s =
-    let m = s.moment in
-    let a = s.average in
-    rw (
-      ap is_none s.params,
-      le-leb h.moment 1152921504606846975 (omega arith),
-      le-leb h.control.prob (10 ^ 12) s.prob,
-      le-leb h.control.old_delay (2 ^ 40) s.old_delay,
-      lt-ltb h.accu 8_500_000_000_000 s.accu,
-      le-leb h.control.burst (10 ^ 12) s.burst,
-      le-leb h.control.last h.moment s.last,
-      le-leb h.rate.average 1152921504606846975 (omega arith),
-      began-to h.params.dq_threshold h.moment h.rate.begun s.cycle,
-      counts-to h.params.dq_threshold h.moment h.rate.begun s.cycle,
-      le-leb h.waited (2 ^ 40) s.waited,
-      active-to h.profile h.active s.active,
-    ) refl
+    let cycle = cycle-to h.params.dq_threshold h.moment h.rate.begun s.cycle in
+    let active = active-to h.profile h.active s.active in
+    let params = ap is_none s.params in
+    grind (arith, nat_tests)
 
 pub sound_is : (h : Held) → (first_unsound h ≡ None) ↔ IsSound h
 sound_is h = (sound_from h, sound_to h)

@@ -30,39 +30,21 @@ active-to : (profile : Profile) (active : Bool) → (profile ≡ One → active 
 active-to One active always = always refl
 active-to Two active always = refl
 
--- a search for what fails that finds nothing has passed over the first, and found nothing behind it
-passed : {X : Type 0} (good : X → Bool) (x : X) (xs : List X) → find (λ y. not (good y)) (x ∷ xs) ≡ None
-    → (good x ≡ true) × (find (λ y. not (good y)) xs ≡ None)
-passed good x xs = by (good x) refl
-  where
-    by : (b : Bool) → good x ≡ b → find (λ y. not (good y)) (x ∷ xs) ≡ None → (good x ≡ true) × (find (λ y. not (good y)) xs ≡ None)
-    by true is none = (is, rw is at none)
-    by false is none = cc
-
--- .. so what stands at any place passes
-passes-at : {X : Type 0} (good : X → Bool) (xs : List X) (i : ℕ) (x : X) → find (λ y. not (good y)) xs ≡ None → slice_get xs i ≡ Some x
-    → good x ≡ true
-passes-at good [] i x none there = cc
-passes-at good (y ∷ ys) zero x none there = let same : y ≡ x = cc in ap good (sym same) ∙ (passed good y ys none).0
-passes-at good (y ∷ ys) (suc i) x none there = passes-at good ys i x (passed good y ys none).1 there
-
 pub sound_from : (h : Held) → first_unsound h ≡ None → IsSound h
 unfolding first_unsound
-sound_from h none =
-    let at : (i : ℕ) (r : Register) → slice_get looked_at i ≡ Some r → is_sound_at h r ≡ true = λ i r there. passes-at (is_sound_at h) looked_at i r none there in
-    record {
-      params = none-is (first_bad h.params) (at 0 register.Params refl);
-      moment = let m = leb-true h.moment 1152921504606846975 (at 1 register.Moment refl) in omega arith;
-      prob = leb-true h.control.prob (10 ^ 12) (at 2 register.Prob refl);
-      old_delay = leb-true h.control.old_delay (2 ^ 40) (at 3 register.OldDelay refl);
-      burst = leb-true h.control.burst (10 ^ 12) (at 5 register.Burst refl);
-      last = leb-true h.control.last h.moment (at 6 register.Last refl);
-      accu = ltb-true h.accu 8_500_000_000_000 (at 4 register.Accu refl);
-      average = let m = leb-true h.rate.average 1152921504606846975 (at 7 register.Average refl) in omega arith;
-      cycle = cycle-from h.params.dq_threshold h.moment h.rate.begun (at 8 register.CycleStart refl) (at 9 register.CycleCount refl);
-      waited = leb-true h.waited (2 ^ 40) (at 10 register.Waited refl);
-      active = active-from h.profile h.active (at 11 register.Active refl);
-    }
+sound_from h none = record {
+  params = none-is (first_bad h.params) (grind (arith, nat_tests));
+  moment = grind (arith, nat_tests);
+  prob = grind (arith, nat_tests);
+  old_delay = grind (arith, nat_tests);
+  burst = grind (arith, nat_tests);
+  last = grind (arith, nat_tests);
+  accu = grind (arith, nat_tests);
+  average = grind (arith, nat_tests);
+  cycle = cycle-from h.params.dq_threshold h.moment h.rate.begun (grind (arith, nat_tests)) (grind (arith, nat_tests));
+  waited = grind (arith, nat_tests);
+  active = active-from h.profile h.active (grind (arith, nat_tests));
+}
 
 pub sound_to : (h : Held) → IsSound h → first_unsound h ≡ None
 unfolding first_unsound

@@ -3,7 +3,7 @@ use Rattle.std.proofs.Common.{◌≡◌, ℕ, List, [], ◌∷◌, ◌++◌, map
 use Rattle.std.specs.Prelude.{max, Option, Some, None, unwrap_or, if◌then◌else◌}
 use Rattle.std.specs.List.{filter_map, after_last}
 use Rattle.std.proofs.lemmas.List.{append-nil, append_assoc, map-append}
-use Rattle.pie_aqm.specs.{RawParams, Departure, ControlEvent, EarlyEvent, Profile, One, Two, ControllerEvent, Opened, moment_of, params_set, Noted}
+use Rattle.pie_aqm.specs.{RawParams, Departure, Profile, One, Two, ControllerEvent, Opened, moment_of, params_set, Noted}
 use Rattle.pie_aqm.specs.{active_of, change_at, change_by, clears_rate, clears_rate_at, clears_wait, clears_wait_at, control_at, updates_shown}
 use Rattle.pie_aqm.specs.{control_of, wait_at, wait_shown, waited_noted, waited_of, control_shown, delay_noted, departure_at, departure_shown}
 use Rattle.pie_aqm.specs.{departures_shown, departures_of, early_at, arrivals_shown, early_of, early_shown, events_of, is_active, is_active_in}
@@ -121,9 +121,12 @@ pub departures-push : (opened : Opened) (events : List ControllerEvent) (event :
     (departures_shown opened events) (max (now_of opened events) (moment_of event))
 unfolding departures_shown departures_of active_of
 departures-push opened events event =
-    rw (noted-push opened events event,
-    since-push (clears_rate_at opened) (departure_at opened) (noted opened events) (note opened (noted opened events) event),
-    events-noted opened events, moment-push opened events event) refl
+    rw (
+      noted-push opened events event,
+      since-push (clears_rate_at opened) (departure_at opened) (noted opened events) (note opened (noted opened events) event),
+      events-noted opened events,
+      moment-push opened events event,
+    ) refl
 
 -- what the packet had waited that departed last, after one more event at this moment
 abbrev pub waited_next : ControllerEvent → Bool → Bool → ℕ → ℕ → ℕ

@@ -1,13 +1,11 @@
 -- No number of a controller can't be believed exactly where all are sound.
-use Rattle.std.proofs.Common.{◌≡◌, ◌^◌, ◌∙◌, ℕ, zero, suc, Bool, true, false, refl, arith, ◌↔◌, ap, sym, not, List, [], ◌∷◌, find, slice_get}
+use Rattle.std.proofs.Common.{◌≡◌, ℕ, Bool, true, refl, arith, ◌↔◌, ap}
 use Rattle.std.specs.Prelude.{Option, Some, None, is_none}
 use Rattle.std.proofs.lemmas.Bool.{le-leb, leb-true, lt-ltb, ltb-true}
 use Rattle.std.proofs.lemmas.Bool.Decides.{nat_tests}
 use Rattle.pie_params.specs.Range.{first_bad}
-use Rattle.pie_aqm.specs.{Begun, Profile, One, Two, IsSound, IsWithin, began_by, counts_below, first_unsound, fits_profile, is_sound_at, looked_at}
+use Rattle.pie_aqm.specs.{Begun, Profile, One, Two, IsSound, IsWithin, began_by, counts_below, first_unsound, fits_profile}
 use Rattle.pie_aqm.specs.Held.{Held}
-use Rattle.pie_event.specs.declared.register.Register.{Register}
-use Rattle.pie_event.specs.declared.register.Register.TheVariants as register
 
 none-is : {X : Type 0} (o : Option X) → is_none o ≡ true → o ≡ None
 none-is None e = refl

@@ -1,5 +1,5 @@
 -- What a controller holds stays sound at each call.
-use Rattle.std.proofs.Common.{◌≡◌, ◌≤◌, ◌<◌, ◌+◌, ◌-◌, ◌^◌, ◌==◌, ◌&&◌, ℕ, ℤ, pos, negsuc, ◌+ℤ◌, Bool, true, false, refl, ap, subst, sym, arith}
+use Rattle.std.proofs.Common.{◌≡◌, ◌≤◌, ◌<◌, ◌+◌, ◌-◌, ◌^◌, ◌&&◌, ℕ, ℤ, pos, negsuc, ◌+ℤ◌, Bool, true, false, refl, ap, subst, sym, arith}
 use Rattle.std.proofs.Common.{if◌then◌else◌}
 use Rattle.std.specs.Prelude.{max, nat_lt, Option, Some, None}
 use Rattle.std.proofs.lemmas.Bool.Decides.{nat_tests}
@@ -14,8 +14,8 @@ use Rattle.pie_early.specs.Decision.{counted}
 use Rattle.pie_early.proofs.Arrivals.{accu_below}
 use Rattle.pie_aqm.specs.Calls.{Arrive, Call, Change, Depart, IsTaken, Pass, Restart, Update, after_call}
 use Rattle.pie_aqm.specs.Held.{Held, IsSound, IsWithin}
-use Rattle.pie_aqm.specs.Steps.{accu_left, anew, bytes_with, control_after, control_updated, delay_in, is_calm, judged, no_estimate, now_at}
-use Rattle.pie_aqm.specs.Steps.{delay_by, keeps_wait, measures, offered, opened, opens_active, renewed, stays_active, turns_on, verdict, wait_of}
+use Rattle.pie_aqm.specs.Steps.{accu_left, anew, bytes_with, control_updated, delay_in, is_calm, judged, no_estimate, now_at}
+use Rattle.pie_aqm.specs.Steps.{delay_by, keeps_wait, measures, offered, opened, opens_active, stays_active, turns_on, verdict, wait_of}
 use Rattle.pie_aqm.proofs.InRange.{in-range, threshold-holds}
 
 -- ---- the accumulated probability

@@ -1,10 +1,10 @@
 -- What the tests of the decision say in facts.
-use Rattle.pie_early.proofs.Names.{◌≡◌, ℕ, ◌+◌, ◌*◌, ◌<◌, ◌≤◌, Bool, true, false, cond, refl, sym, ap, ◌∙◌, arith, if◌then◌else◌, nat_tests, ne_eqb}
+use Rattle.pie_early.proofs.Names.{◌≡◌, ℕ, ◌+◌, ◌*◌, ◌<◌, ◌≤◌, Bool, true, false, cond, refl, sym, ap, ◌∙◌, arith, nat_tests}
 use Rattle.pie_early.proofs.Names.{RawParams, Picking, Derandomized, Random, accumulates, Parts, Ecn, Choice, Enqueue, Mark, Drop, a_fifth}
 use Rattle.pie_early.proofs.Names.{never_picked, always_picked, is_considered, is_picked, picked_choice, accu_at, choice_at}
-use Rattle.std.proofs.Common.{eqb, inl, inr, ltb, ◌⊎◌, ◌↔◌, ◌&&◌}
-use Rattle.std.specs.Prelude.{IsTrue, ◌||◌, not}
-use Rattle.std.proofs.lemmas.Bool.{and_parts, and_from, false≢true}
+use Rattle.std.proofs.Common.{inr, ltb, ◌⊎◌, ◌↔◌, ◌&&◌}
+use Rattle.std.specs.Prelude.{IsTrue}
+use Rattle.std.proofs.lemmas.Bool.{and_parts, and_from}
 use Rattle.pie_fixed.specs.Fixed.{Picks}
 use Rattle.pie_queue.specs.Ecn.{is_capable}
 use Rattle.pie_early.specs.Decision.{is_pick, IsPicked}

@@ -1,4 +1,3 @@
-use Rattle.std.proofs.Common.{rules}
 use Rattle.pie_control.proofs.Laws.{burst_allowance-granted}
 use Rattle.pie_control.proofs.control.Control.burst.Goals as goal
 

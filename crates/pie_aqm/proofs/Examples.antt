@@ -4,6 +4,7 @@ use Rattle.pie_aqm.specs.{RawParams, Elements, Stamp, Begun, Two, ArrivingPacket
 use Rattle.pie_aqm.specs.{after_call, shown_by, active_of, arrivals_shown, control_of, delay_noted, departures_of, departures_shown, early_of}
 use Rattle.pie_aqm.specs.{held_of, is_active, noted, noted_after, now_of, params_of, updates_shown, waited_noted, waited_of, greatest, last_or}
 use Rattle.pie_aqm.specs.{places, accu_left, delay_answered, due, opened, verdict}
+use Rattle.std.specs.Prelude.{⊤}
 use Rattle.pie_params.specs.Elements.{usual}
 use Rattle.pie_aqm.specs.Held.{Held}
 use Rattle.pie_queue.specs.declared.ecn.Ecn.TheVariants.{NotEct}
@@ -114,6 +115,15 @@ answers-the-wait = (refl, refl, refl, refl, refl)
 
 -- ---- the same run, looked back over
 
+-- what that unfolds
+worked : Type 0
+unfolding held_of now_of params_of active_of departures_shown updates_shown arrivals_shown departures_of waited_of waited_noted delay_noted control_of
+    early_of is_active noted noted_after places greatest last_or
+    verdict accu_left is_considered is_picked accumulated average samples begun cycles cycles_from first_position first_opening
+    first_closing first_cycle delay_of
+    probability last_delay last_moment granted_burst burst_allowance next raw_step tuning_divisor tuned_step decayed
+worked = ⊤
+
 abbrev start : Opened
 start = record { profile = Two; elements = usual; params = small; moment = 0 }
 
@@ -131,11 +141,7 @@ first_calls = Arrive (packet 1024 1024 false) 0 ∷ Depart 1024 1024 0 1 ∷ Arr
 
 looks-back : (held_of start (run first_calls) ≡ held 1002 414_208 1000 4 1002 1000 (begun_at 1002) true)
     × (held_of start (run (first_calls ++ Restart 1003 ∷ Update 1024 1004 ∷ Update 1024 1005 ∷ [])) ≡ held 1005 0 0 5 1005 0 None false)
-unfolding held_of now_of params_of active_of departures_shown updates_shown arrivals_shown departures_of waited_of waited_noted delay_noted control_of early_of is_active
-    noted noted_after places greatest last_or
-    verdict accu_left is_considered is_picked accumulated average samples begun cycles cycles_from first_position first_opening first_closing
-    first_cycle delay_of
-    probability last_delay last_moment granted_burst burst_allowance next raw_step tuning_divisor tuned_step decayed
+unfolding worked
 looks-back = (refl, refl)
 
 -- ---- and one by time stamps: the wait of the packet before last, of the last, and after a reset
@@ -150,9 +156,5 @@ looks-back-at-waits : (held_of start_stamped (shown (opened Two stamps small 0) 
     × (held_of start_stamped (shown (opened Two stamps small 0) (stamped_calls ++ Depart 1024 0 2 9 ∷ [])) ≡ stamped 9 0 true)
     × (held_of start_stamped (shown (opened Two stamps small 0) (stamped_calls ++ Restart 9 ∷ [])) ≡ stamped 9 0 true)
     × (held_of start_stamped (shown (opened Two stamps small 0) (stamped_calls ++ Change small 9 ∷ [])) ≡ stamped 9 8 true)
-unfolding held_of now_of params_of active_of departures_shown updates_shown arrivals_shown departures_of waited_of waited_noted delay_noted control_of
-    early_of is_active noted noted_after places greatest last_or
-    verdict accu_left is_considered is_picked accumulated average samples begun cycles cycles_from first_position first_opening
-    first_closing first_cycle delay_of
-    probability last_delay last_moment granted_burst burst_allowance next raw_step tuning_divisor tuned_step decayed
+unfolding worked
 looks-back-at-waits = (refl, refl, refl, refl)

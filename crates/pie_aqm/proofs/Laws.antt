@@ -11,7 +11,7 @@ use Rattle.pie_aqm.specs.{opens_active, passed, renewed, stays_active, turns_on,
 use Rattle.pie_aqm.specs.Held.{Held}
 use Rattle.pie_rate.specs.Estimate as Rate
 use Rattle.pie_rate.specs.Step.{after_departure}
-use Rattle.pie_rate.proofs.Steps.{shows_after}
+use Rattle.pie_rate.proofs.Steps.{nothing_shown, shows_after}
 use Rattle.pie_control.specs.Events.{ControlEvent, idled, reset, update_at}
 use Rattle.pie_control.specs.History as Control
 use Rattle.pie_control.proofs.Laws.{Shows-idled, Shows-reset, Shows-updated}
@@ -20,7 +20,7 @@ use Rattle.pie_early.specs.History as Early
 use Rattle.pie_early.proofs.Laws.{shows-next}
 use Rattle.pie_aqm.proofs.Looks.{active-push, active_next, control-push, departures-push, departures_next, early-push, events-noted, moment-push}
 use Rattle.pie_aqm.proofs.Looks.{params-push, turned_on, waited-push, waited_next}
-use Rattle.pie_aqm.proofs.Parts.{early-step, nothing-shown}
+use Rattle.pie_aqm.proofs.Parts.{early-step}
 use Rattle.pie_aqm.proofs.Places.{with_one}
 
 -- ---- the parts' own relations, as equations
@@ -32,7 +32,7 @@ rate-is : (threshold : ℕ) (departures : List Departure) (e : Estimate) → Rat
 rate-is threshold departures e shown = rw (← shown.average, ← shown.begun) refl
 
 none-is : (threshold : ℕ) → estimate_of threshold [] ≡ no_estimate
-none-is threshold = sym (rate-is threshold [] no_estimate (nothing-shown threshold))
+none-is threshold = sym (rate-is threshold [] no_estimate (nothing_shown threshold))
 
 -- ---- activity
 
@@ -121,13 +121,13 @@ module _ (o : Opened) (events : List ControllerEvent) where
   unfolding held_of updates_shown
   calm-is queued = rw (delay-is queued, events-noted o events) refl
 
+  -- what the control law holds that was shown these
+  own : (us : List ControlEvent) → Control.Shows o.params o.moment us (parts_of o us)
+  own us = record { prob = refl; old_delay = refl; burst = refl; last = refl }
+
   -- what a reset, and turning on, leave of the control law and of early drop
   control-reset : parts_of o (updates_shown o events ++ reset (params_of o events) ∷ []) ≡ renewed (params_of o events) (parts_of o (updates_shown o events))
-  control-reset =
-      let shown : Control.Shows o.params o.moment (updates_shown o events) (parts_of o (updates_shown o events)) = record
-      { prob = refl; old_delay = refl; burst = refl; last = refl } in
-      sym (parts-is o _ _ (Shows-reset o.params o.moment (updates_shown o events) (parts_of o (updates_shown o events))
-      (renewed (params_of o events) (parts_of o (updates_shown o events))) shown (params_of o events) refl refl refl refl))
+  control-reset = sym (parts-is o _ _ (Shows-reset o.params o.moment (updates_shown o events) _ _ (own (updates_shown o events)) (params_of o events) refl))
 
   early-cleared : Early.accumulated (arrivals_shown o events ++ cleared ∷ []) ≡ 0
   early-cleared = sym (shows-next (arrivals_shown o events) (Early.accumulated (arrivals_shown o events)) cleared (record { accu = refl })).accu
@@ -171,15 +171,10 @@ module _ (o : Opened) (events : List ControllerEvent) where
           None) else None) ≡ (active_of o events && stays_active o.profile (is_calm (held_of o events) queued))
       active = rw (calm-is queued) (active-update o.profile (active_of o events) (is_calm (held_of o events) queued))
 
-      shown : Control.Shows o.params o.moment us (parts_of o us)
-      shown = record { prob = refl; old_delay = refl; burst = refl; last = refl }
-
       by : (delay : ℕ) (b : Bool) → parts_of o (us ++ (if b then update_at (params_of o events) o.elements delay now else idled now) ∷ [])
           ≡ (if b then control_updated o.elements (params_of o events) (parts_of o us) delay now else record (parts_of o us) { last = now })
-      by delay true = sym (parts-is o _ _ (Shows-updated o.params o.moment us (parts_of o us)
-          (control_updated o.elements (params_of o events) (parts_of o us) delay now) shown (params_of o events) o.elements delay now refl refl refl
-          refl))
-      by delay false = sym (parts-is o _ _ (Shows-idled o.params o.moment us (parts_of o us) (record (parts_of o us) { last = now }) shown now refl))
+      by delay true = sym (parts-is o _ _ (Shows-updated o.params o.moment us _ _ (own us) (params_of o events) o.elements delay now refl))
+      by delay false = sym (parts-is o _ _ (Shows-idled o.params o.moment us _ _ (own us) now refl))
 
       control : parts_of o (us ++ (if active_of o events then update_at (params_of o events) o.elements (delay_noted o (noted o events) queued) now
           else idled now) ∷ []) ≡ control_after (held_of o events) queued now

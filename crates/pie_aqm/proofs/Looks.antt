@@ -3,7 +3,7 @@ use Rattle.std.proofs.Common.{◌≡◌, ℕ, List, [], ◌∷◌, ◌++◌, map
 use Rattle.std.specs.Prelude.{max, Option, Some, None, unwrap_or, if◌then◌else◌}
 use Rattle.std.specs.List.{filter_map, after_last}
 use Rattle.std.proofs.lemmas.List.{append-nil, append_assoc, map-append}
-use Rattle.pie_aqm.specs.{RawParams, Departure, ControlEvent, EarlyEvent, Profile, One, Two, ControllerEvent, Opened, moment_of, params_set, Noted}
+use Rattle.pie_aqm.specs.{RawParams, Departure, Profile, One, Two, ControllerEvent, Opened, moment_of, params_set, Noted}
 use Rattle.pie_aqm.specs.{active_of, change_at, change_by, clears_rate, clears_rate_at, clears_wait, clears_wait_at, control_at, updates_shown}
 use Rattle.pie_aqm.specs.{control_of, wait_at, wait_shown, waited_noted, waited_of, control_shown, delay_noted, departure_at, departure_shown}
 use Rattle.pie_aqm.specs.{departures_shown, departures_of, early_at, arrivals_shown, early_of, early_shown, events_of, is_active, is_active_in}
@@ -121,15 +121,12 @@ pub departures-push : (opened : Opened) (events : List ControllerEvent) (event :
     (departures_shown opened events) (max (now_of opened events) (moment_of event))
 unfolding departures_shown departures_of active_of
 departures-push opened events event =
-    ap (λ (n : List Noted). filter_map (departure_at opened) (after_last (clears_rate_at opened) (places n))) (noted-push opened events event)
-    ∙ since-push (clears_rate_at opened) (departure_at opened) (noted opened events) (note opened (noted opened events) event) ∙ shown
-  where
-    shown : (if clears_rate_at opened (last_place opened events event) then [] else with_one (departures_of opened (noted opened events))
-        (departure_at opened (last_place opened events event)))
-        ≡ departures_next event (measures (is_active opened (noted opened events)) opened.elements.delay)
-        (turns_on_by event (is_active opened (noted opened events)) (params_of opened events)) (departures_of opened (noted opened events))
-        (max (now_of opened events) (moment_of event))
-    shown = rw (events-noted opened events, moment-push opened events event) refl
+    rw (
+      noted-push opened events event,
+      since-push (clears_rate_at opened) (departure_at opened) (noted opened events) (note opened (noted opened events) event),
+      events-noted opened events,
+      moment-push opened events event,
+    ) refl
 
 -- what the packet had waited that departed last, after one more event at this moment
 abbrev pub waited_next : ControllerEvent → Bool → Bool → ℕ → ℕ → ℕ
@@ -166,26 +163,11 @@ pub control-push : (opened : Opened) (events : List ControllerEvent) (event : Co
     (params_of opened events) opened.elements (delay_noted opened (noted opened events)) (max (now_of opened events) (moment_of event)))
 unfolding updates_shown control_of active_of
 control-push opened events event =
-    filtered-push (control_at opened) opened events event
-    ∙ ap (λ (c : Option ControlEvent). with_one (filter_map (control_at opened) (places (noted opened events))) c) shown
-  where
-    shown : control_at opened (last_place opened events event)
-        ≡ control_shown event (is_active opened (noted opened events))
-        (turns_on_by event (is_active opened (noted opened events)) (params_of opened events)) (params_of opened events)
-        opened.elements (delay_noted opened (noted opened events)) (max (now_of opened events) (moment_of event))
-    shown = rw (events-noted opened events, moment-push opened events event) refl
+    rw (filtered-push (control_at opened) opened events event, events-noted opened events, moment-push opened events event) refl
 
 pub early-push : (opened : Opened) (events : List ControllerEvent) (event : ControllerEvent)
     → arrivals_shown opened (events ++ event ∷ [])
     ≡ with_one (arrivals_shown opened events) (early_shown event (active_of opened events) (turned_on opened events event)
     opened.elements (params_of opened events) (parts_of opened (updates_shown opened events)))
 unfolding arrivals_shown early_of updates_shown active_of
-early-push opened events event =
-    filtered-push (early_at opened) opened events event
-    ∙ ap (λ (e : Option EarlyEvent). with_one (filter_map (early_at opened) (places (noted opened events))) e) shown
-  where
-    shown : early_at opened (last_place opened events event)
-        ≡ early_shown event (is_active opened (noted opened events))
-        (turns_on_by event (is_active opened (noted opened events)) (params_of opened events)) opened.elements (params_of opened events)
-        (parts_of opened (control_of opened (noted opened events)))
-    shown = rw (events-noted opened events) refl
+early-push opened events event = rw (filtered-push (early_at opened) opened events event, events-noted opened events) refl

@@ -1,20 +1,15 @@
--- What one more call does to what each part holds, whichever list it shows.
+-- What an arrival does to what early drop holds, whichever list it shows.
 use Rattle.std.proofs.Common.{◌≡◌, ◌+◌, ◌&&◌, ℕ, List, [], ◌∷◌, ◌++◌, Bool, true, false, refl, if◌then◌else◌}
 use Rattle.std.specs.Prelude.{nat_lt}
-use Rattle.pie_rate.specs.Average.{average, samples}
-use Rattle.pie_rate.specs.Cycles.{begun, cycles, cycles_from, first_opening, first_position}
-use Rattle.pie_aqm.specs.{Picking, Choice, Enqueue, ArrivingPacket, considered_where, verdict_shown, accu_left, chosen, no_estimate}
+use Rattle.pie_aqm.specs.{Picking, Choice, Enqueue, ArrivingPacket, considered_where, verdict_shown, accu_left, chosen}
 use Rattle.pie_aqm.specs.{offered, verdict}
 use Rattle.pie_aqm.specs.Held.{Held}
-use Rattle.pie_rate.specs.Estimate as Rate
 use Rattle.pie_early.specs.Decision.{accu_after, choice_of, counted, is_considered}
 use Rattle.pie_early.specs.Events.{EarlyEvent, arrival, cleared}
 use Rattle.pie_early.specs.History as Early
 use Rattle.pie_early.proofs.Arrivals.{shows_arrival}
 use Rattle.pie_early.proofs.Laws.{shows-next}
 use Rattle.pie_event.specs.declared.verdict.Verdict.TheVariants.{DroppedBytes, DroppedPackets}
-
--- ---- early drop
 
 shown-chosen : (choice : Choice) (considered : Bool) (prob : ℕ) (picking : Picking)
     → verdict_shown (chosen choice) considered prob picking ≡ arrival considered prob picking choice
@@ -42,9 +37,3 @@ early-step h a events shown = by (nat_lt h.params.limit_bytes (a.queued + a.size
         (counted h.elements h.params h.control (offered a)) h.elements.picking)
         (shows_arrival h.elements.picking h.params h.control (counted h.elements h.params h.control (offered a)) a.queued a.word h.accu events a.ecn
         shown)
-
--- ---- the departure rate
-
-pub nothing-shown : (t : ℕ) → Rate.Shows t [] no_estimate
-unfolding average samples cycles cycles_from begun first_opening first_position
-nothing-shown t = record { average = refl; begun = refl }

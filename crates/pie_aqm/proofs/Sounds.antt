@@ -1,5 +1,5 @@
 -- What a controller holds stays sound at each call.
-use Rattle.std.proofs.Common.{◌≡◌, ◌≤◌, ◌<◌, ◌+◌, ◌-◌, ◌^◌, ◌==◌, ◌&&◌, ℕ, ℤ, pos, negsuc, ◌+ℤ◌, Bool, true, false, refl, ap, subst, sym, arith}
+use Rattle.std.proofs.Common.{◌≡◌, ◌≤◌, ◌<◌, ◌+◌, ◌-◌, ◌^◌, ◌&&◌, ℕ, ℤ, pos, negsuc, ◌+ℤ◌, Bool, true, false, refl, ap, subst, sym, arith}
 use Rattle.std.proofs.Common.{if◌then◌else◌}
 use Rattle.std.specs.Prelude.{max, nat_lt, Option, Some, None}
 use Rattle.std.proofs.lemmas.Bool.Decides.{nat_tests}
@@ -14,8 +14,8 @@ use Rattle.pie_early.specs.Decision.{counted}
 use Rattle.pie_early.proofs.Arrivals.{accu_below}
 use Rattle.pie_aqm.specs.Calls.{Arrive, Call, Change, Depart, IsTaken, Pass, Restart, Update, after_call}
 use Rattle.pie_aqm.specs.Held.{Held, IsSound, IsWithin}
-use Rattle.pie_aqm.specs.Steps.{accu_left, anew, bytes_with, control_after, control_updated, delay_in, is_calm, judged, no_estimate, now_at}
-use Rattle.pie_aqm.specs.Steps.{delay_by, keeps_wait, measures, offered, opened, opens_active, renewed, stays_active, turns_on, verdict, wait_of}
+use Rattle.pie_aqm.specs.Steps.{accu_left, anew, bytes_with, control_updated, delay_in, is_calm, judged, no_estimate, now_at}
+use Rattle.pie_aqm.specs.Steps.{delay_by, keeps_wait, measures, offered, opened, opens_active, stays_active, turns_on, verdict, wait_of}
 use Rattle.pie_aqm.proofs.InRange.{in-range, threshold-holds}
 
 -- ---- the accumulated probability
@@ -31,13 +31,8 @@ accu-small h a small =
 
 -- ---- the departure rate
 
-weighted : (t sample average : ℕ) → t ≤ 65536 → sample ≤ 1152921504606846975 → average ≤ 1152921504606846975
-    → averaged t average sample ≤ 1152921504606846975
-weighted t sample average small s a = grind arith
-
-sampled : (b : Bool) (t sample average : ℕ) → t ≤ 65536 → sample < 2 ^ 60 → average < 2 ^ 60
-    → (if b then sample else averaged t average sample) < 2 ^ 60
-sampled b t sample average small s a = let w = weighted t sample average small (omega (arith, s)) (omega (arith, a)) in grind (arith, nat_tests)
+sampled : (t sample average : ℕ) → t ≤ 65536 → sample < 2 ^ 60 → average < 2 ^ 60 → with_sample t average sample < 2 ^ 60
+sampled t sample average small s a = let mixed : averaged t average sample < 2 ^ 60 = grind arith in grind (arith, nat_tests)
 
 later-within : (threshold m n : ℕ) (o : Option Begun) → m ≤ n → IsWithin threshold m o → IsWithin threshold n o
 later-within threshold m n None le w = w
@@ -66,7 +61,7 @@ step-holds threshold average size left now (Some cycle) some small within a w = 
         })
     by true less = record { average = a; cycle = (w.0, grind (arith, nat_tests)) }
     by false full = record {
-      average = sampled (average == 0) threshold (max 1 (now - cycle.start)) average small (omega arith) a;
+      average = sampled threshold (max 1 (now - cycle.start)) average small (omega arith) a;
       cycle = opened-within (nat_lt left threshold) threshold now some;
     }
 
@@ -107,169 +102,118 @@ stays-in-one Two active calm one on = cc
 
 -- ---- each call
 
-pub Sound_opened : (profile : Profile) (elements : Elements) (params : RawParams) (moment : ℕ) → first_bad params ≡ None → moment < 2 ^ 60
-    → IsSound (opened profile elements params moment)
-Sound_opened profile elements params moment good within = record {
+-- what is sound, part by part
+sound-of : (h : Held) → first_bad h.params ≡ None → h.moment < 2 ^ 60 → RateHolds h.params.dq_threshold h.moment h.rate
+    → PartsHold h.moment h.control → h.accu < 8_500_000_000_000 → h.waited ≤ 2 ^ 40 → (h.profile ≡ One → h.active ≡ true) → IsSound h
+sound-of h good within rated parts small kept always = record {
   params = good;
   moment = within;
-  prob = omega arith;
-  old_delay = omega arith;
-  burst = (in-range params good).max_burst;
-  last = omega arith;
-  accu = omega arith;
-  average = omega arith;
-  cycle = tt;
-  waited = omega arith;
-  active = λ one. ap opens_active one;
+  prob = parts.prob;
+  old_delay = parts.old_delay;
+  burst = parts.burst;
+  last = parts.last;
+  accu = small;
+  average = rated.average;
+  cycle = rated.cycle;
+  waited = kept;
+  active = always;
 }
 
-module _ (h : Held) (sound : IsSound h) where
-  pub Sound-pass : (moment : ℕ) → moment < 2 ^ 60 → IsSound (record h { moment = now_at h moment })
-  Sound-pass moment within =
-      let before = sound.moment in
-      let last = sound.last in
-      record {
-        params = sound.params;
-        moment = omega arith;
-        prob = sound.prob;
-        old_delay = sound.old_delay;
-        burst = sound.burst;
-        last = omega arith;
-        accu = sound.accu;
-        average = sound.average;
-        cycle = later-within h.params.dq_threshold h.moment (now_at h moment) h.rate.begun (omega arith) sound.cycle;
-        waited = sound.waited;
-        active = sound.active;
-      }
+-- nothing measured, and a control law started anew
+unmeasured : (threshold now : ℕ) → RateHolds threshold now no_estimate
+unmeasured threshold now = record { average = omega arith; cycle = tt }
 
-  measured : RateHolds h.params.dq_threshold h.moment h.rate
-  measured = record { average = sound.average; cycle = sound.cycle }
+renewed-hold : (params : RawParams) (now last : ℕ) → first_bad params ≡ None → last ≤ now
+    → PartsHold now (record { prob = 0; old_delay = 0; burst = params.max_burst; last = last })
+renewed-hold params now last good before =
+    record { prob = omega arith; old_delay = omega arith; burst = (in-range params good).max_burst; last = before }
 
-  registers : PartsHold h.moment h.control
-  registers = record { prob = sound.prob; old_delay = sound.old_delay; burst = sound.burst; last = sound.last }
+pub Sound_opened : (profile : Profile) (elements : Elements) (params : RawParams) (moment : ℕ) → first_bad params ≡ None → moment < 2 ^ 60
+    → IsSound (opened profile elements params moment)
+Sound_opened profile elements params moment good within =
+    sound-of (opened profile elements params moment) good within (unmeasured params.dq_threshold moment)
+    (renewed-hold params moment moment good (omega arith)) (omega arith) (omega arith) (λ one. ap opens_active one)
 
-  -- the same with other parts
-  Sound-with : (active : Bool) (rate : Estimate) (waited : ℕ) (control : Parts) (accu : ℕ) → (h.profile ≡ One → active ≡ true)
-      → RateHolds h.params.dq_threshold h.moment rate → waited ≤ 2 ^ 40
-      → PartsHold h.moment control → accu < 8_500_000_000_000
-      → IsSound (record h { active = active; rate = rate; waited = waited; control = control; accu = accu })
-  Sound-with active rate waited control accu always rated kept held small = record {
-    params = sound.params;
-    moment = sound.moment;
-    prob = held.prob;
-    old_delay = held.old_delay;
-    burst = held.burst;
-    last = held.last;
-    accu = small;
-    average = rated.average;
-    cycle = rated.cycle;
-    waited = kept;
-    active = always;
+Sound-anew : (h : Held) → IsSound h → (active : Bool) → (h.profile ≡ One → active ≡ true) → IsSound (record (anew h) { active = active })
+Sound-anew h sound active always =
+    sound-of (record (anew h) { active = active }) sound.params sound.moment (unmeasured h.params.dq_threshold h.moment)
+    (renewed-hold h.params h.moment h.control.last sound.params sound.last) (omega arith) (omega arith) always
+
+-- at a later moment
+module _ (h : Held) (sound : IsSound h) (moment : ℕ) (within : moment < 2 ^ 60) where
+  passed-moment : now_at h moment < 2 ^ 60
+  passed-moment = let before = sound.moment in omega arith
+
+  measured : RateHolds h.params.dq_threshold (now_at h moment) h.rate
+  measured = record {
+    average = sound.average;
+    cycle = later-within h.params.dq_threshold h.moment (now_at h moment) h.rate.begun (omega arith) sound.cycle;
   }
 
-  Sound-anew : (active : Bool) → (h.profile ≡ One → active ≡ true) → IsSound (record (anew h) { active = active })
-  Sound-anew active always =
-      Sound-with active no_estimate 0 (renewed h.params h.control) 0 always (record { average = omega arith; cycle = tt }) (omega arith)
-      (record { prob = omega arith; old_delay = omega arith; burst = (in-range h.params sound.params).max_burst; last = sound.last }) (omega arith)
+  registers : PartsHold (now_at h moment) h.control
+  registers = let last = sound.last in
+      record { prob = sound.prob; old_delay = sound.old_delay; burst = sound.burst; last = omega arith }
 
-arrive-sound : (h : Held) → IsSound h → (a : ArrivingPacket) (moment : ℕ) → moment < 2 ^ 60 → IsSound (after_call h (Arrive a moment))
-arrive-sound h sound a moment within = by (turns_on h (bytes_with (verdict h a) a.queued a.size))
-  where
-    passed : IsSound (record h { moment = now_at h moment })
-    passed = Sound-pass h sound moment within
+  pass-sound : IsSound (record h { moment = now_at h moment })
+  pass-sound = sound-of (record h { moment = now_at h moment }) sound.params passed-moment measured registers sound.accu sound.waited sound.active
 
-    here : IsSound (judged h a moment)
-    here =
-        let old : Held = record h { moment = now_at h moment } in
-        Sound-with old passed h.active h.rate h.waited h.control (accu_left h a) sound.active (measured old passed) sound.waited
-        (registers old passed) (accu-small h a sound.accu)
+  arrive-sound : (a : ArrivingPacket) → IsSound (after_call h (Arrive a moment))
+  arrive-sound a = by (turns_on h (bytes_with (verdict h a) a.queued a.size))
+      (sound-of (judged h a moment) sound.params passed-moment measured registers (accu-small h a sound.accu) sound.waited sound.active)
+    where
+      by : (on : Bool) → IsSound (judged h a moment) → IsSound (if on then record (anew (judged h a moment)) { active = true } else judged h a moment)
+      by true here = Sound-anew (judged h a moment) here true (λ one. refl)
+      by false here = here
 
-    by : (on : Bool) → IsSound (if on then record (anew (judged h a moment)) { active = true } else judged h a moment)
-    by true = Sound-anew (judged h a moment) here true (λ one. refl)
-    by false = here
+  depart-sound : (size left since : ℕ) → IsSound (after_call h (Depart size left since moment))
+  depart-sound size left since =
+      sound-of (after_call h (Depart size left since moment)) sound.params passed-moment
+      (rates (measures h.active h.elements.delay) measured passed-moment) registers sound.accu (waits (keeps_wait h.active h.elements.delay)) sound.active
+    where
+      rates : (b : Bool) → RateHolds h.params.dq_threshold (now_at h moment) h.rate → now_at h moment < 2 ^ 60
+          → RateHolds h.params.dq_threshold (now_at h moment) (if b then after_departure h.params.dq_threshold h.rate
+          (departure size left (now_at h moment)) else h.rate)
+      rates true held small =
+          let threshold = threshold-holds h.params sound.params in
+          let least = threshold.0 in
+          step-holds h.params.dq_threshold h.rate.average size left (now_at h moment) h.rate.begun (omega arith) threshold.1 small
+          held.average held.cycle
+      rates false held small = held
 
-depart-sound : (h : Held) → IsSound h → (size left since moment : ℕ) → moment < 2 ^ 60 → IsSound (after_call h (Depart size left since moment))
-depart-sound h sound size left since moment within =
-    Sound-with here passed h.active (rate-by (measures h.active h.elements.delay)) (wait-by (keeps_wait h.active h.elements.delay)) h.control h.accu
-    sound.active (rates (measures h.active h.elements.delay)) (waits (keeps_wait h.active h.elements.delay)) (registers here passed) sound.accu
-  where
-    now : ℕ
-    now = now_at h moment
+      waits : (b : Bool) → (if b then wait_of left since (now_at h moment) else h.waited) ≤ 2 ^ 40
+      waits true = wait-hold left since (now_at h moment)
+      waits false = sound.waited
 
-    here : Held
-    here = record h { moment = now_at h moment }
+  update-sound : (queued : ℕ) → IsSound (after_call h (Update queued moment))
+  update-sound queued =
+      sound-of (after_call h (Update queued moment)) sound.params passed-moment measured (by h.active registers) sound.accu sound.waited
+      (λ one. stays-in-one h.profile h.active (is_calm h queued) one (sound.active one))
+    where
+      by : (active : Bool) → PartsHold (now_at h moment) h.control → PartsHold (now_at h moment) (if active then control_updated h.elements h.params
+          h.control (delay_in h queued) (now_at h moment) else record h.control { last = now_at h moment })
+      by true held = record {
+        prob = next-hold h.elements h.params h.control.prob (delay_in h queued) h.control.old_delay;
+        old_delay = delay-by-hold h.elements.delay h.waited (delay_of queued h.rate.average h.params.dq_threshold) sound.waited
+            (delay-hold queued h.rate.average h.params.dq_threshold);
+        burst = let before = sound.burst in
+            either (is_calm h queued)
+            h.params.max_burst (h.control.burst - h.params.t_update) (10 ^ 12) (in-range h.params sound.params).max_burst (omega arith);
+        last = omega arith;
+      }
+      by false held = record { prob = held.prob; old_delay = held.old_delay; burst = held.burst; last = omega arith }
 
-    passed : IsSound (record h { moment = now_at h moment })
-    passed = Sound-pass h sound moment within
-
-    rate-by : Bool → Estimate
-    rate-by b = if b then after_departure h.params.dq_threshold h.rate (departure size left (now_at h moment)) else h.rate
-
-    wait-by : Bool → ℕ
-    wait-by b = if b then wait_of left since (now_at h moment) else h.waited
-
-    rates : (b : Bool) → RateHolds h.params.dq_threshold (now_at h moment) (if b then after_departure h.params.dq_threshold h.rate
-        (departure size left (now_at h moment)) else h.rate)
-    rates true =
-        let threshold = threshold-holds h.params sound.params in
-        let least = threshold.0 in
-        step-holds h.params.dq_threshold h.rate.average size left (now_at h moment) h.rate.begun (omega arith) threshold.1 passed.moment
-        sound.average passed.cycle
-    rates false = measured here passed
-
-    waits : (b : Bool) → (if b then wait_of left since (now_at h moment) else h.waited) ≤ 2 ^ 40
-    waits true = wait-hold left since (now_at h moment)
-    waits false = sound.waited
-
-update-sound : (h : Held) → IsSound h → (queued moment : ℕ) → moment < 2 ^ 60 → IsSound (after_call h (Update queued moment))
-update-sound h sound queued moment within =
-    Sound-with here passed (h.active && stays_active h.profile (is_calm h queued)) h.rate h.waited (control_after h queued (now_at h moment)) h.accu
-    (λ one. stays-in-one h.profile h.active (is_calm h queued) one (sound.active one)) (measured here passed) sound.waited (by h.active) sound.accu
-  where
-    here : Held
-    here = record h { moment = now_at h moment }
-
-    passed : IsSound (record h { moment = now_at h moment })
-    passed = Sound-pass h sound moment within
-
-    by : (active : Bool) → PartsHold (now_at h moment) (if active then control_updated h.elements h.params h.control (delay_in h queued)
-        (now_at h moment) else record h.control { last = now_at h moment })
-    by true = record {
-      prob = next-hold h.elements h.params h.control.prob (delay_in h queued) h.control.old_delay;
-      old_delay = delay-by-hold h.elements.delay h.waited (delay_of queued h.rate.average h.params.dq_threshold) sound.waited
-          (delay-hold queued h.rate.average h.params.dq_threshold);
-      burst = let before = sound.burst in
-          either (is_calm h queued)
-          h.params.max_burst (h.control.burst - h.params.t_update) (10 ^ 12) (in-range h.params sound.params).max_burst (omega arith);
-      last = omega arith;
-    }
-    by false = record { prob = sound.prob; old_delay = sound.old_delay; burst = sound.burst; last = omega arith }
-
-change-sound : (h : Held) → IsSound h → (params : RawParams) (moment : ℕ) → moment < 2 ^ 60 → first_bad params ≡ None
-    → IsSound (after_call h (Change params moment))
-change-sound h sound params moment within good =
-    let passed : IsSound (record h { moment = now_at h moment }) = Sound-pass h sound moment within in
-    record {
-      params = good;
-      moment = passed.moment;
-      prob = sound.prob;
-      old_delay = sound.old_delay;
-      burst = sound.burst;
-      last = passed.last;
-      accu = sound.accu;
-      average = omega arith;
-      cycle = tt;
-      waited = sound.waited;
-      active = sound.active;
-    }
+  change-sound : (params : RawParams) → first_bad params ≡ None → IsSound (after_call h (Change params moment))
+  change-sound params good =
+      sound-of (after_call h (Change params moment)) good passed-moment (unmeasured params.dq_threshold (now_at h moment)) registers sound.accu
+      sound.waited sound.active
 
 pub Sound_call : (h : Held) → IsSound h → (call : Call) → IsTaken call → IsSound (after_call h call)
-Sound_call h sound (Arrive a moment) taken = arrive-sound h sound a moment taken
-Sound_call h sound (Depart size left since moment) taken = depart-sound h sound size left since moment taken
-Sound_call h sound (Pass moment) taken = Sound-pass h sound moment taken
-Sound_call h sound (Update queued moment) taken = update-sound h sound queued moment taken
-Sound_call h sound (Restart moment) taken = Sound-anew (record h { moment = now_at h moment }) (Sound-pass h sound moment taken) h.active sound.active
-Sound_call h sound (Change params moment) taken = change-sound h sound params moment taken.0 taken.1
+Sound_call h sound (Arrive a moment) taken = arrive-sound h sound moment taken a
+Sound_call h sound (Depart size left since moment) taken = depart-sound h sound moment taken size left since
+Sound_call h sound (Pass moment) taken = pass-sound h sound moment taken
+Sound_call h sound (Update queued moment) taken = update-sound h sound moment taken queued
+Sound_call h sound (Restart moment) taken = Sound-anew (record h { moment = now_at h moment }) (pass-sound h sound moment taken) h.active sound.active
+Sound_call h sound (Change params moment) taken = change-sound h sound moment taken.0 params taken.1
 
 pub stays_sound : (h g : Held) → g ≡ h → IsSound h → IsSound g
 stays_sound h g is sound = subst (λ (k : Held). IsSound k) (sym is) sound

@@ -1,37 +1,17 @@
 -- What a controller holds, and what is sound to hold.
-use Rattle.std.specs.Prelude.{◌≡◌, ℕ, ◌^◌, ◌<◌, ◌≤◌, Bool, true, Option, Some, None, ⊤}
-use Rattle.pie_aqm.specs.Types.{RawParams, Elements, Profile, One}
+use Rattle.std.specs.Prelude.{◌≡◌, ℕ, ◌^◌, ◌<◌, ◌≤◌, true, Option, Some, None, ⊤}
+use Rattle.pie_aqm.specs.Types.{Begun, One}
 use Rattle.pie_params.specs.Range.{first_bad}
-use Rattle.pie_rate.specs.Estimate.{Begun, Estimate, estimate_of}
-use Rattle.pie_control.specs.Parts.{Parts, parts_of}
 use Rattle.pie_aqm.specs.declared.raw.RawController.{RawController}
 
 -- its profile and its optional elements; the parameters in force and the effective moment; whether it is active; the estimate of the
 -- departure rate, what the packet that departed last had waited, the registers of the control law, and the accumulated probability
-pub record Held : Type 0 where
-  pub profile : Profile
-  pub elements : Elements
-  pub params : RawParams
-  pub moment : ℕ
-  pub active : Bool
-  pub rate : Estimate
-  pub waited : ℕ
-  pub control : Parts
-  pub accu : ℕ
+abbrev pub Held : Type 0
+Held = RawController
 
--- what plain numbers say that a controller holds
+-- what plain numbers say that a controller holds: those numbers
 abbrev pub held_by : RawController → Held
-held_by raw = record {
-  profile = raw.profile;
-  elements = raw.elements;
-  params = raw.params;
-  moment = raw.moment;
-  active = raw.active;
-  rate = estimate_of raw.rate;
-  waited = raw.waited;
-  control = parts_of raw.control;
-  accu = raw.accu;
-}
+held_by raw = raw
 
 -- a cycle of the departure rate that is begun began no later than now, and has counted less than the threshold
 abbrev pub IsWithin : ℕ → ℕ → Option Begun → Type 0

@@ -1,6 +1,6 @@
 //! The controller and its calls: those of plain numbers that are in their ranges.
 ghost use Rattle.std.specs.Prelude.{◌≡◌, ◌+◌, ◌^◌, ◌≤◌, ◌↔◌, List, [], ◌∷◌, ◌++◌, true, false, None, Some, IsOk, IfOk, IfErr};
-ghost use Rattle.pie_aqm.specs.{Arrive, Change, Depart, Pass, Restart, Update, shown_by, ControllerEvent, Opened, IsSound, held_by, Shows};
+ghost use Rattle.pie_aqm.specs.{Arrive, Change, Depart, Pass, Restart, Update, shown_by, ControllerEvent, Opened, IsSound, Shows};
 ghost use Rattle.pie_aqm.specs.{first_unsound, arrived, cause, changed, delay_answered, delay_in, departed, due, is_too_soon, opened, passed, reset};
 ghost use Rattle.pie_aqm.specs.{updated, verdict};
 ghost use Rattle.pie_event.specs.Cause.{verdict_of};
@@ -20,14 +20,13 @@ pub struct Controller {
 }
 
 impl Model for Controller {
-    ghost use Rattle.pie_aqm.specs.{IsSound, held_by};
-    ghost use Rattle.pie_aqm.specs.Held.{Held};
+    ghost use Rattle.pie_aqm.specs.Held.{Held, IsSound};
 
     ghost Value = { Held };
 
-    ghost view = { λ c. held_by c.raw };
+    ghost view = { λ c. c.raw };
 
-    ghost invariant = { λ c. IsSound (held_by c.raw) };
+    ghost invariant = { λ c. IsSound c.raw };
 }
 
 impl Controller {
@@ -48,9 +47,9 @@ impl Controller {
     ///
     /// The first of the numbers that no controller holds ([`RawController::first_unsound`]).
     pub fn resumed(raw: RawController) -> Result<Self, Register>
-        ensures sound { IsOk result ↔ IsSound (held_by raw) }
-        ensures refused { IfErr result (λ register. first_unsound (held_by raw) ≡ Some register) }
-        ensures value { IfOk result (λ controller. (controller ≡ held_by raw) × (first_unsound (held_by raw) ≡ None)) }
+        ensures sound { IsOk result ↔ IsSound raw }
+        ensures refused { IfErr result (λ register. first_unsound raw ≡ Some register) }
+        ensures value { IfOk result (λ controller. (controller ≡ raw) × (first_unsound raw ≡ None)) }
     {
         match raw.first_unsound() {
             None => Ok(Controller { raw }),
@@ -96,7 +95,7 @@ impl Controller {
     /// What it holds, as plain numbers.
     #[inline(always)]
     pub fn raw(&self) -> RawController
-        ensures held { held_by result ≡ self.now }
+        ensures held { result ≡ self.now }
         ensures sound { IsSound self.now }
     {
         self.raw

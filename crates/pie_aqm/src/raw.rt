@@ -1,7 +1,7 @@
 //! The controller's rules over plain numbers.
 ghost use Rattle.std.specs.Prelude.{◌≡◌, ◌+◌, ◌^◌, ◌<◌, ◌≤◌, ℕ, IfSome, max, min, true, false};
 ghost use Rattle.pie_event.specs.Cause.{verdict_of};
-ghost use Rattle.pie_aqm.specs.{IsSound, held_by, accu_left, anew, arrived, capped, cause, changed, count_kept_open, delay_answered, delay_in};
+ghost use Rattle.pie_aqm.specs.{IsSound, accu_left, anew, arrived, capped, cause, changed, count_kept_open, delay_answered, delay_in};
 ghost use Rattle.pie_aqm.specs.{departed, due, is_too_soon, is_unmeasured, measures, opened, passed, reset, updated, verdict, wait_of, with_count};
 ghost use Rattle.pie_event.specs.CauseName.{name_of, place_of_cause};
 ghost use Rattle.pie_event.specs.Verdict.{is_queued};
@@ -52,7 +52,7 @@ impl RawController {
         params: RawParams,
         moment: u64,
     ) -> RawController
-        ensures { held_by result ≡ opened profile elements params moment }
+        ensures { result ≡ opened profile elements params moment }
     {
         RawController {
             profile,
@@ -71,9 +71,9 @@ impl RawController {
     #[inline(always)]
     pub fn arrive(&mut self, arrival: ArrivingPacket, moment: u64) -> Verdict
         requires { arrival.queued ≤ 2 ^ 30 }
-        ensures verdict { result ≡ verdict (held_by self.old) arrival }
+        ensures verdict { result ≡ verdict self.old arrival }
         ensures fits { is_queued result ≡ true → (arrival.is_full ≡ false) × (arrival.queued + arrival.size ≤ self.old.params.limit_bytes) }
-        ensures after { held_by self.new ≡ arrived (held_by self.old) arrival moment }
+        ensures after { self.new ≡ arrived self.old arrival moment }
     {
         self.arrive_with_place(arrival, moment).0
     }
@@ -83,11 +83,11 @@ impl RawController {
     #[inline(always)]
     pub fn arrive_with_place(&mut self, arrival: ArrivingPacket, moment: u64) -> (Verdict, usize)
         requires { arrival.queued ≤ 2 ^ 30 }
-        ensures verdict { result.0 ≡ verdict (held_by self.old) arrival }
-        ensures place { (packets : ℕ) → result.1 ≡ place_of_cause (name_of (cause (held_by self.old) arrival packets)) }
+        ensures verdict { result.0 ≡ verdict self.old arrival }
+        ensures place { (packets : ℕ) → result.1 ≡ place_of_cause (name_of (cause self.old arrival packets)) }
         ensures within { result.1 < 15 }
         ensures fits { is_queued result.0 ≡ true → (arrival.is_full ≡ false) × (arrival.queued + arrival.size ≤ self.old.params.limit_bytes) }
-        ensures after { held_by self.new ≡ arrived (held_by self.old) arrival moment }
+        ensures after { self.new ≡ arrived self.old arrival moment }
     {
         self.arrive_by(self.elements, arrival, moment)
     }
@@ -97,9 +97,9 @@ impl RawController {
     #[inline(always)]
     pub(crate) fn arrive_either_way(&mut self, arrival: ArrivingPacket, moment: u64) -> Verdict
         requires { arrival.queued ≤ 2 ^ 30 }
-        ensures verdict { result ≡ verdict (held_by self.old) arrival }
+        ensures verdict { result ≡ verdict self.old arrival }
         ensures fits { is_queued result ≡ true → (arrival.is_full ≡ false) × (arrival.queued + arrival.size ≤ self.old.params.limit_bytes) }
-        ensures after { held_by self.new ≡ arrived (held_by self.old) arrival moment }
+        ensures after { self.new ≡ arrived self.old arrival moment }
     {
         match (self.elements.picking, self.elements.size) {
             (Picking::Derandomized, Size::Unscaled) => {
@@ -133,10 +133,10 @@ impl RawController {
         moment: u64,
     ) -> Verdict
         requires { queued ≤ 2 ^ 30 }
-        ensures verdict { result ≡ verdict (held_by self.old) (record { queued = queued; is_full = is_full; size = size; ecn = ecn; word = word }) }
+        ensures verdict { result ≡ verdict self.old (record { queued = queued; is_full = is_full; size = size; ecn = ecn; word = word }) }
         ensures fits { is_queued result ≡ true → (is_full ≡ false) × (queued + size ≤ self.old.params.limit_bytes) }
-        ensures after { held_by self.new
-            ≡ arrived (held_by self.old) (record { queued = queued; is_full = is_full; size = size; ecn = ecn; word = word }) moment }
+        ensures after { self.new
+            ≡ arrived self.old (record { queued = queued; is_full = is_full; size = size; ecn = ecn; word = word }) moment }
     {
         let arrival = ArrivingPacket {
             queued,
@@ -158,11 +158,11 @@ impl RawController {
     ) -> (Verdict, usize)
         requires queued { arrival.queued ≤ 2 ^ 30 }
         requires own { elements ≡ self.old.elements }
-        ensures verdict { result.0 ≡ verdict (held_by self.old) arrival }
-        ensures place { (packets : ℕ) → result.1 ≡ place_of_cause (name_of (cause (held_by self.old) arrival packets)) }
+        ensures verdict { result.0 ≡ verdict self.old arrival }
+        ensures place { (packets : ℕ) → result.1 ≡ place_of_cause (name_of (cause self.old arrival packets)) }
         ensures within { result.1 < 15 }
         ensures fits { is_queued result.0 ≡ true → (arrival.is_full ≡ false) × (arrival.queued + arrival.size ≤ self.old.params.limit_bytes) }
-        ensures after { held_by self.new ≡ arrived (held_by self.old) arrival moment }
+        ensures after { self.new ≡ arrived self.old arrival moment }
     {
         let (verdict, accu, place) = self.judge(elements, arrival);
         self.accu = accu;
@@ -181,9 +181,9 @@ impl RawController {
     fn judge(&self, elements: Elements, arrival: ArrivingPacket) -> (Verdict, u64, usize)
         requires queued { arrival.queued ≤ 2 ^ 30 }
         requires own { elements ≡ self.now.elements }
-        ensures verdict { result.0 ≡ verdict (held_by self.now) arrival }
-        ensures accu { result.1 ≡ accu_left (held_by self.now) arrival }
-        ensures place { (packets : ℕ) → result.2 ≡ place_of_cause (name_of (cause (held_by self.now) arrival packets)) }
+        ensures verdict { result.0 ≡ verdict self.now arrival }
+        ensures accu { result.1 ≡ accu_left self.now arrival }
+        ensures place { (packets : ℕ) → result.2 ≡ place_of_cause (name_of (cause self.now arrival packets)) }
         ensures within { result.2 < 15 }
         ensures fits { is_queued result.0 ≡ true → (arrival.is_full ≡ false) × (arrival.queued + arrival.size ≤ self.now.params.limit_bytes) }
     {
@@ -214,8 +214,8 @@ impl RawController {
     #[tactic(auto, unfolding(crate::specs::Steps::cause, crate::specs::Steps::verdict))]
     pub(crate) fn cause(&self, arrival: ArrivingPacket, packets: u64) -> Cause
         requires { arrival.queued ≤ 2 ^ 30 }
-        ensures cause { result ≡ cause (held_by self.now) arrival packets }
-        ensures verdict { verdict_of result ≡ verdict (held_by self.now) arrival }
+        ensures cause { result ≡ cause self.now arrival packets }
+        ensures verdict { verdict_of result ≡ verdict self.now arrival }
     {
         let limit = self.params.limit_bytes;
         if limit < arrival.queued + u64::from(arrival.size) {
@@ -244,7 +244,7 @@ impl RawController {
     /// `max_burst`.
     #[inline(always)]
     fn start_anew(&mut self)
-        ensures { held_by self.new ≡ anew (held_by self.old) }
+        ensures { self.new ≡ anew self.old }
     {
         self.rate = RawRate::cleared();
         self.waited = 0;
@@ -264,7 +264,7 @@ impl RawController {
     /// counts as 65536.
     #[inline(always)]
     pub fn depart(&mut self, size: u32, left: u64, since: u64, moment: u64)
-        ensures { held_by self.new ≡ record (departed (capped (held_by self.old)) size left since moment) { params = self.old.params } }
+        ensures { self.new ≡ record (departed (capped self.old) size left since moment) { params = self.old.params } }
     {
         self.pass(moment);
         if self.active {
@@ -283,9 +283,9 @@ impl RawController {
     #[inline(always)]
     #[tactic(auto, using(std::proofs::lemmas::Bool::Decides::nat_tests), unfolding(crate::specs::Steps::count_kept_open))]
     pub fn counted(&self, size: u32) -> Option<u64>
-        ensures count { result ≡ count_kept_open (held_by self.now) size }
-        ensures alone { (left since moment : ℕ) → IfSome result (λ count. departed (capped (held_by self.now)) size left since moment
-            ≡ with_count (capped (held_by self.now)) count moment) }
+        ensures count { result ≡ count_kept_open self.now size }
+        ensures alone { (left since moment : ℕ) → IfSome result (λ count. departed (capped self.now) size left since moment
+            ≡ with_count (capped self.now) count moment) }
     {
         if !self.measures() {
             return None;
@@ -299,9 +299,9 @@ impl RawController {
     #[inline(always)]
     #[tactic(auto, using(std::proofs::lemmas::Bool::Decides::nat_tests), unfolding(crate::specs::Steps::is_unmeasured))]
     pub fn is_unmeasured(&self, left: u64) -> bool
-        ensures value { result ≡ is_unmeasured (held_by self.now) left }
+        ensures value { result ≡ is_unmeasured self.now left }
         ensures alone { (size since moment : ℕ) → result ≡ true
-            → departed (capped (held_by self.now)) size left since moment ≡ passed (capped (held_by self.now)) moment }
+            → departed (capped self.now) size left since moment ≡ passed (capped self.now) moment }
     {
         self.measures() && self.rate.begun.is_none() && left < self.threshold()
     }
@@ -325,10 +325,10 @@ impl RawController {
     /// Makes an update, as [`Controller::update`](crate::Controller::update) does.
     #[inline(always)]
     pub fn update(&mut self, queued: u64, moment: u64) -> u64
-        requires sound { IsSound (held_by self.old) }
+        requires sound { IsSound self.old }
         requires queued { queued ≤ 2 ^ 30 }
-        ensures delay { result ≡ delay_answered (held_by self.old) queued }
-        ensures after { held_by self.new ≡ updated (held_by self.old) queued moment }
+        ensures delay { result ≡ delay_answered self.old queued }
+        ensures after { self.new ≡ updated self.old queued moment }
     {
         self.pass(moment);
         if !self.active {
@@ -349,7 +349,7 @@ impl RawController {
     /// Makes a reset, as [`Controller::reset`](crate::Controller::reset) does.
     #[inline(always)]
     pub fn reset(&mut self, moment: u64)
-        ensures { held_by self.new ≡ reset (held_by self.old) moment }
+        ensures { self.new ≡ reset self.old moment }
     {
         self.pass(moment);
         self.start_anew();
@@ -358,7 +358,7 @@ impl RawController {
     /// Puts new parameters in force, as [`Controller::set_params`](crate::Controller::set_params) does.
     #[inline(always)]
     pub fn set_params(&mut self, params: RawParams, moment: u64)
-        ensures { held_by self.new ≡ changed (held_by self.old) params moment }
+        ensures { self.new ≡ changed self.old params moment }
     {
         self.pass(moment);
         self.params = params;
@@ -372,7 +372,7 @@ impl RawController {
         requires threshold { 0 < self.now.params.dq_threshold }
         requires waited { self.now.waited ≤ 2 ^ 40 }
         requires queued { queued ≤ 2 ^ 30 }
-        ensures value { result ≡ delay_in (held_by self.now) queued }
+        ensures value { result ≡ delay_in self.now queued }
         ensures within { result ≤ 2 ^ 40 }
     {
         match self.elements.delay {
@@ -385,8 +385,8 @@ impl RawController {
     #[inline(always)]
     #[tactic(auto, using(std::proofs::lemmas::Bool::Decides::nat_tests))]
     pub fn is_too_soon(&self, moment: u64) -> bool
-        requires { IsSound (held_by self.now) }
-        ensures { result ≡ is_too_soon (held_by self.now) moment }
+        requires { IsSound self.now }
+        ensures { result ≡ is_too_soon self.now moment }
     {
         self.moment.max(moment) < self.due()
     }
@@ -394,8 +394,8 @@ impl RawController {
     /// The moment from which an update isn't too soon, as [`Controller::due`](crate::Controller::due) says it.
     #[inline(always)]
     pub fn due(&self) -> u64
-        requires { IsSound (held_by self.now) }
-        ensures { result ≡ due (held_by self.now) }
+        requires { IsSound self.now }
+        ensures { result ≡ due self.now }
     {
         self.control.last + self.params.t_update
     }

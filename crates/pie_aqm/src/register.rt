@@ -1,6 +1,6 @@
 //! Which of the numbers that a controller holds can't be believed.
 ghost use Rattle.std.specs.Prelude.{◌≡◌, ◌↔◌, None};
-ghost use Rattle.pie_aqm.specs.{IsSound, held_by, first_unsound, is_sound_at};
+ghost use Rattle.pie_aqm.specs.{IsSound, first_unsound, is_sound_at};
 
 use crate::{Profile, RawController};
 use pie_control::MAX_DELAY;
@@ -31,8 +31,8 @@ impl RawController {
     /// The first of the numbers that no controller holds, in the order of [`Register`]: it is out of its range, or doesn't fit those
     /// before it. `None` where the numbers are sound.
     pub(crate) fn first_unsound(&self) -> Option<Register>
-        ensures first { result ≡ first_unsound (held_by self.now) }
-        ensures sound { (result ≡ None) ↔ IsSound (held_by self.now) }
+        ensures first { result ≡ first_unsound self.now }
+        ensures sound { (result ≡ None) ↔ IsSound self.now }
     {
         self.look()
     }
@@ -40,7 +40,7 @@ impl RawController {
     /// The same.
     #[tactic(auto, unfolding(crate::specs::Sound::first_unsound))]
     fn look(&self) -> Option<Register>
-        ensures { result ≡ first_unsound (held_by self.now) }
+        ensures { result ≡ first_unsound self.now }
     {
         REGISTERS
             .iter()
@@ -51,7 +51,7 @@ impl RawController {
     /// Whether this number can be believed.
     #[tactic(auto, using(std::proofs::lemmas::Bool::Decides::nat_tests))]
     fn is_sound_at(&self, register: Register) -> bool
-        ensures { result ≡ is_sound_at (held_by self.now) register }
+        ensures { result ≡ is_sound_at self.now register }
     {
         match register {
             Register::Params => Params::from_raw(self.params).is_some(),

@@ -1,5 +1,4 @@
 ghost use Rattle.std.specs.Prelude.{◌≡◌, ◌==◌, max, true};
-ghost use Rattle.pie_control.specs.Parts.{parts_of};
 ghost use Rattle.pie_aqm.specs.Held.{held_by};
 ghost use Rattle.pie_c.specs.State.{held_in, is_sound, state_of, with_arrival, with_rate, with_registers};
 
@@ -127,7 +126,7 @@ impl PieState {
     pub(crate) fn keep_updated(&mut self, held: &RawController)
         requires sound { is_sound self.old ≡ true }
         requires same { held_by held.now ≡ record (held_in self.old)
-            { moment = held.now.moment; active = held.now.active; control = parts_of held.now.control } }
+            { moment = held.now.moment; active = held.now.active; control = held.now.control } }
         ensures { self.new ≡ state_of (held_by held.now) }
     {
         self.moment = held.moment;

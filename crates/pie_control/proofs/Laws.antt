@@ -45,17 +45,19 @@ burst_allowance-granted opening events = omega arith
 
 module _ (opening : RawParams) (start : ℕ) (events : List ControlEvent) (before after : Parts) (shows : Shows opening start events before) where
   pub Shows-updated : (params : RawParams) (elements : Elements) (delay moment : ℕ)
-      → after.prob ≡ next elements params before.prob delay before.old_delay
-      → after.old_delay ≡ delay
-      → after.burst ≡ burst_after elements params before delay
-      → after.last ≡ moment
+      → after ≡ record {
+        prob = next elements params before.prob delay before.old_delay;
+        old_delay = delay;
+        burst = burst_after elements params before delay;
+        last = moment;
+      }
       → Shows opening start (events ++ update_at params elements delay moment ∷ []) after
   unfolding probability last_delay last_moment
-  Shows-updated params elements delay moment p d b l = record {
-    prob = rw (p, reversed events (update_at params elements delay moment), shows.prob, shows.old_delay) refl;
-    old_delay = rw (d, reversed events (update_at params elements delay moment)) refl;
-    burst = rw (b, burst-updated opening events params elements delay moment, shows.burst, shows.prob, shows.old_delay) refl;
-    last = rw (l, reversed events (update_at params elements delay moment)) refl;
+  Shows-updated params elements delay moment is = record {
+    prob = rw (is, reversed events (update_at params elements delay moment), shows.prob, shows.old_delay) refl;
+    old_delay = rw (is, reversed events (update_at params elements delay moment)) refl;
+    burst = rw (is, burst-updated opening events params elements delay moment, shows.burst, shows.prob, shows.old_delay) refl;
+    last = rw (is, reversed events (update_at params elements delay moment)) refl;
   }
 
   -- an idle update leaves all but the last moment
@@ -68,12 +70,12 @@ module _ (opening : RawParams) (start : ℕ) (events : List ControlEvent) (befor
     last = rw (is, reversed events (idled moment)) refl;
   }
 
-  pub Shows-reset : (params : RawParams) → after.prob ≡ 0 → after.old_delay ≡ 0 → after.burst ≡ params.max_burst → after.last ≡ before.last
+  pub Shows-reset : (params : RawParams) → after ≡ record before { prob = 0; old_delay = 0; burst = params.max_burst }
       → Shows opening start (events ++ reset params ∷ []) after
   unfolding probability last_delay last_moment burst_allowance granted_burst
-  Shows-reset params p d b l = record {
-    prob = rw (p, reversed events (reset params)) refl;
-    old_delay = rw (d, reversed events (reset params)) refl;
-    burst = rw (b, reversed events (reset params)) (omega arith);
-    last = rw (l, reversed events (reset params)) shows.last;
+  Shows-reset params is = record {
+    prob = rw (is, reversed events (reset params)) refl;
+    old_delay = rw (is, reversed events (reset params)) refl;
+    burst = rw (is, reversed events (reset params)) (omega arith);
+    last = rw (is, reversed events (reset params)) shows.last;
   }

@@ -1,4 +1,3 @@
 mod Examples
 pub mod Laws
-pub mod Products
-pub mod Quotients
+pub mod Bounds

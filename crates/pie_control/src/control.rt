@@ -2,7 +2,6 @@ ghost use Rattle.std.specs.Prelude.{◌≡◌, ℕ, ◌^◌, ◌≤◌, List, []
 ghost use Rattle.pie_params.specs.declared.raw.RawParams.{RawParams};
 ghost use Rattle.pie_control.specs.declared.update.TheConstants.{MAX_DELAY};
 ghost use Rattle.pie_control.specs.{ControlEvent, idled, reset, update_at, Shows, burst_after, ends_calm, granted_burst, is_calm_after, next};
-ghost use Rattle.pie_control.specs.{IsWithin, parts_of};
 
 use crate::raw::RawControl;
 use pie_fixed::{Nanos, Prob};
@@ -17,16 +16,15 @@ pub struct Control {
 }
 
 impl Model for Control {
-    ghost use Rattle.pie_control.specs.{IsWithin, parts_of};
-    ghost use Rattle.pie_control.specs.Parts.{Parts};
+    ghost use Rattle.pie_control.specs.Parts.{IsWithin, Parts};
 
     ghost Value = { Parts };
 
-    ghost view = { λ c. parts_of c.raw };
+    ghost view = { λ c. c.raw };
 
-    ghost invariant = { λ c. IsWithin (parts_of c.raw) };
+    ghost invariant = { λ c. IsWithin c.raw };
 
-    ghost inverse = { λ p. record { raw = record { prob = p.prob; old_delay = p.old_delay; burst = p.burst; last = p.last } } };
+    ghost inverse = { λ p. record { raw = p } };
 }
 
 impl Control {
@@ -151,7 +149,7 @@ impl Control {
     /// The registers as plain numbers.
     #[inline(always)]
     pub fn raw(&self) -> RawControl
-        ensures { parts_of result ≡ self.now }
+        ensures { result ≡ self.now }
     {
         self.raw
     }

@@ -2,7 +2,7 @@
 ghost use Rattle.std.specs.Prelude.{◌≡◌, ◌^◌, ◌≤◌};
 ghost use Rattle.pie_params.specs.Range.{IsInRange};
 ghost use Rattle.pie_control.specs.declared.update.TheConstants.{MAX_DELAY};
-ghost use Rattle.pie_control.specs.{burst_after, ends_calm, next, parts_of};
+ghost use Rattle.pie_control.specs.{burst_after, ends_calm, next};
 
 use crate::update::{are_below_half, next};
 use pie_params::{Elements, RawParams};
@@ -24,7 +24,7 @@ impl RawControl {
     /// At an opening, as [`Control::opened`](crate::Control::opened) says it.
     #[inline(always)]
     pub fn opened(max_burst: u64, moment: u64) -> RawControl
-        ensures { parts_of result ≡ record { prob = 0; old_delay = 0; burst = max_burst; last = moment } }
+        ensures { result ≡ record { prob = 0; old_delay = 0; burst = max_burst; last = moment } }
     {
         RawControl {
             prob: 0,
@@ -37,7 +37,7 @@ impl RawControl {
     /// Makes a reset, as [`Control::reset`](crate::Control::reset) does.
     #[inline(always)]
     pub fn reset(&mut self, max_burst: u64)
-        ensures { parts_of self.new ≡ record (parts_of self.old) { prob = 0; old_delay = 0; burst = max_burst } }
+        ensures { self.new ≡ record self.old { prob = 0; old_delay = 0; burst = max_burst } }
     {
         *self = RawControl::opened(max_burst, self.last);
     }
@@ -65,10 +65,10 @@ impl RawControl {
         requires old { self.old.old_delay ≤ MAX_DELAY }
         requires delay { delay ≤ MAX_DELAY }
         ensures calm { result ≡ ends_calm params.now self.new.prob delay self.old.old_delay }
-        ensures after { parts_of self.new ≡ record {
+        ensures after { self.new ≡ record {
           prob = next elements params.now self.old.prob delay self.old.old_delay;
           old_delay = delay;
-          burst = burst_after elements params.now (parts_of self.old) delay;
+          burst = burst_after elements params.now self.old delay;
           last = moment;
         } }
         ensures within { self.new.prob ≤ 10 ^ 12 }

@@ -48,7 +48,7 @@ fn weighted(gain: u64, time: u64, from: u64) -> i64
 
 /// A gain times a difference of two times.
 #[inline(always)]
-#[tactic(auto, using(crate::proofs::Products::products))]
+#[tactic(auto, using(crate::proofs::Bounds::products))]
 fn product(gain: u64, difference: i64) -> i64
     requires gain { gain ≤ 10 ^ 6 }
     requires least { negsuc (2 ^ 40) ≤ℤ difference }
@@ -93,7 +93,7 @@ fn tuning_divisor(prob: u64) -> u32
 
 /// The step after auto-tuning, and after the cap where that is chosen, at the probability before the update.
 #[inline(always)]
-#[tactic(auto, using(crate::proofs::Quotients::quotients), unfolding(crate::specs::Next::tuned_step))]
+#[tactic(auto, using(crate::proofs::Bounds::quotients), unfolding(crate::specs::Next::tuned_step))]
 fn tuned_step(choice: Step, prob: u64, step: i64) -> i64
     requires above { negsuc (2 ^ 62) ≤ℤ step }
     requires below { step ≤ℤ pos (2 ^ 62) }
@@ -146,7 +146,7 @@ fn decays(decay: Decay, params: &RawParams, delay: u64, old: u64) -> bool
 
 /// The sum of probability and step, after the decay where there is one.
 #[inline(always)]
-#[tactic(auto, using(crate::proofs::Quotients::quotients), unfolding(crate::specs::Next::decayed))]
+#[tactic(auto, using(crate::proofs::Bounds::quotients), unfolding(crate::specs::Next::decayed))]
 fn decayed(decays: bool, sum: i128) -> i128
     requires above { negsuc (2 ^ 63) ≤ℤ sum }
     requires below { sum ≤ℤ pos (2 ^ 63) }

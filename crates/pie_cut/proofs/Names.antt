@@ -23,7 +23,7 @@ pub use Rattle.pie_cut.specs.{end_place, first_place}
 unfoldable pub use Rattle.pie_cut.specs.{chosen, event_count, events_of, excerpt_lines, finding, first_difference}
 unfoldable pub use Rattle.pie_cut.specs.{line_places, resume_row, rows_text}
 unfoldable pub use Rattle.csv.specs.Reading.{records_from, strip_bom}
-pub use Rattle.pie_aqm.specs.Held.{Held, held_by}
+pub use Rattle.pie_aqm.specs.Held.{Held}
 pub use Rattle.pie_audit.proofs.FindingFacts.{line_places-push, place_of}
 pub use Rattle.pie_audit.proofs.SetterFacts.{event_count-append, event_count-push, few-events, made-count, none-before, none_of}
 pub use Rattle.pie_audit.proofs.Written.{all-made, made-events}

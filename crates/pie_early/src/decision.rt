@@ -1,5 +1,4 @@
 ghost use Rattle.std.specs.Prelude.{◌≡◌, ◌+◌, ◌*◌, ◌^◌, ◌<◌, ◌≤◌, ◌&&◌, ℕ, nat_le, nat_lt, false, if◌then◌else◌};
-ghost use Rattle.pie_control.specs.Parts.{parts_of};
 ghost use Rattle.pie_params.specs.declared.elements.Size.TheVariants.{Scaled};
 ghost use Rattle.pie_params.specs.Elements.{accumulates};
 ghost use Rattle.pie_event.specs.Cause.{verdict_of, verdict_on_picked};
@@ -54,9 +53,9 @@ pub fn decide(
     offered: Offered,
     accu: u64,
 ) -> Decision
-    ensures choice { result.choice ≡ choice_of elements params.now (parts_of control.now) offered accu }
-    ensures accu { result.accu ≡ accu_after elements params.now (parts_of control.now) offered accu }
-    ensures place { result.place ≡ place_of_cause (name_of (early_cause elements params.now (parts_of control.now) offered accu)) }
+    ensures choice { result.choice ≡ choice_of elements params.now control.now offered accu }
+    ensures accu { result.accu ≡ accu_after elements params.now control.now offered accu }
+    ensures place { result.place ≡ place_of_cause (name_of (early_cause elements params.now control.now offered accu)) }
     ensures within { result.place < 15 }
 {
     if !is_considered(params, control, offered.bytes) {
@@ -96,9 +95,9 @@ pub fn decide(
 #[inline(always)]
 #[tactic(auto, using(std::proofs::lemmas::Bool::Decides::nat_tests), unfolding(crate::specs::Decision::is_considered, crate::specs::Cause::early_cause))]
 fn unconsidered_place(params: &RawParams, control: &RawControl, bytes: u64) -> usize
-    requires { is_considered params.now (parts_of control.now) bytes ≡ false }
+    requires { is_considered params.now control.now bytes ≡ false }
     ensures place { (elements : Elements) (offered : Offered) (accu : ℕ) → offered.bytes ≡ bytes
-        → result ≡ place_of_cause (name_of (early_cause elements params.now (parts_of control.now) offered accu)) }
+        → result ≡ place_of_cause (name_of (early_cause elements params.now control.now offered accu)) }
     ensures within { result < 15 }
 {
     let name = if control.burst > 0 {
@@ -159,7 +158,7 @@ fn fate_place(params: &RawParams, prob: u64, ecn: Ecn) -> usize
 #[inline(always)]
 #[tactic(auto, using(std::proofs::lemmas::Bool::Decides::nat_tests), unfolding(crate::specs::Decision::is_considered))]
 fn is_considered(params: &RawParams, control: &RawControl, bytes: u64) -> bool
-    ensures { result ≡ is_considered params.now (parts_of control.now) bytes }
+    ensures { result ≡ is_considered params.now control.now bytes }
 {
     control.burst == 0
         && params.mean_pkt < half(bytes)
@@ -251,8 +250,8 @@ pub fn cause(
     offered: Offered,
     accu: u64,
 ) -> Cause
-    ensures cause { result ≡ early_cause elements params.now (parts_of control.now) offered accu }
-    ensures verdict { verdict_of result ≡ chosen (choice_of elements params.now (parts_of control.now) offered accu) }
+    ensures cause { result ≡ early_cause elements params.now control.now offered accu }
+    ensures verdict { verdict_of result ≡ chosen (choice_of elements params.now control.now offered accu) }
 {
     if !is_considered(params, control, offered.bytes) {
         return unconsidered_cause(params, control, offered);
@@ -265,8 +264,8 @@ pub fn cause(
 /// Why an arrival isn't considered.
 #[tactic(auto, using(std::proofs::lemmas::Bool::Decides::nat_tests), unfolding(crate::specs::Decision::is_considered, crate::specs::Cause::early_cause))]
 fn unconsidered_cause(params: &RawParams, control: &RawControl, offered: Offered) -> Cause
-    requires { is_considered params.now (parts_of control.now) offered.bytes ≡ false }
-    ensures cause { (elements : Elements) (accu : ℕ) → result ≡ early_cause elements params.now (parts_of control.now) offered accu }
+    requires { is_considered params.now control.now offered.bytes ≡ false }
+    ensures cause { (elements : Elements) (accu : ℕ) → result ≡ early_cause elements params.now control.now offered accu }
     ensures verdict { verdict_of result ≡ Enqueued }
 {
     if control.burst > 0 {

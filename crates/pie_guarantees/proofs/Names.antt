@@ -32,7 +32,7 @@ pub use Rattle.pie_book.specs.Statistics.{count_of, is_dropped_bytes, is_dropped
 pub use Rattle.pie_book.specs.Step.{after_command, answer_in, call_in, waiting_next}
 pub use Rattle.pie_book.specs.Types.{Answer, ArrivingPacket, Arrive, Command, Depart, DroppedBytes, DroppedEarly, DroppedPackets, Empty, Enqueued, Event}
 pub use Rattle.pie_book.specs.Types.{Left, Marked, Opening, Packet, Refusal, Reset, SetParams, Update, Verdict, Waiting}
-pub use Rattle.pie_control.proofs.Quotients.{bounded_of-below, decay-below, int_div-below}
+pub use Rattle.pie_control.proofs.Bounds.{bounded_of-below, decay-below, int_div-below}
 pub use Rattle.pie_control.specs.Next.{decays}
 unfoldable pub use Rattle.pie_control.specs.Next.{decayed, next, raw_step, tuned_step, tuning_divisor}
 pub use Rattle.pie_early.specs.Decision.{counted, counted_as, joined, picked_choice}

@@ -18,77 +18,38 @@ weighted = (refl, refl, refl)
 abbrev cycle : ℕ → ℕ → Cycle
 cycle opened closed = record { opened = opened; closed = closed }
 
--- two departures: the second closes the cycle that the first opened, and opens the next
+-- two departures: the second closes the cycle that the first opened, and opens the next; a third closes that one too, and leaves too little for
+-- another
 abbrev two : List Departure
 two = departure 1500 20000 1000 ∷ departure 16384 16384 12001000 ∷ []
 
-two-cycles : cycles 16384 two ≡ cycle 0 1 ∷ []
-unfolding cycles first_position first_opening first_closing first_cycle cycles_from
-two-cycles = refl
-
-two-begun : begun 16384 two ≡ Some 1
-unfolding begun cycles first_position first_opening first_closing first_cycle cycles_from
-two-begun = refl
-
-two-average : average 16384 two ≡ 12000000
-unfolding average samples cycles begun first_position first_opening first_closing first_cycle cycles_from
-two-average = refl
-
--- a third closes that one too, and leaves too little for another
 abbrev three : List Departure
 three = two ++ departure 16384 0 32001000 ∷ []
 
-three-begun : begun 16384 three ≡ None
-unfolding begun cycles first_position first_opening first_closing first_cycle cycles_from
-three-begun = refl
-
-three-average : average 16384 three ≡ 14000000
-unfolding average samples cycles begun first_position first_opening first_closing first_cycle cycles_from
-three-average = refl
-
--- a cycle within one nanosecond has the sample 1
-at_once-average : average 16384 (departure 1500 20000 5 ∷ departure 16384 0 5 ∷ []) ≡ 1
-unfolding average samples cycles begun first_position first_opening first_closing first_cycle cycles_from
-at_once-average = refl
-
--- the departure that opens a cycle isn't counted in it: ten more of 1500 bytes count 15000, and the
--- eleventh closes
+-- the departure that opens a cycle isn't counted in it: ten more of 1500 bytes count 15000, and the eleventh closes
 abbrev small : ℕ → List Departure
 small n = map (λ k. departure 1500 16384 (1000000 * k)) (range_with_len 0 (n + 1))
 
-ten-average : average 16384 (small 10) ≡ 0
-unfolding average samples cycles begun first_position first_opening first_closing first_cycle cycles_from
-ten-average = refl
-
-eleven-cycles : cycles 16384 (small 11) ≡ cycle 0 11 ∷ []
-unfolding average samples cycles begun first_position first_opening first_closing first_cycle cycles_from
-eleven-cycles = refl
-
-eleven-begun : begun 16384 (small 11) ≡ Some 11
-unfolding average samples cycles begun first_position first_opening first_closing first_cycle cycles_from
-eleven-begun = refl
-
-eleven-average : average 16384 (small 11) ≡ 11000000
-unfolding average samples cycles begun first_position first_opening first_closing first_cycle cycles_from
-eleven-average = refl
-
--- the smallest threshold: each departure closes a cycle, and the second average is (100 * 1024 +
--- 300 * 64512) / 65536
+-- the smallest threshold: each departure closes a cycle, and the second average is (100 * 1024 + 300 * 64512) / 65536
 abbrev drain : List Departure
 drain = departure 1024 3072 100 ∷ departure 1024 2048 400 ∷ departure 1024 1024 500 ∷ []
 
-drain-cycles : cycles 1024 drain ≡ cycle 0 1 ∷ cycle 1 2 ∷ []
-unfolding average samples cycles begun first_position first_opening first_closing first_cycle cycles_from
-drain-cycles = refl
-
-drain-average : average 1024 drain ≡ 296
-unfolding average samples cycles begun first_position first_opening first_closing first_cycle cycles_from
-drain-average = refl
+all_cycles : (cycles 16384 two ≡ cycle 0 1 ∷ []) × (cycles 16384 (small 11) ≡ cycle 0 11 ∷ []) × (cycles 1024 drain ≡ cycle 0 1 ∷ cycle 1 2 ∷ [])
+unfolding cycles first_position first_opening first_closing first_cycle cycles_from
+all_cycles = (refl, refl, refl)
 
 -- no departure opens a cycle below the threshold
-none-begun : begun 1024 (departure 1024 1023 100 ∷ []) ≡ None
+all_begun : (begun 16384 two ≡ Some 1) × (begun 16384 three ≡ None) × (begun 16384 (small 11) ≡ Some 11)
+    × (begun 1024 (departure 1024 1023 100 ∷ []) ≡ None)
+unfolding begun cycles first_position first_opening first_closing first_cycle cycles_from
+all_begun = (refl, refl, refl, refl)
+
+-- .. and a cycle within one nanosecond has the sample 1
+all_averages : (average 16384 two ≡ 12000000) × (average 16384 three ≡ 14000000) × (average 16384 (small 10) ≡ 0)
+    × (average 16384 (small 11) ≡ 11000000) × (average 1024 drain ≡ 296)
+    × (average 16384 (departure 1500 20000 5 ∷ departure 16384 0 5 ∷ []) ≡ 1)
 unfolding average samples cycles begun first_position first_opening first_closing first_cycle cycles_from
-none-begun = refl
+all_averages = (refl, refl, refl, refl, refl, refl)
 
 -- told from the estimate before it: a departure that a cycle counts, one that closes it and opens the
 -- next, and one that closes that

@@ -1,24 +1,21 @@
 -- How each definition changes when one more departure joins the list at its end.
 use Rattle.std.proofs.Common.{◌≡◌, ℕ, zero, suc, ◌+◌, ◌-◌, ◌<◌, ◌≤◌, Bool, true, false, cond, List, [], ◌∷◌, ◌++◌, length, take, drop, Option, Some}
 use Rattle.std.proofs.Common.{None, refl, ap, ◌∙◌, arith, length-drop, map}
-use Rattle.std.specs.Prelude.{find, nat_le, IfSome}
+use Rattle.std.specs.Prelude.{find, nat_le, nat_lt, IfSome, if◌then◌else◌}
 use Rattle.std.specs.List.{range_with_len}
 use Rattle.std.specs.Option.{option_or}
-use Rattle.std.proofs.lemmas.List.{append-nil, map-append, drop-append-le, get_or_append_left, get_or_push, length_push, take_all, take-append-le}
+use Rattle.std.proofs.lemmas.Bool.Decides.{nat_tests}
+use Rattle.std.proofs.lemmas.List.{map-append, drop-append-le, get_or_append_left, get_or_push, length_push, take_all, take-append-le}
 use Rattle.std.proofs.lemmas.List.Sums.{sum_by_push}
 use Rattle.std.proofs.lemmas.List.Folds.{find-append}
 use Rattle.std.proofs.Math.Numerals.{add-one}
-use Rattle.pie_rate.specs.{Departure, departure_at, bytes_of, bytes_after, bytes_after_to, sample_of, samples, Cycle, first_position, first_opening}
+use Rattle.pie_rate.specs.{Departure, departure, departure_at, bytes_of, bytes_after, bytes_after_to, sample_of, samples, Cycle, first_position, first_opening}
 use Rattle.pie_rate.specs.{first_closing, first_cycle, cycles_from, cycles, last_closed, begun}
 
 -- one more number at the end of a range
 range-push : (a n : ℕ) → range_with_len a (suc n) ≡ range_with_len a n ++ (a + n) ∷ []
 range-push a zero = grind arith
 range-push a (suc n) = let e : (a + 1) + n ≡ a + suc n = omega arith in rw (← e) (ap (λ xs. a ∷ xs) (range-push (a + 1) n))
-
-find-range-push : (p : ℕ → Bool) (a n : ℕ) → find p (range_with_len a (suc n))
-    ≡ option_or (find p (range_with_len a n)) (cond (p (a + n)) (Some (a + n)) None)
-find-range-push p a n = ap (find p) (range-push a n) ∙ find-append p (range_with_len a n) ((a + n) ∷ [])
 
 -- a search depends on the tests in its range alone
 find-range-same : (p q : ℕ → Bool) (a n : ℕ) → ((k : ℕ) → a ≤ k → k < a + n → p k ≡ q k) → find p (range_with_len a n) ≡ find q (range_with_len a n)
@@ -30,15 +27,14 @@ find-range-same p q a (suc n) same =
     rw (here, rest) refl
 
 -- a number that is found lies in the range
-found_here : (b : Bool) (low a e : ℕ) (o : Option ℕ) → low ≤ a → a < e → IfSome o (λ k. (low ≤ k) × (k < e))
-    → IfSome (cond {A = Option ℕ} b (Some a) o) (λ k. (low ≤ k) × (k < e))
-found_here true low a e o l h found = (l, h)
-found_here false low a e o l h found = found
-
 find-range-within : (p : ℕ → Bool) (low a n e : ℕ) → low ≤ a → a + n ≤ e → IfSome (find p (range_with_len a n)) (λ k. (low ≤ k) × (k < e))
 find-range-within p low a zero e l h = tt
-find-range-within p low a (suc n) e l h =
-    found_here (p a) low a e _ l (omega arith) (find-range-within p low (a + 1) n e (omega arith) (omega arith))
+find-range-within p low a (suc n) e l h = by (p a) (find-range-within p low (a + 1) n e (omega arith) (omega arith))
+  where
+    by : (here : Bool) → IfSome (find p (range_with_len (a + 1) n)) (λ k. (low ≤ k) × (k < e))
+        → IfSome (cond {A = Option ℕ} here (Some a) (find p (range_with_len (a + 1) n))) (λ k. (low ≤ k) × (k < e))
+    by true later = (l, omega arith)
+    by false later = later
 
 -- the same of first positions
 first_position-push : (p q : ℕ → Bool) (from end : ℕ) → from ≤ end → ((k : ℕ) → from ≤ k → k < end → p k ≡ q k)
@@ -47,9 +43,8 @@ unfolding first_position
 first_position-push p q from end l same =
     let n : (end + 1) - from ≡ suc (end - from) = omega arith in
     let e : from + (end - from) ≡ end = omega arith in
-    let s = find-range-same p q from (end - from) (λ k a b. same k a (omega arith)) in
-    let f = find-range-push p from (end - from) in
-    rw (n, f, e, s) refl
+    let f = ap (find p) (range-push from (end - from)) ∙ find-append p (range_with_len from (end - from)) ((from + (end - from)) ∷ []) in
+    rw (n, f, e, find-range-same p q from (end - from) (λ k a b. same k a (omega arith))) refl
 
 first_position-past : (p : ℕ → Bool) (from end : ℕ) → end ≤ from → first_position p from end ≡ None
 unfolding first_position
@@ -58,6 +53,10 @@ first_position-past p from end l = let n : end - from ≡ 0 = omega arith in rw 
 first_position-within : (p : ℕ → Bool) (from end : ℕ) → from ≤ end → IfSome (first_position p from end) (λ k. (from ≤ k) × (k < end))
 unfolding first_position
 first_position-within p from end l = find-range-within p from from (end - from) end (omega arith) (omega arith)
+
+-- a test, and the one that says the opposite
+turned : (a b : ℕ) (x y : Option ℕ) → cond (nat_le b a) y x ≡ (if nat_lt a b then x else y)
+turned a b x y = grind (arith, nat_tests)
 
 module _ (threshold : ℕ) (ds : List Departure) (d : Departure) where
   -- departures and sums, with one more departure
@@ -80,222 +79,160 @@ module _ (threshold : ℕ) (ds : List Departure) (d : Departure) where
       ap bytes_of (take_all (length ds - i) (drop (i + 1) (ds ++ d ∷ [])) (omega (arith, length-drop (i + 1) (ds ++ d ∷ []), length_push ds d)))
       ∙ bytes_after-push i h
 
-  first_opening-push : (from : ℕ) → from ≤ length ds → first_opening threshold (ds ++ d ∷ []) from
-      ≡ option_or (first_opening threshold ds from) (cond (nat_le threshold d.bytes_left) (Some (length ds)) None)
+  -- the departure opens a cycle, and closes the one that departure i opened
+  abbrev pub opens : Option ℕ
+  opens = if nat_lt d.bytes_left threshold then None else Some (length ds)
+
+  abbrev pub closes : ℕ → Option ℕ
+  closes i = if nat_lt (bytes_after ds i + d.size) threshold then None else Some (length ds)
+
+  opening-push : (from : ℕ) (o : Option ℕ) → from ≤ length ds → first_opening threshold ds from ≡ o
+      → first_opening threshold (ds ++ d ∷ []) from ≡ option_or o opens
   unfolding first_opening
-  first_opening-push from l =
-      let n = length_push ds d in
-      let here : nat_le threshold (departure_at (ds ++ d ∷ []) (length ds)).bytes_left ≡ nat_le threshold d.bytes_left
-      = ap (λ x. nat_le threshold x.bytes_left) departure_at-push_new in
-      rw (n, ← here)
+  opening-push from o l e =
+      rw (
+        length_push ds d,
+        ← e,
+        ← turned d.bytes_left threshold None (Some (length ds)),
+        ← ap (λ (x : Departure). nat_le threshold x.bytes_left) departure_at-push_new,
+      )
       (first_position-push (λ i. nat_le threshold (departure_at (ds ++ d ∷ []) i).bytes_left) (λ i. nat_le threshold (departure_at ds i).bytes_left)
       from (length ds) l
       (λ k a b. ap (λ x. nat_le threshold x.bytes_left) (departure_at-push_old k b)))
 
-  first_closing-push : (i : ℕ) → i < length ds → first_closing threshold (ds ++ d ∷ []) i
-      ≡ option_or (first_closing threshold ds i) (cond (nat_le threshold (bytes_after ds i + d.size)) (Some (length ds)) None)
+  closing-push : (i : ℕ) (c : Option ℕ) → i < length ds → first_closing threshold ds i ≡ c
+      → first_closing threshold (ds ++ d ∷ []) i ≡ option_or c (closes i)
   unfolding first_closing
-  first_closing-push i l =
-      let n = length_push ds d in
-      let here = bytes_after_to-push_new i l in
-      rw (n, ← here)
+  closing-push i c l e =
+      rw (length_push ds d, ← e, ← turned (bytes_after ds i + d.size) threshold None (Some (length ds)), ← bytes_after_to-push_new i l)
       (first_position-push (λ j. nat_le threshold (bytes_after_to (ds ++ d ∷ []) i j)) (λ j. nat_le threshold (bytes_after_to ds i j)) (i + 1)
       (length ds) (omega arith)
       (λ k a b. ap (nat_le threshold) (bytes_after_to-push_old i k (omega arith) b)))
 
   -- nothing opens at the end of the list, and nothing closes what its last departure opens
-  first_opening-end : first_opening threshold ds (length ds) ≡ None
+  none_opens : (from : ℕ) → length ds ≤ from → first_opening threshold ds from ≡ None
   unfolding first_opening
-  first_opening-end = first_position-past _ (length ds) (length ds) (omega arith)
+  none_opens from l = first_position-past _ from (length ds) l
 
-  first_closing-last : first_closing threshold (ds ++ d ∷ []) (length ds) ≡ None
+  none_closes : first_closing threshold (ds ++ d ∷ []) (length ds) ≡ None
   unfolding first_closing
-  first_closing-last = rw (length_push ds d) (first_position-past _ (length ds + 1) (length ds + 1) (omega arith))
-
-  first_opening-within : (from : ℕ) → from ≤ length ds → IfSome (first_opening threshold ds from) (λ i. (from ≤ i) × (i < length ds))
-  unfolding first_opening
-  first_opening-within from l = first_position-within _ from (length ds) l
-
-  first_closing-within : (i : ℕ) → i < length ds → IfSome (first_closing threshold ds i) (λ j. (i + 1 ≤ j) × (j < length ds))
-  unfolding first_closing
-  first_closing-within i l = first_position-within _ (i + 1) (length ds) (omega arith)
-
-  -- the cycle that the departure closes, where one is begun
-  abbrev pub added : Option ℕ → List Cycle
-  added None = []
-  added (Some i) = cond (nat_le threshold (bytes_after ds i + d.size)) (record { opened = i; closed = length ds } ∷ []) []
-
-  last_opens : (most : ℕ) (b : Bool) → first_opening threshold (ds ++ d ∷ []) (length ds) ≡ cond b (Some (length ds)) None
-      → cycles_from threshold (ds ++ d ∷ []) (suc most) (length ds) ≡ []
-  unfolding cycles_from first_cycle
-  last_opens most true e = rw (e, first_closing-last) refl
-  last_opens most false e = rw e refl
-
-  cycles_from-last : (most : ℕ) → cycles_from threshold (ds ++ d ∷ []) (suc most) (length ds) ≡ []
-  cycles_from-last most = last_opens most (nat_le threshold d.bytes_left)
-      (first_opening-push (length ds) (omega arith) ∙ ap (λ o. option_or o (cond (nat_le threshold d.bytes_left) (Some (length ds)) None))
-      first_opening-end)
-
-  none_begun : (most from : ℕ) (b : Bool) → first_opening threshold (ds ++ d ∷ []) from ≡ cond b (Some (length ds)) None
-      → cycles_from threshold (ds ++ d ∷ []) (suc most) from ≡ []
-  unfolding cycles_from first_cycle
-  none_begun most from true e = rw (e, first_closing-last) refl
-  none_begun most from false e = rw e refl
-
-  one_begun : (most from i : ℕ) (b : Bool) → first_opening threshold (ds ++ d ∷ []) from ≡ Some i
-      → first_closing threshold (ds ++ d ∷ []) i ≡ cond b (Some (length ds)) None
-      → cycles_from threshold (ds ++ d ∷ []) (suc (suc most)) from ≡ cond b (record { opened = i; closed = length ds } ∷ []) []
-  unfolding cycles_from first_cycle
-  one_begun most from i true e f = rw (e, f) (ap (λ cs. record { opened = i; closed = length ds } ∷ cs) (cycles_from-last most))
-  one_begun most from i false e f = rw (e, f) refl
-
-  abbrev pub opens : Option ℕ
-  opens = cond (nat_le threshold d.bytes_left) (Some (length ds)) None
-
-  abbrev pub closes : ℕ → Option ℕ
-  closes i = cond (nat_le threshold (bytes_after ds i + d.size)) (Some (length ds)) None
-
-  -- what holds of the cycles from each later position on
-  abbrev Later : (ℕ → ℕ → List Cycle → Type 0) → ℕ → ℕ → Type 0
-  Later P most from = (j : ℕ) → from + 1 ≤ j → j < length ds → P most j (cycles_from threshold ds most j)
-
-  -- what holds where no cycle opens, or none closes what opens, and of a cycle where it holds of those behind it, holds of all cycles from a
-  -- position on
-  walk : (P : ℕ → ℕ → List Cycle → Type 0)
-      → ((most from : ℕ) → from ≤ length ds → first_opening threshold ds from ≡ None → P most from [])
-      → ((most from i : ℕ) → from ≤ i → i < length ds → first_opening threshold ds from ≡ Some i → first_closing threshold ds i ≡ None
-      → P (suc most) from [])
-      → ((most from i j : ℕ) (later : List Cycle) → from ≤ i → i < length ds → j < length ds → first_opening threshold ds from ≡ Some i
-      → first_closing threshold ds i ≡ Some j → P most j later → P (suc most) from (record { opened = i; closed = j } ∷ later))
-      → (most from : ℕ) → from ≤ length ds → length ds ≤ from + most → P most from (cycles_from threshold ds most from)
-  unfolding cycles_from first_cycle
-  walk P none begins closed zero from l room = by (first_opening threshold ds from) refl (first_opening-within from l)
-    where
-      by : (o : Option ℕ) → first_opening threshold ds from ≡ o → IfSome o (λ i. (from ≤ i) × (i < length ds)) → P 0 from []
-      by None a w = none 0 from l a
-      by (Some i) a w = absurd (omega arith)
-  walk P none begins closed (suc most) from l room =
-      opening (first_opening threshold ds from) refl (first_opening-within from l)
-      (λ j low high. walk P none begins closed most j (omega arith) (omega arith))
-    where
-      closing : (i : ℕ) (c : Option ℕ) → (from ≤ i) × (i < length ds) → first_opening threshold ds from ≡ Some i → first_closing threshold ds i ≡ c
-          → IfSome c (λ j. (i + 1 ≤ j) × (j < length ds)) → Later P most from → P (suc most) from (cycles_from threshold ds (suc most) from)
-      closing i None w a b v later = rw (a, b) (begins most from i w.0 w.1 a b)
-      closing i (Some j) w a b v later =
-          rw (a, b) (closed most from i j (cycles_from threshold ds most j) w.0 w.1 v.1 a b (later j (omega (arith, w.0, v.0)) v.1))
-
-      opening : (o : Option ℕ) → first_opening threshold ds from ≡ o → IfSome o (λ i. (from ≤ i) × (i < length ds)) → Later P most from
-          → P (suc most) from (cycles_from threshold ds (suc most) from)
-      opening None a w later = rw a (none (suc most) from l a)
-      opening (Some i) a w later = closing i (first_closing threshold ds i) w a refl (first_closing-within i w.1) later
-
-  -- the cycles with one more departure: those before, and the one that it closes
-  abbrev pub Grows : ℕ → ℕ → List Cycle → Type 0
-  Grows most from before = cycles_from threshold (ds ++ d ∷ []) (suc most) from ≡ before ++ added (first_opening threshold ds (last_closed from before))
-
-  grows_closed : (most from i j : ℕ) (later : List Cycle) → first_opening threshold (ds ++ d ∷ []) from ≡ Some i
-      → first_closing threshold (ds ++ d ∷ []) i ≡ Some j → Grows most j later → Grows (suc most) from (record { opened = i; closed = j } ∷ later)
-  unfolding cycles_from first_cycle
-  grows_closed most from i j later e f rest = rw (e, f) (ap (λ cs. record { opened = i; closed = j } ∷ cs) rest)
-
-  opening-with : (from : ℕ) (o : Option ℕ) → from ≤ length ds → first_opening threshold ds from ≡ o
-      → first_opening threshold (ds ++ d ∷ []) from ≡ option_or o opens
-  opening-with from o l e = first_opening-push from l ∙ ap (λ o. option_or o opens) e
-
-  closing-with : (i : ℕ) (c : Option ℕ) → i < length ds → first_closing threshold ds i ≡ c
-      → first_closing threshold (ds ++ d ∷ []) i ≡ option_or c (closes i)
-  closing-with i c l e = first_closing-push i l ∙ ap (λ c. option_or c (closes i)) e
-
-  grows : (most from : ℕ) → from ≤ length ds → length ds ≤ from + most → Grows most from (cycles_from threshold ds most from)
-  grows = walk Grows
-      (λ most from l a. rw (none_begun most from (nat_le threshold d.bytes_left) (opening-with from None l a), a) refl)
-      (λ most from i low l a b. rw (
-        one_begun most from i (nat_le threshold (bytes_after ds i + d.size))
-            (opening-with from (Some i) (omega arith) a) (closing-with i None l b),
-        a,
-      ) refl)
-      (λ most from i j later low l high a b rest. grows_closed most from i j later (opening-with from (Some i) (omega arith) a)
-      (closing-with i (Some j) l b) rest)
-
-  -- the cycles lie within the list
-  abbrev pub AllWithin : List Cycle → Type 0
-  AllWithin [] = Unit {0}
-  AllWithin (cycle ∷ rest) = (cycle.opened < length ds) × (cycle.closed < length ds) × AllWithin rest
-
-  last_closed-within : (from : ℕ) (cs : List Cycle) → from ≤ length ds → AllWithin cs → last_closed from cs ≤ length ds
-  last_closed-within from [] l w = l
-  last_closed-within from (cycle ∷ rest) l w = last_closed-within cycle.closed rest (omega arith) w.2
-
-  last_closed-push : (from : ℕ) (cs : List Cycle) (cycle : Cycle) → last_closed from (cs ++ cycle ∷ []) ≡ cycle.closed
-  last_closed-push from [] cycle = refl
-  last_closed-push from (c ∷ rest) cycle = last_closed-push c.closed rest cycle
-
-  -- all cycles
-  pub cycles-push : cycles threshold (ds ++ d ∷ []) ≡ cycles threshold ds ++ added (begun threshold ds)
-  unfolding cycles begun
-  cycles-push = rw (length_push ds d, add-one) (grows (length ds) 0 (omega arith) (omega arith))
-
-  pub cycles-within : AllWithin (cycles threshold ds)
-  unfolding cycles
-  cycles-within = walk (λ most from cs. AllWithin cs) (λ most from l a. tt) (λ most from i low l a b. tt)
-      (λ most from i j later low l high a b rest. (l, high, rest)) (length ds) 0 (omega arith) (omega arith)
-
-  below_end : (from : ℕ) (o : Option ℕ) → IfSome o (λ i. (from ≤ i) × (i < length ds)) → IfSome o (λ i. i < length ds)
-  below_end from None h = tt
-  below_end from (Some i) h = h.1
-
-  pub begun-within : IfSome (begun threshold ds) (λ i. i < length ds)
-  unfolding begun
-  begun-within = below_end _ _ (first_opening-within _ (last_closed-within 0 _ (omega arith) cycles-within))
-
-  -- which departure is begun afterwards
-  abbrev pub begins : Option ℕ → Option ℕ
-  begins None = opens
-  begins (Some i) = cond (nat_le threshold (bytes_after ds i + d.size)) opens (Some i)
+  none_closes = rw (length_push ds d) (first_position-past _ (length ds + 1) (length ds + 1) (omega arith))
 
   opens_at_end : first_opening threshold (ds ++ d ∷ []) (length ds) ≡ opens
-  opens_at_end = first_opening-push (length ds) (omega arith) ∙ ap (λ o. option_or o opens) first_opening-end
+  opens_at_end = opening-push (length ds) None (omega arith) (none_opens (length ds) (omega arith))
 
-  after_closing : (from i : ℕ) (cs : List Cycle) (b : Bool) → first_opening threshold (ds ++ d ∷ []) (last_closed from cs) ≡ Some i
-      → first_opening threshold (ds ++ d ∷ []) (last_closed from (cs ++ cond b (record { opened = i; closed = length ds } ∷ []) []))
-      ≡ cond b opens (Some i)
-  after_closing from i cs true e = rw last_closed-push opens_at_end
-  after_closing from i cs false e = rw append-nil e
+  opening-within : (from : ℕ) → from ≤ length ds → IfSome (first_opening threshold ds from) (λ i. (from ≤ i) × (i < length ds))
+  unfolding first_opening
+  opening-within from l = first_position-within _ from (length ds) l
 
-  last_closed_at : (from : ℕ) (o : Option ℕ) (cs : List Cycle) → last_closed from cs ≤ length ds
-      → first_opening threshold ds (last_closed from cs) ≡ o
-      → first_opening threshold (ds ++ d ∷ []) (last_closed from (cs ++ added o)) ≡ begins o
-  last_closed_at from None cs l e =
-      rw append-nil (first_opening-push (last_closed from cs) l ∙ ap (λ o. option_or o opens) e)
-  last_closed_at from (Some i) cs l e =
-      after_closing from i cs (nat_le threshold (bytes_after ds i + d.size))
-      (first_opening-push (last_closed from cs) l ∙ ap (λ o. option_or o opens) e)
+  closing-within : (i : ℕ) → i < length ds → IfSome (first_closing threshold ds i) (λ j. (i + 1 ≤ j) × (j < length ds))
+  unfolding first_closing
+  closing-within i l = first_position-within _ (i + 1) (length ds) (omega arith)
+
+  -- the cycle that the departure closes, and which departure is begun after it, by the one that was begun
+  abbrev pub added : Option ℕ → List Cycle
+  added None = []
+  added (Some i) = if nat_lt (bytes_after ds i + d.size) threshold then [] else (record { opened = i; closed = length ds } ∷ [])
+
+  abbrev pub begins : Option ℕ → Option ℕ
+  begins None = opens
+  begins (Some i) = if nat_lt (bytes_after ds i + d.size) threshold then Some i else opens
+
+  none_begun : (most from : ℕ) (b : Bool) → first_opening threshold (ds ++ d ∷ []) from ≡ (if b then None else Some (length ds))
+      → cycles_from threshold (ds ++ d ∷ []) (suc most) from ≡ []
+  unfolding cycles_from first_cycle
+  none_begun most from true e = rw e refl
+  none_begun most from false e = rw (e, none_closes) refl
+
+  one_begun : (most from i : ℕ) (b : Bool) → first_opening threshold (ds ++ d ∷ []) from ≡ Some i
+      → first_closing threshold (ds ++ d ∷ []) i ≡ (if b then None else Some (length ds))
+      → cycles_from threshold (ds ++ d ∷ []) (suc (suc most)) from ≡ (if b then [] else (record { opened = i; closed = length ds } ∷ []))
+  unfolding cycles_from first_cycle
+  one_begun most from i true e f = rw (e, f) refl
+  one_begun most from i false e f =
+      rw (e, f) (ap (λ cs. record { opened = i; closed = length ds } ∷ cs) (none_begun most (length ds) (nat_lt d.bytes_left threshold) opens_at_end))
+
+  begins_at : (from i : ℕ) (b : Bool) → first_opening threshold (ds ++ d ∷ []) from ≡ Some i
+      → first_opening threshold (ds ++ d ∷ []) (last_closed from (if b then [] else (record { opened = i; closed = length ds } ∷ [])))
+      ≡ (if b then Some i else opens)
+  begins_at from i true e = e
+  begins_at from i false e = opens_at_end
+
+  -- what is known of the cycles from a position on, where this departure is begun behind them: with one more departure there are those, and the
+  -- one that it closes; they have the same samples, and what is begun then is known; what is begun lies within the list, and none closes it
+  record Grows (most from : ℕ) (cs : List Cycle) (begun : Option ℕ) : Type 0 where
+    grown : cycles_from threshold (ds ++ d ∷ []) (suc most) from ≡ cs ++ added begun
+    sampled : map (sample_of (ds ++ d ∷ [])) cs ≡ map (sample_of ds) cs
+    begins : first_opening threshold (ds ++ d ∷ []) (last_closed from (cs ++ added begun)) ≡ begins begun
+    within : IfSome begun (λ i. i < length ds)
+    unclosed : IfSome begun (λ i. first_closing threshold ds i ≡ None)
+
+  abbrev GrowsFrom : ℕ → ℕ → Type 0
+  GrowsFrom most from =
+      let cs = cycles_from threshold ds most from in
+      Grows most from cs (first_opening threshold ds (last_closed from cs))
+
+  none_grows : (most from : ℕ) → from ≤ length ds → first_opening threshold ds from ≡ None → Grows most from [] None
+  none_grows most from l a =
+      let opening = opening-push from None l a in
+      record { grown = none_begun most from (nat_lt d.bytes_left threshold) opening; sampled = refl; begins = opening; within = tt; unclosed = tt }
+
+  -- from any position on: none opens a cycle, none closes the one that is opened, or others come behind it
+  grows : (most from : ℕ) → from ≤ length ds → length ds ≤ from + most → GrowsFrom most from
+  unfolding cycles_from first_cycle
+  grows zero from l room = let none = none_opens from (omega arith) in rw none (none_grows zero from l none)
+  grows (suc most) from l room =
+      opening (first_opening threshold ds from) refl (opening-within from l) (λ j low high. grows most j (omega arith) (omega arith))
+    where
+      closing : (i : ℕ) (c : Option ℕ) → (from ≤ i) × (i < length ds) → first_opening threshold ds from ≡ Some i → first_closing threshold ds i ≡ c
+          → IfSome c (λ j. (i + 1 ≤ j) × (j < length ds)) → ((j : ℕ) → from + 1 ≤ j → j < length ds → GrowsFrom most j) → GrowsFrom (suc most) from
+      closing i None w a b v later = rw (a, b) (
+          let opening = opening-push from (Some i) (omega (arith, w.0)) a in
+          let shorter = nat_lt (bytes_after ds i + d.size) threshold in
+          rw a (record {
+            grown = one_begun most from i shorter opening (closing-push i None w.1 b);
+            sampled = refl;
+            begins = begins_at from i shorter opening;
+            within = w.1;
+            unclosed = b;
+          })
+          )
+      closing i (Some j) w a b v later =
+          let rest = later j (omega (arith, w.0, v.0)) v.1 in
+          let opening = opening-push from (Some i) (omega (arith, w.0)) a in
+          rw (a, b) (record {
+            grown = rw (opening, closing-push i (Some j) w.1 b) (ap (λ cs. record { opened = i; closed = j } ∷ cs) rest.grown);
+            sampled = rw (departure_at-push_old i w.1, departure_at-push_old j v.1, rest.sampled) refl;
+            begins = rest.begins;
+            within = rest.within;
+            unclosed = rest.unclosed;
+          })
+
+      opening : (o : Option ℕ) → first_opening threshold ds from ≡ o → IfSome o (λ i. (from ≤ i) × (i < length ds))
+          → ((j : ℕ) → from + 1 ≤ j → j < length ds → GrowsFrom most j) → GrowsFrom (suc most) from
+      opening None a w later = rw a (rw a (none_grows (suc most) from l a))
+      opening (Some i) a w later = closing i (first_closing threshold ds i) w a refl (closing-within i w.1) later
+
+  -- all cycles
+  all_grow : Grows (length ds) 0 (cycles threshold ds) (begun threshold ds)
+  unfolding cycles begun
+  all_grow = grows (length ds) 0 (omega arith) (omega arith)
+
+  cycles-push : cycles threshold (ds ++ d ∷ []) ≡ cycles threshold ds ++ added (begun threshold ds)
+  unfolding cycles
+  cycles-push = rw (length_push ds d, add-one) all_grow.grown
 
   pub begun-push : begun threshold (ds ++ d ∷ []) ≡ begins (begun threshold ds)
   unfolding begun
-  begun-push =
-      rw cycles-push (last_closed_at 0 _ (cycles threshold ds) (last_closed-within 0 _ (omega arith) cycles-within) refl)
+  begun-push = rw cycles-push all_grow.begins
 
-  -- the samples
-  sample_of-push_old : (cycle : Cycle) → cycle.opened < length ds → cycle.closed < length ds → sample_of (ds ++ d ∷ []) cycle ≡ sample_of ds cycle
-  sample_of-push_old cycle a b = rw (departure_at-push_old cycle.opened a, departure_at-push_old cycle.closed b) refl
-
-  map-sample_of-push : (cs : List Cycle) → AllWithin cs → map (sample_of (ds ++ d ∷ [])) cs ≡ map (sample_of ds) cs
-  map-sample_of-push [] w = refl
-  map-sample_of-push (cycle ∷ rest) w = rw (sample_of-push_old cycle w.0 w.1, map-sample_of-push rest w.2) refl
+  pub begun-within : IfSome (begun threshold ds) (λ i. i < length ds)
+  begun-within = all_grow.within
 
   pub samples-push : samples threshold (ds ++ d ∷ []) ≡ samples threshold ds ++ map (sample_of (ds ++ d ∷ [])) (added (begun threshold ds))
   unfolding samples
-  samples-push =
-      ap (map (sample_of (ds ++ d ∷ []))) cycles-push
-      ∙ map-append (sample_of (ds ++ d ∷ [])) (cycles threshold ds) (added (begun threshold ds))
-      ∙ ap (λ xs. xs ++ map (sample_of (ds ++ d ∷ [])) (added (begun threshold ds))) (map-sample_of-push (cycles threshold ds) cycles-within)
+  samples-push = rw (cycles-push, map-append, all_grow.sampled) refl
 
-  -- no departure closes the cycle that is begun
-  abbrev Unclosed : Option ℕ → Type 0
-  Unclosed o = IfSome o (λ i. first_closing threshold ds i ≡ None)
-
-  pub begun-unclosed : Unclosed (begun threshold ds)
-  unfolding begun cycles
-  begun-unclosed = walk (λ most from cs. Unclosed (first_opening threshold ds (last_closed from cs))) (λ most from l a. rw a tt)
-      (λ most from i low l a b. rw a b) (λ most from i j later low l high a b rest. rest) (length ds) 0 (omega arith) (omega arith)
+-- no departure closes the cycle that is begun
+pub begun_unclosed : (threshold : ℕ) (ds : List Departure) → IfSome (begun threshold ds) (λ i. first_closing threshold ds i ≡ None)
+begun_unclosed threshold ds = (all_grow threshold ds (departure 0 0 0)).unclosed

@@ -1,7 +1,6 @@
 //! The estimate of the departure rate.
 ghost use Rattle.std.specs.Prelude.{◌≡◌, ◌^◌, ◌<◌, ◌≤◌, ◌↔◌, ℕ, List, [], ◌∷◌, ◌++◌, None, IsTrue, IsSome, IfSome};
-ghost use Rattle.pie_rate.specs.{average, cycles, begun, first_closing, Departure, departure, IsWithin, Shows, estimate_of, after_departure};
-ghost use Rattle.std.specs.Prelude.{option_map};
+ghost use Rattle.pie_rate.specs.{average, cycles, begun, first_closing, Departure, departure, IsWithin, Shows, after_departure};
 ghost use Rattle.std.specs.Option.{ForSome};
 
 use crate::raw::{RawCycle, RawRate};
@@ -19,19 +18,15 @@ pub struct Rate {
 }
 
 impl Model for Rate {
-    ghost use Rattle.std.proofs.Common.{ap};
-    ghost use Rattle.pie_rate.specs.{IsWithin, estimate_of, raw_of, raw_of-estimate_of};
-    ghost use Rattle.pie_rate.specs.Estimate.{Estimate};
+    ghost use Rattle.pie_rate.specs.Estimate.{Estimate, IsWithin};
 
     ghost Value = { Estimate };
 
-    ghost view = { λ r. estimate_of r.raw };
+    ghost view = { λ r. r.raw };
 
-    ghost invariant = { λ r. IsWithin (estimate_of r.raw) };
+    ghost invariant = { λ r. IsWithin r.raw };
 
-    ghost inverse = { λ e. record { raw = raw_of e } };
-
-    ghost inverse_ok = { λ r h. ap (λ raw. record { raw = raw }) (raw_of-estimate_of r.raw) };
+    ghost inverse = { λ e. record { raw = e } };
 }
 
 impl Rate {
@@ -88,6 +83,7 @@ impl Rate {
     }
 
     /// Whether a cycle is begun (RFC 8033, section 5.2).
+    #[tactic(auto, using(crate::proofs::Laws::begun_unclosed))]
     pub fn is_measuring(&self) -> bool
         ensures value { IsTrue result ↔ IsSome self.now.begun }
         ensures look_back { (threshold : ℕ) (departures : List Departure) →
@@ -104,7 +100,7 @@ impl Rate {
     /// The estimate as plain numbers.
     #[inline(always)]
     pub fn raw(&self) -> RawRate
-        ensures { estimate_of result ≡ self.now }
+        ensures { result ≡ self.now }
     {
         self.raw
     }

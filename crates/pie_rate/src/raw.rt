@@ -1,5 +1,5 @@
 ghost use Rattle.std.specs.Prelude.{◌≡◌, ◌+◌, ◌-◌, ◌<◌, ◌≤◌, None, SomeIff, max};
-ghost use Rattle.pie_rate.specs.{with_sample, departure, estimate_of, after_departure};
+ghost use Rattle.pie_rate.specs.{with_sample, departure, after_departure};
 
 /// The greatest threshold, in bytes: a new sample's weight in the average is its threshold in so many, and the average's is the rest
 /// (RFC 8033, section 5.2).
@@ -37,7 +37,7 @@ pub struct RawRate {
 impl RawRate {
     /// No sample, and no cycle begun.
     pub fn cleared() -> RawRate
-        ensures { estimate_of result ≡ record { average = 0; begun = None } }
+        ensures { result ≡ record { average = 0; begun = None } }
     {
         RawRate {
             average: 0,
@@ -50,7 +50,7 @@ impl RawRate {
     #[inline(always)]
     pub fn departed(&mut self, size: u32, bytes_left: u64, moment: u64, threshold: u64)
         requires { threshold ≤ 65536 }
-        ensures { estimate_of self.new ≡ after_departure threshold (estimate_of self.old) (departure size bytes_left moment) }
+        ensures { self.new ≡ after_departure threshold self.old (departure size bytes_left moment) }
     {
         if let Some(cycle) = &mut self.begun {
             if let Some(count) = cycle.counted(size, threshold) {

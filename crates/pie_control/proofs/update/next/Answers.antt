@@ -1,8 +1,7 @@
 use Rattle.std.proofs.Common.{◌+◌, arith}
 use Rattle.std.specs.Prelude.{pos, ◌≤ℤ◌}
-use Rattle.std.proofs.lemmas.Grind.{common_steps}
 use Rattle.std.proofs.lemmas.Int.{ints}
-use Rattle.pie_control.proofs.Quotients.{bounded_of-below}
+use Rattle.pie_control.proofs.Bounds.{bounded_of-below}
 use Rattle.pie_control.proofs.update.next.Goals as goal
 
 pub returns-clause-cap : goal.returns-clause-cap
@@ -11,12 +10,3 @@ returns-clause-cap c capped tenth =
     let below : c.decayed.result ≤ℤ pos (c.args.prob + 20_000_000_000) =
     c.decayed.ensures.shrinks _ (omega (arith, ints, step, c.from.ensures)) in
     rw c.bounded.ensures (bounded_of-below _ _ (omega (arith, ints, below)))
-
-pub overflow_add-from : goal.overflow_add-from
-overflow_add-from c = grind (arith, common_steps)
-
-pub decayed-requires-clause-above : goal.decayed-requires-clause-above
-decayed-requires-clause-above c = grind (arith, common_steps)
-
-pub decayed-requires-clause-below : goal.decayed-requires-clause-below
-decayed-requires-clause-below c = grind (arith, common_steps)

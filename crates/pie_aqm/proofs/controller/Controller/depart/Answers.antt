@@ -1,5 +1,5 @@
 use Rattle.std.proofs.Common.{◌≡◌, arith}
-use Rattle.pie_aqm.specs.{Depart, after_call, held_by}
+use Rattle.pie_aqm.specs.{Depart, after_call}
 use Rattle.pie_aqm.proofs.InRange.{threshold-holds}
 use Rattle.pie_aqm.proofs.Laws.{Shows_call, moved, uncapped}
 use Rattle.pie_aqm.proofs.Sounds.{Sound_call, stays_sound}
@@ -8,20 +8,20 @@ use Rattle.pie_aqm.proofs.controller.Controller.depart.Goals as goal
 pub invariant_of-self : goal.invariant_of-self
 invariant_of-self c =
     let a = c.args in
-    let small = threshold-holds (held_by c.self.inside.raw).params c.self.invariant.params in
-    let after : held_by c.depart.new.self ≡ after_call (held_by c.self.inside.raw) (Depart a.size a.left c.units.result c.units-2.result)
-    = uncapped (held_by c.self.inside.raw) _ a.size a.left c.units.result c.units-2.result small.1 c.depart.ensures in
+    let small = threshold-holds c.self.inside.raw.params c.self.invariant.params in
+    let after : c.depart.new.self ≡ after_call c.self.inside.raw (Depart a.size a.left c.units.result c.units-2.result)
+    = uncapped c.self.inside.raw _ a.size a.left c.units.result c.units-2.result small.1 c.depart.ensures in
     stays_sound _ _ after (Sound_call _ c.self.invariant (Depart a.size a.left c.units.result c.units-2.result) (omega (arith, c.units-2.ensures)))
 
 pub returns-clause-after : goal.returns-clause-after
 returns-clause-after c =
     let a = c.args in
-    let small = threshold-holds (held_by c.self.inside.raw).params c.self.invariant.params in
+    let small = threshold-holds c.self.inside.raw.params c.self.invariant.params in
     rw (← c.units.ensures.value, ← c.units-2.ensures.value, ← c.self.view_is)
-    (uncapped (held_by c.self.inside.raw) _ a.size a.left c.units.result c.units-2.result small.1 c.depart.ensures)
+    (uncapped c.self.inside.raw _ a.size a.left c.units.result c.units-2.result small.1 c.depart.ensures)
 
 pub returns-clause-threshold : goal.returns-clause-threshold
-returns-clause-threshold c = rw (← c.self.view_is) (threshold-holds (held_by c.self.inside.raw).params c.self.invariant.params).1
+returns-clause-threshold c = rw (← c.self.view_is) (threshold-holds c.self.inside.raw.params c.self.invariant.params).1
 
 pub returns-clause-shows : goal.returns-clause-shows
 returns-clause-shows c opened events shows =

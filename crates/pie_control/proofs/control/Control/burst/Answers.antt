@@ -1,9 +1,5 @@
-use Rattle.std.proofs.Common.{rules}
 use Rattle.pie_control.proofs.Laws.{burst_allowance-granted}
 use Rattle.pie_control.proofs.control.Control.burst.Goals as goal
 
 pub returns-clause-granted : goal.returns-clause-granted
 returns-clause-granted c opening start events shows = rw shows.burst (burst_allowance-granted opening events)
-
-pub returns-clause-value : goal.returns-clause-value
-returns-clause-value c = search rules

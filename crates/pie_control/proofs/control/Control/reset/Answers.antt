@@ -4,5 +4,4 @@ use Rattle.pie_control.proofs.control.Control.reset.Goals as goal
 
 pub returns-clause-shows : goal.returns-clause-shows
 returns-clause-shows c opening start events shows =
-    Shows-reset opening start events c.args.self.now _ shows c.args.params.now
-    (search rules) (search rules) (search rules) (search rules)
+    Shows-reset opening start events c.args.self.now _ shows c.args.params.now (search rules)

@@ -4,5 +4,4 @@ use Rattle.pie_control.proofs.control.Control.update.Goals as goal
 
 pub returns-clause-shows : goal.returns-clause-shows
 returns-clause-shows c opening start events shows =
-    Shows-updated opening start events c.args.self.now _ shows c.args.params.now c.args.elements c.args.delay c.args.moment
-    (search rules) (search rules) (search rules) (search rules)
+    Shows-updated opening start events c.args.self.now _ shows c.args.params.now c.args.elements c.args.delay c.args.moment (search rules)

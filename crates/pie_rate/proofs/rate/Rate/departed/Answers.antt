@@ -1,6 +1,6 @@
 use Rattle.std.proofs.Common.{rules, sym, subst, ◌<◌, ◌^◌}
 use Rattle.pie_rate.specs.Departures.{departure}
-use Rattle.pie_rate.specs.Estimate.{Estimate, IsWithin, estimate_of}
+use Rattle.pie_rate.specs.Estimate.{Estimate, IsWithin}
 use Rattle.pie_rate.proofs.Steps.{shows_after, within_after}
 use Rattle.pie_rate.proofs.rate.Rate.departed.Goals as goal
 
@@ -8,12 +8,10 @@ pub invariant_of-self : goal.invariant_of-self
 invariant_of-self c =
     let within : c.units.result < 2 ^ 60 = search rules in
     subst (λ (e : Estimate). IsWithin e) (sym c.departed.ensures)
-    (within_after c.args.threshold (departure c.args.size c.args.bytes_left c.units.result) c.requires within (estimate_of c.self.inside.raw)
-    c.self.invariant)
+    (within_after c.args.threshold (departure c.args.size c.args.bytes_left c.units.result) c.requires within c.self.inside.raw c.self.invariant)
 
 pub returns-clause-shows : goal.returns-clause-shows
 returns-clause-shows c departures shown =
     let a = c.args in
-    let before = rw (← c.self.view_is) at shown in
     rw (c.departed.ensures, c.units.ensures.value)
-    (shows_after a.threshold departures (departure a.size a.bytes_left a.moment) (estimate_of c.self.inside.raw) c.requires before)
+    (shows_after a.threshold departures (departure a.size a.bytes_left a.moment) c.self.inside.raw c.requires (rw (← c.self.view_is) at shown))

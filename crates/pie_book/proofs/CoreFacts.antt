@@ -8,7 +8,7 @@ use Rattle.pie_book.proofs.Names.{registers_of, with_queue, IsLegal, IsLegalAt, 
 use Rattle.pie_book.proofs.Names.{delay_after, delay_answered, held_after, admitted, bytes_after, departed_count, effective_moment, waiting_after}
 use Rattle.pie_book.proofs.Names.{registers_after, event_of, opened_of, shown, age_of_oldest, largest_delay, largest_queue, no_stats, stats_after}
 use Rattle.pie_book.proofs.Names.{waited, after_command, answer_in, call_in, waiting_next, bytes_of, HasThreshold, after_call, cause, Place, places}
-use Rattle.pie_book.proofs.Names.{greatest, anew, bytes_with, judged, now_at, place_of, places-push, answer_of, Deed, arrival_deed, deed, departure}
+use Rattle.pie_book.proofs.Names.{greatest, bytes_with, now_at, place_of, places-push, answer_of, Deed, arrival_deed, deed, departure}
 use Rattle.pie_book.proofs.Names.{departure_deed, fits, handed_in, ◌-◌, drop, Bool, cond, Option, filter_map, drop-drop, length-drop, drop-append-le}
 use Rattle.pie_book.proofs.Names.{deed_of, admission, departed, marked, queued, from_places-push, greatest-push, with_one, false, if◌then◌else◌}
 use Rattle.pie_book.proofs.Names.{option_map_or, count_of, is_queued, is_marked, is_dropped_early, is_dropped_bytes, is_dropped_packets, is_departure}
@@ -25,7 +25,7 @@ use Rattle.pie_event.specs.declared.verdict.Verdict.TheVariants as verdict
 use Rattle.pie_aqm.specs.History as Controller
 use Rattle.pie_aqm.specs.Steps as Steps
 
--- ---- what one more event at the end of a history does to the moment, the packets that wait and the statistics
+-- ---- what one more event at the end of a history does to the moment and the packets that wait
 
 -- the effective moment after one more event is the greater of the one before it and the moment handed in
 pub effective_moment-push : (opening : Opening) (history : List Event) (event : Event)
@@ -87,7 +87,7 @@ departed-push opening history event fewer waits =
     by : (b : Bool) (n a more : ℕ) → (b ≡ true → 0 < a - n) → n ≤ a → a ≤ more → n + cond b 1 0 ≤ more
     by b n a more some within up = grind (arith, nat_tests)
 
--- ---- What one more event at the end of a history does to the statistics.
+-- ---- .. and to the statistics
 
 -- one more, where there is one
 more_of : (b : Bool) (n m : ℕ) → n + cond b m 0 ≡ (if b then n + m else n)

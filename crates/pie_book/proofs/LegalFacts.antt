@@ -2,9 +2,9 @@
 use Rattle.pie_book.proofs.Names.{arith, ◌≡◌, ℕ, List, [], ◌∷◌, ◌++◌, refl, sym, subst, ap, ◌∙◌, All, None, nat_tests, append_assoc, All-head}
 use Rattle.pie_book.proofs.Names.{All-tail, first_bad, Waiting, ArrivingPacket, Held, Command, Arrive, Depart, SetParams, Answer, Event, Opening}
 use Rattle.pie_book.proofs.Names.{arrival_of, departure_call, CoreView, Shows, closed, refusal_of, IsLegal, IsLegalAt, event_of, no_stats, IsNext}
-use Rattle.pie_book.proofs.Names.{after_command, answer_in, call_in, HasThreshold, after_call, anew, bytes_with, judged, threshold-holds, place_of}
+use Rattle.pie_book.proofs.Names.{after_command, answer_in, call_in, HasThreshold, after_call, threshold-holds, place_of}
 use Rattle.pie_book.proofs.Names.{Some, CommandFits, map, map-append, opened_by, answer_by, decision, refusal_by_rule, waiting_after, Place, places}
-use Rattle.pie_book.proofs.Names.{places-push, append-nil, StandsFor, core_of, Standing}
+use Rattle.pie_book.proofs.Names.{places-push, append-nil}
 use Rattle.std.proofs.lemmas.List.{append-nil}
 use Rattle.pie_aqm.proofs.Laws.{has_threshold}
 use Rattle.std.proofs.lemmas.List.Elements.{All-pop}
@@ -102,7 +102,7 @@ module _ (P : List Event → CoreView → Type 0) (opening : Opening) (stays : S
       run-next before event (run both.0) here both.1)
       history legal fit
 
--- ---- A controller beside a queue decides and holds what a core does.
+-- ---- a controller beside a queue decides and holds what a core does
 
 pub opening_beside : (opening : Opening) → IsOpening opening (opened_by opening)
 opening_beside opening = record { core = first_core opening; shows = first-shows opening; holds = refl }
@@ -156,7 +156,7 @@ run_beside opening history command good legal fit free =
     ap (λ (h : Held). answer_by h (waiting_after opening history) opening.limits.packets command)
     (sym run.holds ∙ held-is opening run.core history run.shows)
 
--- ---- Events that follow from a core are legal after each history that the core shows.
+-- ---- events that follow from a core are legal after each history that the core shows
 
 module _ (opening : Opening) where
   pub follows_legal : (core : CoreView) (history rest : List Event) → Shows opening core history → first_bad core.held.params ≡ None

@@ -23,7 +23,6 @@
 pub mod book;
 mod book_events;
 mod book_folds;
-mod book_standing;
 mod core_steps;
 mod deciding_core;
 pub mod excerpt;

@@ -1,17 +1,20 @@
 -- What a core holds, where it shows a history, is what looking back over the history gives; and it shows the history with one event more
 -- after each command.
-use Rattle.pie_book.proofs.Names.{◌≡◌, ◌≤◌, ◌<◌, ◌+◌, ℕ, List, [], ◌∷◌, ◌++◌, map, length, true, refl, ap, ◌∙◌, sym, arith, length-append, nat_tests}
-use Rattle.pie_book.proofs.Names.{max, None, Some, All, is_some, append-nil, map-append, All-cons, All-head, All-nil, All-push, All-tail}
-use Rattle.pie_book.proofs.Names.{sum_by-append, ArrivingPacket, Packet, Waiting, One, Verdict, Held, Command, Arrive, Depart, Answer, Enqueued}
-use Rattle.pie_book.proofs.Names.{Event, Opening, opened_by, arrival_of, departure_call, cause_after, CoreView, Shows, closed, counted, refusal_of}
+use Rattle.pie_book.proofs.Names.{◌≡◌, ◌≤◌, ◌<◌, ◌+◌, ℕ, List, [], ◌∷◌, ◌++◌, map, length, true, refl, ap, subst, ◌∙◌, sym, arith, length-append}
+use Rattle.pie_book.proofs.Names.{nat_tests, max, None, Some, All, is_some, append-nil, map-append, All-cons, All-head, All-nil, All-push, All-tail}
+use Rattle.pie_book.proofs.Names.{sum_by_push, ArrivingPacket, Packet, Waiting, One, Verdict, Held, Command, Arrive, Depart, Answer, Enqueued, Event}
+use Rattle.pie_book.proofs.Names.{Opening, opened_by, arrival_of, departure_call, cause_after, CoreView, Shows, closed, counted, refusal_of}
 use Rattle.pie_book.proofs.Names.{registers_of, with_queue, IsLegal, IsLegalAt, answer_by, answer_to_departure, decision, refusal_by_rule}
 use Rattle.pie_book.proofs.Names.{delay_after, delay_answered, held_after, admitted, bytes_after, departed_count, effective_moment, waiting_after}
 use Rattle.pie_book.proofs.Names.{registers_after, event_of, opened_of, shown, age_of_oldest, largest_delay, largest_queue, no_stats, stats_after}
 use Rattle.pie_book.proofs.Names.{waited, after_command, answer_in, call_in, waiting_next, bytes_of, HasThreshold, after_call, cause, Place, places}
-use Rattle.pie_book.proofs.Names.{greatest, anew, bytes_with, judged, now_at, place_of, places-push, answer_of, Deed, arrival_deed, deed, departure}
-use Rattle.pie_book.proofs.Names.{departure_deed, fits, handed_in}
-use Rattle.std.proofs.Common.{append_assoc}
-use Rattle.pie_book.specs.{refusal_with, active_after, arriving_size, event_shown, oldest_since, shown_at}
+use Rattle.pie_book.proofs.Names.{greatest, bytes_with, now_at, place_of, places-push, answer_of, Deed, arrival_deed, deed, departure}
+use Rattle.pie_book.proofs.Names.{departure_deed, fits, handed_in, ◌-◌, drop, Bool, cond, Option, filter_map, drop-drop, length-drop, drop-append-le}
+use Rattle.pie_book.proofs.Names.{deed_of, admission, departed, marked, queued, from_places-push, greatest-push, with_one, false, if◌then◌else◌}
+use Rattle.pie_book.proofs.Names.{option_map_or, count_of, is_queued, is_marked, is_dropped_early, is_dropped_bytes, is_dropped_packets, is_departure}
+use Rattle.pie_book.proofs.Names.{is_found_none, is_reset, bytes_departed, is_arrival, is_update, sets_params, up_to}
+use Rattle.std.proofs.Common.{append_assoc, sum_by}
+use Rattle.pie_book.specs.{refusal_with, active_after, arriving_size, event_shown, oldest_since, shown_at, admitted_at, wait_at, delay_at}
 use Rattle.pie_aqm.specs.Calls.{shown_by}
 use Rattle.pie_aqm.specs.Events.{Arrived}
 use Rattle.pie_aqm.specs.Places.{after}
@@ -21,8 +24,153 @@ use Rattle.pie_event.specs.Deed.{with_ce}
 use Rattle.pie_event.specs.declared.verdict.Verdict.TheVariants as verdict
 use Rattle.pie_aqm.specs.History as Controller
 use Rattle.pie_aqm.specs.Steps as Steps
-use Rattle.pie_book.proofs.HistoryFacts.{departed-push, effective_moment-push, waiting_after-push}
-use Rattle.pie_book.proofs.StatisticsFacts.{stats_after-push}
+
+-- ---- what one more event at the end of a history does to the moment and the packets that wait
+
+-- the effective moment after one more event is the greater of the one before it and the moment handed in
+pub effective_moment-push : (opening : Opening) (history : List Event) (event : Event)
+    → effective_moment opening (history ++ event ∷ []) ≡ max (effective_moment opening history) (handed_in event.command)
+unfolding effective_moment
+effective_moment-push opening history event =
+    rw (map-append (λ (e : Event). handed_in e.command) history (event ∷ []))
+    (greatest-push (opening.moment ∷ map (λ (e : Event). handed_in e.command) history) (handed_in event.command))
+
+-- the packets that were queued, after one more event
+admitted-push : (opening : Opening) (history : List Event) (event : Event) → admitted opening (history ++ event ∷ [])
+    ≡ with_one (admitted opening history) (admission (max (effective_moment opening history) (handed_in event.command)) (deed_of event))
+unfolding admitted
+admitted-push opening history event =
+    from_places-push (admitted_at opening) history event
+    ∙ ap (λ now. with_one (filter_map (admitted_at opening) (places history)) (admission now (deed_of event)))
+    (effective_moment-push opening history event)
+
+-- how many departed, after one more event
+departed_count-push : (history : List Event) (event : Event)
+    → departed_count (history ++ event ∷ []) ≡ departed_count history + cond (is_some (departure (deed_of event))) 1 0
+unfolding departed_count
+departed_count-push history event = sum_by_push (λ (e : Event). cond (is_some (departure (deed_of e))) 1 0) history event
+
+-- the packets that wait, after one more event
+pub waiting_after-push : (opening : Opening) (history : List Event) (event : Event) → departed_count history ≤ length (admitted opening history)
+    → waiting_after opening (history ++ event ∷ [])
+    ≡ waiting_next (waiting_after opening history) (max (effective_moment opening history) (handed_in event.command)) (deed_of event)
+unfolding waiting_after
+waiting_after-push opening history event fewer =
+    rw (admitted-push opening history event, departed_count-push history event)
+    (by_deed (deed_of event) (departed_count history) (admitted opening history) (max (effective_moment opening history) (handed_in event.command))
+    fewer)
+  where
+    same : (n : ℕ) (entries : List Waiting) → drop (n + 0) entries ≡ drop n entries
+    same n entries = let none : n + 0 ≡ n = omega arith in ap (λ k. drop k entries) none
+
+    by_deed : (d : Deed) (n : ℕ) (entries : List Waiting) (now : ℕ) → n ≤ length entries
+        → drop (n + cond (is_some (departure d)) 1 0) (with_one entries (admission now d)) ≡ waiting_next (drop n entries) now d
+    by_deed (departed packet) n entries now within = sym (drop-drop 1 n entries)
+    by_deed (queued packet) n entries now within = same n (entries ++ _ ∷ []) ∙ drop-append-le n entries (_ ∷ []) within
+    by_deed (marked packet) n entries now within = same n (entries ++ _ ∷ []) ∙ drop-append-le n entries (_ ∷ []) within
+    by_deed _ n entries now within = same n entries
+
+-- no more packets have departed than were queued, after an event that lets one depart only where one waits
+pub departed-push : (opening : Opening) (history : List Event) (event : Event) → departed_count history ≤ length (admitted opening history)
+    → (is_some (departure (deed_of event)) ≡ true → 0 < length (waiting_after opening history))
+    → departed_count (history ++ event ∷ []) ≤ length (admitted opening (history ++ event ∷ []))
+unfolding waiting_after
+departed-push opening history event fewer waits =
+    rw (admitted-push opening history event, departed_count-push history event)
+    (by (is_some (departure (deed_of event))) (departed_count history) (length (admitted opening history)) _ (λ some. rw length-drop at waits some) fewer
+    (longer (admission (max (effective_moment opening history) (handed_in event.command)) (deed_of event))))
+  where
+    longer : (one : Option Waiting) → length (admitted opening history) ≤ length (with_one (admitted opening history) one)
+    longer None = omega arith
+    longer (Some entry) = let more = length-append (admitted opening history) (entry ∷ []) in omega (arith, more)
+
+    by : (b : Bool) (n a more : ℕ) → (b ≡ true → 0 < a - n) → n ≤ a → a ≤ more → n + cond b 1 0 ≤ more
+    by b n a more some within up = grind (arith, nat_tests)
+
+-- ---- .. and to the statistics
+
+-- one more, where there is one
+more_of : (b : Bool) (n m : ℕ) → n + cond b m 0 ≡ (if b then n + m else n)
+more_of b n m = grind (arith, nat_tests)
+
+count_of-push : (test : Deed → Bool) (history : List Event) (event : Event)
+    → count_of test (history ++ event ∷ []) ≡ (if test (deed_of event) then count_of test history + 1 else count_of test history)
+count_of-push test history event =
+    sum_by_push (λ (e : Event). cond (test (deed_of e)) 1 0) history event ∙ more_of (test (deed_of event)) (count_of test history) 1
+
+-- no bytes depart where no packet does
+some_bytes : (d : Option Packet) (n : ℕ)
+    → n + option_map_or (λ (packet : Packet). packet.size) d 0 ≡ (if is_some d then n + option_map_or (λ (packet : Packet). packet.size) d 0 else n)
+some_bytes None n = let e : n + 0 ≡ n = omega arith in e
+some_bytes (Some packet) n = refl
+
+bytes-push : (history : List Event) (event : Event)
+    → sum_by (λ (e : Event). bytes_departed (deed_of e)) (history ++ event ∷ [])
+    ≡ (if is_departure (deed_of event) then sum_by (λ (e : Event). bytes_departed (deed_of e)) history + bytes_departed (deed_of event)
+    else sum_by (λ (e : Event). bytes_departed (deed_of e)) history)
+bytes-push history event =
+    sum_by_push (λ (e : Event). bytes_departed (deed_of e)) history event
+    ∙ some_bytes (departure (deed_of event)) (sum_by (λ (e : Event). bytes_departed (deed_of e)) history)
+
+largest_queue-push : (opening : Opening) (history : List Event) (event : Event)
+    → largest_queue opening (history ++ event ∷ []) ≡ max (largest_queue opening history) (bytes_after opening (history ++ event ∷ []))
+unfolding largest_queue
+largest_queue-push opening history event =
+    ap (λ xs. greatest (map (λ (place : Place Event). bytes_after opening (up_to place)) xs)) (places-push history event)
+    ∙ ap greatest (map-append (λ (place : Place Event). bytes_after opening (up_to place)) (places history) (place_of history event ∷ []))
+    ∙ greatest-push (map (λ (place : Place Event). bytes_after opening (up_to place)) (places history)) (bytes_after opening (history ++ event ∷ []))
+
+largest_delay-push : (opening : Opening) (history : List Event) (event : Event)
+    → largest_delay opening (history ++ event ∷ [])
+    ≡ (if is_update (deed_of event) then max (largest_delay opening history) (delay_answered opening history) else largest_delay opening history)
+unfolding largest_delay
+largest_delay-push opening history event =
+    ap greatest (from_places-push (delay_at opening) history event)
+    ∙ by (filter_map (delay_at opening) (places history)) (is_update (deed_of event)) (delay_answered opening history)
+  where
+    by : (delays : List ℕ) (b : Bool) (delay : ℕ)
+        → greatest (with_one delays (if b then Some delay else None)) ≡ (if b then max (greatest delays) delay else greatest delays)
+    by delays true delay = greatest-push delays delay
+    by delays false delay = refl
+
+waited-push : (opening : Opening) (history : List Event) (event : Event)
+    → waited opening (history ++ event ∷ [])
+    ≡ (if is_departure (deed_of event) then waited opening history + age_of_oldest (effective_moment opening (history ++ event ∷ []))
+    (waiting_after opening history)
+    else waited opening history)
+unfolding waited
+waited-push opening history event =
+    ap (λ xs. sum_by (wait_at opening) xs) (places-push history event)
+    ∙ sum_by_push (wait_at opening) (places history) (place_of history event)
+    ∙ more_of (is_departure (deed_of event)) (sum_by (wait_at opening) (places history))
+    (age_of_oldest (effective_moment opening (history ++ event ∷ [])) (waiting_after opening history))
+
+-- the statistics after one more event
+pub stats_after-push : (opening : Opening) (history : List Event) (event : Event)
+    → stats_after opening (history ++ event ∷ [])
+    ≡ with_queue
+    (counted (stats_after opening history) (deed_of event) (delay_answered opening history)
+    (age_of_oldest (effective_moment opening (history ++ event ∷ [])) (waiting_after opening history)))
+    (bytes_after opening (history ++ event ∷ []))
+unfolding stats_after
+stats_after-push opening history event =
+    rw (
+      count_of-push is_arrival history event,
+      count_of-push is_queued history event,
+      count_of-push is_marked history event,
+      count_of-push is_dropped_early history event,
+      count_of-push is_dropped_bytes history event,
+      count_of-push is_dropped_packets history event,
+      count_of-push is_departure history event,
+      bytes-push history event,
+      count_of-push is_found_none history event,
+      count_of-push is_update history event,
+      count_of-push is_reset history event,
+      count_of-push sets_params history event,
+      largest_queue-push opening history event,
+      largest_delay-push opening history event,
+      waited-push opening history event,
+    ) refl
 
 -- ---- legal histories
 
@@ -67,23 +215,25 @@ at_place P (first ∷ before) event rest all =
     All-of-map P f (x ∷ xs) all =
         All-cons (λ y. P (f y)) x xs (All-head P (f x) (map f xs) all) (All-of-map P f xs (All-tail P (f x) (map f xs) all))
 
-none-departed : departed_count [] ≡ 0
-unfolding departed_count
-none-departed = refl
+-- what holds of no event, and of one more that is legal at its place, holds of each legal history
+pub legal-all : (opening : Opening) (P : List Event → Type 0) → P []
+    → ((before : List Event) (event : Event) → P before → IsLegalAt opening (place_of before event) → P (before ++ event ∷ []))
+    → (history : List Event) → IsLegal opening history → P history
+legal-all opening P none more history legal = go [] history none legal
+  where
+    go : (before rest : List Event) → P before → IsLegal opening (before ++ rest) → P (before ++ rest)
+    go before [] held legal = subst P (sym (append-nil before)) held
+    go before (event ∷ rest) held legal =
+        let here = at_place (IsLegalAt opening) before event rest legal in
+        let joined : before ++ event ∷ [] ++ rest ≡ before ++ (event ∷ rest) = append_assoc before (event ∷ []) rest in
+        subst P joined (go (before ++ event ∷ []) rest (more before event held here) (rw (← joined) at legal))
 
 -- in a legal history no more packets have departed than were queued
 pub departed-of-legal : (opening : Opening) (history : List Event) → IsLegal opening history
     → departed_count history ≤ length (admitted opening history)
-departed-of-legal opening history legal = go [] history (let none = none-departed in omega arith) legal
-  where
-    go : (before rest : List Event) → departed_count before ≤ length (admitted opening before) → IsLegal opening (before ++ rest)
-        → departed_count (before ++ rest) ≤ length (admitted opening (before ++ rest))
-    go before [] within legal = rw (append-nil before) within
-    go before (event ∷ rest) within legal =
-        let here = at_place (IsLegalAt opening) before event rest legal in
-        let more = departed-push opening before event within (λ some. departs-some opening before event.command (rw here.answered at some)) in
-        let joined : before ++ event ∷ [] ++ rest ≡ before ++ (event ∷ rest) = append_assoc before (event ∷ []) rest in
-        rw (← joined) (go (before ++ event ∷ []) rest more (rw (← joined) at legal))
+unfolding departed_count
+departed-of-legal opening = legal-all opening (λ h. departed_count h ≤ length (admitted opening h)) (omega arith)
+    (λ before event within here. departed-push opening before event within (λ some. departs-some opening before event.command (rw here.answered at some)))
 
 -- ---- what a core holds
 
@@ -140,19 +290,15 @@ Shows-opened opening core packets events held count waiting stats = record {
 
 -- ---- one event more
 
--- the bytes that wait after an arrival
-bytes-more : (waiting : List Waiting) (one : Waiting) → bytes_of (waiting ++ one ∷ []) ≡ bytes_of waiting + one.packet.size
-bytes-more waiting one = let sum = sum_by-append (λ (w : Waiting). w.packet.size) waiting (one ∷ []) in omega (arith, sum)
-
 -- an arrival as the controller is shown it
 arrival-shown : (packet : Packet) (now : ℕ) (waiting : List Waiting) (moment : ℕ) (v : Verdict)
     → event_shown (arrival_deed packet (answer_of v)) packet.size (oldest_since waiting) (bytes_of waiting)
     (bytes_of (waiting_next waiting now (arrival_deed packet (answer_of v)))) moment
     ≡ Arrived v packet.size (bytes_of waiting) (bytes_with v (bytes_of waiting) packet.size) moment
 arrival-shown packet now waiting moment verdict.Enqueued = ap (λ (n : ℕ). Arrived verdict.Enqueued packet.size (bytes_of waiting) n moment)
-    (bytes-more waiting (record { packet = packet; since = now }))
+    (sum_by_push (λ (w : Waiting). w.packet.size) waiting (record { packet = packet; since = now }))
 arrival-shown packet now waiting moment verdict.Marked = ap (λ (n : ℕ). Arrived verdict.Marked packet.size (bytes_of waiting) n moment)
-    (bytes-more waiting (record { packet = with_ce packet; since = now }))
+    (sum_by_push (λ (w : Waiting). w.packet.size) waiting (record { packet = with_ce packet; since = now }))
 arrival-shown packet now waiting moment v = refl
 
 -- each command's event is what its call shows the controller

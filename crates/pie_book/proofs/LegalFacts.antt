@@ -2,12 +2,17 @@
 use Rattle.pie_book.proofs.Names.{arith, ◌≡◌, ℕ, List, [], ◌∷◌, ◌++◌, refl, sym, subst, ap, ◌∙◌, All, None, nat_tests, append_assoc, All-head}
 use Rattle.pie_book.proofs.Names.{All-tail, first_bad, Waiting, ArrivingPacket, Held, Command, Arrive, Depart, SetParams, Answer, Event, Opening}
 use Rattle.pie_book.proofs.Names.{arrival_of, departure_call, CoreView, Shows, closed, refusal_of, IsLegal, IsLegalAt, event_of, no_stats, IsNext}
-use Rattle.pie_book.proofs.Names.{after_command, answer_in, call_in, HasThreshold, after_call, anew, bytes_with, judged, threshold-holds, place_of}
-use Rattle.pie_book.proofs.Names.{CommandFits}
+use Rattle.pie_book.proofs.Names.{after_command, answer_in, call_in, HasThreshold, after_call, threshold-holds, place_of}
+use Rattle.pie_book.proofs.Names.{Some, CommandFits, map, map-append, opened_by, answer_by, decision, refusal_by_rule, waiting_after, Place, places}
+use Rattle.pie_book.proofs.Names.{places-push, append-nil}
 use Rattle.std.proofs.lemmas.List.{append-nil}
 use Rattle.pie_aqm.proofs.Laws.{has_threshold}
+use Rattle.std.proofs.lemmas.List.Elements.{All-pop}
+use Rattle.pie_book.proofs.CoreFacts.{Shows-opened, at_place, legal-all, next-decided, next-shows, refusal-is, held-is}
+use Rattle.pie_aqm.specs.Calls.{Call}
+use Rattle.pie_book.specs.{IsOpening, IsStep, after_calls, call_at, calls_of, held_after_calls, call_of, Follows}
+use Rattle.std.proofs.Common.{◌↔◌, append_assoc}
 use Rattle.pie_aqm.specs.Steps as Steps
-use Rattle.pie_book.proofs.CoreFacts.{Shows-opened, at_place, next-decided, next-shows, refusal-is}
 
 -- a core as it opens
 abbrev pub first_core : Opening → CoreView
@@ -88,16 +93,84 @@ module _ (P : List Event → CoreView → Type 0) (opening : Opening) (stays : S
         holds = stays run.core history event run.shows run.holds fit next.taken;
       }
 
-  run-all : (before rest : List Event) → IsRun P opening before → IsLegal opening (before ++ rest) → All (λ event. CommandFits event.command) rest
-      → IsRun P opening (before ++ rest)
-  run-all before [] run legal fit = rw (append-nil before) run
-  run-all before (event ∷ rest) run legal fit =
-      let here = at_place (IsLegalAt opening) before event rest legal in
-      let next = run-next before event run here (All-head (λ e. CommandFits e.command) event rest fit) in
-      let joined : before ++ event ∷ [] ++ rest ≡ before ++ (event ∷ rest) = append_assoc before (event ∷ []) rest in
-      rw (← joined) (run-all (before ++ event ∷ []) rest next (rw (← joined) at legal) (All-tail (λ e. CommandFits e.command) event rest fit))
-
   pub run_of : (history : List Event) → P [] (first_core opening) → first_bad opening.params ≡ None → IsLegal opening history
       → All (λ event. CommandFits event.command) history → IsRun P opening history
-  run_of history first good legal fit = run-all [] history (record
-      { core = first_core opening; shows = first-shows opening; good = good; holds = first }) legal fit
+  run_of history first good legal fit = legal-all opening (λ h. All (λ event. CommandFits event.command) h → IsRun P opening h)
+      (λ none. record { core = first_core opening; shows = first-shows opening; good = good; holds = first })
+      (λ before event run here fits.
+      let both = All-pop (λ (e : Event). CommandFits e.command) (before ++ event ∷ []) before (Some event) refl fits in
+      run-next before event (run both.0) here both.1)
+      history legal fit
+
+-- ---- a controller beside a queue decides and holds what a core does
+
+pub opening_beside : (opening : Opening) → IsOpening opening (opened_by opening)
+opening_beside opening = record { core = first_core opening; shows = first-shows opening; holds = refl }
+
+pub step_beside : (opening : Opening) (core : CoreView) (history : List Event) → Shows opening core history → (caller : ℕ) (command : Command)
+    → first_bad core.held.params ≡ None
+    → refusal_of core command ≡ None
+    → IsStep opening history caller command (answer_by core.held core.waiting core.packets command)
+    (after_call core.held (call_of core.waiting core.packets command))
+step_beside opening core history shows caller command good free = record {
+  decided = next-decided opening core history shows command;
+  core_after = closed (after_command core command);
+  shows = next-shows opening core history shows caller command (threshold-of core command good) free;
+  holds = refl;
+}
+
+-- ---- a whole run
+
+calls-push : (opening : Opening) (history : List Event) (event : Event)
+    → calls_of opening (history ++ event ∷ []) ≡ calls_of opening history ++ call_at opening (place_of history event) ∷ []
+unfolding calls_of
+calls-push opening history event = ap (λ (ps : List (Place Event)). map (call_at opening) ps) (places-push history event)
+    ∙ map-append (call_at opening) (places history) (place_of history event ∷ [])
+
+after-push : (h : Held) (calls : List Call) (call : Call) → after_calls h (calls ++ call ∷ []) ≡ after_call (after_calls h calls) call
+unfolding after_calls
+after-push h [] call = refl
+after-push h (first ∷ calls) call = after-push (after_call h first) calls call
+
+none-called : (opening : Opening) → (first_core opening).held ≡ held_after_calls opening []
+unfolding calls_of places after_calls
+none-called opening = refl
+
+-- a core holds what the controller does after the calls of the history
+abbrev HoldsCalls : Opening → List Event → CoreView → Type 0
+HoldsCalls opening history core = core.held ≡ held_after_calls opening history
+
+call-next : (opening : Opening) → Stays (HoldsCalls opening) opening
+call-next opening core history event shows holds fit free =
+    let made : call_in core event.command ≡ call_at opening (place_of history event) = rw (shows.waiting, shows.packets) refl in
+    ap (after_call core.held) made ∙ ap (λ (h : Held). after_call h (call_at opening (place_of history event))) holds
+    ∙ sym (ap (after_calls (opened_by opening)) (calls-push opening history event)
+    ∙ after-push (opened_by opening) (calls_of opening history) (call_at opening (place_of history event)))
+
+pub run_beside : (opening : Opening) (history : List Event) (command : Command) → first_bad opening.params ≡ None → IsLegal opening history
+    → All (λ event. CommandFits event.command) history
+    → refusal_by_rule opening history command ≡ None
+    → answer_by (held_after_calls opening history) (waiting_after opening history) opening.limits.packets command ≡ decision opening history command
+run_beside opening history command good legal fit free =
+    let run = run_of (HoldsCalls opening) opening (call-next opening) history (none-called opening) good legal fit in
+    ap (λ (h : Held). answer_by h (waiting_after opening history) opening.limits.packets command)
+    (sym run.holds ∙ held-is opening run.core history run.shows)
+
+-- ---- events that follow from a core are legal after each history that the core shows
+
+module _ (opening : Opening) where
+  pub follows_legal : (core : CoreView) (history rest : List Event) → Shows opening core history → first_bad core.held.params ≡ None
+      → All (λ event. CommandFits event.command) rest → Follows core rest ↔ IsLegal opening (history ++ rest)
+  unfolding Follows
+  follows_legal core history [] shows good fit = (λ follows. rw (append-nil history) shows.legal, λ legal. tt)
+  follows_legal core history (event ∷ rest) shows good fit =
+      let joined : (history ++ event ∷ []) ++ rest ≡ history ++ (event ∷ rest) = append_assoc history (event ∷ []) rest in
+      let later : IsNext core event → Follows (closed (after_command core event.command)) rest ↔ IsLegal opening ((history ++ event ∷ []) ++ rest) =
+      λ next. follows_legal (closed (after_command core event.command)) (history ++ event ∷ []) rest
+      (next-core opening core history event shows good next)
+      (good-next core event.command good (All-head (λ e. CommandFits e.command) event rest fit)) (All-tail (λ e. CommandFits e.command) event rest fit) in (
+        λ follows. subst (λ (h : List Event). IsLegal opening h) joined ((later follows.0).0 follows.1),
+        λ legal.
+            let next = next-legal opening core history event shows (at_place (IsLegalAt opening) history event rest legal) in
+            (next, (later next).1 (subst (λ (h : List Event). IsLegal opening h) (sym joined) legal)),
+      )

@@ -1,21 +1,8 @@
 mod Names
-pub mod HistoryFacts
-pub mod StatisticsFacts
 pub mod CoreFacts
 pub mod BookFacts
-pub mod StandingFacts
-pub mod FoldParts
 pub mod OldestFacts
-pub mod CopyFacts
 pub mod RunFacts
 pub mod RangeFacts
-pub mod RangeLaws
 pub mod LegalFacts
-pub mod BesideFacts
-pub mod ExcerptFacts
-pub mod QueuedFacts
 pub mod Examples
-pub mod ExamplesMarks
-pub mod ExamplesCauses
-pub mod ExamplesBooks
-pub mod ExamplesRuns

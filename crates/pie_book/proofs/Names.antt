@@ -31,7 +31,7 @@ pub use Rattle.pie_book.specs.{waiting_next, with_queue, without_last}
 unfoldable pub use Rattle.pie_book.specs.{admitted, answers, departed_count, effective_moment, held_after, largest_delay, largest_queue, outcomes}
 unfoldable pub use Rattle.pie_book.specs.{progress_after, registers_after, shown, stats_after, waited, waiting_after}
 pub use Rattle.pie_book.specs.Run.{Step}
-pub use Rattle.pie_book.specs.Tally.{TallyView}
+pub use Rattle.pie_book.specs.Statistics.{TallyView}
 pub use Rattle.pie_book.specs.declared.standing.Standing.{Standing}
 unfoldable pub use Rattle.pie_control.specs.Delay.{delay_of}
 unfoldable pub use Rattle.pie_early.specs.Cause.{considered_cause, early_cause}

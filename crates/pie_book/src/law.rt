@@ -1,8 +1,15 @@
-//! Laws: folds change no answer, profile one is always active, and the registers are what looking back gives.
-ghost use Rattle.std.specs.Prelude.{◌≡◌, List, true};
+//! Laws. Each function does nothing: its contract is the law.
+ghost use Rattle.std.specs.Prelude.{◌≡◌, List, true, ◌++◌, ◌∷◌, [], ℕ, All, None, nat_lt};
 ghost use Rattle.pie_book.specs.{One, Event, Rolling, Opening, CoreView, Shows, registers_of, registers_after, active_after, answers, without_folds};
-ghost use Rattle.pie_book.specs.{AreSameUntilFull};
+ghost use Rattle.pie_book.specs.{AreSameUntilFull, RawParams, Command, IsLegal, decision, refusal_by_rule, event_of, stats_after, Update, IsOpening};
+ghost use Rattle.pie_book.specs.{IsStep, held_after_calls, opened_by, call_of, refusal_of, answer_by, is_too_soon, waiting_after};
 ghost use Rattle.pie_book.specs.Run.{Step};
+ghost use Rattle.pie_params.specs.Range.{first_bad};
+ghost use Rattle.pie_event.specs.Deed.{fits};
+ghost use Rattle.pie_event.specs.Opening.{opening_refusal};
+ghost use Rattle.pie_event.specs.Ranges.{AnswerFits, CommandFits, ParamsFit, RegistersFit, StatsFit};
+ghost use Rattle.pie_aqm.specs.Calls.{after_call};
+ghost use Rattle.pie_aqm.specs.Steps.{due, due_of, now_at};
 
 /// Where two runs from one opening have the same commands in the same order, and differ in their folds alone, all
 /// commands are answered the same in both: in a rolling book always, and in a bounded one up to the first answer
@@ -33,4 +40,58 @@ pub fn profile_one_is_always_active()
 pub fn registers_look_back()
     ensures { (opening : Opening) (core : CoreView) (history : List Event) → Shows opening core history
         → registers_of core ≡ registers_after opening history }
+{}
+
+/// After every legal history, from an opening that a book accepts, each register, statistic and answer is a number that its
+/// field's type holds, and a legal history with one more decided command is legal (this project's own).
+///
+/// It does nothing: its contract is the law, for readers of histories who have no book in hand.
+#[tactic(auto, using(crate::proofs::RangeFacts::params_are_held, crate::proofs::RangeFacts::registers_are_held, crate::proofs::RangeFacts::stats_are_held, crate::proofs::RangeFacts::answers_are_held, crate::proofs::RangeFacts::answers_are_of_their_kind, crate::proofs::RangeFacts::legal_at_first, crate::proofs::RangeFacts::legal_with_one_more))]
+pub fn all_numbers_are_held()
+    ensures params { (params : RawParams) → first_bad params ≡ None → ParamsFit params }
+    ensures registers { (opening : Opening) (history : List Event) → opening_refusal opening.limits opening.moment ≡ None → ParamsFit opening.params
+        → IsLegal opening history
+        → All (λ event. CommandFits event.command) history → RegistersFit (registers_after opening history) }
+    ensures stats { (opening : Opening) (history : List Event) → opening_refusal opening.limits opening.moment ≡ None → ParamsFit opening.params
+        → IsLegal opening history
+        → All (λ event. CommandFits event.command) history → StatsFit (stats_after opening history) }
+    ensures answers { (opening : Opening) (history : List Event) (command : Command) → opening_refusal opening.limits opening.moment ≡ None
+        → ParamsFit opening.params → IsLegal opening history
+        → All (λ event. CommandFits event.command) history → refusal_by_rule opening history command ≡ None
+        → AnswerFits (decision opening history command) }
+    ensures kinds { (opening : Opening) (history : List Event) (command : Command) → fits command (decision opening history command) ≡ true }
+    ensures legal_at_first { (opening : Opening) → IsLegal opening [] }
+    ensures legal_with_one_more { (opening : Opening) (history : List Event) (caller : ℕ) (command : Command) → IsLegal opening history
+        → refusal_by_rule opening history command ≡ None
+        → IsLegal opening (history ++ event_of caller command (decision opening history command) ∷ []) }
+{}
+
+/// A controller beside a queue that its caller owns decides as a core does, in both profiles. At its opening it holds what a core
+/// holds that shows no event. And for every history that a core shows: where the controller holds what the core does and is handed
+/// the bytes of its queue and whether its ring is full, its call answers each command that is not refused with the decision after
+/// that history, and leaves what a core holds that shows the history with this event (this project's own). An update is too soon
+/// for the one where it is for the other. The library for C is proved to make exactly these calls.
+///
+/// It does nothing: its contract is the law.
+pub fn parts_decide_as_a_core()
+    ensures opens { (opening : Opening) → IsOpening opening (opened_by opening) }
+    ensures steps { (opening : Opening) (core : CoreView) (history : List Event) → Shows opening core history
+        → (caller : ℕ) (command : Command) → first_bad core.held.params ≡ None → refusal_of core command ≡ None
+        → IsStep opening history caller command (answer_by core.held core.waiting core.packets command)
+        (after_call core.held (call_of core.waiting core.packets command)) }
+    ensures too_soon { (core : CoreView) (moment : ℕ) → is_too_soon core.held.moment (due_of core.held.params core.held.control) (Update moment)
+        ≡ nat_lt (now_at core.held moment) (due core.held) }
+{}
+
+/// A whole run: a controller beside a queue that was opened as a legal history was, and made the calls of that history one after
+/// another, answers the next command that is not refused with the decision after that history (this project's own).
+///
+/// It does nothing: its contract is the law.
+#[tactic(auto, using(crate::proofs::LegalFacts::run_beside))]
+pub fn runs_decide_as_a_core()
+    ensures { (opening : Opening) (history : List Event) (command : Command) → first_bad opening.params ≡ None → IsLegal opening history
+        → All (λ event. CommandFits event.command) history
+        → refusal_by_rule opening history command ≡ None
+        → answer_by (held_after_calls opening history) (waiting_after opening history) opening.limits.packets command
+        ≡ decision opening history command }
 {}

@@ -20,37 +20,30 @@
 //! copying alone. `packets_that_waited_are_taken` and `excerpts_are_legal_after_any_history` are the laws of it.
 #![tactic(auto)]
 
-pub mod beside;
 pub mod book;
 mod book_events;
-mod book_excerpt;
 mod book_folds;
-mod book_oldest;
-mod book_readers;
-mod book_standing;
-mod core_commands;
-mod core_readers;
 mod core_steps;
 mod deciding_core;
 pub mod excerpt;
 pub mod law;
-pub mod ranges;
 mod recorded;
-pub mod resuming;
 pub mod standing;
 mod tally;
 
-pub use beside::{parts_decide_as_a_core, runs_decide_as_a_core};
 pub use book::Book;
 pub use deciding_core::Core;
 pub use excerpt::Excerpt;
-pub use law::{folds_change_no_answer, profile_one_is_always_active, registers_look_back};
+pub use law::{
+    all_numbers_are_held, folds_change_no_answer, parts_decide_as_a_core,
+    profile_one_is_always_active, registers_look_back, runs_decide_as_a_core,
+};
 pub use pie_aqm::{Cause, Fate};
 pub use pie_event::{
     Answer, Choices, Command, Elements, EndRefusal, Event, FoldRefusal, Limits, Mode, OpenRefusal,
     Opening, Profile, QueueRefusal, Refusal, Registers, ResumeRefusal, Stats, TooSmall,
 };
-pub use ranges::all_numbers_are_held;
 pub use recorded::Recorded;
-pub use resuming::{Resuming, packets_that_waited_are_taken};
-pub use standing::{Standing, excerpts_are_legal_after_any_history};
+pub use standing::{
+    Resuming, Standing, excerpts_are_legal_after_any_history, packets_that_waited_are_taken,
+};

@@ -15,7 +15,7 @@ use Rattle.pie_summary.specs.Live.{Holds, IsSet, Meets, clock_of, noted_of}
 use Rattle.pie_summary.specs.Sums.{answer_place}
 use Rattle.pie_c.specs.Calls.{updated_by}
 use Rattle.pie_c.specs.Summed.{Adds, Tells}
-use Rattle.pie_book.specs.Cause.{cause_after}
+use Rattle.pie_book.specs.Decision.{cause_after}
 use Rattle.pie_book.specs.Estimates.{held_after}
 use Rattle.pie_book.specs.Registers.{registers_after}
 use Rattle.pie_book.specs.Statistics.{wait_of}

@@ -2,7 +2,7 @@
 ghost use Rattle.std.specs.Prelude.{◌≡◌, ◌++◌, ◌∷◌, [], ℕ, All, List, Option, Some, map, true};
 ghost use Rattle.std.specs.List.{flat_map};
 ghost use Rattle.pie_event.specs.declared.command.Event.{Event};
-ghost use Rattle.pie_book.specs.Cause.{cause_after};
+ghost use Rattle.pie_book.specs.Decision.{cause_after};
 ghost use Rattle.pie_book.specs.Estimates.{held_after};
 ghost use Rattle.pie_book.specs.History.{waiting_after};
 ghost use Rattle.pie_book.specs.Statistics.{wait_of};

@@ -12,7 +12,7 @@ use Rattle.std.proofs.Math.Seq.{drop-append_seam, take-append_seam}
 use Rattle.std.proofs.lemmas.List.Elements.{All-drop, All-take}
 use Rattle.pie_aqm.proofs.Sounds.{Sound_call, Sound_opened}
 use Rattle.pie_book.specs.Core.{CoreView, Shows, closed}
-use Rattle.pie_book.proofs.HistoryFacts.{effective_moment-push, waiting_after-push}
+use Rattle.pie_book.proofs.CoreFacts.{effective_moment-push, waiting_after-push}
 use Rattle.pie_book.proofs.RangeFacts.{HasRoom, waiting_next-room}
 use Rattle.pie_event.specs.Opening as Opens
 use Rattle.pie_event.specs.declared.verdict.Verdict.TheVariants as verdict

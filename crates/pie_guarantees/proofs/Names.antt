@@ -22,14 +22,14 @@ pub use Rattle.pie_aqm.specs.Steps.{anew, bytes_with, choice, chosen, is_calm, j
 unfoldable pub use Rattle.pie_aqm.specs.Steps.{verdict}
 pub use Rattle.pie_book.proofs.CoreFacts.{answer-fits, at_place, departed-of-legal, held-is}
 pub use Rattle.pie_book.proofs.LegalFacts.{first-shows, first_core, next-core, next-legal}
-pub use Rattle.pie_book.specs.Call.{arrival_of, call_of, departure_call}
+pub use Rattle.pie_book.specs.Decision.{arrival_of, call_of, departure_call}
 pub use Rattle.pie_book.specs.Decision.{IsLegal, IsLegalAt, answer_by, answer_to_departure, decision, has_bad_size, is_too_soon, refusal_by_rule}
 pub use Rattle.pie_book.specs.Decision.{refusal_with}
 pub use Rattle.pie_book.specs.Estimates.{active_after, average_after, delay_after, due_after, params_after, parts_after}
 unfoldable pub use Rattle.pie_book.specs.Estimates.{held_after}
 pub use Rattle.pie_book.specs.History.{bytes_after, effective_moment, waiting_after}
 pub use Rattle.pie_book.specs.Statistics.{count_of, is_dropped_bytes, is_dropped_early, is_dropped_packets, is_marked, is_queued, is_reset}
-pub use Rattle.pie_book.specs.Step.{after_command, answer_in, call_in, waiting_next}
+pub use Rattle.pie_book.specs.Core.{after_command, answer_in, call_in, waiting_next}
 pub use Rattle.pie_book.specs.Types.{Answer, ArrivingPacket, Arrive, Command, Depart, DroppedBytes, DroppedEarly, DroppedPackets, Empty, Enqueued, Event}
 pub use Rattle.pie_book.specs.Types.{Left, Marked, Opening, Packet, Refusal, Reset, SetParams, Update, Verdict, Waiting}
 pub use Rattle.pie_control.proofs.Bounds.{bounded_of-below, decay-below, int_div-below}

@@ -1,5 +1,5 @@
-use Rattle.pie_book.proofs.BesideFacts.{opening_beside, step_beside}
-use Rattle.pie_book.proofs.beside.parts_decide_as_a_core.Goals as goal
+use Rattle.pie_book.proofs.LegalFacts.{opening_beside, step_beside}
+use Rattle.pie_book.proofs.law.parts_decide_as_a_core.Goals as goal
 
 pub returns-clause-opens : goal.returns-clause-opens
 returns-clause-opens c = opening_beside

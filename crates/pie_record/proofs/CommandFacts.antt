@@ -49,31 +49,10 @@ AskedFits (asked.Command caller command) = (caller ≤ most_u16) × CommandFits 
 AskedFits (asked.BadParams change) = ChangeFits change
 
 pub nine-of-fits : (params : RawParams) → ParamsFit params → NineFit params
-nine-of-fits params fits = record {
-  target = fits.target;
-  t_update = fits.t_update;
-  max_burst = fits.max_burst;
-  alpha = fits.alpha;
-  beta = fits.beta;
-  mean_pkt = fits.mean_pkt;
-  limit_bytes = fits.limit_bytes;
-  mark_ecnth = fits.mark_ecnth;
-  dq_threshold = fits.dq_threshold;
-}
+nine-of-fits params fits = search rules
 
 fits-of-nine : (params : RawParams) → NineFit params → first_bad params ≡ None → ParamsFit params
-fits-of-nine params nine good = record {
-  target = nine.target;
-  t_update = nine.t_update;
-  max_burst = nine.max_burst;
-  alpha = nine.alpha;
-  beta = nine.beta;
-  mean_pkt = nine.mean_pkt;
-  limit_bytes = nine.limit_bytes;
-  mark_ecnth = nine.mark_ecnth;
-  dq_threshold = nine.dq_threshold;
-  in_range = good;
-}
+fits-of-nine params nine good = search rules
 
 -- ---- the fields of a command that was read
 
@@ -120,20 +99,18 @@ command-read row k asks e =
     let a = number-then row 1 most_u16 _ asks (omega arith) e in
     let b = number-then row 2 most_u64 _ asks (omega arith) a.rest in by k a.got b.got a.there b.there a.within (omega (arith, b.within)) b.rest
   where
+    short : (caller : ℕ) (command : Command) → HasAll row 1 (drop 1 (command_fields caller command)) → AskedFits (asked.Command caller command)
+        → Says (Ok (asked.Command caller command)) asks → Reads row (kind_of command) asks
+    short caller command has fits e = read-as (Reads row (kind_of command)) _ asks e (record { kind = refl; has = has; fits = fits })
+
     by : (k : CommandKind) (caller moment : ℕ) → Has row 1 (decimal caller) → Has row 2 (decimal moment) → caller ≤ most_u16 → moment < 2 ^ 64
         → Says (asked_at row k caller moment) asks → Reads row k asks
     by kind.Arrive caller moment who when few small e =
         let c = and_after (arrival_at row moment) (λ (command : Command). Ok (asked.Command caller command)) asks e in
         read-as (Reads row kind.Arrive) (asked.Command caller c.got) asks c.rest (arrival-read row caller moment c.got who when few small c.is)
-    by kind.Depart caller moment who when few small e =
-        read-as (Reads row kind.Depart) (asked.Command caller (Depart moment)) asks e
-        (record { kind = refl; has = (who, (when, tt)); fits = (few, small) })
-    by kind.Update caller moment who when few small e =
-        read-as (Reads row kind.Update) (asked.Command caller (Update moment)) asks e
-        (record { kind = refl; has = (who, (when, tt)); fits = (few, small) })
-    by kind.Reset caller moment who when few small e =
-        read-as (Reads row kind.Reset) (asked.Command caller (Reset moment)) asks e
-        (record { kind = refl; has = (who, (when, tt)); fits = (few, small) })
+    by kind.Depart caller moment who when few small e = short caller (Depart moment) (who, (when, tt)) (few, small) e
+    by kind.Update caller moment who when few small e = short caller (Update moment) (who, (when, tt)) (few, small) e
+    by kind.Reset caller moment who when few small e = short caller (Reset moment) (who, (when, tt)) (few, small) e
     by kind.Params caller moment who when few small e = change-read row caller moment asks who when few small e
 
 -- the word of a kind of command
@@ -218,10 +195,7 @@ clock-read Three row clock e = let fields = clock-fields row clock e in record {
 abbrev Asks : Version → Row → Request → Type 0
 Asks version row (request.Ask caller command) = WrittenAs row (asked.Command caller command)
 Asks version row (request.Clock clock) = (is_kind row (codes "clock") ≡ true) × ClockRead version row clock
-Asks version row request.BadParams = ⊤
-Asks version row (request.Fold n) = ⊤
-Asks version row request.Show = ⊤
-Asks version row request.Tally = ⊤
+Asks version row _ = ⊤
 
 asks : (version : Version) (row : Row) (r : Request) → request_of version row ≡ Ok r → Asks version row r
 unfolding request_of command_request fold_request

@@ -1,9 +1,7 @@
 mod Names
 mod NumberFacts
-mod RowFacts
 mod RecordFacts
 mod ReadFacts
-mod LineFacts
 mod HistoryFacts
 mod Appended
 mod TextBack
@@ -14,5 +12,4 @@ mod HistoryBack
 mod ClockBack
 mod LinesBack
 mod ExamplesLines
-pub mod Openings
 pub mod Laws

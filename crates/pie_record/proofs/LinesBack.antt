@@ -18,11 +18,11 @@ use Rattle.pie_record.specs.declared.history_record.Line.TheVariants as line
 use Rattle.pie_record.specs.declared.trace_record.Request.TheVariants as request
 use Rattle.pie_record.specs.declared.version.Version.TheVariants.{One, Two}
 use Rattle.pie_record.specs.declared.words.Said.TheVariants as said
-use Rattle.pie_record.specs.Answer.{answer_fields, flag, folded_row, refused_row, shown_row, tallied_row}
+use Rattle.pie_record.specs.Answer.{answer_fields, counted, flag, folded_row, refused_row, shown_row, tallied_row}
 use Rattle.pie_record.proofs.CommandFacts.{AskedFits, ChangeFits, ClockFits, asked-as-written, asked_fields, asked_kind, clock-as-written, clock-read}
 use Rattle.pie_record.proofs.CommandFacts.{command-back, asked-shape, command-read, kind_of}
 use Rattle.pie_record.proofs.FieldFacts.{and_after, back_ecn, back_u32, back_u64, field-read, number-then, one-way, no-flaw, packet-read, tested}
-use Rattle.pie_record.proofs.FieldFacts.{Says, read-as}
+use Rattle.pie_record.proofs.FieldFacts.{Says, numbers-back, read-as}
 use Rattle.pie_record.proofs.HistoryFacts.{read-all}
 use Rattle.pie_record.proofs.NumberFacts.{number-back}
 use Rattle.pie_record.proofs.Names.{All, and_then, lines_from}
@@ -148,11 +148,6 @@ line-holds version row told e = by (command_kind row) e
 pub lines-fit : (version : Version) (most number : ℕ) (rows : List Row) → All LineFits (lines_from version most number rows)
 lines-fit version most number rows = read-all LineFits version most number rows (line-holds version)
 
--- the same, whatever pie_params promises of parameters in their ranges
-pub line-fits : (version : Version) (row : Row) (told : Line) → ((params : RawParams) → first_bad params ≡ None → ParamsFit params)
-    → line_of version row ≡ Ok told → LineFits told
-line-fits version row told held e = line-holds version row told e
-
 -- ---- an event's record is read as it was written
 
 -- what asks this can have this answer: new parameters that can't be are recorded with the answer of those that can
@@ -244,19 +239,13 @@ back-flag true = number-back 1 1 (omega arith) (omega arith)
 back-flag false = number-back 1 0 (omega arith) (omega arith)
 
 registers-back : (r : Registers) (version : Version) → RegistersFit r → registers_at (shown_row version r) ≡ Ok tt
-unfolding registers_at numbers_at field_at shown_row
+unfolding registers_at field_at shown_row
 registers-back r version f =
+    let row = shown_row version r in
     rw (
-      back_u64 r.count f.count,
-      back_u64 r.moment f.moment,
+      numbers-back row 1 (r.count ∷ r.moment ∷ []) (search rules) (search rules),
       back_u32 r.packets f.packets,
-      back_u64 r.bytes f.bytes,
-      back_u64 r.prob f.prob,
-      back_u64 r.old f.old,
-      back_u64 r.accu f.accu,
-      back_u64 r.burst f.burst,
-      back_u64 r.last f.last,
-      back_u64 r.average f.average,
+      numbers-back row 4 (r.bytes ∷ r.prob ∷ r.old ∷ r.accu ∷ r.burst ∷ r.last ∷ r.average ∷ []) (search rules) (search rules),
     ) refl
 
 active-note : (r : Registers) → RegistersFit r → active_line (shown_row Two r) ≡ Ok line.Note
@@ -270,22 +259,9 @@ shown-note Two r f = active-note r f
 shown-note Three r f = active-note r f
 
 pub tallied-note : (version : Version) (s : Stats) → StatsFit s → line_of version (tallied_row s) ≡ Ok line.Note
-unfolding line_of command_kind note_line numbers_at field_at tallied_row
+unfolding line_of command_kind note_line field_at tallied_row
 tallied-note version s f =
     rw (
-      back_u64 s.arrivals f.arrivals,
-      back_u64 s.enqueued f.enqueued,
-      back_u64 s.marked f.marked,
-      back_u64 s.early f.early,
-      back_u64 s.over_bytes f.over_bytes,
-      back_u64 s.over_packets f.over_packets,
-      back_u64 s.left f.left,
-      back_u64 s.left_bytes f.left_bytes,
-      back_u64 s.empty f.empty,
-      back_u64 s.updates f.updates,
-      back_u64 s.resets f.resets,
-      back_u64 s.changes f.changes,
-      back_u64 s.largest_queue f.largest_queue,
-      back_u64 s.largest_delay f.largest_delay,
+      numbers-back (tallied_row s) 1 (counted s) (search rules) (search rules),
       number-back most_u128 s.waited (omega (arith, f.waited)) f.waited,
     ) refl

@@ -19,6 +19,11 @@ use Rattle.pie_record.specs.declared.first_record.FirstKind.TheVariants as kinds
 use Rattle.std.proofs.lemmas.Bool.Decides.{nat_tests}
 use Rattle.pie_record.proofs.CommandFacts.{nine-of-fits}
 use Rattle.pie_record.proofs.FieldFacts.{back_u32, back_u64, params-back}
+use Rattle.pie_event.specs.declared.refusal.OpenRefusal.{OpenRefusal}
+use Rattle.pie_event.specs.declared.refusal.OpenRefusal.TheVariants as open_refusal
+use Rattle.pie_record.specs.declared.fault.OpenFault.TheVariants as open_fault
+use Rattle.pie_record.specs.declared.fault.TraceFault.TheVariants as fault
+use Rattle.pie_record.proofs.Names.{Option, Err, Field, Checked, checked_opening, refused_opening}
 
 are_default-true : (p : RawParams) → are_default p ≡ true → p ≡ default_profile
 are_default-true p e =
@@ -242,3 +247,26 @@ opening-back o accepted set = by (is_earlier o) (are_default o.params) refl refl
         ap (opening_read kinds.Open3) (three-read _ o.choices o.moment o.limits o.params short
         ∙ draft-back o.choices o.moment o.limits o.params short same small fits set)
         ∙ accepted-draft kinds.Open3 o.moment o.limits o.params o.choices accepted set.in_range refl
+
+-- ---- an opening that was checked: its parts, and what was looked at
+
+pub checked : (kind : FirstKind) (draft : Draft) (opening : Opening) → checked_opening kind (first_bad draft.params) draft ≡ Ok opening
+    → Checked draft opening
+checked kind draft opening = by (first_bad draft.params) refl
+  where
+    inner : (why : Option OpenRefusal) → opening_refusal draft.limits draft.moment ≡ why → first_bad draft.params ≡ None
+        → refused_opening why draft ≡ Ok opening → Checked draft opening
+    inner None p q e = record { same = cc; accepted = p; in_range = q }
+    inner (Some open_refusal.BadLimits) p q e = cc
+    inner (Some open_refusal.Moment) p q e = cc
+    inner (Some open_refusal.Memory) p q e = cc
+
+    held : (holds : Bool) → first_bad draft.params ≡ None
+        → (if holds then refused_opening (opening_refusal draft.limits draft.moment) draft else Err (fault.Opening open_fault.Limits)) ≡ Ok opening
+        → Checked draft opening
+    held true q e = inner (opening_refusal draft.limits draft.moment) refl q e
+    held false q e = cc
+
+    by : (bad : Option Field) → first_bad draft.params ≡ bad → checked_opening kind bad draft ≡ Ok opening → Checked draft opening
+    by (Some field) q e = cc
+    by None q e = held (holds_limits kind draft.limits) q e

@@ -32,6 +32,7 @@ pub fn texts_are_read_back()
 /// The opening of a text that reads well is what its fields say, one that no book refuses, with parameters in their ranges.
 ///
 /// It does nothing: its contract is the law (this project's own).
+#[tactic(auto, using(crate::proofs::OpeningBack::checked))]
 pub fn openings_are_checked()
     ensures { (kind : FirstKind) (draft : Draft) (opening : Opening) → checked_opening kind (first_bad draft.params) draft ≡ Ok opening
         → Checked draft opening }

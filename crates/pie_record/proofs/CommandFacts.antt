@@ -1,22 +1,21 @@
 -- A record that asks a command, or tells the time of day, has just the fields with which that is written, and numbers of their types.
-use Rattle.pie_record.proofs.Names.{◌≡◌, ◌≤◌, ◌<◌, ◌==◌, ◌^◌, ℕ, List, [], ◌∷◌, ◌++◌, drop, length, true, decimal, refl, sym, ap, subst}
-use Rattle.pie_record.proofs.Names.{◌∙◌, arith, map, ⊤, Option, Some, None, Result, Ok, codes, eqb-true, field_at, first_bad}
-use Rattle.pie_record.proofs.Names.{Field, RawParams, Command, Arrive, Depart, Update, Reset, SetParams, CommandFits, ParamsFit, Clock, Asked}
-use Rattle.pie_record.proofs.Names.{CommandKind, Flaw, Version, Three, clock_at, clock_in, clock_row, most_moment, arrival_at, asked_at, change_at}
-use Rattle.pie_record.proofs.Names.{change_to, command_at, command_kind, command_length, is_kind, most_u16, most_u64, number_at, packet_at, params_at}
-use Rattle.pie_record.proofs.Names.{number, NineFit, alone, command_request, fold_request, request_by, request_for, request_of, Row}
-use Rattle.pie_record.proofs.Names.{command_fields, nine_of}
+use Rattle.std.proofs.Common.{rules, sym, ap, subst, ◌∙◌, arith}
+use Rattle.std.proofs.lemmas.Bool.{eqb-true}
+use Rattle.pie_record.specs.{One, Two}
+use Rattle.pie_record.specs.Names.{Field, Command, Clock}
+use Rattle.pie_record.specs.{◌≡◌, ◌≤◌, ◌<◌, ◌==◌, ◌^◌, ℕ, List, [], ◌∷◌, ◌++◌, drop, length, true, decimal, refl, map, ⊤, Option, Some, None, Result}
+use Rattle.pie_record.specs.{Ok, codes, field_at, first_bad, RawParams, Arrive, Depart, Update, Reset, SetParams, CommandFits, ParamsFit, Asked}
+use Rattle.pie_record.specs.{CommandKind, Flaw, Version, Three, clock_at, clock_in, clock_row, most_moment, arrival_at, asked_at, change_at}
+use Rattle.pie_record.specs.{change_to, command_at, command_kind, command_length, is_kind, most_u16, most_u64, number_at, packet_at, params_at}
+use Rattle.pie_record.specs.{number, NineFit, alone, command_request, fold_request, request_by, request_for, request_of, Row, command_fields, nine_of}
+use Rattle.pie_record.specs.{BadChange, Request}
+use Rattle.pie_record.proofs.FieldFacts.{Has, HasAll, and_after, back_ecn, back_u32, back_u64, has-all, number-then, ok-same, one-way, packet-read}
+use Rattle.pie_record.proofs.FieldFacts.{read-as, ParamsRead, Says, params-back, params-read, no-flaw, tested, word-has}
+use Rattle.pie_record.proofs.NumberFacts.{number-back}
 use Rattle.pie_record.specs.declared.command.Asked.TheVariants as asked
-use Rattle.pie_record.specs.declared.command.BadChange.{BadChange}
 use Rattle.pie_record.specs.declared.command.CommandKind.TheVariants as kind
 use Rattle.pie_record.specs.declared.fault.Flaw.TheVariants as flaw
-use Rattle.pie_record.specs.declared.trace_record.Request.{Request}
 use Rattle.pie_record.specs.declared.trace_record.Request.TheVariants as request
-use Rattle.pie_record.specs.declared.version.Version.TheVariants.{One, Two}
-use Rattle.pie_record.proofs.FieldFacts.{Has, HasAll, and_after, back_ecn, back_u32, back_u64, has-all, number-then, ok-same, one-way, packet-read}
-use Rattle.pie_record.proofs.FieldFacts.{read-as}
-use Rattle.pie_record.proofs.FieldFacts.{ParamsRead, Says, params-back, params-read, no-flaw, tested, word-has}
-use Rattle.pie_record.proofs.NumberFacts.{number-back}
 
 -- ---- what was asked
 
@@ -69,11 +68,8 @@ arrival-read row caller moment command who when few small e =
     let p = and_after (packet_at row 3) _ command e in
     let w = number-then row 6 most_u64 _ command (omega arith) p.rest in
     let packet = packet-read row 3 p.got p.is in
-    read-as (λ (c : Command). Reads row kind.Arrive (asked.Command caller c)) (Arrive moment p.got w.got) command w.rest (record {
-      kind = refl;
-      has = (who, (when, (packet.tag, (packet.size, (packet.ecn, (w.there, tt))))));
-      fits = (few, (small, packet.fits, omega (arith, w.within)));
-    })
+    read-as (λ (c : Command). Reads row kind.Arrive (asked.Command caller c)) (Arrive moment p.got w.got) command w.rest
+    (record { kind = refl; has = search rules; fits = (few, (small, packet.fits, w.small)) })
 
 change-read : (row : Row) (caller moment : ℕ) (asks : Asked) → Has row 1 (decimal caller) → Has row 2 (decimal moment) → caller ≤ most_u16
     → moment < 2 ^ 64 → Says (change_at row caller moment) asks → Reads row kind.Params asks

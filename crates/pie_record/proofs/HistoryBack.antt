@@ -1,18 +1,20 @@
 -- A text of an opening's record and of records that each tell a line is read back as that opening and those lines.
-use Rattle.pie_record.proofs.Names.{◌≡◌, ◌≤◌, ◌<◌, ◌+◌, ◌^◌, ℕ, List, [], ◌∷◌, ◌++◌, map, length, false, refl, sym, ap, subst, ◌∙◌, arith, All}
-use Rattle.pie_record.proofs.Names.{None, Ok, All-cons, All-head, All-nil, All-tail, field_at, Command, Arrive, Depart, Update, Reset}
-use Rattle.pie_record.proofs.Names.{SetParams, Event, Mode, Bounded, Rolling, Opening, Profile, One, Two, opening_refusal, FirstKind}
-use Rattle.pie_record.proofs.Names.{Line, Made, Version, opening_of, HasField, rows_text, Row, command_kind, line_of, kind_word, version_of, Coming}
-use Rattle.pie_record.proofs.Names.{after_opening, coming_after, coming_from, fault_from, history_opening, history_version, lines_from}
-use Rattle.pie_record.proofs.Names.{ParamsFit, Begins, EventFits, TellEach, TellsHistory, command_fields, earlier_row, event_row, is_earlier}
-use Rattle.pie_record.proofs.Names.{opening_row, version_three_row, written_rows, mode_word, profile_number}
-use Rattle.std.specs.Prelude.{Bool, true, drop, if◌then◌else◌}
+use Rattle.std.proofs.Common.{sym, ap, subst, ◌∙◌, arith}
 use Rattle.std.proofs.lemmas.List.{length-map}
-use Rattle.pie_record.specs.declared.first_record.FirstKind.TheVariants as kinds
+use Rattle.std.proofs.lemmas.List.Elements.{All-cons, All-head, All-nil, All-tail}
+use Rattle.pie_event.specs.declared.profile.Profile.TheVariants.{One, Two}
+use Rattle.pie_record.specs.Names.{Opening}
+use Rattle.pie_record.specs.{◌≡◌, ◌≤◌, ◌<◌, ◌+◌, ◌^◌, ℕ, List, [], ◌∷◌, ◌++◌, map, length, false, refl, All, None, Ok, field_at, Event, Mode, Bounded}
+use Rattle.pie_record.specs.{Rolling, Profile, opening_refusal, FirstKind, Line, Version, opening_of, HasField, rows_text, Row, command_kind, line_of}
+use Rattle.pie_record.specs.{kind_word, version_of, Coming, after_opening, coming_after, coming_from, fault_from, history_opening, history_version}
+use Rattle.pie_record.specs.{lines_from, ParamsFit, Begins, EventFits, TellEach, TellsHistory, earlier_row, event_row, is_earlier, opening_row}
+use Rattle.pie_record.specs.{version_three_row, written_rows, mode_word, profile_number, Bool, true, drop, if◌then◌else◌}
+use Rattle.pie_record.specs.declared.history_record.Line.TheVariants.{Made}
 use Rattle.pie_record.proofs.HistoryFacts.{told_by-line}
 use Rattle.pie_record.proofs.LinesBack.{event-back}
 use Rattle.pie_record.proofs.OpeningBack.{opening-back}
-use Rattle.pie_record.proofs.TextBack.{records_of-written}
+use Rattle.pie_record.proofs.RecordFacts.{records_of-written}
+use Rattle.pie_record.specs.declared.first_record.FirstKind.TheVariants as kinds
 
 -- ---- rows that tell lines
 
@@ -27,6 +29,19 @@ coming-told version most number (row ∷ rows) (line ∷ lines) within tells =
     rw (told_by-line version most number row line (omega arith) tells.0)
     (ap (λ (c : Coming). let more : Coming = record { lines = line ∷ c.lines; fault = c.fault } in more)
     (coming-told version most (number + 1) rows lines (omega arith) tells.1))
+
+-- a row that tells a line has a field
+pub told-field : (version : Version) (row : Row) (line : Line) → line_of version row ≡ Ok line → HasField row
+unfolding line_of command_kind field_at
+told-field version [] line e = cc
+told-field version (field ∷ rest) line e = omega arith
+
+pub told-fields : (version : Version) (rows : List Row) (lines : List Line) → TellEach version rows lines → All HasField rows
+unfolding TellEach
+told-fields version [] lines tells = All-nil HasField
+told-fields version (row ∷ rows) [] tells = absurd tells
+told-fields version (row ∷ rows) (line ∷ lines) tells = All-cons HasField row rows (told-field version row line tells.0)
+    (told-fields version rows lines tells.1)
 
 -- ---- a whole text
 
@@ -45,19 +60,6 @@ history-told kind rest rows opening lines opens some tells few =
     }
 
 -- ---- what a history is written as
-
-fields-some : (caller : ℕ) (command : Command) (more : Row) → HasField (command_fields caller command ++ more)
-unfolding command_fields
-fields-some caller (Arrive moment packet word) more = omega arith
-fields-some caller (Depart moment) more = omega arith
-fields-some caller (Update moment) more = omega arith
-fields-some caller (Reset moment) more = omega arith
-fields-some caller (SetParams moment params) more = omega arith
-
-pub events-some : (events : List Event) → All HasField (map event_row events)
-events-some [] = All-nil HasField
-events-some (event ∷ events) = All-cons HasField (event_row event) (map event_row events) (fields-some event.caller event.command _)
-    (events-some events)
 
 pub events-tell : (version : Version) (events : List Event) → All EventFits events → TellEach version (map event_row events) (map Made events)
 unfolding TellEach
@@ -86,19 +88,6 @@ written-back opening events accepted set fit few =
     let first = opening_row-begins opening in
     let opens : opening_of (kind_word first.kind ∷ first.rest) ≡ Ok opening = ap opening_of (sym first.is) ∙ opening-back opening accepted set in
     let many = length-map events event_row in
+    let tells = events-tell (version_of (kind_word first.kind ∷ first.rest)) events fit in
     subst (λ (row : Row). TellsHistory (rows_text (row ∷ map event_row events)) opening (map Made events)) (sym first.is)
-    (history-told first.kind first.rest (map event_row events) opening (map Made events) opens (events-some events)
-    (events-tell (version_of (kind_word first.kind ∷ first.rest)) events fit) (omega arith))
-
--- a row that tells a line has a field
-pub told-field : (version : Version) (row : Row) (line : Line) → line_of version row ≡ Ok line → HasField row
-unfolding line_of command_kind field_at
-told-field version [] line e = cc
-told-field version (field ∷ rest) line e = omega arith
-
-pub told-fields : (version : Version) (rows : List Row) (lines : List Line) → TellEach version rows lines → All HasField rows
-unfolding TellEach
-told-fields version [] lines tells = All-nil HasField
-told-fields version (row ∷ rows) [] tells = absurd tells
-told-fields version (row ∷ rows) (line ∷ lines) tells = All-cons HasField row rows (told-field version row line tells.0)
-    (told-fields version rows lines tells.1)
+    (history-told first.kind first.rest (map event_row events) opening (map Made events) opens (told-fields _ _ _ tells) tells (omega arith))

@@ -1,31 +1,27 @@
 -- A line that was read holds numbers of their types; a record that was written is read as its line.
-use Rattle.pie_record.proofs.Names.{◌≡◌, ◌<◌, ◌+◌, ◌==◌, ◌^◌, ℕ, List, [], ◌∷◌, ◌++◌, Bool, true, false, length, decimal, refl, ap}
-use Rattle.pie_record.proofs.Names.{subst, ◌∙◌, arith, Option, Some, None, Result, Ok, codes, ⊤, bytes_eq, field_at, first_bad}
-use Rattle.pie_record.proofs.Names.{RawParams, Packet, AnswerFits, ParamsFit, RegistersFit, StatsFit, Answer, Enqueued, Marked}
-use Rattle.pie_record.proofs.Names.{DroppedEarly, DroppedBytes, DroppedPackets, Empty, Left, Updated, Done, Command, Arrive, Depart, Update, Reset}
-use Rattle.pie_record.proofs.Names.{SetParams, Event, Clock, Asked, CommandKind, Flaw, Line, Version, Three, clock_at, clock_in, clock_row}
-use Rattle.pie_record.proofs.Names.{most_moment, command_at, command_kind, is_kind, most_u128, most_u64, number_at, packet_at, word_at, active_line}
-use Rattle.pie_record.proofs.Names.{answer_at, departure_at, event_line, has_length, line_by, line_for, line_of, made, note_line}
-use Rattle.pie_record.proofs.Names.{numbers_at, registers_at, shown_line, update_at, verdict_of, number, EventFits, TellEach, Row, request_of}
-use Rattle.pie_record.proofs.Names.{word_said, command_fields, event_row, line_rows, without_notes}
+use Rattle.std.proofs.Common.{rules, ap, subst, ◌∙◌, arith}
 use Rattle.std.proofs.lemmas.Option.{none-some}
-use Rattle.pie_event.specs.Deed.{fits}
-use Rattle.pie_event.specs.declared.registers.Registers.{Registers}
-use Rattle.pie_event.specs.declared.stats.Stats.{Stats}
-use Rattle.pie_record.specs.declared.command.Asked.TheVariants as asked
-use Rattle.pie_record.specs.declared.fault.Flaw.TheVariants as flaw
-use Rattle.pie_record.specs.declared.history_record.Line.TheVariants as line
-use Rattle.pie_record.specs.declared.trace_record.Request.TheVariants as request
-use Rattle.pie_record.specs.declared.version.Version.TheVariants.{One, Two}
-use Rattle.pie_record.specs.declared.words.Said.TheVariants as said
-use Rattle.pie_record.specs.Answer.{answer_fields, counted, flag, folded_row, refused_row, shown_row, tallied_row}
+use Rattle.pie_record.specs.{One, Two}
+use Rattle.pie_record.specs.Names.{Answer, Command, Clock}
+use Rattle.pie_record.specs.{◌≡◌, ◌<◌, ◌+◌, ◌==◌, ◌^◌, ℕ, List, [], ◌∷◌, ◌++◌, Bool, true, false, length, decimal, refl, Option, Some, None, Result}
+use Rattle.pie_record.specs.{Ok, codes, ⊤, bytes_eq, field_at, Packet, AnswerFits, RegistersFit, StatsFit, Enqueued, Marked, DroppedEarly}
+use Rattle.pie_record.specs.{DroppedBytes, DroppedPackets, Empty, Left, Updated, Done, Arrive, Depart, Update, Reset, SetParams, Event, Asked}
+use Rattle.pie_record.specs.{CommandKind, Flaw, Line, Version, Three, clock_at, clock_in, clock_row, most_moment, command_at, command_kind, is_kind}
+use Rattle.pie_record.specs.{most_u128, most_u64, number_at, packet_at, word_at, active_line, answer_at, departure_at, event_line, has_length}
+use Rattle.pie_record.specs.{line_by, line_for, line_of, made, note_line, numbers_at, registers_at, shown_line, update_at, verdict_of, number}
+use Rattle.pie_record.specs.{EventFits, TellEach, Row, request_of, word_said, command_fields, event_row, line_rows, without_notes, fits, Registers}
+use Rattle.pie_record.specs.{Stats, answer_fields, counted, flag, folded_row, refused_row, shown_row, tallied_row, All, and_then, lines_from}
 use Rattle.pie_record.proofs.CommandFacts.{AskedFits, ChangeFits, ClockFits, asked-as-written, asked_fields, asked_kind, clock-as-written, clock-read}
 use Rattle.pie_record.proofs.CommandFacts.{command-back, asked-shape, command-read, kind_of}
 use Rattle.pie_record.proofs.FieldFacts.{and_after, back_ecn, back_u32, back_u64, field-read, number-then, one-way, no-flaw, packet-read, tested}
 use Rattle.pie_record.proofs.FieldFacts.{Says, numbers-back, read-as}
 use Rattle.pie_record.proofs.HistoryFacts.{read-all}
 use Rattle.pie_record.proofs.NumberFacts.{number-back}
-use Rattle.pie_record.proofs.Names.{All, and_then, lines_from}
+use Rattle.pie_record.specs.declared.command.Asked.TheVariants as asked
+use Rattle.pie_record.specs.declared.fault.Flaw.TheVariants as flaw
+use Rattle.pie_record.specs.declared.history_record.Line.TheVariants as line
+use Rattle.pie_record.specs.declared.trace_record.Request.TheVariants as request
+use Rattle.pie_record.specs.declared.words.Said.TheVariants as said
 
 -- ---- what a line that was read holds
 
@@ -73,10 +69,7 @@ update-read row moment answer e =
     let a = number-then row 3 most_u64 _ answer (omega arith) e in
     let b = number-then row 4 most_u64 _ answer (omega arith) a.rest in
     let c = number-then row 5 most_u64 _ answer (omega arith) b.rest in
-    read-as (Answered (Update moment)) (Updated a.got b.got c.got) answer c.rest (record {
-      kind = refl;
-      numbers = (omega (arith, a.within), omega (arith, b.within), omega (arith, c.within));
-    })
+    read-as (Answered (Update moment)) (Updated a.got b.got c.got) answer c.rest (record { kind = refl; numbers = (a.small, b.small, c.small) })
 
 answer-read : (row : Row) (command : Command) (answer : Answer) → answer_at row (kind_of command) ≡ Ok answer → Answered command answer
 unfolding answer_at

@@ -1,29 +1,24 @@
 -- The record of an opening is read back as that opening.
-use Rattle.pie_record.proofs.Names.{◌≡◌, ◌≤◌, ◌<◌, ◌+◌, ◌^◌, ◌&&◌, ℕ, List, [], ◌∷◌, ◌++◌, map, Bool, true, false, decimal, refl, sym, ap, ◌∙◌}
-use Rattle.pie_record.proofs.Names.{arith, if◌then◌else◌, Some, None, Result, Ok, and_parts, field_at, accumulates, is_capped, usual}
-use Rattle.pie_record.proofs.Names.{default_profile, Elements, Half, Zero, Rate, Stamp, Derandomized, Random, Scaled, Unscaled, Capped, Uncapped}
-use Rattle.pie_record.proofs.Names.{RawParams, first_bad, Mode, Bounded, Rolling, Opening, Profile, One, Two, are_of_version_two, last_moment}
-use Rattle.pie_record.proofs.Names.{opening_refusal, ParamsFit, Flaw, TraceFault, Draft, FirstKind, chosen_at, decay_at, draft_at, elements_at}
-use Rattle.pie_record.proofs.Names.{first_fields, first_kind, holds_limits, limits_at, profile_of, version_one_fields, version_three_fields}
-use Rattle.pie_record.proofs.Names.{version_two_fields, which_of, opening_of, opening_read, params_at, LimitsFit, NineFit, Row, delay_word, mode_word}
-use Rattle.pie_record.proofs.Names.{picking_word, profile_number, size_word, step_word, are_default, are_usual, chosen_row, earlier_row, is_earlier}
-use Rattle.pie_record.proofs.Names.{is_usual_decay, is_usual_delay, is_usual_size, nine_of, opening_row, version_three_row}
-use Rattle.pie_params.specs.declared.elements.Decay.{Decay}
-use Rattle.pie_params.specs.declared.elements.Delay.{Delay}
-use Rattle.pie_params.specs.declared.elements.Picking.{Picking}
-use Rattle.pie_params.specs.declared.elements.Size.{Size}
-use Rattle.pie_params.specs.declared.elements.Step.{Step}
-use Rattle.pie_event.specs.declared.opening.Choices.{Choices}
-use Rattle.pie_event.specs.declared.opening.Limits.{Limits}
-use Rattle.pie_record.specs.declared.first_record.FirstKind.TheVariants as kinds
+use Rattle.std.proofs.Common.{sym, ap, ◌∙◌, arith}
+use Rattle.std.proofs.lemmas.Bool.{and_parts}
 use Rattle.std.proofs.lemmas.Bool.Decides.{nat_tests}
+use Rattle.pie_event.specs.declared.profile.Profile.TheVariants.{One, Two}
+use Rattle.pie_record.specs.Names.{Opening, Field}
+use Rattle.pie_record.specs.{◌≡◌, ◌<◌, ◌+◌, ◌^◌, ◌&&◌, ℕ, List, [], ◌∷◌, ◌++◌, map, Bool, true, false, decimal, refl, if◌then◌else◌, Some, None}
+use Rattle.pie_record.specs.{Result, Ok, field_at, accumulates, is_capped, usual, default_profile, Elements, Half, Zero, Rate, Stamp, Derandomized}
+use Rattle.pie_record.specs.{Random, Scaled, Unscaled, Capped, Uncapped, RawParams, first_bad, Mode, Bounded, Rolling, Profile, are_of_version_two}
+use Rattle.pie_record.specs.{opening_refusal, ParamsFit, Flaw, TraceFault, Draft, FirstKind, chosen_at, decay_at, draft_at, elements_at, first_fields}
+use Rattle.pie_record.specs.{first_kind, holds_limits, limits_at, profile_of, version_one_fields, version_three_fields, version_two_fields, which_of}
+use Rattle.pie_record.specs.{opening_of, opening_read, params_at, LimitsFit, NineFit, Row, delay_word, mode_word, picking_word, profile_number}
+use Rattle.pie_record.specs.{size_word, step_word, are_default, are_usual, chosen_row, earlier_row, is_earlier, is_usual_decay, is_usual_delay}
+use Rattle.pie_record.specs.{is_usual_size, nine_of, opening_row, version_three_row, Decay, Delay, Picking, Size, Step, Choices, Limits, OpenRefusal}
+use Rattle.pie_record.specs.{Option, Err, Checked, checked_opening, refused_opening}
 use Rattle.pie_record.proofs.CommandFacts.{nine-of-fits}
 use Rattle.pie_record.proofs.FieldFacts.{back_u32, back_u64, params-back}
-use Rattle.pie_event.specs.declared.refusal.OpenRefusal.{OpenRefusal}
+use Rattle.pie_record.specs.declared.first_record.FirstKind.TheVariants as kinds
 use Rattle.pie_event.specs.declared.refusal.OpenRefusal.TheVariants as open_refusal
 use Rattle.pie_record.specs.declared.fault.OpenFault.TheVariants as open_fault
 use Rattle.pie_record.specs.declared.fault.TraceFault.TheVariants as fault
-use Rattle.pie_record.proofs.Names.{Option, Err, Field, Checked, checked_opening, refused_opening}
 
 are_default-true : (p : RawParams) → are_default p ≡ true → p ≡ default_profile
 are_default-true p e =
@@ -217,14 +212,10 @@ unfolding opening_row opening_of first_kind field_at
 opening-back o accepted set = by (is_earlier o) (are_default o.params) refl refl
   where
     small : o.moment < 2 ^ 64
-    small = let within : o.moment ≤ last_moment = grind (arith, accepted) in omega (arith, within)
+    small = grind (arith, accepted)
 
     fits : LimitsFit o.limits
-    fits =
-        let packets : o.limits.packets ≤ 1048576 = grind (arith, accepted) in
-        let tail : o.limits.tail ≤ 1048576 = grind (arith, accepted) in
-        let events : o.limits.events ≤ 140737488355328 = grind (arith, accepted) in
-        record { packets = omega (arith, packets); tail = omega (arith, tail); events = omega (arith, events) }
+    fits = record { packets = grind (arith, accepted); tail = grind (arith, accepted); events = grind (arith, accepted) }
 
     by : (early short : Bool) → is_earlier o ≡ early → are_default o.params ≡ short
         → opening_of ((if early then earlier_row o.choices.profile o.choices.mode else version_three_row o.choices)

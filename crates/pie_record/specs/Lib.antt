@@ -18,3 +18,23 @@ pub mod Write
 pub mod ReadBack
 pub mod Laws
 pub mod Worked
+unfoldable pub use Names.*
+unfoldable pub use Words.*
+unfoldable pub use Number.*
+unfoldable pub use Fault.*
+unfoldable pub use Text.*
+unfoldable pub use Field.*
+unfoldable pub use Command.*
+unfoldable pub use Clock.*
+unfoldable pub use TraceRecord.*
+unfoldable pub use FirstRecord.*
+unfoldable pub use Opening.*
+unfoldable pub use HistoryRecord.*
+unfoldable pub use HistoryLines.*
+unfoldable pub use Rows.*
+unfoldable pub use Records.*
+unfoldable pub use Answer.*
+unfoldable pub use Write.*
+unfoldable pub use ReadBack.*
+unfoldable pub use Laws.*
+unfoldable pub use Worked.*

@@ -1,7 +1,5 @@
 -- What theorems that compute unfold: the reading and the writing of texts and their records.
-use Rattle.pie_record.specs.Names.{⊤, digits, records_from, strip_bom, field_at}
-use Rattle.csv.specs.Machine.{next_record}
-use Rattle.csv.specs.Writing.{fields_text, is_blank}
+use Rattle.pie_record.specs.Names.{⊤, digits, records_from, strip_bom, field_at, next_record, fields_text, is_blank}
 use Rattle.pie_record.specs.Answer.{answer_fields}
 use Rattle.pie_record.specs.Clock.{clock_at, clock_in}
 use Rattle.pie_record.specs.Command.{arrival_at, change_at, command_at, command_kind}

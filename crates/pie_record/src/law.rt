@@ -1,11 +1,7 @@
 //! The laws of records and texts: what is written is read back, and what was read is written again.
-ghost use Rattle.std.specs.Prelude.{◌≡◌, Ok};
-ghost use Rattle.pie_event.specs.declared.opening.Opening.{Opening};
-ghost use Rattle.pie_params.specs.Range.{first_bad};
-ghost use Rattle.pie_record.specs.declared.first_record.Draft.{Draft};
-ghost use Rattle.pie_record.specs.declared.first_record.FirstKind.{FirstKind};
-ghost use Rattle.pie_record.specs.Opening.{Checked, checked_opening};
-ghost use Rattle.pie_record.specs.Laws.{AnswersAreReadBack, RequestsAreWrittenAgain, TextsAreReadBack};
+ghost use Rattle.pie_record.specs.Names.{Opening};
+ghost use Rattle.pie_record.specs.{◌≡◌, Ok, first_bad, Draft, FirstKind, Checked, checked_opening, AnswersAreReadBack, RequestsAreWrittenAgain};
+ghost use Rattle.pie_record.specs.{TextsAreReadBack};
 
 /// The history record of what a trace asked is read back as it was written: the event with its answer, the time of day, a note for all else.
 ///
@@ -32,7 +28,6 @@ pub fn texts_are_read_back()
 /// The opening of a text that reads well is what its fields say, one that no book refuses, with parameters in their ranges.
 ///
 /// It does nothing: its contract is the law (this project's own).
-#[tactic(auto, using(crate::proofs::OpeningBack::checked))]
 pub fn openings_are_checked()
     ensures { (kind : FirstKind) (draft : Draft) (opening : Opening) → checked_opening kind (first_bad draft.params) draft ≡ Ok opening
         → Checked draft opening }

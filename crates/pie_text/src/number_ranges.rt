@@ -1,21 +1,16 @@
 //! The numbers of an event are those that the types of its fields hold. These functions do nothing: their contracts
 //! say it of values in hand.
-ghost use Rattle.std.specs.Prelude.{◌≡◌, ◌<◌, ◌≤◌, ◌^◌, true};
-ghost use Rattle.pie_event.specs.Deed.{fits};
-ghost use Rattle.pie_record.specs.Field.{most_u16};
-ghost use Rattle.pie_event.specs.Ranges.{AnswerFits, CommandFits, PacketFits, ParamsFit};
-ghost use Rattle.pie_record.specs.ReadBack.{EventFits};
+ghost use Rattle.pie_text.specs.{AnswerFits, CommandFits, PacketFits, ◌≡◌, true, fits, ParamsFit, EventFits};
 
 use pie_event::{Answer, Command, Event};
 use pie_params::Params;
 use pie_queue::Packet;
 
 /// A packet's numbers.
-pub(crate) fn packet_fits(packet: Packet)
+fn packet_fits(packet: Packet)
     ensures { PacketFits packet }
 {
-    let _ = packet.tag;
-    let _ = packet.size;
+    let _ = (packet.tag, packet.size);
 }
 
 /// Parameters are in their ranges.
@@ -25,39 +20,8 @@ pub(crate) fn params_fit(params: Params)
     let _ = params.raw();
 }
 
-/// An arrival's numbers.
-fn arrival_fits(moment: u64, packet: Packet, word: u64)
-    ensures { CommandFits (Command.Arrive moment packet word) }
-{
-    let _ = moment;
-    let _ = word;
-    packet_fits(packet);
-}
-
-/// A change of parameters' numbers.
-fn change_fits(moment: u64, params: Params)
-    ensures { CommandFits (Command.SetParams moment params) }
-{
-    let _ = moment;
-    params_fit(params);
-}
-
-/// A moment.
-fn moment_fits(moment: u64)
-    ensures { moment < 2 ^ 64 }
-{
-    let _ = moment;
-}
-
-/// A caller's number.
-fn caller_fits(caller: u16)
-    ensures { caller ≤ most_u16 }
-{
-    let _ = caller;
-}
-
 /// A command's numbers.
-pub(crate) fn command_fits(command: Command)
+fn command_fits(command: Command)
     ensures { CommandFits command }
 {
     match command {
@@ -65,24 +29,28 @@ pub(crate) fn command_fits(command: Command)
             moment,
             packet,
             word,
-        } => arrival_fits(moment, packet, word),
-        Command::Depart { moment } => moment_fits(moment),
-        Command::Update { moment } => moment_fits(moment),
-        Command::Reset { moment } => moment_fits(moment),
-        Command::SetParams { moment, params } => change_fits(moment, params),
+        } => {
+            let _ = (moment, word);
+            packet_fits(packet);
+        }
+        Command::Depart { moment } | Command::Update { moment } | Command::Reset { moment } => {
+            let _ = moment;
+        }
+        Command::SetParams { moment, params } => {
+            let _ = moment;
+            params_fit(params);
+        }
     }
 }
 
 /// An answer's numbers.
-pub(crate) fn answer_fits(answer: Answer)
+fn answer_fits(answer: Answer)
     ensures { AnswerFits answer }
 {
     match answer {
         Answer::Left(packet) => packet_fits(packet),
         Answer::Updated { delay, prob, burst } => {
-            let _ = delay;
-            let _ = prob;
-            let _ = burst;
+            let _ = (delay, prob, burst);
         }
         Answer::Enqueued
         | Answer::Marked
@@ -99,7 +67,7 @@ pub(crate) fn event_fits(event: &Event)
     requires { fits event.now.command event.now.answer ≡ true }
     ensures { EventFits event.now }
 {
-    caller_fits(event.caller);
+    let _ = event.caller;
     command_fits(event.command);
     answer_fits(event.answer);
 }

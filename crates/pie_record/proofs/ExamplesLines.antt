@@ -1,8 +1,7 @@
 -- What no script of tests/ can show of the lines of a history, and of the version that an opening is written in: each theorem computes.
 use Rattle.pie_event.specs.declared.profile.Profile.TheVariants.{One}
-use Rattle.pie_record.specs.Names.{Opening}
-use Rattle.pie_record.specs.{Some, codes, usual, default_profile, Bounded, rows_text, records_of, fault_from, lines_from, opening_row, Row, ◌≡◌, ℕ}
-use Rattle.pie_record.specs.{List, [], ◌∷◌, map, refl, worked_text}
+use Rattle.pie_record.specs.{Opening, Some, codes, usual, default_profile, Bounded, rows_text, records_of, fault_from, lines_from, opening_row, Row}
+use Rattle.pie_record.specs.{◌≡◌, ℕ, List, [], ◌∷◌, map, refl, worked_text}
 use Rattle.pie_record.specs.declared.history_record.Line.TheVariants.{Note}
 use Rattle.pie_record.specs.declared.fault.TraceFault.TheVariants as fault
 use Rattle.pie_record.specs.declared.version.Version.TheVariants as version

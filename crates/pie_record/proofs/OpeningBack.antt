@@ -1,20 +1,28 @@
--- The record of an opening is read back as that opening.
-use Rattle.std.proofs.Common.{sym, ap, ◌∙◌, arith}
+-- The record of an opening is read back as that opening, and a text of it and of records that each tell a line as that opening and those lines.
+use Rattle.std.proofs.Common.{sym, ap, ◌∙◌, arith, subst}
 use Rattle.std.proofs.lemmas.Bool.{and_parts}
 use Rattle.std.proofs.lemmas.Bool.Decides.{nat_tests}
+use Rattle.std.proofs.lemmas.List.{length-map}
+use Rattle.std.proofs.lemmas.List.Elements.{All-cons, All-head, All-nil, All-tail}
 use Rattle.pie_event.specs.declared.profile.Profile.TheVariants.{One, Two}
-use Rattle.pie_record.specs.Names.{Opening, Field}
-use Rattle.pie_record.specs.{◌≡◌, ◌<◌, ◌+◌, ◌^◌, ◌&&◌, ℕ, List, [], ◌∷◌, ◌++◌, map, Bool, true, false, decimal, refl, if◌then◌else◌, Some, None}
-use Rattle.pie_record.specs.{Result, Ok, field_at, accumulates, is_capped, usual, default_profile, Elements, Half, Zero, Rate, Stamp, Derandomized}
-use Rattle.pie_record.specs.{Random, Scaled, Unscaled, Capped, Uncapped, RawParams, first_bad, Mode, Bounded, Rolling, Profile, are_of_version_two}
-use Rattle.pie_record.specs.{opening_refusal, ParamsFit, Flaw, TraceFault, Draft, FirstKind, chosen_at, decay_at, draft_at, elements_at, first_fields}
-use Rattle.pie_record.specs.{first_kind, holds_limits, limits_at, profile_of, version_one_fields, version_three_fields, version_two_fields, which_of}
-use Rattle.pie_record.specs.{opening_of, opening_read, params_at, LimitsFit, NineFit, Row, delay_word, mode_word, picking_word, profile_number}
-use Rattle.pie_record.specs.{size_word, step_word, are_default, are_usual, chosen_row, earlier_row, is_earlier, is_usual_decay, is_usual_delay}
-use Rattle.pie_record.specs.{is_usual_size, nine_of, opening_row, version_three_row, Decay, Delay, Picking, Size, Step, Choices, Limits, OpenRefusal}
-use Rattle.pie_record.specs.{Option, Err, Checked, checked_opening, refused_opening}
-use Rattle.pie_record.proofs.CommandFacts.{nine-of-fits}
+use Rattle.pie_record.specs.Names.{Field}
+use Rattle.pie_record.specs.{Opening, ◌≡◌, ◌<◌, ◌+◌, ◌^◌, ◌&&◌, ℕ, List, [], ◌∷◌, ◌++◌, map, Bool, true, false, decimal, refl, if◌then◌else◌, Some}
+use Rattle.pie_record.specs.{None, Result, Ok, field_at, accumulates, is_capped, usual, default_profile, Elements, Half, Zero, Rate, Stamp}
+use Rattle.pie_record.specs.{Derandomized, Random, Scaled, Unscaled, Capped, Uncapped, RawParams, first_bad, Mode, Bounded, Rolling, Profile}
+use Rattle.pie_record.specs.{are_of_version_two, opening_refusal, ParamsFit, Flaw, TraceFault, Draft, FirstKind, chosen_at, decay_at, draft_at}
+use Rattle.pie_record.specs.{elements_at, first_fields, first_kind, holds_limits, limits_at, profile_of, version_one_fields, version_three_fields}
+use Rattle.pie_record.specs.{version_two_fields, which_of, opening_of, opening_read, params_at, LimitsFit, NineFit, Row, delay_word, mode_word}
+use Rattle.pie_record.specs.{picking_word, profile_number, size_word, step_word, are_default, are_usual, chosen_row, earlier_row, is_earlier}
+use Rattle.pie_record.specs.{is_usual_decay, is_usual_delay, is_usual_size, nine_of, opening_row, version_three_row, Decay, Delay, Picking, Size}
+use Rattle.pie_record.specs.{Step, Choices, Limits, OpenRefusal, Option, Err, Checked, checked_opening, refused_opening, ◌≤◌, length, All, Event}
+use Rattle.pie_record.specs.{Line, Version, HasField, rows_text, command_kind, line_of, kind_word, version_of, Coming, after_opening, coming_after}
+use Rattle.pie_record.specs.{coming_from, fault_from, history_opening, history_version, lines_from, Begins, EventFits, TellEach, TellsHistory}
+use Rattle.pie_record.specs.{event_row, written_rows, drop}
+use Rattle.pie_record.specs.declared.history_record.Line.TheVariants.{Made}
 use Rattle.pie_record.proofs.FieldFacts.{back_u32, back_u64, params-back}
+use Rattle.pie_record.proofs.HistoryFacts.{told_by-line}
+use Rattle.pie_record.proofs.LinesBack.{nine-of-fits, event-back}
+use Rattle.pie_record.proofs.RecordFacts.{records_of-written}
 use Rattle.pie_record.specs.declared.first_record.FirstKind.TheVariants as kinds
 use Rattle.pie_event.specs.declared.refusal.OpenRefusal.TheVariants as open_refusal
 use Rattle.pie_record.specs.declared.fault.OpenFault.TheVariants as open_fault
@@ -261,3 +269,79 @@ checked kind draft opening = by (first_bad draft.params) refl
     by : (bad : Option Field) → first_bad draft.params ≡ bad → checked_opening kind bad draft ≡ Ok opening → Checked draft opening
     by (Some field) q e = cc
     by None q e = held (holds_limits kind draft.limits) q e
+
+-- ---- rows that tell lines
+
+pub coming-told : (version : Version) (most number : ℕ) (rows : List Row) (lines : List Line) → number + length rows ≤ most + 1
+    → TellEach version rows lines
+    → coming_from version most number rows ≡ record { lines = lines; fault = None }
+unfolding TellEach lines_from fault_from
+coming-told version most number [] [] within tells = refl
+coming-told version most number [] (line ∷ lines) within tells = absurd tells
+coming-told version most number (row ∷ rows) [] within tells = absurd tells
+coming-told version most number (row ∷ rows) (line ∷ lines) within tells =
+    rw (told_by-line version most number row line (omega arith) tells.0)
+    (ap (λ (c : Coming). let more : Coming = record { lines = line ∷ c.lines; fault = c.fault } in more)
+    (coming-told version most (number + 1) rows lines (omega arith) tells.1))
+
+-- a row that tells a line has a field
+pub told-field : (version : Version) (row : Row) (line : Line) → line_of version row ≡ Ok line → HasField row
+unfolding line_of command_kind field_at
+told-field version [] line e = cc
+told-field version (field ∷ rest) line e = omega arith
+
+pub told-fields : (version : Version) (rows : List Row) (lines : List Line) → TellEach version rows lines → All HasField rows
+unfolding TellEach
+told-fields version [] lines tells = All-nil HasField
+told-fields version (row ∷ rows) [] tells = absurd tells
+told-fields version (row ∷ rows) (line ∷ lines) tells = All-cons HasField row rows (told-field version row line tells.0)
+    (told-fields version rows lines tells.1)
+
+-- ---- a whole text
+
+-- a text of a record that opens so, and then of rows that tell these lines
+pub history-told : (kind : FirstKind) (rest : Row) (rows : List Row) (opening : Opening) (lines : List Line)
+    → opening_of (kind_word kind ∷ rest) ≡ Ok opening
+    → All HasField rows → TellEach (version_of (kind_word kind ∷ rest)) rows lines → length rows < 2 ^ 32
+    → TellsHistory (rows_text ((kind_word kind ∷ rest) ∷ rows)) opening lines
+unfolding history_opening history_version after_opening
+history-told kind rest rows opening lines opens some tells few =
+    let records = records_of-written kind rest rows some in
+    record {
+      opens = ap history_opening records ∙ opens;
+      tells = ap (λ (all : List Row). coming_after (2 ^ 32) all) records
+          ∙ coming-told (version_of (kind_word kind ∷ rest)) (2 ^ 32) 2 rows lines (omega arith) tells;
+    }
+
+-- ---- what a history is written as
+
+pub events-tell : (version : Version) (events : List Event) → All EventFits events → TellEach version (map event_row events) (map Made events)
+unfolding TellEach
+events-tell version [] fit = tt
+events-tell version (event ∷ events) fit =
+    (event-back version event (All-head EventFits event events fit), events-tell version events (All-tail EventFits event events fit))
+
+opening_row-begins : (o : Opening) → Begins (opening_row o)
+unfolding opening_row
+opening_row-begins o = either (is_earlier o) _
+  where
+    by : (profile : Profile) (mode : Mode) (rest : Row) → Begins (earlier_row profile mode ++ rest)
+    by One Bounded rest = record { kind = kinds.Open; rest = rest; is = refl }
+    by One Rolling rest = record { kind = kinds.Rolling; rest = rest; is = refl }
+    by Two mode rest = record { kind = kinds.Open2; rest = profile_number Two ∷ mode_word mode ∷ rest; is = refl }
+
+    either : (b : Bool) (rest : Row)
+        → Begins ((if b then earlier_row o.choices.profile o.choices.mode else version_three_row o.choices) ++ rest)
+    either true rest = by o.choices.profile o.choices.mode rest
+    either false rest = record { kind = kinds.Open3; rest = drop 1 (version_three_row o.choices) ++ rest; is = refl }
+
+pub written-back : (opening : Opening) (events : List Event) → opening_refusal opening.limits opening.moment ≡ None → ParamsFit opening.params
+    → All EventFits events → length events < 2 ^ 32
+    → TellsHistory (rows_text (written_rows opening events)) opening (map Made events)
+written-back opening events accepted set fit few =
+    let first = opening_row-begins opening in
+    let opens : opening_of (kind_word first.kind ∷ first.rest) ≡ Ok opening = ap opening_of (sym first.is) ∙ opening-back opening accepted set in
+    let many = length-map events event_row in
+    let tells = events-tell (version_of (kind_word first.kind ∷ first.rest)) events fit in
+    subst (λ (row : Row). TellsHistory (rows_text (row ∷ map event_row events)) opening (map Made events)) (sym first.is)
+    (history-told first.kind first.rest (map event_row events) opening (map Made events) opens (told-fields _ _ _ tells) tells (omega arith))

@@ -30,15 +30,18 @@ pub use Rattle.pie_event.specs.declared.command.Answer.TheVariants.{Updated}
 pub use Rattle.pie_event.specs.declared.command.Command.{Command}
 pub use Rattle.pie_event.specs.declared.command.Command.TheVariants.{Arrive, Depart, Reset, SetParams, Update}
 pub use Rattle.pie_event.specs.declared.command.Event.{Event}
-pub use Rattle.pie_event.specs.declared.opening.Choices.{Choices}
-pub use Rattle.pie_event.specs.declared.opening.Limits.{Limits}
 pub use Rattle.pie_event.specs.declared.opening.Mode.{Mode}
 pub use Rattle.pie_event.specs.declared.opening.Mode.TheVariants.{Bounded, Rolling}
 pub use Rattle.pie_event.specs.declared.opening.Opening.{Opening}
 pub use Rattle.pie_event.specs.declared.profile.Profile.{Profile}
-pub use Rattle.pie_event.specs.declared.refusal.OpenRefusal.{OpenRefusal}
 pub use Rattle.pie_event.specs.declared.registers.Registers.{Registers}
 pub use Rattle.pie_event.specs.declared.stats.Stats.{Stats}
+pub use Rattle.pie_params.specs.declared.elements.Elements.{Elements}
+pub use Rattle.pie_params.specs.declared.raw.RawParams.{RawParams}
+pub use Rattle.pie_queue.specs.declared.packet.Packet.{Packet}
+pub use Rattle.pie_event.specs.declared.opening.Choices.{Choices}
+pub use Rattle.pie_event.specs.declared.opening.Limits.{Limits}
+pub use Rattle.pie_event.specs.declared.refusal.OpenRefusal.{OpenRefusal}
 pub use Rattle.pie_params.specs.Elements.{accumulates, is_capped, usual}
 pub use Rattle.pie_params.specs.Profile.{default_profile}
 pub use Rattle.pie_params.specs.Range.{first_bad}
@@ -46,7 +49,6 @@ pub use Rattle.pie_params.specs.declared.elements.Decay.{Decay}
 pub use Rattle.pie_params.specs.declared.elements.Decay.TheVariants.{Half, Zero}
 pub use Rattle.pie_params.specs.declared.elements.Delay.{Delay}
 pub use Rattle.pie_params.specs.declared.elements.Delay.TheVariants.{Rate, Stamp}
-pub use Rattle.pie_params.specs.declared.elements.Elements.{Elements}
 pub use Rattle.pie_params.specs.declared.elements.Picking.{Picking}
 pub use Rattle.pie_params.specs.declared.elements.Picking.TheVariants.{Derandomized, Random}
 pub use Rattle.pie_params.specs.declared.elements.Size.{Size}
@@ -54,9 +56,7 @@ pub use Rattle.pie_params.specs.declared.elements.Size.TheVariants.{Scaled, Unsc
 pub use Rattle.pie_params.specs.declared.elements.Step.{Step}
 pub use Rattle.pie_params.specs.declared.elements.Step.TheVariants.{Capped, Uncapped}
 pub use Rattle.pie_params.specs.declared.raw.Field.{Field}
-pub use Rattle.pie_params.specs.declared.raw.RawParams.{RawParams}
 pub use Rattle.pie_queue.specs.declared.ecn.Ecn.{Ecn}
-pub use Rattle.pie_queue.specs.declared.packet.Packet.{Packet}
 pub use Rattle.pie_record.specs.declared.clock.Clock.{Clock}
 pub use Rattle.pie_record.specs.declared.command.Asked.{Asked}
 pub use Rattle.pie_record.specs.declared.command.BadChange.{BadChange}

@@ -1,6 +1,6 @@
 //! The numbers of an event are those that the types of its fields hold. These functions do nothing: their contracts
 //! say it of values in hand.
-ghost use Rattle.pie_text.specs.{AnswerFits, CommandFits, PacketFits, ◌≡◌, true, fits, ParamsFit, EventFits};
+ghost use Rattle.pie_text.specs.{AnswerFits, CommandFits, PacketFits, ◌≡◌, ◌<◌, ◌^◌, true, fits, ParamsFit, EventFits};
 
 use pie_event::{Answer, Command, Event};
 use pie_params::Params;
@@ -20,6 +20,29 @@ pub(crate) fn params_fit(params: Params)
     let _ = params.raw();
 }
 
+/// An arrival's numbers.
+fn arrival_fits(moment: u64, packet: Packet, word: u64)
+    ensures { CommandFits (Command.Arrive moment packet word) }
+{
+    let _ = (moment, word);
+    packet_fits(packet);
+}
+
+/// A change of parameters' numbers.
+fn change_fits(moment: u64, params: Params)
+    ensures { CommandFits (Command.SetParams moment params) }
+{
+    let _ = moment;
+    params_fit(params);
+}
+
+/// A moment.
+fn moment_fits(moment: u64)
+    ensures { moment < 2 ^ 64 }
+{
+    let _ = moment;
+}
+
 /// A command's numbers.
 fn command_fits(command: Command)
     ensures { CommandFits command }
@@ -29,17 +52,11 @@ fn command_fits(command: Command)
             moment,
             packet,
             word,
-        } => {
-            let _ = (moment, word);
-            packet_fits(packet);
-        }
-        Command::Depart { moment } | Command::Update { moment } | Command::Reset { moment } => {
-            let _ = moment;
-        }
-        Command::SetParams { moment, params } => {
-            let _ = moment;
-            params_fit(params);
-        }
+        } => arrival_fits(moment, packet, word),
+        Command::Depart { moment } => moment_fits(moment),
+        Command::Update { moment } => moment_fits(moment),
+        Command::Reset { moment } => moment_fits(moment),
+        Command::SetParams { moment, params } => change_fits(moment, params),
     }
 }
 

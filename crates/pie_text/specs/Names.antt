@@ -7,13 +7,12 @@ unfoldable pub use Rattle.csv.specs.Writing.{fields_text, is_blank}
 pub use Rattle.pie_event.specs.Deed.{fits}
 pub use Rattle.pie_event.specs.Opening.{opening_refusal}
 pub use Rattle.pie_event.specs.Ranges.{AnswerFits, CommandFits, PacketFits, ParamsFit}
-pub use Rattle.pie_event.specs.declared.command.Answer.TheVariants.{Done, Empty, Left, Updated}
-pub use Rattle.pie_event.specs.declared.opening.Opening.{Opening}
-pub use Rattle.pie_event.specs.declared.verdict.Verdict.{Verdict}
 pub use Rattle.pie_event.specs.Verdict.{answer_of}
-pub use Rattle.pie_record.specs.Answer.{activity, counted, flag, folded_row, refused_row, ten_registers}
-unfoldable pub use Rattle.pie_record.specs.Answer.{answer_fields, shown_row, tallied_row}
-pub use Rattle.pie_record.specs.Clock.{clock_row}
+pub use Rattle.pie_event.specs.declared.command.Answer.TheVariants.{Done, Empty, Left, Updated}
+pub use Rattle.pie_event.specs.declared.{opening.Opening.Opening, verdict.Verdict.Verdict}
+pub use Rattle.pie_record.specs.Answer.{activity, counted, flag, ten_registers}
+unfoldable pub use Rattle.pie_record.specs.Answer.{answer_fields, folded_row, refused_row, shown_row, tallied_row}
+unfoldable pub use Rattle.pie_record.specs.Clock.{clock_row}
 pub use Rattle.pie_record.specs.HistoryLines.{later_fault}
 unfoldable pub use Rattle.pie_record.specs.HistoryLines.{after_opening, fault_from, history_opening, line_of, told_by}
 pub use Rattle.pie_record.specs.ReadBack.{EventFits, TellsHistory}
@@ -23,7 +22,5 @@ pub use Rattle.pie_record.specs.Words.{delay_word, ecn_word, mode_word, picking_
 pub use Rattle.pie_record.specs.Write.{are_default, are_usual, choices_row, command_fields, decay_row, earlier_row, event_row, is_earlier, nine_of}
 pub use Rattle.pie_record.specs.Write.{version_three_row, written_rows}
 unfoldable pub use Rattle.pie_record.specs.Write.{opening_row}
-pub use Rattle.pie_record.specs.declared.fault.TraceFault.{TraceFault}
-pub use Rattle.pie_record.specs.declared.history_record.Line.{Line}
+pub use Rattle.pie_record.specs.declared.{fault.TraceFault.TraceFault, history_record.Line.Line, version.Version.Version}
 pub use Rattle.pie_record.specs.declared.history_record.Line.TheVariants.{Made}
-pub use Rattle.pie_record.specs.declared.version.Version.{Version}

@@ -1,6 +1,7 @@
 //! The numbers of an event are those that the types of its fields hold. These functions do nothing: their contracts
 //! say it of values in hand.
-ghost use Rattle.pie_text.specs.{AnswerFits, CommandFits, PacketFits, ◌≡◌, ◌<◌, ◌^◌, true, fits, ParamsFit, EventFits};
+ghost use Rattle.pie_record.specs.Field.{most_u16};
+ghost use Rattle.pie_text.specs.{◌≤◌, AnswerFits, CommandFits, PacketFits, ◌≡◌, ◌<◌, ◌^◌, true, fits, ParamsFit, EventFits};
 
 use pie_event::{Answer, Command, Event};
 use pie_params::Params;
@@ -41,6 +42,13 @@ fn moment_fits(moment: u64)
     ensures { moment < 2 ^ 64 }
 {
     let _ = moment;
+}
+
+/// A caller's number.
+fn caller_fits(caller: u16)
+    ensures { caller ≤ most_u16 }
+{
+    let _ = caller;
 }
 
 /// A command's numbers.
@@ -84,7 +92,7 @@ pub(crate) fn event_fits(event: &Event)
     requires { fits event.now.command event.now.answer ≡ true }
     ensures { EventFits event.now }
 {
-    let _ = event.caller;
+    caller_fits(event.caller);
     command_fits(event.command);
     answer_fits(event.answer);
 }

@@ -55,6 +55,6 @@ unfoldable pub use Rattle.pie_rate.specs.Cycles.{begun}
 pub use Rattle.pie_record.specs.Fault.{closed}
 pub use Rattle.pie_record.specs.HistoryLines.{Gives, is_event}
 unfoldable pub use Rattle.pie_record.specs.HistoryLines.{after_opening, history_version}
-pub use Rattle.pie_record.specs.Laws.{TextsAreReadBack}
-pub use Rattle.pie_record.specs.Records.{Took}
+pub use Rattle.pie_record.specs.ReadBack.{TextsAreReadBack}
+pub use Rattle.pie_record.specs.Text.{Took}
 pub use Rattle.pie_record.specs.declared.clock.Clock.{Clock}

@@ -36,10 +36,10 @@ pub use Rattle.pie_record.specs.Fault.{IsOfInput, IsWrite, is_device}
 unfoldable pub use Rattle.pie_record.specs.FirstRecord.{version_of}
 pub use Rattle.pie_record.specs.HistoryLines.{Coming, LinesView, coming_after, coming_from, history_lines, later_fault}
 unfoldable pub use Rattle.pie_record.specs.HistoryLines.{event_count, fault_from, history_opening, latest_clock, lines_from}
-unfoldable pub use Rattle.pie_record.specs.Opening.{opening_of}
+unfoldable pub use Rattle.pie_record.specs.FirstRecord.{opening_of}
 pub use Rattle.pie_record.specs.ReadBack.{EventFits, TellsHistory}
 unfoldable pub use Rattle.pie_record.specs.ReadBack.{TellEach}
-pub use Rattle.pie_record.specs.Records.{TakesRow}
+pub use Rattle.pie_record.specs.Text.{TakesRow}
 pub use Rattle.pie_record.specs.Text.{HasField, Row, records_of}
 unfoldable pub use Rattle.pie_record.specs.Text.{rows_text}
 pub use Rattle.pie_record.specs.Write.{event_row, written_rows}

@@ -1,6 +1,6 @@
 -- Which events are wanted, the segments of a text, and joints, worked: each theorem computes.
 use Rattle.std.specs.Prelude.{◌≡◌, ℕ, Option, Some, None, true, false, refl}
-use Rattle.pie_record.specs.Number.{number}
+use Rattle.pie_record.specs.Field.{number}
 use Rattle.pie_event.specs.declared.opening.Opening.{Opening}
 use Rattle.pie_units.specs.declared.when.When.{When}
 use Rattle.pie_units.specs.declared.when.When.TheVariants.{Moment, Unix}

@@ -1,28 +1,20 @@
 -- The verdict on an arrival, by what decided it.
 use Rattle.pie_event.specs.declared.cause.Cause.{Cause}
-use Rattle.pie_event.specs.declared.cause.Cause.TheVariants.{NoRoomInBytes, NoRoomInPackets, Inactive, BurstAllowed, LowDelay, ShortQueue}
-use Rattle.pie_event.specs.declared.cause.Cause.TheVariants.{NoProbability, LittleAccumulated, PickedBySum, PickedByWord, WordNotBelow}
+use Rattle.pie_event.specs.declared.cause.Cause.TheVariants.{NoRoomInBytes, NoRoomInPackets, PickedBySum, PickedByWord}
 use Rattle.pie_event.specs.declared.cause.Fate.{Fate}
-use Rattle.pie_event.specs.declared.cause.Fate.TheVariants.{Marked, NotCapable, NotBelow}
+use Rattle.pie_event.specs.declared.cause.Fate.TheVariants.{Marked}
 use Rattle.pie_event.specs.declared.verdict.Verdict.{Verdict}
 use Rattle.pie_event.specs.declared.verdict.Verdict.TheVariants as verdict
 
 -- the verdict on a picked packet
 abbrev pub verdict_on_picked : Fate → Verdict
 verdict_on_picked (Marked threshold) = verdict.Marked
-verdict_on_picked NotCapable = verdict.DroppedEarly
-verdict_on_picked (NotBelow threshold) = verdict.DroppedEarly
+verdict_on_picked _ = verdict.DroppedEarly
 
 -- the verdict that a cause gives
 abbrev pub verdict_of : Cause → Verdict
 verdict_of (NoRoomInBytes bytes size limit) = verdict.DroppedBytes
 verdict_of (NoRoomInPackets packets) = verdict.DroppedPackets
-verdict_of Inactive = verdict.Enqueued
-verdict_of (BurstAllowed burst) = verdict.Enqueued
-verdict_of (LowDelay old_delay target prob) = verdict.Enqueued
-verdict_of (ShortQueue bytes mean_pkt) = verdict.Enqueued
-verdict_of NoProbability = verdict.Enqueued
-verdict_of (LittleAccumulated accu prob) = verdict.Enqueued
 verdict_of (PickedBySum accu prob fate) = verdict_on_picked fate
 verdict_of (PickedByWord accu prob word fate) = verdict_on_picked fate
-verdict_of (WordNotBelow accu prob word) = verdict.Enqueued
+verdict_of _ = verdict.Enqueued

@@ -10,6 +10,5 @@ setter_from (Some number) = if number == 0 then setter.Opening else setter.Event
 
 -- the event that set the probability, where it is known and there is one
 abbrev pub setter_number : Setter → Option ℕ
-setter_number setter.Opening = None
 setter_number (setter.Event number) = Some number
-setter_number setter.Untold = None
+setter_number _ = None

@@ -9,9 +9,7 @@ use Rattle.pie_event.specs.declared.verdict.Verdict.TheVariants.{Enqueued, Marke
 abbrev pub is_queued : Verdict → Bool
 is_queued Enqueued = true
 is_queued Marked = true
-is_queued DroppedEarly = false
-is_queued DroppedBytes = false
-is_queued DroppedPackets = false
+is_queued _ = false
 
 -- the answer to an arrival with this verdict
 abbrev pub answer_of : Verdict → Answer

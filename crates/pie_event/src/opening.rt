@@ -1,7 +1,8 @@
 //! What a book is opened with.
 
 ghost use Rattle.std.specs.Prelude.{◌≡◌};
-ghost use Rattle.pie_event.specs.declared.profile.Profile.TheVariants.{One};
+ghost use Rattle.pie_event.specs.Opening.{are_in_range, are_of_version_two};
+ghost use Rattle.pie_event.specs.Types.{Bounded, One};
 ghost use Rattle.pie_params.specs.Elements.{usual};
 
 pub use crate::profile::Profile;
@@ -20,8 +21,6 @@ pub struct Limits {
 }
 
 impl Limits {
-    ghost use Rattle.pie_event.specs.Opening.{are_in_range, are_of_version_two};
-
     /// The greatest ring, in packets.
     pub const MOST_PACKETS: u32 = 1_048_576;
     /// The longest tail, in events.
@@ -81,8 +80,6 @@ pub struct Opening {
 }
 
 impl Opening {
-    ghost use Rattle.pie_event.specs.declared.opening.Mode.TheVariants.{Bounded};
-
     /// With the usual choices: a bounded tail, profile one, and the usual elements.
     pub fn usual(limits: Limits, params: Params, moment: u64) -> Opening
         ensures { result ≡ record { moment = moment; limits = limits; params = params; choices = record { mode = Bounded; profile = One; elements = usual } } }

@@ -40,8 +40,8 @@ pub use Rattle.pie_params.specs.declared.elements.Step.TheVariants.{Uncapped}
 pub use Rattle.pie_queue.specs.declared.ecn.Ecn.TheVariants.{Ect0}
 pub use Rattle.pie_record.proofs.Laws.{and_after, back_ecn, back_u32, back_u64, decimal-some, has-all, kind-first, number-back, number-then, ok-same}
 pub use Rattle.pie_record.proofs.Laws.{packet-read, params-back, records_left-written, rows_text-cons, tested, three-back, word-has}
-pub use Rattle.pie_record.specs.Opening.{Checked}
-pub use Rattle.pie_record.specs.Records.{TakesRow, Took}
+pub use Rattle.pie_record.specs.FirstRecord.{Checked}
+pub use Rattle.pie_record.specs.Text.{TakesRow, Took}
 pub use Rattle.pie_record.specs.Text.{records_left}
 pub use Rattle.pie_record.specs.declared.first_record.FirstKind.{FirstKind}
 pub use Rattle.pie_text.proofs.Laws.{All-none, decimal_plain, decimal_plain_long, plain_append, row-added, text-none, text-onto, text-plain}

@@ -34,10 +34,10 @@ pub use Rattle.pie_record.specs.Fault.{IsOfInput, IsWrite, fault_at, is_device}
 pub use Rattle.pie_record.specs.Field.{and_then, is_kind, most_u128, most_u64, number_at}
 unfoldable pub use Rattle.pie_record.specs.Field.{packet_at, params_at}
 pub use Rattle.pie_record.specs.FirstRecord.{first_fields}
-unfoldable pub use Rattle.pie_record.specs.Number.{number}
-pub use Rattle.pie_record.specs.Opening.{checked_opening}
+unfoldable pub use Rattle.pie_record.specs.Field.{number}
+pub use Rattle.pie_record.specs.FirstRecord.{checked_opening}
 pub use Rattle.pie_record.specs.ReadBack.{LimitsFit, NineFit}
-pub use Rattle.pie_record.specs.Rows.{IsPlainWord, rows_setup}
+pub use Rattle.pie_record.specs.Text.{IsPlainWord, rows_setup}
 pub use Rattle.pie_record.specs.Text.{HasField, Row, records_of, text_of}
 unfoldable pub use Rattle.pie_record.specs.Text.{rows_text}
 pub use Rattle.pie_record.specs.Words.{ecn_word, mode_word}

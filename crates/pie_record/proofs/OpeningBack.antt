@@ -1,24 +1,32 @@
--- The record of an opening is read back as that opening.
-use Rattle.pie_record.proofs.Names.{◌≡◌, ◌≤◌, ◌<◌, ◌+◌, ◌^◌, ◌&&◌, ℕ, List, [], ◌∷◌, ◌++◌, map, Bool, true, false, decimal, refl, sym, ap, ◌∙◌}
-use Rattle.pie_record.proofs.Names.{arith, if◌then◌else◌, Some, None, Result, Ok, and_parts, field_at, accumulates, is_capped, usual}
-use Rattle.pie_record.proofs.Names.{default_profile, Elements, Half, Zero, Rate, Stamp, Derandomized, Random, Scaled, Unscaled, Capped, Uncapped}
-use Rattle.pie_record.proofs.Names.{RawParams, first_bad, Mode, Bounded, Rolling, Opening, Profile, One, Two, are_of_version_two, last_moment}
-use Rattle.pie_record.proofs.Names.{opening_refusal, ParamsFit, Flaw, TraceFault, Draft, FirstKind, chosen_at, decay_at, draft_at, elements_at}
-use Rattle.pie_record.proofs.Names.{first_fields, first_kind, holds_limits, limits_at, profile_of, version_one_fields, version_three_fields}
-use Rattle.pie_record.proofs.Names.{version_two_fields, which_of, opening_of, opening_read, params_at, LimitsFit, NineFit, Row, delay_word, mode_word}
-use Rattle.pie_record.proofs.Names.{picking_word, profile_number, size_word, step_word, are_default, are_usual, chosen_row, earlier_row, is_earlier}
-use Rattle.pie_record.proofs.Names.{is_usual_decay, is_usual_delay, is_usual_size, nine_of, opening_row, version_three_row}
-use Rattle.pie_params.specs.declared.elements.Decay.{Decay}
-use Rattle.pie_params.specs.declared.elements.Delay.{Delay}
-use Rattle.pie_params.specs.declared.elements.Picking.{Picking}
-use Rattle.pie_params.specs.declared.elements.Size.{Size}
-use Rattle.pie_params.specs.declared.elements.Step.{Step}
-use Rattle.pie_event.specs.declared.opening.Choices.{Choices}
-use Rattle.pie_event.specs.declared.opening.Limits.{Limits}
-use Rattle.pie_record.specs.declared.first_record.FirstKind.TheVariants as kinds
+-- The record of an opening is read back as that opening, and a text of it and of records that each tell a line as that opening and those lines.
+use Rattle.std.proofs.Common.{sym, ap, ◌∙◌, arith, subst}
+use Rattle.std.proofs.lemmas.Bool.{and_parts}
 use Rattle.std.proofs.lemmas.Bool.Decides.{nat_tests}
-use Rattle.pie_record.proofs.CommandFacts.{nine-of-fits}
+use Rattle.std.proofs.lemmas.List.{length-map}
+use Rattle.std.proofs.lemmas.List.Elements.{All-cons, All-head, All-nil, All-tail}
+use Rattle.pie_event.specs.declared.profile.Profile.TheVariants.{One, Two}
+use Rattle.pie_record.specs.Names.{Field}
+use Rattle.pie_record.specs.{Opening, ◌≡◌, ◌<◌, ◌+◌, ◌^◌, ◌&&◌, ℕ, List, [], ◌∷◌, ◌++◌, map, Bool, true, false, decimal, refl, if◌then◌else◌, Some}
+use Rattle.pie_record.specs.{None, Result, Ok, field_at, accumulates, is_capped, usual, default_profile, Elements, Half, Zero, Rate, Stamp}
+use Rattle.pie_record.specs.{Derandomized, Random, Scaled, Unscaled, Capped, Uncapped, RawParams, first_bad, Mode, Bounded, Rolling, Profile}
+use Rattle.pie_record.specs.{are_of_version_two, opening_refusal, ParamsFit, Flaw, TraceFault, Draft, FirstKind, chosen_at, decay_at, draft_at}
+use Rattle.pie_record.specs.{elements_at, first_fields, first_kind, holds_limits, limits_at, profile_of, version_one_fields, version_three_fields}
+use Rattle.pie_record.specs.{version_two_fields, which_of, opening_of, opening_read, params_at, LimitsFit, NineFit, Row, delay_word, mode_word}
+use Rattle.pie_record.specs.{picking_word, profile_number, size_word, step_word, are_default, are_usual, chosen_row, earlier_row, is_earlier}
+use Rattle.pie_record.specs.{is_usual_decay, is_usual_delay, is_usual_size, nine_of, opening_row, version_three_row, Decay, Delay, Picking, Size}
+use Rattle.pie_record.specs.{Step, Choices, Limits, OpenRefusal, Option, Err, Checked, checked_opening, refused_opening, ◌≤◌, length, All, Event}
+use Rattle.pie_record.specs.{Line, Version, HasField, rows_text, command_kind, line_of, kind_word, version_of, Coming, after_opening, coming_after}
+use Rattle.pie_record.specs.{coming_from, fault_from, history_opening, history_version, lines_from, Begins, EventFits, TellEach, TellsHistory}
+use Rattle.pie_record.specs.{event_row, written_rows, drop}
+use Rattle.pie_record.specs.declared.history_record.Line.TheVariants.{Made}
 use Rattle.pie_record.proofs.FieldFacts.{back_u32, back_u64, params-back}
+use Rattle.pie_record.proofs.HistoryFacts.{told_by-line}
+use Rattle.pie_record.proofs.LinesBack.{nine-of-fits, event-back}
+use Rattle.pie_record.proofs.RecordFacts.{records_of-written}
+use Rattle.pie_record.specs.declared.first_record.FirstKind.TheVariants as kinds
+use Rattle.pie_event.specs.declared.refusal.OpenRefusal.TheVariants as open_refusal
+use Rattle.pie_record.specs.declared.fault.OpenFault.TheVariants as open_fault
+use Rattle.pie_record.specs.declared.fault.TraceFault.TheVariants as fault
 
 are_default-true : (p : RawParams) → are_default p ≡ true → p ≡ default_profile
 are_default-true p e =
@@ -212,14 +220,10 @@ unfolding opening_row opening_of first_kind field_at
 opening-back o accepted set = by (is_earlier o) (are_default o.params) refl refl
   where
     small : o.moment < 2 ^ 64
-    small = let within : o.moment ≤ last_moment = grind (arith, accepted) in omega (arith, within)
+    small = grind (arith, accepted)
 
     fits : LimitsFit o.limits
-    fits =
-        let packets : o.limits.packets ≤ 1048576 = grind (arith, accepted) in
-        let tail : o.limits.tail ≤ 1048576 = grind (arith, accepted) in
-        let events : o.limits.events ≤ 140737488355328 = grind (arith, accepted) in
-        record { packets = omega (arith, packets); tail = omega (arith, tail); events = omega (arith, events) }
+    fits = record { packets = grind (arith, accepted); tail = grind (arith, accepted); events = grind (arith, accepted) }
 
     by : (early short : Bool) → is_earlier o ≡ early → are_default o.params ≡ short
         → opening_of ((if early then earlier_row o.choices.profile o.choices.mode else version_three_row o.choices)
@@ -242,3 +246,102 @@ opening-back o accepted set = by (is_earlier o) (are_default o.params) refl refl
         ap (opening_read kinds.Open3) (three-read _ o.choices o.moment o.limits o.params short
         ∙ draft-back o.choices o.moment o.limits o.params short same small fits set)
         ∙ accepted-draft kinds.Open3 o.moment o.limits o.params o.choices accepted set.in_range refl
+
+-- ---- an opening that was checked: its parts, and what was looked at
+
+pub checked : (kind : FirstKind) (draft : Draft) (opening : Opening) → checked_opening kind (first_bad draft.params) draft ≡ Ok opening
+    → Checked draft opening
+checked kind draft opening = by (first_bad draft.params) refl
+  where
+    inner : (why : Option OpenRefusal) → opening_refusal draft.limits draft.moment ≡ why → first_bad draft.params ≡ None
+        → refused_opening why draft ≡ Ok opening → Checked draft opening
+    inner None p q e = record { same = cc; accepted = p; in_range = q }
+    inner (Some open_refusal.BadLimits) p q e = cc
+    inner (Some open_refusal.Moment) p q e = cc
+    inner (Some open_refusal.Memory) p q e = cc
+
+    held : (holds : Bool) → first_bad draft.params ≡ None
+        → (if holds then refused_opening (opening_refusal draft.limits draft.moment) draft else Err (fault.Opening open_fault.Limits)) ≡ Ok opening
+        → Checked draft opening
+    held true q e = inner (opening_refusal draft.limits draft.moment) refl q e
+    held false q e = cc
+
+    by : (bad : Option Field) → first_bad draft.params ≡ bad → checked_opening kind bad draft ≡ Ok opening → Checked draft opening
+    by (Some field) q e = cc
+    by None q e = held (holds_limits kind draft.limits) q e
+
+-- ---- rows that tell lines
+
+pub coming-told : (version : Version) (most number : ℕ) (rows : List Row) (lines : List Line) → number + length rows ≤ most + 1
+    → TellEach version rows lines
+    → coming_from version most number rows ≡ record { lines = lines; fault = None }
+unfolding TellEach lines_from fault_from
+coming-told version most number [] [] within tells = refl
+coming-told version most number [] (line ∷ lines) within tells = absurd tells
+coming-told version most number (row ∷ rows) [] within tells = absurd tells
+coming-told version most number (row ∷ rows) (line ∷ lines) within tells =
+    rw (told_by-line version most number row line (omega arith) tells.0)
+    (ap (λ (c : Coming). let more : Coming = record { lines = line ∷ c.lines; fault = c.fault } in more)
+    (coming-told version most (number + 1) rows lines (omega arith) tells.1))
+
+-- a row that tells a line has a field
+pub told-field : (version : Version) (row : Row) (line : Line) → line_of version row ≡ Ok line → HasField row
+unfolding line_of command_kind field_at
+told-field version [] line e = cc
+told-field version (field ∷ rest) line e = omega arith
+
+pub told-fields : (version : Version) (rows : List Row) (lines : List Line) → TellEach version rows lines → All HasField rows
+unfolding TellEach
+told-fields version [] lines tells = All-nil HasField
+told-fields version (row ∷ rows) [] tells = absurd tells
+told-fields version (row ∷ rows) (line ∷ lines) tells = All-cons HasField row rows (told-field version row line tells.0)
+    (told-fields version rows lines tells.1)
+
+-- ---- a whole text
+
+-- a text of a record that opens so, and then of rows that tell these lines
+pub history-told : (kind : FirstKind) (rest : Row) (rows : List Row) (opening : Opening) (lines : List Line)
+    → opening_of (kind_word kind ∷ rest) ≡ Ok opening
+    → All HasField rows → TellEach (version_of (kind_word kind ∷ rest)) rows lines → length rows < 2 ^ 32
+    → TellsHistory (rows_text ((kind_word kind ∷ rest) ∷ rows)) opening lines
+unfolding history_opening history_version after_opening
+history-told kind rest rows opening lines opens some tells few =
+    let records = records_of-written kind rest rows some in
+    record {
+      opens = ap history_opening records ∙ opens;
+      tells = ap (λ (all : List Row). coming_after (2 ^ 32) all) records
+          ∙ coming-told (version_of (kind_word kind ∷ rest)) (2 ^ 32) 2 rows lines (omega arith) tells;
+    }
+
+-- ---- what a history is written as
+
+pub events-tell : (version : Version) (events : List Event) → All EventFits events → TellEach version (map event_row events) (map Made events)
+unfolding TellEach
+events-tell version [] fit = tt
+events-tell version (event ∷ events) fit =
+    (event-back version event (All-head EventFits event events fit), events-tell version events (All-tail EventFits event events fit))
+
+opening_row-begins : (o : Opening) → Begins (opening_row o)
+unfolding opening_row
+opening_row-begins o = either (is_earlier o) _
+  where
+    by : (profile : Profile) (mode : Mode) (rest : Row) → Begins (earlier_row profile mode ++ rest)
+    by One Bounded rest = record { kind = kinds.Open; rest = rest; is = refl }
+    by One Rolling rest = record { kind = kinds.Rolling; rest = rest; is = refl }
+    by Two mode rest = record { kind = kinds.Open2; rest = profile_number Two ∷ mode_word mode ∷ rest; is = refl }
+
+    either : (b : Bool) (rest : Row)
+        → Begins ((if b then earlier_row o.choices.profile o.choices.mode else version_three_row o.choices) ++ rest)
+    either true rest = by o.choices.profile o.choices.mode rest
+    either false rest = record { kind = kinds.Open3; rest = drop 1 (version_three_row o.choices) ++ rest; is = refl }
+
+pub written-back : (opening : Opening) (events : List Event) → opening_refusal opening.limits opening.moment ≡ None → ParamsFit opening.params
+    → All EventFits events → length events < 2 ^ 32
+    → TellsHistory (rows_text (written_rows opening events)) opening (map Made events)
+written-back opening events accepted set fit few =
+    let first = opening_row-begins opening in
+    let opens : opening_of (kind_word first.kind ∷ first.rest) ≡ Ok opening = ap opening_of (sym first.is) ∙ opening-back opening accepted set in
+    let many = length-map events event_row in
+    let tells = events-tell (version_of (kind_word first.kind ∷ first.rest)) events fit in
+    subst (λ (row : Row). TellsHistory (rows_text (row ∷ map event_row events)) opening (map Made events)) (sym first.is)
+    (history-told first.kind first.rest (map event_row events) opening (map Made events) opens (told-fields _ _ _ tells) tells (omega arith))

@@ -1,11 +1,6 @@
 //! The laws of records and texts: what is written is read back, and what was read is written again.
-ghost use Rattle.std.specs.Prelude.{◌≡◌, Ok};
-ghost use Rattle.pie_event.specs.declared.opening.Opening.{Opening};
-ghost use Rattle.pie_params.specs.Range.{first_bad};
-ghost use Rattle.pie_record.specs.declared.first_record.Draft.{Draft};
-ghost use Rattle.pie_record.specs.declared.first_record.FirstKind.{FirstKind};
-ghost use Rattle.pie_record.specs.Opening.{Checked, checked_opening};
-ghost use Rattle.pie_record.specs.Laws.{AnswersAreReadBack, RequestsAreWrittenAgain, TextsAreReadBack};
+ghost use Rattle.pie_record.specs.{Opening, ◌≡◌, Ok, first_bad, Draft, FirstKind, Checked, checked_opening, AnswersAreReadBack};
+ghost use Rattle.pie_record.specs.{RequestsAreWrittenAgain, TextsAreReadBack};
 
 /// The history record of what a trace asked is read back as it was written: the event with its answer, the time of day, a note for all else.
 ///

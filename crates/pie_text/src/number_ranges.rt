@@ -1,21 +1,17 @@
 //! The numbers of an event are those that the types of its fields hold. These functions do nothing: their contracts
 //! say it of values in hand.
-ghost use Rattle.std.specs.Prelude.{◌≡◌, ◌<◌, ◌≤◌, ◌^◌, true};
-ghost use Rattle.pie_event.specs.Deed.{fits};
 ghost use Rattle.pie_record.specs.Field.{most_u16};
-ghost use Rattle.pie_event.specs.Ranges.{AnswerFits, CommandFits, PacketFits, ParamsFit};
-ghost use Rattle.pie_record.specs.ReadBack.{EventFits};
+ghost use Rattle.pie_text.specs.{◌≤◌, AnswerFits, CommandFits, PacketFits, ◌≡◌, ◌<◌, ◌^◌, true, fits, ParamsFit, EventFits};
 
 use pie_event::{Answer, Command, Event};
 use pie_params::Params;
 use pie_queue::Packet;
 
 /// A packet's numbers.
-pub(crate) fn packet_fits(packet: Packet)
+fn packet_fits(packet: Packet)
     ensures { PacketFits packet }
 {
-    let _ = packet.tag;
-    let _ = packet.size;
+    let _ = (packet.tag, packet.size);
 }
 
 /// Parameters are in their ranges.
@@ -29,8 +25,7 @@ pub(crate) fn params_fit(params: Params)
 fn arrival_fits(moment: u64, packet: Packet, word: u64)
     ensures { CommandFits (Command.Arrive moment packet word) }
 {
-    let _ = moment;
-    let _ = word;
+    let _ = (moment, word);
     packet_fits(packet);
 }
 
@@ -57,7 +52,7 @@ fn caller_fits(caller: u16)
 }
 
 /// A command's numbers.
-pub(crate) fn command_fits(command: Command)
+fn command_fits(command: Command)
     ensures { CommandFits command }
 {
     match command {
@@ -74,15 +69,13 @@ pub(crate) fn command_fits(command: Command)
 }
 
 /// An answer's numbers.
-pub(crate) fn answer_fits(answer: Answer)
+fn answer_fits(answer: Answer)
     ensures { AnswerFits answer }
 {
     match answer {
         Answer::Left(packet) => packet_fits(packet),
         Answer::Updated { delay, prob, burst } => {
-            let _ = delay;
-            let _ = prob;
-            let _ = burst;
+            let _ = (delay, prob, burst);
         }
         Answer::Enqueued
         | Answer::Marked

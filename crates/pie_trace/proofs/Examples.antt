@@ -2,7 +2,7 @@
 use Rattle.std.specs.Prelude.{⊤, ℕ, ◌≡◌, List, [], ◌∷◌, ◌++◌, false, Some, None, Ok, Err, true, codes, map, refl, ◌^◌}
 use Rattle.pie_params.specs.Profile.{default_profile}
 use Rattle.pie_record.specs.declared.trace_record.Request.TheVariants.{Clock}
-use Rattle.pie_record.specs.TraceRecord.{command_request, fold_request, request_of}
+use Rattle.pie_record.specs.Command.{command_request, fold_request, request_of}
 use Rattle.pie_record.specs.Answer.{folded_row, refused_row, shown_row, tallied_row}
 use Rattle.pie_trace.specs.History.{before_fault, fault_of, first_fault, record_fault, end_of, history_rows, history_text, replies, requests_of}
 use Rattle.pie_trace.specs.History.{steps_of, text_left}

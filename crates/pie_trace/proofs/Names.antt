@@ -37,10 +37,10 @@ unfoldable pub use Rattle.pie_record.specs.Command.{command_kind}
 pub use Rattle.pie_record.specs.Field.{and_then, most_u64, number_at}
 pub use Rattle.pie_record.specs.FirstRecord.{first_fields, kind_word, params_or_default}
 unfoldable pub use Rattle.pie_record.specs.FirstRecord.{draft_at, limits_at, version_one_fields}
-unfoldable pub use Rattle.pie_record.specs.Number.{number}
-pub use Rattle.pie_record.specs.Opening.{checked_opening, opening_read}
+unfoldable pub use Rattle.pie_record.specs.Field.{number}
+pub use Rattle.pie_record.specs.FirstRecord.{checked_opening, opening_read}
 unfoldable pub use Rattle.pie_record.specs.ReadBack.{TellEach}
-pub use Rattle.pie_record.specs.Records.{TakesRow, Took}
+pub use Rattle.pie_record.specs.Text.{TakesRow, Took}
 pub use Rattle.pie_record.specs.declared.first_record.Draft.{Draft}
 pub use Rattle.pie_trace.specs.declared.run.RunEnd.{RunEnd}
 pub use Rattle.pie_record.proofs.Laws.{and_after, event_count-cons, event_count-none, fault_from-failed, fault_from-line, fault_from-none, kind-first}

@@ -11,8 +11,8 @@ use Rattle.pie_trace.proofs.Names.{line_told, lines_told, run_lines, first_field
 use Rattle.pie_trace.proofs.Names.{reply, reply_to_command, reply_to_fold, code_of, drop, records_of, told_rows, told_by-line, Line}
 use Rattle.std.proofs.lemmas.List.Concat.{flat_map-append}
 use Rattle.pie_event.specs.Ranges.{CommandFits, ParamsFit}
-use Rattle.pie_record.specs.Opening.{opening_by}
-use Rattle.pie_record.specs.Laws.{TextsAreReadBack}
+use Rattle.pie_record.specs.FirstRecord.{opening_by}
+use Rattle.pie_record.specs.ReadBack.{TextsAreReadBack}
 use Rattle.pie_event.specs.declared.refusal.Refusal.TheVariants as refusal
 use Rattle.pie_record.specs.declared.fault.TraceFault.TheVariants as fault
 use Rattle.pie_trace.specs.History.{Begun, going_on, text_in}

@@ -28,12 +28,12 @@ pub use Rattle.pie_record.specs.Field.{is_kind}
 unfoldable pub use Rattle.pie_record.specs.FirstRecord.{first_kind, version_of}
 pub use Rattle.pie_record.specs.HistoryLines.{Coming, coming_after, event_count, events_in, fault_from, history_lines, lines_from, told_by}
 unfoldable pub use Rattle.pie_record.specs.HistoryLines.{after_opening, history_opening, history_version}
-unfoldable pub use Rattle.pie_record.specs.HistoryRecord.{line_of, shown_line}
-unfoldable pub use Rattle.pie_record.specs.Opening.{opening_of}
+unfoldable pub use Rattle.pie_record.specs.HistoryLines.{line_of, shown_line}
+unfoldable pub use Rattle.pie_record.specs.FirstRecord.{opening_of}
 pub use Rattle.pie_record.specs.ReadBack.{Begins, TellsHistory}
 pub use Rattle.pie_record.specs.Text.{HasField, Row, records_of, text_of}
 unfoldable pub use Rattle.pie_record.specs.Text.{rows_text}
-unfoldable pub use Rattle.pie_record.specs.TraceRecord.{request_of}
+unfoldable pub use Rattle.pie_record.specs.Command.{request_of}
 pub use Rattle.pie_record.specs.Write.{version_two_row}
 pub use Rattle.pie_record.specs.declared.fault.Flaw.{Flaw}
 pub use Rattle.pie_record.specs.declared.fault.TraceFault.{TraceFault}

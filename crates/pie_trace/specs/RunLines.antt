@@ -2,7 +2,7 @@
 use Rattle.std.specs.Prelude.{◌∷◌}
 use Rattle.pie_trace.specs.Names.{ℕ, List, [], start, Opening, Request, Ask, Clock, Version, Line, Row}
 use Rattle.pie_trace.specs.History.{before_fault, replies, requests_of}
-use Rattle.pie_record.specs.HistoryRecord.{made}
+use Rattle.pie_record.specs.HistoryLines.{made}
 use Rattle.pie_trace.specs.Reply.{Reply, answered, reply}
 use Rattle.pie_record.specs.declared.history_record.Line.TheVariants as line
 

@@ -1,4 +1,4 @@
-use Rattle.pie_record.proofs.Openings.{checked}
+use Rattle.pie_record.proofs.OpeningBack.{checked}
 use Rattle.pie_record.proofs.law.openings_are_checked.Goals as goal
 
 pub returns : goal.returns

@@ -1,5 +1,5 @@
-use Rattle.pie_record.proofs.CommandFacts.{asked-as-written, clock-as-written, same-before-three}
 use Rattle.pie_record.proofs.FieldFacts.{kind-first}
+use Rattle.pie_record.proofs.LinesBack.{asked-as-written, clock-as-written, same-before-three}
 use Rattle.pie_record.proofs.law.requests_are_written_again.Goals as goal
 
 pub returns : goal.returns

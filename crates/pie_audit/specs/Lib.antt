@@ -6,7 +6,6 @@ pub mod Legal
 pub mod Begun
 pub mod Setters
 pub mod Start
-pub mod Laws
 pub mod Following
 pub mod Lines
 pub mod Told
@@ -19,7 +18,6 @@ unfoldable pub use Legal.*
 unfoldable pub use Begun.*
 unfoldable pub use Setters.*
 unfoldable pub use Start.*
-unfoldable pub use Laws.*
 unfoldable pub use Following.*
 unfoldable pub use Lines.*
 unfoldable pub use Told.*

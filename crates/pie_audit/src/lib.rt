@@ -14,7 +14,6 @@ pub mod begun;
 pub mod following;
 pub mod hearing;
 pub mod law;
-mod setters;
 pub mod telling;
 pub mod text;
 

@@ -24,9 +24,9 @@ unfoldable pub use Rattle.pie_cut.specs.{chosen, event_count, events_of, excerpt
 unfoldable pub use Rattle.pie_cut.specs.{line_places, resume_row, rows_text}
 unfoldable pub use Rattle.csv.specs.Reading.{records_from, strip_bom}
 pub use Rattle.pie_aqm.specs.Held.{Held}
-pub use Rattle.pie_audit.proofs.FindingFacts.{line_places-push, place_of}
-pub use Rattle.pie_audit.proofs.SetterFacts.{event_count-append, event_count-push, few-events, made-count, none-before, none_of}
-pub use Rattle.pie_audit.proofs.Written.{all-made, made-events}
+pub use Rattle.pie_audit.proofs.LegalFacts.{line_places-push, place_of}
+pub use Rattle.pie_audit.proofs.AuditorFacts.{event_count-append, event_count-push, few-events, made-count, none-before, none_of}
+pub use Rattle.pie_audit.proofs.LegalFacts.{all-made, made-events}
 pub use Rattle.pie_audit.specs.Begun.{FaultedBy, WholeBegun}
 pub use Rattle.pie_audit.specs.Finding.{after_line, event_in}
 pub use Rattle.pie_audit.specs.Lines.{HeardOn, LinesRead}
@@ -39,7 +39,7 @@ pub use Rattle.pie_cut.specs.declared.joined.Joint.TheVariants.{Follows, Gap, Un
 pub use Rattle.pie_cut.specs.declared.span.Met.{Met}
 pub use Rattle.pie_cut.specs.declared.span.Span.{Span}
 pub use Rattle.pie_event.specs.Ranges.{CommandFits}
-pub use Rattle.pie_excerpt.proofs.GoesFacts.{packets-some, text-back}
+pub use Rattle.pie_excerpt.proofs.BackFacts.{packets-some, text-back}
 pub use Rattle.pie_excerpt.specs.Beginning.{Beginning}
 unfoldable pub use Rattle.pie_excerpt.specs.Beginning.{resumed_of}
 pub use Rattle.pie_excerpt.specs.Fits.{ResumeFits}

@@ -1,9 +1,9 @@
 -- The records on worked examples: each theorem computes. The numbers stand in the order of the record's fields.
-use Rattle.pie_excerpt.proofs.Names.{◌≡◌, [], ◌∷◌, ◌++◌, refl, Some, None, codes, Half, Zero, text_of, queued_row, resume_row, Resume, true, digits}
-use Rattle.pie_excerpt.proofs.Names.{fields_text, is_blank, Ect0, Stamp, Random, Scaled, Uncapped, Two, Rolling}
+use Rattle.pie_excerpt.proofs.Names.{◌≡◌, ℕ, List, Option, Decay, [], ◌∷◌, ◌++◌, refl, Some, None, codes, Half, Zero, text_of, queued_row, resume_row}
+use Rattle.pie_excerpt.proofs.Names.{Resume, true, digits, fields_text, is_blank, Ect0, Stamp, Random, Scaled, Uncapped, Two, Rolling}
 
-abbrev worked : Resume
-worked = record {
+abbrev worked : Decay → Option ℕ → Resume
+worked decay set_by = record {
   mode = Rolling;
   opened = 1;
   limits = record { packets = 2; tail = 3; events = 4 };
@@ -22,7 +22,7 @@ worked = record {
     count = 14;
     controller = record {
       profile = Two;
-      elements = record { delay = Stamp; picking = Random; step = Uncapped; size = Scaled; decay = Half };
+      elements = record { delay = Stamp; picking = Random; step = Uncapped; size = Scaled; decay = decay };
       params = record {
         target = 5;
         t_update = 6;
@@ -61,30 +61,21 @@ worked = record {
       waited = 42;
     };
   };
-  set_by = Some 15;
+  set_by = set_by;
 }
 
-resume-text : text_of (resume_row worked)
-    ≡ codes "resume,2,stamp,random,uncapped,scaled,half,rolling,1,2,3,4,65,66,67,68,69,70,71,72,73,5,6,7,8,9,10,11,12,13,14,15,16,17,18,19,20,21,22,23,24,1,25,26,27,1,"
-    ++ (codes "28,29,30,31,32,33,34,35,36,37,38,39,40,41,42" ++ (10 ∷ []))
-unfolding resume_row digits fields_text is_blank
-resume-text = refl
+-- its fields behind the words of what is chosen, about the event that set the probability
+abbrev opened : List ℕ
+opened = codes ",rolling,1,2,3,4,65,66,67,68,69,70,71,72,73,5,6,7,8,9,10,11,12,13,14,"
 
--- .. where the decay is the usual one, which isn't told, and the event that set the probability is not known
-abbrev usual_decay : Resume
-usual_decay = record worked {
-  standing = record worked.standing {
-    controller = record worked.standing.controller {
-      elements = record worked.standing.controller.elements { decay = Zero };
-    };
-  };
-}
+abbrev held : List ℕ
+held = codes ",16,17,18,19,20,21,22,23,24,1,25,26,27,1,28,29,30,31,32,33,34,35,36,37,38,39,40,41,42" ++ (10 ∷ [])
 
-unknown-text : text_of (resume_row (record usual_decay { set_by = None }))
-    ≡ codes "resume,2,stamp,random,uncapped,scaled,rolling,1,2,3,4,65,66,67,68,69,70,71,72,73,5,6,7,8,9,10,11,12,13,14,,16,17,18,19,20,21,22,"
-    ++ (codes "23,24,1,25,26,27,1,28,29,30,31,32,33,34,35,36,37,38,39,40,41,42" ++ (10 ∷ []))
+-- .. and where the decay is the usual one, which isn't told, and the event that set the probability is not known
+resume-texts : (text_of (resume_row (worked Half (Some 15))) ≡ codes "resume,2,stamp,random,uncapped,scaled,half" ++ opened ++ codes "15" ++ held)
+    × (text_of (resume_row (worked Zero None)) ≡ codes "resume,2,stamp,random,uncapped,scaled" ++ opened ++ held)
 unfolding resume_row digits fields_text is_blank
-unknown-text = refl
+resume-texts = (refl, refl)
 
 queued-text : text_of (queued_row (record { packet = record { tag = 7; size = 1500; ecn = Ect0 }; since = 5000000 }))
     ≡ codes "queued,7,1500,ect0,5000000" ++ (10 ∷ [])

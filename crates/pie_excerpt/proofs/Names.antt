@@ -1,26 +1,25 @@
 -- What the files of this folder take from below, in one place.
-pub use Rattle.std.proofs.Common.{Bool, List, [], add-one, ap, append_assoc, arith, drop, false, get_or, if◌then◌else◌, length, map, not, refl, subst}
-pub use Rattle.std.proofs.Common.{suc, sym, take, true, zero, ℕ, ◌++◌, ◌+◌, ◌-◌, ◌<◌, ◌==◌, ◌^◌, ◌∙◌, ◌∷◌, ◌≡◌, ◌≤◌}
+pub use Rattle.std.proofs.Common.{Bool, List, [], add-one, ap, append_assoc, arith, drop, false, if◌then◌else◌, length, map, not, refl, subst, suc}
+pub use Rattle.std.proofs.Common.{sym, take, true, zero, ℕ, ◌++◌, ◌+◌, ◌-◌, ◌<◌, ◌==◌, ◌^◌, ◌∙◌, ◌∷◌, ◌≡◌, ◌≤◌}
 pub use Rattle.std.proofs.KnownBytes.{Appends-nil, Appends-trans, Keeps-refl, append_known-grown}
 pub use Rattle.std.proofs.lemmas.Bool.{eqb-true}
 pub use Rattle.std.proofs.lemmas.Bool.Decides.{nat_tests}
-pub use Rattle.std.proofs.lemmas.List.{append-nil, take_more_set}
+pub use Rattle.std.proofs.lemmas.List.{append-nil}
 pub use Rattle.std.proofs.lemmas.List.Concat.{flat_map-append}
 pub use Rattle.std.proofs.lemmas.List.Elements.{All-cons, All-head, All-tail}
 unfoldable pub use Rattle.std.specs.Fmt.{digits}
-pub use Rattle.std.specs.Prelude.{decimal, nat_lt, slice_get, unwrap_or, ◌&&◌, ◌||◌}
-pub use Rattle.pie_excerpt.specs.{All, Appends, BeginsWell, ControllerFits, CoreView, CycleFits, Draft, EndRefusal, Err, Event}
+pub use Rattle.std.specs.Prelude.{decimal, nat_lt, unwrap_or, ◌&&◌, ◌||◌}
+pub use Rattle.pie_excerpt.specs.{All, Appends, BeginsWell, ControllerFits, CoreView, CycleFits, Draft, EndRefusal, Err, Event, ExcerptView, Flaw}
+pub use Rattle.pie_excerpt.specs.{HasField, IfSome, IsWritten, Later, None, Ok, Opening, Option, Packet, QueueAt, QueueRefusal, RawCycle, Result}
+pub use Rattle.pie_excerpt.specs.{Resume, ResumeFits, ResumeRefusal, ResumingView, Row, SetterFits, Some, Standing, StatsFit, TraceFault, Waiting}
+pub use Rattle.pie_excerpt.specs.{WaitingFits, and_then, append_known, are_plain, are_registers, begun_at, begun_by, begun_with, checked_opening}
+pub use Rattle.pie_excerpt.specs.{choices_of, chosen_row, codes, core_by, core_of, cycle_bytes, cycle_start, draft_of, ecn_word, end_refusal}
+pub use Rattle.pie_excerpt.specs.{ended_by, event_row, excerpt_rows, fields_of, fields_read, first_bad, first_fields, flag, held_numbers, is_device}
+pub use Rattle.pie_excerpt.specs.{is_kind, is_resumed, measuring, missing, most_u128, most_u64, nat_le, needs_quotes, number_at, numbers_fault, onto}
+pub use Rattle.pie_excerpt.specs.{opened_numbers, opening_row, or_fault, part_rows, placed_numbers, queue_refusal, queued_after, queued_by}
+pub use Rattle.pie_excerpt.specs.{records_of, resume_in, resume_of_excerpt, resume_refusal, resume_with, resumed_by, rows_setup, setter_at}
+pub use Rattle.pie_excerpt.specs.{setter_field, setter_of, standing_row, text_of, with_packet, ⊤}
 pub use Rattle.pie_excerpt.specs.Beginning.{Beginning}
-pub use Rattle.pie_excerpt.specs.{ExcerptView, Flaw, GoesOn, HasField, IfSome, IsWritten, Later, None, Ok, Opening, Option, Packet, QueueAt}
-pub use Rattle.pie_excerpt.specs.{QueueRefusal, RawCycle, Result, Resume, ResumeFits, ResumeRefusal, ResumingView, Row, SetterFits, Some, Standing}
-pub use Rattle.pie_excerpt.specs.{StandsFor, StatsFit, TraceFault, Waiting, WaitingFits, and_then, append_known, are_plain, are_registers, begun_at}
-pub use Rattle.pie_excerpt.specs.{begun_by, begun_with, checked_opening, choices_of, chosen_row, codes, core_by, core_of, cycle_bytes}
-pub use Rattle.pie_excerpt.specs.{cycle_start, draft_of, ecn_word, end_refusal, ended_by, event_row, excerpt_rows, fault_at, fields_of, fields_read}
-pub use Rattle.pie_excerpt.specs.{first_bad, first_fields, flag, held_numbers, is_device, is_kind, is_resumed, measuring, missing, most_u128, most_u64}
-pub use Rattle.pie_excerpt.specs.{nat_le, needs_quotes, nine_of, number_at, numbers_fault, onto, opened_numbers, opening_refusal, opening_row}
-pub use Rattle.pie_excerpt.specs.{or_fault, placed_numbers, queue_refusal, queued_after, queued_by, records_of, resume_in}
-pub use Rattle.pie_excerpt.specs.{resume_of_excerpt, resume_refusal, resume_with, resumed_by, rows_setup, setter_at, setter_field, setter_of, standing_row, text_of}
-pub use Rattle.pie_excerpt.specs.{with_packet, ⊤}
 unfoldable pub use Rattle.pie_excerpt.specs.{core_from, field_at, later_at, number, numbers_from, packet_at, params_at, queued_of, queued_row}
 unfoldable pub use Rattle.pie_excerpt.specs.{resume_of, resume_row, resumed_of, rows_text, waiting_after, with_queue}
 unfoldable pub use Rattle.csv.specs.Reading.{strip_bom}

@@ -1,11 +1,10 @@
 //! The numbers that are written are those that the types of their fields hold. These functions do nothing: their contracts say it of values in
 //! hand.
-ghost use Rattle.std.specs.Prelude.{◌≡◌, ◌<◌, ◌^◌};
-ghost use Rattle.pie_excerpt.specs.{None, first_bad, StatsFit, LimitsFit, NineFit, ControllerFits, CycleFits, ResumeFits, SetterFits, WaitingFits};
+ghost use Rattle.std.specs.Prelude.{◌≡◌, ◌<◌};
+ghost use Rattle.pie_excerpt.specs.{None, first_bad, StatsFit, NineFit, CycleFits, ResumeFits, SetterFits, WaitingFits};
 
 use crate::resume::Resume;
-use pie_aqm::RawController;
-use pie_book::{Limits, Stats};
+use pie_book::Stats;
 use pie_params::{Params, RawParams};
 use pie_queue::Waiting;
 use pie_rate::RawCycle;
@@ -15,13 +14,6 @@ pub fn params_are_good(params: Params)
     ensures { first_bad params ≡ None }
 {
     let _ = params.raw();
-}
-
-/// Limits.
-fn limits_fit(limits: Limits)
-    ensures { LimitsFit limits }
-{
-    let _ = (limits.packets, limits.tail, limits.events);
 }
 
 /// The nine parameters, in their ranges or not.
@@ -57,42 +49,32 @@ fn setter_fits(set_by: Option<u64>)
     }
 }
 
-/// What a controller holds.
-fn controller_fits(c: RawController)
-    ensures { ControllerFits c }
-{
-    nine_fit(c.params);
-    cycle_fits(c.rate.begun);
-    let _ = (c.moment, c.control.prob, c.control.old_delay, c.accu);
-    let _ = (c.control.burst, c.control.last, c.rate.average, c.waited);
-}
-
 /// Statistics.
 fn stats_fit(s: Stats)
     ensures { StatsFit s }
 {
     let _ = (s.arrivals, s.enqueued, s.marked, s.early, s.over_bytes);
     let _ = (s.over_packets, s.left, s.left_bytes, s.empty, s.updates);
-    let _ = (
-        s.resets,
-        s.changes,
-        s.largest_queue,
-        s.largest_delay,
-        s.waited,
-    );
+    let _ = (s.resets, s.changes, s.largest_queue, s.largest_delay);
+    let _ = s.waited;
 }
 
 /// What the first record says.
 pub fn resume_fits(resume: Resume)
     ensures { ResumeFits resume }
 {
-    limits_fit(resume.limits);
+    let standing = resume.standing;
+    let c = standing.controller;
     nine_fit(resume.params);
+    nine_fit(c.params);
     setter_fits(resume.set_by);
-    controller_fits(resume.standing.controller);
-    stats_fit(resume.standing.stats);
-    let _ = (resume.opened, resume.standing.count);
-    let _ = (resume.standing.packets, resume.standing.bytes);
+    cycle_fits(c.rate.begun);
+    stats_fit(standing.stats);
+    let limits = resume.limits;
+    let _ = (resume.opened, limits.packets, limits.tail, limits.events);
+    let _ = (standing.count, standing.packets, standing.bytes);
+    let _ = (c.moment, c.control.prob, c.control.old_delay, c.accu);
+    let _ = (c.control.burst, c.control.last, c.rate.average, c.waited);
 }
 
 /// A packet that waits.

@@ -1,9 +1,9 @@
 //! What is written is read back.
 ghost use Rattle.std.specs.Prelude.{◌≡◌, ◌∷◌, ◌++◌};
 ghost use Rattle.pie_excerpt.specs.{ℕ, All, List, Ok, Option, map, take, true, CommandFits, Event, Opening, waiting_after, Standing, Waiting};
-ghost use Rattle.pie_excerpt.specs.{HasField, Row, records_of, rows_text, BeginsWell, GoesOn, is_resumed, resumed_of, ResumeFits};
+ghost use Rattle.pie_excerpt.specs.{HasField, Row, records_of, rows_text, BeginsWell, GoesOn, is_resumed, resumed_of, ResumeFits, WaitingFits};
+ghost use Rattle.pie_excerpt.specs.{queued_of, resume_of, queued_row, resume_row, IsWritten, begun_at, resume_with, Resume};
 ghost use Rattle.pie_excerpt.specs.Beginning.{Beginning};
-ghost use Rattle.pie_excerpt.specs.{WaitingFits, queued_of, resume_of, queued_row, resume_row, IsWritten, begun_at, resume_with, Resume};
 
 use pie_book::packets_that_waited_are_taken;
 use pie_record::openings_are_checked;

@@ -16,7 +16,7 @@ use Rattle.pie_record.specs.declared.history_record.Line.{Line}
 use Rattle.pie_record.specs.declared.history_record.Line.TheVariants.{Made}
 use Rattle.pie_audit.specs.Auditor.{Audits, AuditorView}
 use Rattle.pie_audit.specs.Finding.{events_of, finding, finding_by, first_difference}
-use Rattle.pie_audit.specs.Laws.{EventsAreLines}
+use Rattle.pie_audit.specs.Legal.{EventsAreLines}
 use Rattle.pie_audit.specs.Legal.{AreLegal}
 use Rattle.pie_audit.specs.Text.{excerpt_lines, text_finding, whole_finding}
 use Rattle.pie_audit.specs.declared.auditor.Finding.TheVariants.{Clean, Differs}

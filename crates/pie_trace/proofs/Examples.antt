@@ -56,107 +56,23 @@ faults = (refl, refl, refl, refl, refl, refl, refl, refl)
 abbrev history_of : List ℕ → List ℕ
 history_of text = history_text 1000 (records_of text)
 
--- marks, drops and a lone enqueue: three updates raise the probability, and three packets meet it; then the registers, the
--- statistics, new parameters, a reset, and parameters whose target is out of its range
-abbrev marks_rest : List ℕ
-marks_rest =
-    codes "arrive,1,0,1,1024,not,0\n"
-    ++ codes "arrive,1,0,2,1024,not,0\n"
-    ++ codes "arrive,1,0,3,1024,not,0\n"
-    ++ codes "arrive,1,0,4,1024,not,0\n"
-    ++ codes "depart,3,1000\n"
-    ++ codes "depart,3,1001000\n"
-    ++ codes "update,4,1001000\n"
-    ++ codes "update,4,1001001\n"
-    ++ codes "update,4,1001002\n"
-    ++ codes "arrive,1,1001003,5,500,ect0,0\n"
-    ++ codes "arrive,2,1001003,6,500,not,0\n"
-    ++ codes "arrive,2,1001003,7,500,not,18446744073709551615\n"
-    ++ codes "show\n"
-    ++ codes "tally\n"
-    ++ codes "params,5,1001004,2,1,50,850000,0,1,100000,1000000000000,1024\n"
-    ++ codes "show\n"
-    ++ codes "reset,5,1001005\n"
-    ++ codes "show\n"
-    ++ codes "params,5,1001006,1,1,50,850000,0,1,100000,1000000000000,1024\n"
-
-abbrev marks_rest-history : List ℕ
-marks_rest-history =
-    codes "arrive,1,0,1,1024,not,0,enqueue\n"
-    ++ codes "arrive,1,0,2,1024,not,0,enqueue\n"
-    ++ codes "arrive,1,0,3,1024,not,0,enqueue\n"
-    ++ codes "arrive,1,0,4,1024,not,0,enqueue\n"
-    ++ codes "depart,3,1000,left,1,1024,not\n"
-    ++ codes "depart,3,1001000,left,2,1024,not\n"
-    ++ codes "update,4,1001000,2000000,830077294,0\n"
-    ++ codes "update,4,1001001,2000000,53955024169,0\n"
-    ++ codes "update,4,1001002,2000000,903954174169,0\n"
-    ++ codes "arrive,1,1001003,5,500,ect0,0,mark\n"
-    ++ codes "arrive,2,1001003,6,500,not,0,early\n"
-    ++ codes "arrive,2,1001003,7,500,not,18446744073709551615,enqueue\n"
-    ++ codes "shown,12,1001003,4,3048,903954174169,2000000,903954174169,0,1001002,1000000,1\n"
-    ++ codes "tallied,7,5,1,1,0,0,2,2048,0,3,0,0,4096,2000000,1002000\n"
-    ++ codes "params,5,1001004,2,1,50,850000,0,1,100000,1000000000000,1024,done\n"
-    ++ codes "shown,13,1001004,4,3048,903954174169,2000000,903954174169,0,1001002,0,0\n"
-    ++ codes "reset,5,1001005,done\n"
-    ++ codes "shown,14,1001005,4,3048,0,0,0,50,1001002,0,0\n"
-    ++ codes "refused,20,7\n"
-
-marks-runs : history_of (codes "open,0,8,32,100,2,1,0,850000,0,1,100000,1000000000000,1024\n" ++ marks_rest)
-    ≡ codes "open,0,8,32,100,2,1,0,850000,0,1,100000,1000000000000,1024\n" ++ marks_rest-history
-unfolding worked
-marks-runs = refl
-
--- a full tail refuses until a fold makes room
+-- a full tail refuses until a fold makes room; a trace of version three tells the time of day
 abbrev full_tail : List ℕ
 full_tail =
-    codes "open,0,4,2,100\n"
-    ++ codes "depart,1,1\n"
-    ++ codes "depart,1,1\n"
-    ++ codes "depart,1,1\n"
-    ++ codes "fold,3\n"
-    ++ codes "fold,1\n"
-    ++ codes "depart,1,2\n"
-    ++ codes "tally\n"
+    codes "open3,1,stamp,random,uncapped,scaled,bounded,0,4,2,100\n"
+    ++ codes "depart,1,1\ndepart,1,1\ndepart,1,1\n"
+    ++ codes "fold,3\nfold,1\ndepart,1,2\nclock,3,4\ntally\nshow\n"
 
 abbrev full_tail-history : List ℕ
 full_tail-history =
-    codes "open,0,4,2,100\n"
-    ++ codes "depart,1,1,empty\n"
-    ++ codes "depart,1,1,empty\n"
-    ++ codes "refused,4,5\n"
-    ++ codes "refused,5,6\n"
-    ++ codes "folded,1\n"
-    ++ codes "depart,1,2,empty\n"
-    ++ codes "tallied,0,0,0,0,0,0,0,0,3,0,0,0,0,0,0\n"
+    codes "open3,1,stamp,random,uncapped,scaled,bounded,0,4,2,100\n"
+    ++ codes "depart,1,1,empty\ndepart,1,1,empty\nrefused,4,5\n"
+    ++ codes "refused,5,6\nfolded,1\ndepart,1,2,empty\nclock,3,4\ntallied,0,0,0,0,0,0,0,0,3,0,0,0,0,0,0\n"
+    ++ codes "shown,3,2,0,0,0,0,0,150000000,0,0,0,1\n"
 
 full_tail-runs : history_of full_tail ≡ full_tail-history
 unfolding worked
 full_tail-runs = refl
-
--- a controller that turns itself on at the third arrival, after which a third of the byte limit waits; a trace of version two says so
-abbrev turns_on_rest : List ℕ
-turns_on_rest =
-    codes ",bounded,0,8,32,100,2,1,5,850000,0,1,9000,1000000000000,1024\n"
-    ++ codes "arrive,1,0,1,1024,not,0\n"
-    ++ codes "show\n"
-    ++ codes "arrive,1,0,1,1024,not,0\n"
-    ++ codes "arrive,1,0,1,1024,not,0\n"
-    ++ codes "show\n"
-
-abbrev turns_on-history : List ℕ → List ℕ
-turns_on-history active =
-    codes ",bounded,0,8,32,100,2,1,5,850000,0,1,9000,1000000000000,1024\n"
-    ++ codes "arrive,1,0,1,1024,not,0,enqueue\n"
-    ++ codes "shown,1,0,1,1024,0,0,0,5,0,0,0," ++ active ++ codes "\n"
-    ++ codes "arrive,1,0,1,1024,not,0,enqueue\n"
-    ++ codes "arrive,1,0,1,1024,not,0,enqueue\n"
-    ++ codes "shown,3,0,3,3072,0,0,0,5,0,0,0,1\n"
-
-turns_on-runs : (history_of (codes "open2,2" ++ turns_on_rest) ≡ codes "open2,2" ++ turns_on-history (codes "0"))
-    × (history_of (codes "open2,1" ++ turns_on_rest) ≡ codes "open2,1" ++ turns_on-history (codes "1"))
-unfolding worked
-turns_on-runs = (refl, refl)
 
 -- up to the faulty record, the history stands
 faulty-runs : history_of (codes "open,0,4,16,100\ndepart,1,1\ndep,1,1\ndepart,1,2\n") ≡ codes "open,0,4,16,100\ndepart,1,1,empty\n"

@@ -1,22 +1,21 @@
 -- What the files of this folder take from below, in one place.
-pub use Rattle.std.proofs.Common.{Bool, List, [], ap, append_assoc, arith, decimal, drop, false, if◌then◌else◌, inl, inr, length, length-append, map}
-pub use Rattle.std.proofs.Common.{refl, rules, subst, suc, sym, take, true, zero, ℕ, ◌++◌, ◌+◌, ◌-◌, ◌<◌, ◌==◌, ◌^◌, ◌||◌, ◌∙◌, ◌∷◌, ◌≡◌, ◌≢◌, ◌≤◌}
+pub use Rattle.std.proofs.Common.{Bool, List, [], ap, append_assoc, arith, drop, false, if◌then◌else◌, inl, inr, length, length-append, map, refl}
+pub use Rattle.std.proofs.Common.{rules, subst, suc, sym, take, true, zero, ℕ, ◌++◌, ◌+◌, ◌-◌, ◌<◌, ◌==◌, ◌^◌, ◌||◌, ◌∙◌, ◌∷◌, ◌≡◌, ◌≢◌, ◌≤◌}
 pub use Rattle.std.proofs.KnownBytes.{Appends-nil, Appends-trans, Keeps-refl, append_known-grown}
 pub use Rattle.std.proofs.lemmas.Bool.{eqb-true, le-ltb, ltb-false, lt-ltb, ltb-true, ne_eqb}
 pub use Rattle.std.proofs.lemmas.Bool.Decides.{nat_tests}
 pub use Rattle.std.proofs.lemmas.List.{append-nil}
 pub use Rattle.std.proofs.lemmas.List.Elements.{All-append, All-cons, All-nil, filter_map-append}
-pub use Rattle.std.specs.Prelude.{All, OnErr, codes, nat_lt, option_map, ⊤}
-pub use Rattle.pie_trace.specs.{Answer, Appends, Ask, BadParams, Begins, BookView, Bounded, Clean, Clock, Coming, CoreView, Err, Event}
-pub use Rattle.pie_trace.specs.{FirstKind, Flaw, Fold, FoldRefusal, HasField, IfErr, IfOk, IfSome, IsAt, IsRead, IsTold, IsWrite}
-pub use Rattle.pie_trace.specs.{Line, migrates, moves_on, None, Ok, OnOk, One, Opening, Option, Progress, Refusal, Registers, Replies}
+pub use Rattle.std.specs.Prelude.{All, OnErr, codes, nat_lt, option_map}
+pub use Rattle.pie_trace.specs.{Answer, Appends, Ask, BadParams, Begins, BookView, Bounded, Clean, Clock, Coming, Err, Event, FirstKind, Flaw, Fold}
+pub use Rattle.pie_trace.specs.{FoldRefusal, HasField, IfErr, IfOk, IfSome, IsAt, IsRead, IsTold, IsWrite, Line, migrates, moves_on, None, Ok, OnOk}
+pub use Rattle.pie_trace.specs.{One, Opening, Option, Progress, Refusal, Registers, Replies, Request, Result, Rolling, Row, Show, Shows, Some, Stats}
+pub use Rattle.pie_trace.specs.{Tally, TellTheSame, Tells, TellsHistory, Three, TraceFault, Two, Version, after, append_known, closed, code_of}
+pub use Rattle.pie_trace.specs.{coming_after, end_at, end_left, event_count, events_in, fault_at, fault_from, fields_of, fold_outcome, history_row}
+pub use Rattle.pie_trace.specs.{is_device, is_kind, last_events, later_rows, let_go, line_told, lines_from, lines_left, rows_left, migrated_text}
+pub use Rattle.pie_trace.specs.{migrated_version, opening_refusal, outcome, partial_of, progress_at_end, queued_row, records_of, refused}
+pub use Rattle.pie_trace.specs.{refused_count, reply, reply_to_command, reply_to_fold, request_in, start, stats_after, text_of, told_by}
 pub use Rattle.pie_trace.specs.Reply.{Reply}
-pub use Rattle.pie_trace.specs.{Request, Result, Rolling, Row, Show, Shows, Some, Stats, Tally, TellTheSame, Tells, TellsHistory}
-pub use Rattle.pie_trace.specs.{Three, TraceFault, Two, Version, after, append_known, closed, code_of, coming_after, end_at, end_left}
-pub use Rattle.pie_trace.specs.{event_count, events_in, fault_at, fault_behind, fault_from, fields_of, fold_outcome, history_row}
-pub use Rattle.pie_trace.specs.{is_device, is_kind, last_events, later_rows, let_go, line_told, lines_from, migrated_text, migrated_version}
-pub use Rattle.pie_trace.specs.{opening_refusal, outcome, partial_of, progress_at_end, queued_row, records_of, refused, refused_count, reply}
-pub use Rattle.pie_trace.specs.{reply_to_command, reply_to_fold, request_in, rows_after, start, stats_after, text_of, told_by}
 unfoldable pub use Rattle.pie_trace.specs.{after_opening, answer_fields, before_fault, end_of, fault_of, first_fault, first_in_two, first_kind}
 unfoldable pub use Rattle.pie_trace.specs.{folded_row, history_events, history_fault, history_opening, history_rows, history_text, history_version}
 unfoldable pub use Rattle.pie_trace.specs.{later_in_two, line_of, lines_told, migrated, opening_of, progress_after, record_fault, refused_row}
@@ -32,7 +31,6 @@ pub use Rattle.pie_event.specs.declared.opening.Limits.{Limits}
 pub use Rattle.pie_event.specs.declared.opening.Mode.{Mode}
 pub use Rattle.pie_event.specs.declared.refusal.FoldRefusal.TheVariants.{Memory, TooMany}
 pub use Rattle.pie_params.specs.Range.{first_bad}
-pub use Rattle.pie_params.specs.declared.raw.RawParams.{RawParams}
 unfoldable pub use Rattle.pie_record.specs.Command.{command_kind}
 pub use Rattle.pie_record.specs.Field.{and_then, most_u64, number_at}
 pub use Rattle.pie_record.specs.FirstRecord.{first_fields, kind_word, params_or_default}

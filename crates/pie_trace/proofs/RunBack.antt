@@ -1,35 +1,46 @@
 -- The history text of a trace is read back: its opening, the events of its run, and notes.
 use Rattle.pie_trace.proofs.Names.{◌≡◌, ◌≤◌, ◌<◌, ◌+◌, ◌-◌, ◌^◌, ◌==◌, ℕ, List, [], ◌∷◌, ◌++◌, length, Bool, true, false, refl, sym, ap, subst, ◌∙◌}
-use Rattle.pie_trace.proofs.Names.{arith, length-append, if◌then◌else◌, All, nat_lt, take, Option, Some, None, Result, Ok, Err, ltb-true}
-use Rattle.pie_trace.proofs.Names.{nat_tests, All-append, All-cons, All-nil, first_bad, Command, Event, Mode, Bounded, Rolling, Opening}
-use Rattle.pie_trace.proofs.Names.{FoldRefusal, TooMany, Refusal, last_events, IsLegal, decision, is_refused_full, or_full, refusal_by_rule}
-use Rattle.pie_trace.proofs.Names.{opening_refusal, registers_after, Progress, event_of, fold_outcome, held_with_one, recorded, refused_or, start}
-use Rattle.pie_trace.proofs.Names.{stats_after, Flaw, TraceFault, Request, Ask, BadParams, Clock, Fold, Show, Tally, Draft, FirstKind, Version}
-use Rattle.pie_trace.proofs.Names.{fault_at, before_fault, history_rows, history_text, record_fault, replies, requests_of, text_left}
-use Rattle.pie_trace.proofs.Names.{opening_of, opening_read, Row, rows_text, text_of, request_of, line_of, Begins, TellEach, TellsHistory}
-use Rattle.pie_trace.proofs.Names.{line_told, lines_told, run_lines, first_fields, first_kind, kind_word, version_of, Reply, after, history_row}
-use Rattle.pie_trace.proofs.Names.{reply, reply_to_command, reply_to_fold, code_of, drop, records_of, told_rows, told_by-line, Line}
+use Rattle.pie_trace.proofs.Names.{arith, length-append, if◌then◌else◌, All, nat_lt, take, Option, Some, None, Result, Ok, Err, ltb-true, nat_tests}
+use Rattle.pie_trace.proofs.Names.{All-append, All-cons, All-nil, first_bad, Command, Event, Mode, Bounded, Rolling, Opening, FoldRefusal, TooMany}
+use Rattle.pie_trace.proofs.Names.{Refusal, last_events, IsLegal, decision, is_refused_full, or_full, refusal_by_rule, opening_refusal}
+use Rattle.pie_trace.proofs.Names.{registers_after, Progress, event_of, fold_outcome, held_with_one, recorded, refused_or, start, Flaw, TraceFault}
+use Rattle.pie_trace.proofs.Names.{Request, Ask, BadParams, Clock, Fold, Show, Tally, Draft, FirstKind, Version, fault_at, before_fault, history_rows}
+use Rattle.pie_trace.proofs.Names.{history_text, record_fault, replies, requests_of, text_left, opening_of, opening_read, Row, rows_text, text_of}
+use Rattle.pie_trace.proofs.Names.{request_of, line_of, Begins, TellEach, TellsHistory, line_told, lines_left, lines_told, rows_left, run_lines}
+use Rattle.pie_trace.proofs.Names.{first_fields, first_kind, kind_word, version_of, Reply, after, history_row, reply, reply_to_command, reply_to_fold}
+use Rattle.pie_trace.proofs.Names.{code_of, drop, records_of, told_rows, told_by-line, Line, zero, suc, append_assoc, append-nil, filter_map-append}
+use Rattle.pie_trace.proofs.Names.{progress_after, RunEnd, end_of, fault_of, first_fault, progress_at_end, steps_of, let_go, refused, Finding, Clean}
+use Rattle.pie_trace.proofs.Names.{AreLegal, CanBeMade, map, Shows, Three, end_left, le-ltb, ◌≢◌, field_at, fault_from}
 use Rattle.std.proofs.lemmas.List.Concat.{flat_map-append}
 use Rattle.pie_event.specs.Ranges.{CommandFits, ParamsFit}
 use Rattle.pie_record.specs.FirstRecord.{opening_by}
 use Rattle.pie_record.specs.ReadBack.{TextsAreReadBack}
+use Rattle.pie_trace.specs.History.{Begun, going_on, text_in, end_in, fault_in}
+use Rattle.pie_trace.proofs.RunFacts.{before_fault-later, first-one, flawed-record, long-record, requests_of-cons, whole-opened, first_fault-here}
+use Rattle.pie_trace.proofs.RunFacts.{first_fault-later, progress_after-request, one-value, part-opened}
+use Rattle.pie_trace.specs.Laws.{Held}
+use Rattle.pie_trace.proofs.MigrateFacts.{first-word, told_rows-line, told_rows-none}
+use Rattle.pie_trace.specs.Reply.{answered, shown, tallied}
+use Rattle.pie_record.specs.declared.history_record.Line.TheVariants.{Note, Made}
+use Rattle.pie_audit.specs.Finding.{event_in, events_of}
+use Rattle.pie_audit.specs.Text.{text_finding, IsFound, TellsPart, excerpt_lines, whole_finding, excerpt_fault, fault_after}
+use Rattle.pie_excerpt.specs.Beginning.{or_fault, Beginning, BeginsWell, GoesOn, resumed_of, is_resumed}
+use Rattle.pie_audit.specs.Legal.{EventsAreLines}
+use Rattle.pie_trace.specs.Resumed.{going_by, progress_resumed, resumed_end, resumed_fault, resumed_text, resumed_within, within_most}
+use Rattle.std.proofs.lemmas.List.{take-append-drop}
+use Rattle.pie_queue.specs.declared.packet.Waiting.{Waiting}
+use Rattle.pie_text.specs.Lost.{lost_row}
+use Rattle.pie_text.proofs.LostFacts.{lost-later}
+use Rattle.pie_excerpt.specs.Rows.{queued_row}
 use Rattle.pie_event.specs.declared.refusal.Refusal.TheVariants as refusal
 use Rattle.pie_record.specs.declared.fault.TraceFault.TheVariants as fault
-use Rattle.pie_trace.specs.History.{Begun, going_on, text_in}
-use Rattle.pie_trace.proofs.EndFacts.{first-one, whole-opened}
-use Rattle.pie_trace.proofs.HistoryFacts.{before_fault-later, flawed-record, long-record, requests_of-cons}
-use Rattle.pie_trace.specs.Laws.{Held}
-use Rattle.pie_trace.proofs.MigrateFirst.{first-word}
-use Rattle.pie_trace.proofs.MigrateFacts.{told_rows-line, told_rows-none}
-use Rattle.pie_trace.specs.Reply.{answered, refused}
-
-abbrev AllFit : List Event → Type 0
-AllFit history = All (λ event. CommandFits event.command) history
+use Rattle.pie_record.specs.declared.trace_record.Request.TheVariants as request
+use Rattle.pie_record.specs.declared.history_record.Line.TheVariants as line
 
 -- how far a run has come
 pub record Sound (opening : Opening) (progress : Progress) : Type 0 where
   pub legal : IsLegal opening progress.history
-  pub fit : AllFit progress.history
+  pub fit : All (λ event. CommandFits event.command) progress.history
   pub held : progress.held ≤ length progress.history
 
 -- an opening that a book accepts
@@ -37,16 +48,9 @@ pub record Opens (opening : Opening) : Type 0 where
   pub accepted : opening_refusal opening.limits opening.moment ≡ None
   pub params : ParamsFit opening.params
 
-count-small : (held : Held) (opening : Opening) (progress : Progress) → Opens opening → Sound opening progress → length progress.history < 2 ^ 64
-unfolding registers_after
-count-small held opening progress opens sound = (held.registers opening progress.history opens.accepted opens.params sound.legal sound.fit).count
-
 code-small : (why : Refusal) → code_of why < 2 ^ 64
 code-small refusal.Moment = omega arith
-code-small refusal.Size = omega arith
-code-small (refusal.TooSoon due) = omega arith
-code-small refusal.Exhausted = omega arith
-code-small refusal.HistoryFull = omega arith
+code-small _ = omega arith
 
 -- ---- one record
 
@@ -66,18 +70,6 @@ asked-by P opening progress caller command taken refuses =
     by None true free = refuses refusal.HistoryFull
     by (Some why) full free = refuses why
 
-ask-told : (version : Version) (held : Held) (number : ℕ) (row : Row) (caller : ℕ) (command : Command) (opening : Opening) (progress : Progress)
-    → number < 2 ^ 64 → Opens opening → Sound opening progress → request_of version row ≡ Ok (Ask caller command)
-    → line_of version (history_row version number row (reply opening progress (Ask caller command)))
-    ≡ Ok (line_told (Ask caller command) (reply opening progress (Ask caller command)))
-ask-told version held number row caller command opening progress small opens sound reads =
-    asked-by (λ given later. line_of version (history_row version number row given) ≡ Ok (line_told (Ask caller command) given)) opening progress
-    caller command
-    (λ free. held.back.answered version row caller command (decision opening progress.history command) reads
-    (held.kinds opening progress.history command)
-    (held.answers opening progress.history command opens.accepted opens.params sound.legal sound.fit free))
-    (λ why. held.back.refused version number (code_of why) small (code-small why))
-
 fold-enough : (progress : Progress) (n : ℕ) (events : List Event) → fold_outcome progress n ≡ Ok events → n ≤ progress.held
 fold-enough progress n events = by (nat_lt progress.held n) refl
   where
@@ -86,77 +78,68 @@ fold-enough progress n events = by (nat_lt progress.held n) refl
     by true f e = cc
     by false f e = grind (arith, nat_tests)
 
-fold-told : (version : Version) (held : Held) (number : ℕ) (row : Row) (n : ℕ) (opening : Opening) (progress : Progress) → number < 2 ^ 64
-    → Opens opening → Sound opening progress
-    → line_of version (history_row version number row (reply opening progress (Fold n))) ≡ Ok (line_told (Fold n) (reply opening progress (Fold n)))
-fold-told version held number row n opening progress small opens sound = by (fold_outcome progress n) refl
-  where
-    by : (o : Result (List Event) FoldRefusal) → fold_outcome progress n ≡ o
-        → line_of version (history_row version number row (reply_to_fold n o)) ≡ Ok (line_told (Fold n) (reply_to_fold n o))
-    by (Err why) e = held.back.refused version number 6 small (omega arith)
-    by (Ok events) e =
-        let enough = fold-enough progress n events e in
-        let within = sound.held in
-        let count = count-small held opening progress opens sound in
-        held.back.folded version n (omega arith)
-
-record-told : (version : Version) (held : Held) (number : ℕ) (row : Row) (request : Request) (opening : Opening) (progress : Progress)
-    → number < 2 ^ 64 → Opens opening → Sound opening progress → request_of version row ≡ Ok request
-    → line_of version (history_row version number row (reply opening progress request)) ≡ Ok (line_told request (reply opening progress request))
-record-told version held number row (Ask caller command) opening progress small opens sound reads = ask-told version held number row caller command
-    opening progress small opens sound reads
-record-told version held number row BadParams opening progress small opens sound reads = held.back.refused version number 7 small (omega arith)
-record-told version held number row (Fold n) opening progress small opens sound reads = fold-told version held number row n opening progress small
-    opens sound
-record-told version held number row Show opening progress small opens sound reads =
-    held.back.shown version (registers_after opening progress.history)
-    (held.registers opening progress.history opens.accepted opens.params sound.legal sound.fit)
-record-told version held number row Tally opening progress small opens sound reads =
-    held.back.tallied version (stats_after opening progress.history)
-    (held.stats opening progress.history opens.accepted opens.params sound.legal sound.fit)
-record-told version held number row (Clock clock) opening progress small opens sound reads = held.back.clock version row clock reads
-
--- where the run stands after it
 with-one : (mode : Mode) (most held : ℕ) → held_with_one mode most held ≤ held + 1
 with-one Bounded most held = omega arith
-with-one Rolling most held = by (held == most)
-  where
-    by : (b : Bool) → (if b then held else held + 1) ≤ held + 1
-    by true = omega arith
-    by false = omega arith
+with-one Rolling most held = grind (arith, nat_tests)
 
-after-fold : (b : Bool) (held n : ℕ) → (if b then held else held - n) ≤ held
-after-fold true held n = omega arith
-after-fold false held n = omega arith
+after-fold : (held n : ℕ) → (if nat_lt held n then held else held - n) ≤ held
+after-fold held n = grind (arith, nat_tests)
 
-pub asked-sound : (held : Held) (opening : Opening) (progress : Progress) (caller : ℕ) (command : Command) → CommandFits command
-    → Sound opening progress → Sound opening (after opening progress (Ask caller command))
-asked-sound held opening progress caller command fit sound = asked-by (λ given later. Sound opening later) opening progress caller command
-    (λ free.
-    let event : Event = event_of caller command (decision opening progress.history command) in
-    let more = length-append progress.history (event ∷ []) in
-    let within = sound.held in
-    let one = with-one opening.choices.mode opening.limits.tail progress.held in
-    record {
-      legal = held.legal_with_one_more opening progress.history caller command sound.legal free;
-      fit = All-append (λ (e : Event). CommandFits e.command) progress.history (event ∷ []) sound.fit
-          (All-cons (λ (e : Event). CommandFits e.command) event [] fit (All-nil (λ (e : Event). CommandFits e.command)));
-      held = omega (arith, more);
-    }) (λ why. sound)
+module _ (version : Version) (held : Held) (opening : Opening) where
+  -- where a run stands after a record
+  after-sound : (progress : Progress) (row : Row) (request : Request) → request_of version row ≡ Ok request → Sound opening progress
+      → Sound opening (after opening progress request)
+  after-sound progress row (Ask caller command) reads sound = asked-by (λ given later. Sound opening later) opening progress caller command
+      (λ free.
+      let event : Event = event_of caller command (decision opening progress.history command) in
+      let more = length-append progress.history (event ∷ []) in
+      let within = sound.held in
+      let one = with-one opening.choices.mode opening.limits.tail progress.held in
+      let fit : CommandFits command = held.again.fits version row caller command held.params reads in
+      record {
+        legal = held.legal_with_one_more opening progress.history caller command sound.legal free;
+        fit = All-append (λ (e : Event). CommandFits e.command) progress.history (event ∷ []) sound.fit
+            (All-cons (λ (e : Event). CommandFits e.command) event [] fit (All-nil (λ (e : Event). CommandFits e.command)));
+        held = omega (arith, more);
+      }) (λ why. sound)
+  after-sound progress row (Fold n) reads sound =
+      let within = sound.held in
+      let less = after-fold progress.held n in
+      record { legal = sound.legal; fit = sound.fit; held = omega (arith, less) }
+  after-sound progress row _ reads sound = sound
 
-after-sound : (version : Version) (held : Held) (opening : Opening) (progress : Progress) (row : Row) (request : Request)
-    → request_of version row ≡ Ok request
-    → Sound opening progress → Sound opening (after opening progress request)
-after-sound version held opening progress row (Ask caller command) reads sound = asked-sound held opening progress caller command
-    (held.again.fits version row caller command held.params reads) sound
-after-sound version held opening progress row BadParams reads sound = sound
-after-sound version held opening progress row (Fold n) reads sound =
-    let within = sound.held in
-    let less = after-fold (nat_lt progress.held n) progress.held n in
-    record { legal = sound.legal; fit = sound.fit; held = omega (arith, less) }
-after-sound version held opening progress row Show reads sound = sound
-after-sound version held opening progress row Tally reads sound = sound
-after-sound version held opening progress row (Clock clock) reads sound = sound
+module _ (version : Version) (held : Held) (opening : Opening) (opens : Opens opening) where
+  count-small : (progress : Progress) → Sound opening progress → length progress.history < 2 ^ 64
+  unfolding registers_after
+  count-small progress sound = (held.registers opening progress.history opens.accepted opens.params sound.legal sound.fit).count
+
+  -- the history record of what it is answered tells its line
+  record-told : (number : ℕ) (row : Row) (request : Request) (progress : Progress) → number < 2 ^ 64 → Sound opening progress
+      → request_of version row ≡ Ok request
+      → line_of version (history_row version number row (reply opening progress request)) ≡ Ok (line_told request (reply opening progress request))
+  record-told number row (Ask caller command) progress small sound reads =
+      asked-by (λ given later. line_of version (history_row version number row given) ≡ Ok (line_told (Ask caller command) given)) opening
+      progress caller command
+      (λ free. held.back.answered version row caller command (decision opening progress.history command) reads
+      (held.kinds opening progress.history command)
+      (held.answers opening progress.history command opens.accepted opens.params sound.legal sound.fit free))
+      (λ why. held.back.refused version number (code_of why) small (code-small why))
+  record-told number row BadParams progress small sound reads = held.back.refused version number 7 small (omega arith)
+  record-told number row (Fold n) progress small sound reads = by (fold_outcome progress n) refl
+    where
+      by : (o : Result (List Event) FoldRefusal) → fold_outcome progress n ≡ o
+          → line_of version (history_row version number row (reply_to_fold n o)) ≡ Ok (line_told (Fold n) (reply_to_fold n o))
+      by (Err why) e = held.back.refused version number 6 small (omega arith)
+      by (Ok events) e =
+          let enough = fold-enough progress n events e in
+          let within = sound.held in
+          let count = count-small progress sound in
+          held.back.folded version n (omega arith)
+  record-told number row Show progress small sound reads =
+      held.back.shown version _ (held.registers opening progress.history opens.accepted opens.params sound.legal sound.fit)
+  record-told number row Tally progress small sound reads =
+      held.back.tallied version _ (held.stats opening progress.history opens.accepted opens.params sound.legal sound.fit)
+  record-told number row (Clock clock) progress small sound reads = held.back.clock version row clock reads
 
 -- ---- all records
 
@@ -174,7 +157,7 @@ good version most number row e = by (nat_lt most number) (request_of version row
     by false (Err what) l r = let wrong : None ≡ Some (fault_at number what) = sym e
         ∙ flawed-record version most number row what (grind (arith, nat_tests)) r in cc
 
-abbrev pub RowsTold : Version → Opening → ℕ → Progress → List Row → List Request → Type 0
+abbrev RowsTold : Version → Opening → ℕ → Progress → List Row → List Request → Type 0
 RowsTold version opening number progress rows requests = TellEach version (history_rows version number rows (replies opening progress requests))
     (lines_told requests (replies opening progress requests))
 
@@ -216,18 +199,18 @@ each-good version most opening P none one number progress (row ∷ rows) =
 
 pub rows-told : (version : Version) (held : Held) (most : ℕ) (opening : Opening) (number : ℕ) (progress : Progress) (rows : List Row) → most ≤ 2 ^ 32
     → Opens opening → Sound opening progress
-    → RowsTold version opening number progress (before_fault version most number rows) (requests_of version (before_fault version most number rows))
+    → TellEach version (rows_left version most opening number progress rows) (lines_left version most opening number progress rows)
 unfolding replies history_rows lines_told TellEach
 rows-told version held most opening number progress rows few opens =
     each-good version most opening (λ number progress rows requests. Sound opening progress → RowsTold version opening number progress rows requests)
     (λ number progress sound. tt)
     (λ number progress row rows request requests within reads later sound. (
-      record-told version held number row request opening progress (omega (arith, within, few)) opens sound reads,
+      record-told version held opening opens number row request progress (omega (arith, within, few)) sound reads,
       later (after-sound version held opening progress row request reads sound),
     )) number progress rows
 
 -- how many there are
-pub before-few : (version : Version) (most : ℕ) (opening : Opening) (number : ℕ) (rows : List Row) → number ≤ most + 1
+before-few : (version : Version) (most : ℕ) (opening : Opening) (number : ℕ) (rows : List Row) → number ≤ most + 1
     → number + length (before_fault version most number rows) ≤ most + 1
 before-few version most opening number rows =
     each-good version most opening (λ number progress rows requests. number ≤ most + 1 → number + length rows ≤ most + 1)
@@ -235,11 +218,19 @@ before-few version most opening number rows =
     (λ number progress row rows request requests here reads later within. let more = later (omega (arith, here)) in omega (arith, more))
     number start rows
 
-pub rows-few : (version : Version) (number : ℕ) (rows : List Row) (given : List Reply) → length (history_rows version number rows given) ≤ length rows
+rows-few : (version : Version) (number : ℕ) (rows : List Row) (given : List Reply) → length (history_rows version number rows given) ≤ length rows
 unfolding history_rows
 rows-few version number [] given = omega arith
 rows-few version number (row ∷ rows) [] = omega arith
 rows-few version number (row ∷ rows) (reply ∷ given) = let more = rows-few version (number + 1) rows given in omega arith
+
+pub few-left : (version : Version) (most : ℕ) (opening : Opening) (number : ℕ) (progress : Progress) (rows : List Row) → number ≤ most + 1
+    → number + length (rows_left version most opening number progress rows) ≤ most + 1
+few-left version most opening number progress rows within =
+    let good = before_fault version most number rows in
+    let fewer = rows-few version number good (replies opening progress (requests_of version good)) in
+    let few = before-few version most opening number rows within in
+    omega (arith, few, fewer)
 
 -- ---- a text that was written
 
@@ -302,38 +293,28 @@ sound-start held opening = record { legal = held.legal_at_first opening; fit = A
 
 -- the records of its beginning, and those of its answers
 pub text-begun : (most : ℕ) (past : List Event) (rows : List Row) (b : Begun)
-    → text_in most past rows (Ok b) ≡ rows_text (take b.read rows ++ history_rows b.version (b.read + 1)
-    (before_fault b.version most (b.read + 1) b.left)
-    (replies b.opening (going_on past) (requests_of b.version (before_fault b.version most (b.read + 1) b.left))))
+    → text_in most past rows (Ok b) ≡ rows_text (take b.read rows ++ rows_left b.version most b.opening (b.read + 1) (going_on past) b.left)
 unfolding text_left rows_text
 text-begun most past rows b =
-    sym (flat_map-append text_of (take b.read rows) (history_rows b.version (b.read + 1) (before_fault b.version most (b.read + 1) b.left)
-    (replies b.opening (going_on past) (requests_of b.version (before_fault b.version most (b.read + 1) b.left)))))
+    sym (flat_map-append text_of (take b.read rows) (rows_left b.version most b.opening (b.read + 1) (going_on past) b.left))
 
 pub text-whole : (most : ℕ) (row : Row) (rows : List Row) (opening : Opening) → 0 < most → opening_of row ≡ Ok opening
-    → history_text most (row ∷ rows) ≡ rows_text (row ∷ history_rows (version_of row) 2 (before_fault (version_of row) most 2 rows)
-    (replies opening start (requests_of (version_of row) (before_fault (version_of row) most 2 rows))))
+    → history_text most (row ∷ rows) ≡ rows_text (row ∷ rows_left (version_of row) most opening 2 start rows)
 unfolding history_text
 text-whole most row rows opening some opens =
     rw (whole-opened most row rows opening some opens)
     (text-begun most [] (row ∷ rows) (record { version = version_of row; opening = opening; read = 1; left = rows })
-    ∙ ap (λ (first : List Row). rows_text (first ++ history_rows (version_of row) 2 (before_fault (version_of row) most 2 rows)
-    (replies opening start (requests_of (version_of row) (before_fault (version_of row) most 2 rows))))) (first-one row rows))
+    ∙ ap (λ (first : List Row). rows_text (first ++ rows_left (version_of row) most opening 2 start rows)) (first-one row rows))
 
 pub run-written : (held : Held) (most : ℕ) (kind : FirstKind) (rest : Row) (rows : List Row) (opening : Opening) → most ≤ 2 ^ 32
-    → opening_of (kind_word kind ∷ rest) ≡ Ok opening
-    → let version = version_of (kind_word kind ∷ rest) in
-    let good = before_fault version most 2 rows in
-    let given = replies opening start (requests_of version good) in
-    0 < most → Written kind rest (history_rows version 2 good given) opening (lines_told (requests_of version good) given)
+    → opening_of (kind_word kind ∷ rest) ≡ Ok opening → 0 < most → let version = version_of (kind_word kind ∷ rest) in
+    Written kind rest (rows_left version most opening 2 start rows) opening (lines_left version most opening 2 start rows)
 run-written held most kind rest rows opening few opens some =
     let version : Version = version_of (kind_word kind ∷ rest) in
     let is = opened held (kind_word kind ∷ rest) opening opens in
     let fit : Opens opening = record { accepted = is.accepted; params = held.params opening.params is.in_range } in
-    let good = before_fault version most 2 rows in
-    let count = before-few version most opening 2 rows (omega arith) in
-    let fewer = rows-few version 2 good (replies opening start (requests_of version good)) in
-    record { opens = opens; told = rows-told version held most opening 2 start rows few fit (sound-start held opening); few = omega arith }
+    let count = few-left version most opening 2 start rows (omega arith) in
+    record { opens = opens; told = rows-told version held most opening 2 start rows few fit (sound-start held opening); few = omega (arith, count) }
 
 pub run-told : (held : Held) (most : ℕ) (row : Row) (rows : List Row) (opening : Opening) → 0 < most → most ≤ 2 ^ 32 → opening_of row ≡ Ok opening
     → TellsHistory (history_text most (row ∷ rows)) opening (run_lines (version_of row) most opening rows)
@@ -344,3 +325,372 @@ run-told held most row rows opening some few opens =
     (let there = ap opening_of (sym is.is) ∙ opens in
     rw (text-whole most (kind_word is.kind ∷ is.rest) rows opening some there)
     (written-tells held.texts is.kind is.rest _ opening _ (run-written held most is.kind is.rest rows opening few there some)))
+
+-- ==== The audit of a run's history text finds it clean
+
+-- ---- the events of a run are those that its lines tell
+
+events-both : (first more : List Line) → events_of (first ++ more) ≡ events_of first ++ events_of more
+unfolding events_of
+events-both first more = filter_map-append event_in first more
+
+-- where a run stands, its history is this with what a line tells, and legal
+pub record Tells (opening : Opening) (progress : Progress) (line : Line) (later : Progress) : Type 0 where
+  pub events : progress.history ++ events_of (line ∷ []) ≡ later.history
+  pub legal : IsLegal opening progress.history → IsLegal opening later.history
+
+-- nothing
+tells-none : (opening : Opening) (progress : Progress) (line : Line) (held : ℕ) → event_in line ≡ None
+    → Tells opening progress line (record { history = progress.history; held = held })
+unfolding events_of
+tells-none opening progress line held none = record { events = rw none (append-nil progress.history); legal = λ legal. legal }
+
+tells-next : Held → (opening : Opening) (progress : Progress) (request : Request)
+    → Tells opening progress (line_told request (reply opening progress request)) (after opening progress request)
+unfolding events_of
+tells-next held opening progress (Ask caller command) =
+    asked-by (λ given later. Tells opening progress (line_told (Ask caller command) given) later) opening progress caller command
+    (λ free. record { events = refl; legal = λ legal. held.legal_with_one_more opening progress.history caller command legal free })
+    (λ why. tells-none opening progress Note progress.held refl)
+tells-next held opening progress (Fold n) = tells-none opening progress Note (after opening progress (Fold n)).held refl
+tells-next held opening progress (request.Clock clock) = tells-none opening progress (line.Clock clock) progress.held refl
+tells-next held opening progress _ = tells-none opening progress Note progress.held refl
+
+-- all requests
+after-none : (opening : Opening) (progress : Progress) → progress_after opening progress (steps_of []) ≡ progress
+unfolding progress_after steps_of
+after-none opening progress = refl
+
+no-events : events_of [] ≡ []
+unfolding events_of
+no-events = refl
+
+abbrev AllTold : Opening → Progress → List Request → Type 0
+AllTold opening progress requests =
+    (progress.history ++ events_of (lines_told requests (replies opening progress requests))
+    ≡ (progress_after opening progress (steps_of requests)).history)
+    × (IsLegal opening progress.history → IsLegal opening (progress_after opening progress (steps_of requests)).history)
+
+tells-all : Held → (opening : Opening) (progress : Progress) (requests : List Request) → AllTold opening progress requests
+unfolding lines_told replies
+tells-all held opening progress [] = rw (after-none opening progress, no-events) (append-nil progress.history, λ legal. legal)
+tells-all held opening progress (request ∷ requests) =
+    let here = tells-next held opening progress request in
+    let later = tells-all held opening (after opening progress request) requests in
+    let first : Line = line_told request (reply opening progress request) in
+    let rest = lines_told requests (replies opening (after opening progress request) requests) in
+    let told : progress.history ++ events_of (first ∷ rest)
+    ≡ (progress_after opening (after opening progress request) (steps_of requests)).history =
+    ap (λ (events : List Event). progress.history ++ events) (events-both (first ∷ []) rest)
+    ∙ sym (append_assoc progress.history (events_of (first ∷ [])) (events_of rest))
+    ∙ ap (λ (history : List Event). history ++ events_of rest) here.events ∙ later.0 in
+    rw (progress_after-request opening progress request requests) (told, λ legal. later.1 (here.legal legal))
+
+line-made : (request : Request) (given : Reply) → CanBeMade (line_told request given)
+line-made (Ask caller command) (answered answer) = tt
+line-made _ _ = tt
+
+pub all-made : (requests : List Request) (given : List Reply) → All CanBeMade (lines_told requests given)
+unfolding lines_told
+all-made [] given = All-nil CanBeMade
+all-made (request ∷ requests) [] = All-nil CanBeMade
+all-made (request ∷ requests) (reply ∷ given) = All-cons CanBeMade (line_told request reply) (lines_told requests given) (line-made request reply)
+    (all-made requests given)
+
+-- after lines that tell a legal history, those of a run that held on are legal, and their events are the run's
+pub record AreRuns (opening : Opening) (lines : List Line) (history : List Event) : Type 0 where
+  pub legal : AreLegal opening lines
+  pub events : events_of lines ≡ history
+
+pub lines-legal : Held → (opening : Opening) (progress : Progress) (before : List Line) (requests : List Request) → All CanBeMade before
+    → events_of before ≡ progress.history → IsLegal opening progress.history
+    → AreRuns opening (before ++ lines_told requests (replies opening progress requests)) (progress_after opening progress (steps_of requests)).history
+lines-legal held opening progress before requests made tells legal =
+    let told = tells-all held opening progress requests in
+    let lines = lines_told requests (replies opening progress requests) in
+    let events : events_of (before ++ lines) ≡ (progress_after opening progress (steps_of requests)).history =
+    events-both before lines ∙ ap (λ (history : List Event). history ++ events_of lines) tells ∙ told.0 in
+    record {
+      legal = record {
+        made = All-append CanBeMade before lines made (all-made requests (replies opening progress requests));
+        legal = subst (λ (history : List Event). IsLegal opening history) (sym events) (told.1 legal);
+      };
+      events = events;
+    }
+
+-- ---- the whole text
+
+-- what a history text is read back as
+abbrev pub ReadBack : Type 0
+ReadBack = (most : ℕ) (row : Row) (rows : List Row) (opening : Opening) → 0 < most → most ≤ 2 ^ 32 → opening_of row ≡ Ok opening
+    → TellsHistory (history_text most (row ∷ rows)) opening (run_lines (version_of row) most opening rows)
+
+-- what is found of legal lines
+abbrev pub LegalIsClean : Type 0
+LegalIsClean = (text : List ℕ) (opening : Opening) (lines : List Line) → TellsHistory text opening lines → AreLegal opening lines
+    → text_finding (records_of text) ≡ Ok (Clean (length (events_of lines)))
+
+pub run-clean : ReadBack → LegalIsClean → Held → (most : ℕ) (row : Row) (rows : List Row)
+    (opening : Opening) → 0 < most → most ≤ 2 ^ 32 → opening_of row ≡ Ok opening
+    → text_finding (records_of (history_text most (row ∷ rows)))
+    ≡ Ok (Clean (length (progress_at_end opening (requests_of (version_of row) (before_fault (version_of row) most 2 rows))).history))
+unfolding run_lines
+run-clean told clean held most row rows opening some few opens =
+    let asked = requests_of (version_of row) (before_fault (version_of row) most 2 rows) in
+    let runs = lines-legal held opening start [] asked (All-nil CanBeMade) no-events (held.legal_at_first opening) in
+    clean (history_text most (row ∷ rows)) opening _ (told most row rows opening some few opens) runs.legal
+    ∙ ap (λ (events : List Event). let found : Result Finding TraceFault = Ok (Clean (length events)) in found) runs.events
+
+-- ---- a trace with no fault
+
+pub before-all : (version : Version) (most number : ℕ) (rows : List Row) → first_fault version most number rows ≡ None
+    → before_fault version most number rows ≡ rows
+before-all version most number [] e = before-none version most number
+before-all version most number (row ∷ rows) e = by (record_fault version most number row) refl (λ f. before-all version most (number + 1) rows f)
+  where
+    by : (o : Option TraceFault) → record_fault version most number row ≡ o
+        → (first_fault version most (number + 1) rows ≡ None → before_fault version most (number + 1) rows ≡ rows)
+        → before_fault version most number (row ∷ rows) ≡ row ∷ rows
+    by (Some why) r later = let wrong : Some why ≡ None = sym (first_fault-here version most number row rows why r) ∙ e in cc
+    by None r later = before_fault-later version most number row rows r ∙ ap (λ (l : List Row). row ∷ l)
+        (later (sym (first_fault-later version most number row rows r) ∙ e))
+
+pub whole-clean : ReadBack → LegalIsClean → Held → (most : ℕ) (rows : List Row) (end : RunEnd) → most ≤ 2 ^ 32 → fault_of most rows ≡ None
+    → end_of rows ≡ Some end → text_finding (records_of (history_text most rows)) ≡ Ok (Clean end.events)
+unfolding fault_of end_of
+whole-clean told clean held most [] end few sound ended = cc
+whole-clean told clean held most (row ∷ rows) end few sound ended = by (most == 0) (opening_of row) refl refl sound ended
+  where
+    positive : (n : ℕ) → (n == 0) ≡ false → 0 < n
+    positive zero z = cc
+    positive (suc n) z = omega arith
+
+    found : ℕ → Result Finding TraceFault
+    found events = Ok (Clean events)
+
+    opened : Result Opening TraceFault → Result Begun TraceFault
+    opened o = or_fault o (λ opening. Ok (record { version = version_of row; opening = opening; read = 1; left = rows }))
+
+    by : (none : Bool) (o : Result Opening TraceFault) → (most == 0) ≡ none → opening_of row ≡ o
+        → fault_in most (if none then Err fault.TooLong else opened o) ≡ None → end_in [] (opened o) ≡ Some end
+        → text_finding (records_of (history_text most (row ∷ rows))) ≡ Ok (Clean end.events)
+    by true o z opens e f = cc
+    by false (Err why) z opens e f = cc
+    by false (Ok opening) z opens e f =
+        let same : end_left (version_of row) opening start 0 rows ≡ end = cc in
+        run-clean told clean held most row rows opening (positive most z) few opens
+        ∙ ap (λ (all : List Row). found (length (progress_at_end opening (requests_of (version_of row) all)).history))
+        (before-all (version_of row) most 2 rows e)
+        ∙ ap (λ (r : RunEnd). found r.events) same
+
+-- ==== The audit of what a run writes of a trace that goes on finds it clean, with the events before it
+
+-- what is wanted of the crates below
+pub record Below : Type 0 where
+  pub held : Held
+  pub opens : (rows : List Row) (begun : Beginning) → resumed_of rows ≡ Ok begun → BeginsWell rows begun
+  pub behind : (rows more : List Row) (begun : Beginning) (opening : Opening) (past : List Event) (lines : List Line) → resumed_of rows ≡ Ok begun
+      → GoesOn rows opening past → TellEach Three more lines → begun.read + length more ≤ 2 ^ 32
+      → TellsPart (rows_text (take begun.read rows ++ more)) opening past lines
+  pub clean : (rows : List Row) (opening : Opening) (past : List Event) → AreLegal opening (map Made past ++ excerpt_lines rows)
+      → whole_finding opening past rows ≡ Clean (length (events_of (map Made past ++ excerpt_lines rows)))
+  pub events : EventsAreLines
+
+-- ---- its beginning
+
+-- a beginning of no more records than are read
+record Within (most : ℕ) (rows : List Row) (b : Beginning) : Type 0 where
+  begun : resumed_of rows ≡ Ok b
+  few : b.read ≤ most
+
+within : (most : ℕ) (rows : List Row) (b : Beginning) → resumed_within most rows ≡ Ok b → Within most rows b
+within most rows b e = by (resumed_of rows) refl e
+  where
+    so : (c : Beginning) → resumed_of rows ≡ Ok c → (long : Bool) → nat_lt most c.read ≡ long → (if long then Err fault.TooLong else Ok c) ≡ Ok b
+        → Within most rows b
+    so c is true long e = cc
+    so c is false long e =
+        let same : c ≡ b = cc in
+        subst (λ (it : Beginning). Within most rows it) same (record { begun = is; few = grind (arith, nat_tests) })
+
+    by : (read : Result Beginning TraceFault) → resumed_of rows ≡ read → or_fault read (within_most most) ≡ Ok b → Within most rows b
+    by (Ok c) is e = so c is (nat_lt most c.read) refl e
+    by (Err why) is e = cc
+
+-- ---- its text
+
+text-resumed : (most : ℕ) (past : List Event) (rows : List Row) (b : Beginning) → resumed_within most rows ≡ Ok b
+    → resumed_text most past rows
+    ≡ rows_text (take b.read rows ++ rows_left Three most b.opening (b.read + 1) (going_on past) b.left)
+unfolding resumed_text
+text-resumed most past rows b e = rw (part-opened most rows b e) (text-begun most past rows (going_by b))
+
+-- legal lines are found clean
+told-clean : Below → (text : List ℕ) (opening : Opening) (past : List Event) (lines : List Line) (history : List Event)
+    → TellsPart text opening past lines → AreRuns opening (map Made past ++ lines) history → IsFound text opening past (Clean (length history))
+told-clean law text opening past lines history told runs =
+    let same : AreRuns opening (map Made past ++ excerpt_lines (records_of text)) history =
+    subst (λ (ls : List Line). AreRuns opening (map Made past ++ ls) history) (sym told.tells) runs in
+    record {
+      resumes = told.resumes;
+      goes = told.goes;
+      fault = told.fault;
+      finding = law.clean (records_of text) opening past same.legal ∙ ap (λ (events : List Event). Clean (length events)) same.events;
+    }
+
+pub resumed-clean : Below → (most : ℕ) (rows : List Row) (opening : Opening) (past : List Event) (b : Beginning) → most ≤ 2 ^ 32
+    → GoesOn rows opening past → All (λ event. CommandFits event.command) past → resumed_within most rows ≡ Ok b
+    → IsFound (resumed_text most past rows) opening past (Clean (length (progress_resumed most past b).history))
+resumed-clean law most rows opening past b few goes fit e =
+    let at = within most rows b e in
+    let same = one-value (resumed_of rows) goes.beginning b goes.resumed at.begun in
+    let opened : b.opening ≡ opening = subst (λ (it : Beginning). it.opening ≡ opening) same goes.opened in
+    let shows : Shows opening b.core past = subst (λ (it : Beginning). Shows opening it.core past) same goes.shown in
+    let legal : IsLegal b.opening past = subst (λ (o : Opening). IsLegal o past) (sym opened) shows.legal in
+    let well = law.opens rows b at.begun in
+    let opens : Opens b.opening = record { accepted = well.accepted; params = law.held.params b.opening.params well.in_range } in
+    let sound : Sound b.opening (going_on past) = record { legal = legal; fit = fit; held = omega arith } in
+    let more = rows_left Three most b.opening (b.read + 1) (going_on past) b.left in
+    let lines = lines_left Three most b.opening (b.read + 1) (going_on past) b.left in
+    let told : TellEach Three more lines = rows-told Three law.held most b.opening (b.read + 1) (going_on past) b.left few opens sound in
+    let within = at.few in
+    let count = few-left Three most b.opening (b.read + 1) (going_on past) b.left (omega (arith, within)) in
+    let tells : TellsPart (rows_text (take b.read rows ++ more)) opening past lines =
+    law.behind rows more b opening past lines at.begun goes told (omega (arith, count, few)) in
+    let runs = lines-legal law.held b.opening (going_on past) (map Made past) (requests_of Three (before_fault Three most (b.read + 1) b.left))
+    (law.events.made past) (law.events.events past) legal in
+    subst (λ (text : List ℕ). IsFound text opening past (Clean (length (progress_resumed most past b).history)))
+    (sym (text-resumed most past rows b e))
+    (told-clean law (rows_text (take b.read rows ++ more)) opening past lines (progress_resumed most past b).history tells
+    (subst (λ (o : Opening). AreRuns o (map Made past ++ lines) (progress_resumed most past b).history) opened runs))
+
+-- ---- one without a fault
+
+pub resumed-whole : Below → (most : ℕ) (rows : List Row) (opening : Opening) (past : List Event) (end : RunEnd) → most ≤ 2 ^ 32
+    → GoesOn rows opening past → All (λ event. CommandFits event.command) past → resumed_fault most rows ≡ None → resumed_end past rows ≡ Some end
+    → IsFound (resumed_text most past rows) opening past (Clean end.events)
+unfolding resumed_fault resumed_end
+resumed-whole law most rows opening past end few goes fit sound ended = by (resumed_within most rows) refl sound
+  where
+    found : ℕ → Type 0
+    found events = IsFound (resumed_text most past rows) opening past (Clean events)
+
+    by : (read : Result Beginning TraceFault) → resumed_within most rows ≡ read
+        → fault_in most (or_fault read (λ begun. Ok (going_by begun))) ≡ None → found end.events
+    by (Err why) is e = cc
+    by (Ok b) is e =
+        let at = within most rows b is in
+        let here : end_in past (or_fault (resumed_of rows) (λ begun. Ok (going_by begun))) ≡ Some end = ended in
+        let is-end : Some (end_left Three b.opening (going_on past) 0 b.left) ≡ Some end = rw at.begun at here in
+        let same : end_left Three b.opening (going_on past) 0 b.left ≡ end = cc in
+        subst (λ (r : RunEnd). found r.events) same
+        (subst (λ (rest : List Row). found (length (progress_after b.opening (going_on past) (steps_of (requests_of Three rest))).history))
+        (before-all Three most (b.read + 1) b.left e) (resumed-clean law most rows opening past b few goes fit is))
+
+-- ==== A trace that goes on after a history is answered as the whole from there on
+
+replies-append : (opening : Opening) (from : Progress) (xs ys : List Request)
+    → replies opening from (xs ++ ys) ≡ replies opening from xs ++ replies opening (progress_after opening from (steps_of xs)) ys
+unfolding replies steps_of progress_after
+replies-append opening from [] ys = refl
+replies-append opening from (Ask caller command ∷ xs) ys =
+    ap (λ (given : List Reply). reply opening from (Ask caller command) ∷ given)
+    (replies-append opening (after opening from (Ask caller command)) xs ys)
+replies-append opening from (request ∷ xs) ys =
+    ap (λ (given : List Reply). reply opening from request ∷ given) (replies-append opening (after opening from request) xs ys)
+
+progress-append : (opening : Opening) (from : Progress) (xs ys : List Request)
+    → progress_after opening from (steps_of (xs ++ ys)) ≡ progress_after opening (progress_after opening from (steps_of xs)) (steps_of ys)
+unfolding steps_of progress_after
+progress-append opening from [] ys = refl
+progress-append opening from (Ask caller command ∷ xs) ys = progress-append opening (after opening from (Ask caller command)) xs ys
+progress-append opening from (request ∷ xs) ys = progress-append opening (after opening from request) xs ys
+
+-- a fold of all that the tail holds
+folds-all : (opening : Opening) (at : Progress) → after opening at (Fold at.held) ≡ going_on at.history
+folds-all opening at =
+    let fits : nat_lt at.held at.held ≡ false = le-ltb at.held at.held (omega arith) in
+    let none : at.held - at.held ≡ 0 = omega arith in
+    rw (fits, none) refl
+
+lets-go : (opening : Opening) (at : Progress) → reply opening at (Fold at.held) ≡ let_go at.held
+lets-go opening at = let fits : nat_lt at.held at.held ≡ false = le-ltb at.held at.held (omega arith) in rw fits refl
+
+pub whole_replies : (opening : Opening) (earlier later : List Request)
+    → let there = progress_at_end opening earlier in
+    replies opening start (earlier ++ Fold there.held ∷ later)
+    ≡ replies opening start earlier ++ let_go there.held ∷ replies opening (going_on there.history) later
+unfolding replies
+whole_replies opening earlier later =
+    let there = progress_at_end opening earlier in
+    replies-append opening start earlier (Fold there.held ∷ later)
+    ∙ ap (λ (given : List Reply). replies opening start earlier ++ given)
+    (ap (λ (one : Reply). one ∷ replies opening (after opening there (Fold there.held)) later) (lets-go opening there)
+    ∙ ap (λ (at : Progress). let_go there.held ∷ replies opening at later) (folds-all opening there))
+
+pub whole_ends : (opening : Opening) (earlier later : List Request)
+    → let there = progress_at_end opening earlier in
+    progress_at_end opening (earlier ++ Fold there.held ∷ later) ≡ progress_after opening (going_on there.history) (steps_of later)
+unfolding progress_after steps_of
+whole_ends opening earlier later =
+    let there = progress_at_end opening earlier in
+    progress-append opening start earlier (Fold there.held ∷ later)
+    ∙ ap (λ (at : Progress). progress_after opening at (steps_of later)) (folds-all opening there)
+
+-- ==== A record of lost events is a fault of every text that goes on from the middle of a history
+
+-- these records have it among them
+record HasLost (count : ℕ) (rows : List Row) : Type 0 where
+  before : List Row
+  after : List Row
+  is : rows ≡ before ++ (lost_row count ∷ after)
+
+-- it is no packet's
+behind-queue : (count : ℕ) (waiting : List Waiting) (before after left : List Row)
+    → before ++ (lost_row count ∷ after) ≡ map queued_row waiting ++ left → HasLost count left
+unfolding queued_row
+behind-queue count [] before after left is = record { before = before; after = after; is = sym is }
+behind-queue count (packet ∷ waiting) [] after left is = cc
+behind-queue count (packet ∷ waiting) (row ∷ before) after left is =
+    behind-queue count waiting before after left (let rest : before ++ (lost_row count ∷ after) ≡ map queued_row waiting ++ left = cc in rest)
+
+some-none : (why : TraceFault) → (let found : Option TraceFault = Some why in found) ≢ None
+some-none why = λ e. cc
+
+-- what pie_excerpt promises of all beginnings
+module _ (again : (row : Row) (rows : List Row) (begun : Beginning) → resumed_of (row ∷ rows) ≡ Ok begun
+    → take begun.read (row ∷ rows) ≡ row ∷ map queued_row begun.core.waiting)
+    (alone : (rows more : List Row) (begun : Beginning) → resumed_of rows ≡ Ok begun
+    → resumed_of (take begun.read rows ++ more) ≡ Ok (record begun { left = more }))
+    (opens : (rows : List Row) (begun : Beginning) → resumed_of rows ≡ Ok begun → BeginsWell rows begun) where
+  -- the records behind a beginning are those that are left
+  left-is : (rows : List Row) (begun : Beginning) → resumed_of rows ≡ Ok begun → drop begun.read rows ≡ begun.left
+  left-is rows begun is = same (resumed_of rows) (record begun { left = drop begun.read rows }) begun
+      (ap resumed_of (sym (take-append-drop begun.read rows)) ∙ alone rows (drop begun.read rows) begun is) is
+    where
+      same : (read : Result Beginning TraceFault) (a b : Beginning) → read ≡ Ok a → read ≡ Ok b → a.left ≡ b.left
+      same read a b e f = cc
+
+  begun-left : (count : ℕ) (before after : List Row) (begun : Beginning) → resumed_of (before ++ (lost_row count ∷ after)) ≡ Ok begun
+      → HasLost count begun.left
+  unfolding field_at
+  begun-left count [] after begun is =
+      let wrong : is_resumed (lost_row count ∷ after) ≡ true = (opens (lost_row count ∷ after) begun is).resumes in cc
+  begun-left count (row ∷ before) after begun is =
+      let rows : List Row = row ∷ (before ++ (lost_row count ∷ after)) in
+      let whole : row ∷ (before ++ (lost_row count ∷ after)) ≡ row ∷ (map queued_row begun.core.waiting ++ begun.left) =
+      sym (take-append-drop begun.read rows)
+      ∙ ap (λ (front : List Row). front ++ drop begun.read rows) (again row (before ++ (lost_row count ∷ after)) begun is)
+      ∙ ap (λ (left : List Row). row ∷ (map queued_row begun.core.waiting ++ left)) (left-is rows begun is) in
+      behind-queue count begun.core.waiting before after begun.left
+      (let rest : before ++ (lost_row count ∷ after) ≡ map queued_row begun.core.waiting ++ begun.left = cc in rest)
+
+  pub lost-part-is-fault : (count : ℕ) (before after : List Row) → excerpt_fault (before ++ (lost_row count ∷ after)) ≢ None
+  unfolding excerpt_fault
+  lost-part-is-fault count before after = by (resumed_of (before ++ (lost_row count ∷ after))) refl
+    where
+      by : (r : Result Beginning TraceFault) → resumed_of (before ++ (lost_row count ∷ after)) ≡ r → fault_after r ≢ None
+      by (Err why) is = some-none why
+      by (Ok begun) is = let has = begun-left count before after begun is in λ e.
+          lost-later Three (2 ^ 32) (begun.read + 1) count has.before has.after
+          (ap (λ (rs : List Row). fault_from Three (2 ^ 32) (begun.read + 1) rs) (sym has.is) ∙ e)

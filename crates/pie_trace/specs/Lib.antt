@@ -5,7 +5,6 @@ pub mod Pass
 pub mod Steps
 pub mod Laws
 pub mod Resumed
-pub mod RunLines
 pub mod Migrate
 unfoldable pub use Names.*
 unfoldable pub use Reply.*
@@ -14,5 +13,4 @@ unfoldable pub use Pass.*
 unfoldable pub use Steps.*
 unfoldable pub use Laws.*
 unfoldable pub use Resumed.*
-unfoldable pub use RunLines.*
 unfoldable pub use Migrate.*

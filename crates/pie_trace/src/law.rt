@@ -1,10 +1,19 @@
-//! The laws of history texts, that they are read back, and of traces that go on from the middle of a history.
-ghost use Rattle.std.specs.Prelude.{◌≡◌, ◌<◌, ◌≤◌, ◌^◌, ◌∷◌, ◌++◌};
+//! The laws of runs and migrations: history texts are read back and are found clean, and traces go on from the middle of a history.
+ghost use Rattle.std.specs.Prelude.{◌≡◌, ◌<◌, ◌≤◌, ◌^◌, ◌∷◌, ◌++◌, ◌≢◌, All};
 ghost use Rattle.pie_trace.specs.{ℕ, List, Ok, Opening, progress_after, start, Request, history_text, progress_at_end, replies, steps_of, let_go};
-ghost use Rattle.pie_trace.specs.{going_on, version_of, opening_of, TellsHistory, run_lines, Row};
+ghost use Rattle.pie_trace.specs.{going_on, version_of, opening_of, TellsHistory, run_lines, Row, length, None, Some, Event, Beginning, GoesOn};
+ghost use Rattle.pie_trace.specs.{before_fault, end_of, fault_of, requests_of, progress_resumed, resumed_end, resumed_fault, resumed_text};
+ghost use Rattle.pie_trace.specs.{resumed_within, records_of, Clean, text_finding, history_lines, history_opening, history_version, TellTheSame};
+ghost use Rattle.pie_trace.specs.{first_in_two, history_fault, migrated_text, migrated_version};
 ghost use Rattle.pie_trace.specs.Laws.{Held};
+ghost use Rattle.pie_event.specs.Ranges.{CommandFits};
+ghost use Rattle.pie_trace.specs.declared.run.RunEnd.{RunEnd};
+ghost use Rattle.pie_text.specs.Lost.{lost_row};
+ghost use Rattle.pie_audit.specs.Text.{IsFound, excerpt_fault};
 
-use pie_book::all_numbers_are_held;
+use pie_audit::{clean_is_legal, clean_parts_are_legal, events_are_lines, written_parts_are_told};
+use pie_book::{all_numbers_are_held, profile_one_is_always_active};
+use pie_excerpt::beginnings_are_written_again;
 use pie_record::{
     answers_are_read_back, openings_are_checked, requests_are_written_again, texts_are_read_back,
 };
@@ -39,7 +48,7 @@ pub fn history_texts_are_read_back()
 /// stand in the same place at their end (this project's own).
 ///
 /// It does nothing: its contract is the law.
-#[tactic(auto, using(crate::proofs::GoingFacts::whole_replies, crate::proofs::GoingFacts::whole_ends))]
+#[tactic(auto, using(crate::proofs::RunBack::whole_replies, crate::proofs::RunBack::whole_ends))]
 pub fn resumed_runs_go_on_as_the_whole()
     ensures answers { (opening : Opening) (earlier later : List Request) → let there = progress_at_end opening earlier in
         replies opening start (earlier ++ Request.Fold there.held ∷ later)
@@ -47,3 +56,97 @@ pub fn resumed_runs_go_on_as_the_whole()
     ensures ends { (opening : Opening) (earlier later : List Request) → let there = progress_at_end opening earlier in
         progress_at_end opening (earlier ++ Request.Fold there.held ∷ later) ≡ progress_after opening (going_on there.history) (steps_of later) }
 {}
+
+/// What a run writes is found clean: the finding of the history text of a trace is `Clean`, with as many events as the run recorded
+/// (`whole`). Where the trace has a fault, its history text is that of the records before it, and is found clean as far as it
+/// goes (`up_to_fault`).
+///
+/// It does nothing: its contract is the law (this project's own).
+pub fn runs_are_clean()
+    ensures whole { (most : ℕ) (rows : List Row) (end : RunEnd) → most ≤ 2 ^ 32 → fault_of most rows ≡ None → end_of rows ≡ Some end
+        → text_finding (records_of (history_text most rows)) ≡ Ok (Clean end.events) }
+    ensures up_to_fault { (most : ℕ) (row : Row) (rows : List Row) (opening : Opening) → 0 < most → most ≤ 2 ^ 32 → opening_of row ≡ Ok opening
+        → text_finding (records_of (history_text most (row ∷ rows)))
+        ≡ Ok (Clean (length (progress_at_end opening (requests_of (version_of row) (before_fault (version_of row) most 2 rows))).history)) }
+{
+    all_is_held();
+    clean_is_legal();
+    history_texts_are_read_back();
+}
+
+/// What a run writes of a trace that goes on from the middle of a history goes on after that history, whichever it is whose commands hold numbers of
+/// their types, and is found clean with it: the finding has the number of all events, those before among them (`whole`). Where the trace has a fault
+/// behind its beginning, its history text is that of the records before it, and is found clean as far as it goes (`up_to_fault`).
+///
+/// It does nothing: its contract is the law (this project's own).
+pub fn resumed_runs_are_clean()
+    ensures whole { (most : ℕ) (rows : List Row) (opening : Opening) (past : List Event) (end : RunEnd) → most ≤ 2 ^ 32 → GoesOn rows opening past
+        → All (λ event. CommandFits event.command) past → resumed_fault most rows ≡ None → resumed_end past rows ≡ Some end
+        → IsFound (resumed_text most past rows) opening past (Clean end.events) }
+    ensures up_to_fault { (most : ℕ) (rows : List Row) (opening : Opening) (past : List Event) (begun : Beginning) → most ≤ 2 ^ 32
+        → GoesOn rows opening past → All (λ event. CommandFits event.command) past → resumed_within most rows ≡ Ok begun
+        → IsFound (resumed_text most past rows) opening past (Clean (length (progress_resumed most past begun).history)) }
+{
+    all_is_held();
+    beginnings_are_written_again();
+    clean_parts_are_legal();
+    events_are_lines();
+    written_parts_are_told();
+}
+
+/// Where a record of lost events stands among the records of a text, whoever reads that text as one that goes on from the middle of a history meets
+/// a fault. So no audit finds it clean.
+///
+/// It does nothing: its contract is the law (this project's own).
+pub fn lost_records_are_faults_of_parts()
+    ensures { (count : ℕ) (before after : List Row) → excerpt_fault (before ++ lost_row count ∷ after) ≢ None }
+{
+    beginnings_are_written_again();
+}
+
+/// What `migrate` writes, `HistoryLines` reads: the migrated text of every history whose first record opens one is of version two,
+/// or of version three where the history is, and tells that opening, the lines before the history's first fault, and then its end
+/// with no fault. So where the history has no fault, both texts tell the same.
+///
+/// It does nothing: its contract is the law (this project's own).
+pub fn migrated_histories_are_read_back()
+    ensures tells { (rows : List Row) (opening : Opening) → history_opening rows ≡ Ok opening
+        → TellsHistory (migrated_text (2 ^ 32) rows) opening (history_lines (2 ^ 32) rows) }
+    ensures version { (rows : List Row) (opening : Opening) → history_opening rows ≡ Ok opening
+        → history_version (records_of (migrated_text (2 ^ 32) rows)) ≡ migrated_version (history_version rows) }
+    ensures same { (text : List ℕ) → history_fault (2 ^ 32) (records_of text) ≡ None → TellTheSame text (migrated_text (2 ^ 32) (records_of text)) }
+{
+    texts_are_read_back();
+}
+
+/// What was migrated is migrated to itself.
+///
+/// It does nothing: its contract is the law (this project's own).
+pub fn migrating_again_changes_nothing()
+    ensures { (rows : List Row) → migrated_text (2 ^ 32) (records_of (migrated_text (2 ^ 32) rows)) ≡ migrated_text (2 ^ 32) rows }
+{
+    texts_are_read_back();
+}
+
+/// The history text of a run, migrated, is that of the run of the same trace with its first record in version two: of a trace of
+/// version one, of the trace that `open2` opens with profile one; a trace of a later version is written as it is. Where the trace has
+/// a fault, both are the text of the records before it.
+///
+/// It does nothing: its contract is the law (this project's own).
+pub fn migrated_runs_are_runs_of_version_two()
+    ensures { (most : ℕ) (row : Row) (rows : List Row) → most ≤ 2 ^ 32
+        → migrated_text (2 ^ 32) (records_of (history_text most (row ∷ rows))) ≡ history_text most (first_in_two row ∷ rows) }
+{
+    all_is_held();
+    profile_one_is_always_active();
+}
+
+/// The finding of a history without a fault is that of its migrated text, in each version.
+///
+/// It does nothing: its contract is the law (this project's own).
+pub fn migration_keeps_the_finding()
+    ensures { (text : List ℕ) → history_fault (2 ^ 32) (records_of text) ≡ None
+        → text_finding (records_of (migrated_text (2 ^ 32) (records_of text))) ≡ text_finding (records_of text) }
+{
+    migrated_histories_are_read_back();
+}

@@ -20,23 +20,19 @@
 //! of a trace that goes on, with the events before it.
 #![tactic(auto)]
 
-pub mod finding;
 pub mod law;
 pub mod migration;
-pub mod migration_finding;
-pub mod migration_law;
 pub mod run;
 mod session;
 mod started;
 
-pub use finding::{lost_records_are_faults_of_parts, resumed_runs_are_clean, runs_are_clean};
-pub use law::{history_texts_are_read_back, resumed_runs_go_on_as_the_whole};
-pub use migration::migrate;
-pub use migration_finding::migration_keeps_the_finding;
-pub use migration_law::{
-    migrated_histories_are_read_back, migrated_runs_are_runs_of_version_two,
-    migrating_again_changes_nothing,
+pub use law::{
+    history_texts_are_read_back, lost_records_are_faults_of_parts, migrated_histories_are_read_back,
+    migrated_runs_are_runs_of_version_two, migrating_again_changes_nothing,
+    migration_keeps_the_finding, resumed_runs_are_clean, resumed_runs_go_on_as_the_whole,
+    runs_are_clean,
 };
+pub use migration::migrate;
 pub use pie_record::{Flaw, HistoryLines, Line, OpenFault, TraceFault, Version};
 pub use pie_text::write_history;
 pub use run::{RunEnd, run_trace, run_trace_within};

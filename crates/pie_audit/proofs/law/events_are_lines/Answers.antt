@@ -1,5 +1,5 @@
-use Rattle.pie_audit.proofs.SetterFacts.{made-count}
-use Rattle.pie_audit.proofs.Written.{all-made, made-events}
+use Rattle.pie_audit.proofs.AuditorFacts.{made-count}
+use Rattle.pie_audit.proofs.LegalFacts.{all-made, made-events}
 use Rattle.pie_audit.proofs.law.events_are_lines.Goals as goal
 
 pub returns : goal.returns

@@ -1,6 +1,5 @@
 use Rattle.pie_audit.proofs.Names.{IsLegalAt}
-use Rattle.pie_audit.proofs.LegalFacts.{at-push}
-use Rattle.pie_audit.proofs.Written.{written-clean}
+use Rattle.pie_audit.proofs.LegalFacts.{at-push, written-clean}
 use Rattle.pie_audit.proofs.law.recorded_calls_are_clean.Goals as goal
 
 pub returns-clause-clean : goal.returns-clause-clean

@@ -1,6 +1,6 @@
 use Rattle.pie_audit.proofs.Names.{◌++◌, ◌∷◌, List, map, length, sym, subst, None, Event, IsLegal, rows_text, event_row, queued_row, resume_row}
 use Rattle.pie_audit.proofs.Names.{Clean, IsFound, Waiting, resume_of_excerpt}
-use Rattle.pie_audit.proofs.PartText.{Alone, events-found, part-told, told-found, written-told}
+use Rattle.pie_audit.proofs.ToldFacts.{Alone, events-found, part-told, told-found, written-told}
 use Rattle.pie_audit.proofs.law.written_parts_are_told.Goals as goal
 
 pub returns : goal.returns

@@ -1,5 +1,5 @@
-use Rattle.pie_trace.proofs.RunFindings.{run-clean, whole-clean}
-use Rattle.pie_trace.proofs.finding.runs_are_clean.Goals as goal
+use Rattle.pie_trace.proofs.RunBack.{run-clean, whole-clean}
+use Rattle.pie_trace.proofs.law.runs_are_clean.Goals as goal
 
 pub returns : goal.returns
 returns c =

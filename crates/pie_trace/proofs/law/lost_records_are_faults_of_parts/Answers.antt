@@ -1,5 +1,5 @@
-use Rattle.pie_trace.proofs.LostPart.{lost-part-is-fault}
-use Rattle.pie_trace.proofs.finding.lost_records_are_faults_of_parts.Goals as goal
+use Rattle.pie_trace.proofs.RunBack.{lost-part-is-fault}
+use Rattle.pie_trace.proofs.law.lost_records_are_faults_of_parts.Goals as goal
 
 pub returns : goal.returns
 returns c =

@@ -1,5 +1,5 @@
-use Rattle.pie_trace.proofs.ResumedFindings.{Below, resumed-clean, resumed-whole}
-use Rattle.pie_trace.proofs.finding.resumed_runs_are_clean.Goals as goal
+use Rattle.pie_trace.proofs.RunBack.{Below, resumed-clean, resumed-whole}
+use Rattle.pie_trace.proofs.law.resumed_runs_are_clean.Goals as goal
 
 pub returns : goal.returns
 returns c =

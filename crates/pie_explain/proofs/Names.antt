@@ -12,3 +12,5 @@ pub use Rattle.pie_explain.specs.{setter_by, setter_told, told_after, told_at, t
 unfoldable pub use Rattle.pie_explain.specs.{explanation, explanations_since}
 pub use Rattle.pie_explain.specs.Names.{Selection, Explanation}
 pub use Rattle.pie_record.specs.declared.clock.Clock.{Clock}
+pub use Rattle.pie_audit.proofs.SetterFacts.{event_count-append, event_count-push, few-events, is-since, line_places-push, made-count, none-before}
+pub use Rattle.pie_audit.proofs.SetterFacts.{none_of, place_of}

@@ -6,60 +6,38 @@ use Rattle.std.proofs.Common.{◌==◌, subst}
 use Rattle.pie_audit.specs.declared.auditor.Finding.TheVariants.{Clean, Differs}
 use Rattle.pie_audit.specs.declared.following.Follower.{Follower}
 use Rattle.pie_audit.specs.Text.{judged}
-use Rattle.pie_audit.specs.Finding.{finding, finding_by}
+use Rattle.pie_audit.specs.Finding.{finding}
 use Rattle.pie_explain.specs.declared.which.Which.{Which}
 use Rattle.pie_explain.specs.declared.which.Which.TheVariants.{Number, Tag, Lost, Marked, All}
+use Rattle.pie_explain.proofs.ExplainFacts.{appends-more}
 use Rattle.pie_explain.specs.Answer.{HasExplained, IsAsAudited, IsSaid, answer_since, none_picked}
 use Rattle.pie_explain.specs.declared.fault.ExplainFault.TheVariants as fault
 
--- what waits on the page is ended, and written out
-appends-ended : (old mid now : Option (List ℕ)) (page ended text more : List ℕ) → Appends old (append_known mid page) text → ended ≡ page ++ more
-    → Appends mid now ended
-    → Appends old now (text ++ more)
-appends-ended None mid now page ended text more h e w = tt
-appends-ended (Some xs) None now page ended text more h e w = absurd h
-appends-ended (Some xs) (Some ys) None page ended text more h e w = absurd w
-appends-ended (Some xs) (Some ys) (Some zs) page ended text more h e w =
-    w ∙ ap (λ (l : List ℕ). ys ++ l) e ∙ sym (append_assoc ys page more) ∙ ap (λ (l : List ℕ). l ++ more) h ∙ append_assoc xs text more
+-- what waits on the page was written out
+all-written : (old mid now : Option (List ℕ)) (page text : List ℕ) → Appends old (append_known mid page) text → Appends mid now page
+    → Appends old now text
+all-written None mid now page text h w = tt
+all-written (Some xs) None now page text h w = absurd h
+all-written (Some xs) (Some ys) None page text h w = absurd w
+all-written (Some xs) (Some ys) (Some zs) page text h w = w ∙ h
 
--- the whole tale was written
-pub appends-whole : (old mid now : Option (List ℕ)) (page ended tale whole : List ℕ) → Appends old (append_known mid page) tale
-    → Grows tale whole page ended → Appends mid now ended
-    → Appends old now whole
-appends-whole old mid now page ended tale whole h grows w =
-    subst (λ (l : List ℕ). Appends old now l) (sym grows.turned) (appends-ended old mid now page ended tale grows.more h grows.grown w)
-
--- how many were explained counts only where none differs
-pub answered-same : (start : Start) (opening : Opening) (choice : Selection) (lines : List Line) (differs : Option ℕ) (explained : ℕ)
-    → differs ≡ first_difference opening lines → (differs ≡ None → explained ≡ length (explanations_since start opening choice lines))
-    → answered choice start.events explained (finding opening lines)
-    ≡ answered choice start.events (length (explanations_since start opening choice lines)) (finding opening lines)
-unfolding finding
-answered-same start opening choice lines differs explained is counted = by (first_difference opening lines) (λ none. counted (is ∙ none))
-  where
-    by : (o : Option ℕ) → (o ≡ None → explained ≡ length (explanations_since start opening choice lines))
-        → answered choice start.events explained (finding_by o (event_count lines))
-        ≡ answered choice start.events (length (explanations_since start opening choice lines)) (finding_by o (event_count lines))
-    by (Some event) counted = refl
-    by None counted = ap (λ (n : ℕ). answered choice start.events n (finding_by None (event_count lines))) (counted refl)
-
--- .. so the text is written, and all lines were looked at
-pub closes : (start : Start) (opening : Opening) (choice : Selection) (tale whole : List Explained → List ℕ) (shows : List Explained → Type 0)
-    (lines : List Line) (follower : Follower) (explained : ℕ) (written : Result (Unit {0}) TraceFault) (old mid now : Option (List ℕ))
-    (page ended : List ℕ) → start.events ≡ follower.before
+-- .. so the whole tale is written, and all lines were looked at
+pub closes : {start : Start} {opening : Opening} {choice : Selection} {tale : List Explained → List ℕ} {shows : List Explained → Type 0}
+    {lines : List Line} {explained : ℕ} {old : Option (List ℕ)} {page ended : List ℕ} (whole : List Explained → List ℕ) (follower : Follower)
+    (mid now : Option (List ℕ)) → start.events ≡ follower.before
     → Explains start opening choice tale shows lines follower.auditor follower.set_by explained old (append_known mid page)
     → Grows (tale (explanations_since start opening choice lines)) (whole (explanations_since start opening choice lines)) page ended
-    → OnOk written (Appends mid now ended)
-    → OnOk written ((said : List ℕ) × IsSaid choice whole start opening lines said × Appends old now said
-    × HasExplained choice start opening lines follower explained)
-closes start opening choice tale whole shows lines follower explained (Ok done) old mid now page ended count was grows wrote =
+    → Appends mid now ended
+    → (said : List ℕ) × IsSaid choice whole start opening lines said × Appends old now said
+    × HasExplained choice start opening lines follower explained
+closes {start} {opening} {choice} {tale} {lines = lines} {old = old} {page} {ended} whole follower mid now count was grows wrote =
     let all = explanations_since start opening choice lines in (
       whole all,
       refl,
-      appends-whole old mid now page ended (tale all) (whole all) was.written grows wrote,
+      rw grows.turned (all-written old mid now ended (tale all ++ grows.more)
+          (appends-more old mid page ended (tale all) grows.more was.written grows.grown) wrote),
       (count, was.follows.audits, was.counted),
     )
-closes start opening choice tale whole shows lines follower explained (Err why) old mid now page ended count was grows wrote = tt
 
 -- ---- as its audit
 

@@ -1,6 +1,5 @@
 -- Texts that go on from the middle of a history: what they tell, worked out by hand.
-use Rattle.pie_explain.proofs.Names.{ℕ, ◌≡◌, ◌&&◌, nat_le, nat_lt, Bool, true, false, Some, None, refl, arith, nat_tests, no_event, Start}
-use Rattle.pie_explain.proofs.Names.{from_opening, setter_told}
+use Rattle.pie_explain.proofs.Names.{◌≡◌, Bool, true, false, Some, None, refl, no_event, Start, from_opening, setter_told}
 use Rattle.pie_explain.specs.declared.fault.ExplainFault.TheVariants.{Earlier, NoEvent}
 use Rattle.pie_event.specs.declared.setter.Setter.TheVariants.{Event, Opening, Untold}
 use Rattle.pie_event.specs.Setter.{setter_number, setter_from}
@@ -21,14 +20,7 @@ numbers : (setter_from None ≡ Untold) × (setter_from (Some 0) ≡ Opening) ×
     × (setter_number Untold ≡ None) × (setter_number Opening ≡ None) × (setter_number (Event 97) ≡ Some 97)
 numbers = (refl, refl, refl, refl, refl, refl)
 
--- of events 101 to 200: event 5 and event 100 were before, event 0 and event 201 are none
+-- of events 101 to 200: event 5 and event 100 were before, event 0 and event 201 are none; of a text that opens no event was before
 no-events : (no_event 100 5 200 ≡ Earlier 5 100) × (no_event 100 100 200 ≡ Earlier 100 100) × (no_event 100 0 200 ≡ NoEvent 0 200)
-    × (no_event 100 201 200 ≡ NoEvent 201 200)
-no-events = (refl, refl, refl, refl)
-
--- of a text that opens no event was before
-opened : (event events : ℕ) → no_event 0 event events ≡ NoEvent event events
-opened event events = rw never refl
-  where
-    never : nat_lt 0 event && nat_le event 0 ≡ false
-    never = grind (arith, nat_tests)
+    × (no_event 100 201 200 ≡ NoEvent 201 200) × (no_event 0 0 4 ≡ NoEvent 0 4) × (no_event 0 5 4 ≡ NoEvent 5 4)
+no-events = (refl, refl, refl, refl, refl, refl)

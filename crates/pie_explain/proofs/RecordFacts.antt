@@ -2,9 +2,8 @@
 use Rattle.std.proofs.Common.{◌≡◌, ℕ, List, [], ◌∷◌, ◌++◌, refl, sym, ap, ◌∙◌, append_assoc, codes}
 use Rattle.std.specs.Prelude.{Result, Ok, Err, OnOk}
 use Rattle.pie_explain.specs.declared.explanation.Explained.{Explained}
-use Rattle.pie_explain.specs.Record.{active_field, head_fields, held_fields, line_of, met_fields, more_fields, most_fields, onto, packet_fields}
+use Rattle.pie_explain.specs.Record.{active_field, line_of, most_fields, onto}
 use Rattle.pie_explain.specs.Record.{record_of}
-use Rattle.pie_explain.specs.Which.{packet_of}
 
 -- fields before the last, which stands at the end of the line
 line-onto : (fields : List (List ℕ)) (last : List ℕ) → line_of (fields ++ last ∷ []) ≡ onto fields (last ++ codes "\n")
@@ -18,22 +17,7 @@ pub onto-append : (fields : List (List ℕ)) (front rest : List ℕ) → onto fi
 onto-append [] front rest = refl
 onto-append (f ∷ fs) front rest = append_assoc f (44 ∷ onto fs front) rest ∙ ap (λ (l : List ℕ). f ++ (44 ∷ l)) (onto-append fs front rest)
 
--- a record's fields up to the numbers after the event
-abbrev pub front_of : Explained → List (List ℕ)
-front_of all = head_fields all.told ++ packet_fields (packet_of all.told.event) ++ met_fields all.told ++ more_fields all.told
-
--- where its first fields were written, and those after the event
-pub most-written : {A E : Type 0} (result : Result A E) (all : Explained) (old with_front new : List ℕ)
-    → with_front ≡ old ++ onto (front_of all) []
-    → OnOk result (new ≡ with_front ++ onto (held_fields all.after all.delay) [])
-    → OnOk result (new ≡ old ++ onto (most_fields all) [])
-most-written (Err why) all old with_front new front-is is = tt
-most-written (Ok done) all old with_front new front-is is =
-    let held : List ℕ = onto (held_fields all.after all.delay) [] in
-    is ∙ ap (λ (l : List ℕ). l ++ held) front-is ∙ append_assoc old (onto (front_of all) []) held
-    ∙ ap (λ (l : List ℕ). old ++ l) (onto-append (front_of all) [] held)
-
--- .. and then the last of them
+-- where all fields but the last were written, and then the last of them
 pub last-written : {A E : Type 0} (result : Result A E) (all : Explained) (old with_most new : List ℕ)
     → with_most ≡ old ++ onto (most_fields all) []
     → OnOk result (new ≡ with_most ++ (active_field all.after.active ++ codes "\n"))

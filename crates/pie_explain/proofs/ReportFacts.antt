@@ -1,6 +1,5 @@
 -- Explanations one by one, as a report.
 use Rattle.std.proofs.Common.{◌≡◌, ◌∙◌, ℕ, List, [], ◌∷◌, ◌++◌, refl, sym, ap, append_assoc}
-use Rattle.std.specs.Prelude.{Result, Ok, Err, OnOk, ⊤}
 use Rattle.std.specs.List.{flat_map}
 use Rattle.std.proofs.lemmas.List.{append-nil}
 use Rattle.std.proofs.lemmas.List.Concat.{flat_map-append}
@@ -21,19 +20,10 @@ said-none form = refl
 pub pages-none : (form : Form) → pages form [] ≡ header form
 pages-none form = ap (λ (text : List ℕ). header form ++ text) (said-none form) ∙ append-nil (header form)
 
-pub pages-told : {E : Type 0} (result : Result (Unit {0}) E) (form : Form) (all : List Explained) (told : Explained) (old now : List ℕ)
-    → OnOk result (now ≡ old ++ said_of form told)
-    → OnOk result (⊤ × Grows (pages form all) (pages form (all ++ told ∷ [])) old now)
-pages-told (Err why) form all told old now is = tt
-pages-told (Ok done) form all told old now is = (
-  tt,
-  record {
-    more = said_of form told;
-    grown = is;
-    turned = ap (λ (text : List ℕ). header form ++ text) (said-push form all told)
-        ∙ sym (append_assoc (header form) (said form all) (said_of form told));
-  },
-)
-
-pub pages-ended : (form : Form) (all : List Explained) (page : List ℕ) → Grows (pages form all) (pages form all) page page
-pages-ended form all page = record { more = []; grown = sym (append-nil page); turned = sym (append-nil (pages form all)) }
+pub pages-told : (form : Form) (all : List Explained) (told : Explained) (old now : List ℕ) → now ≡ old ++ said_of form told
+    → Grows (pages form all) (pages form (all ++ told ∷ [])) old now
+pages-told form all told old now is = record {
+  more = said_of form told;
+  grown = is;
+  turned = rw (said-push form all told) (sym (append_assoc (header form) (said form all) (said_of form told)));
+}

@@ -11,7 +11,7 @@ use Rattle.pie_explain.specs.declared.fault.ExplainFault.{ExplainFault}
 use Rattle.pie_explain.specs.declared.fault.ExplainFault.TheVariants.{Trace, Differs, Earlier, NoEvent, NoTag, NoneWithin}
 use Rattle.pie_explain.specs.declared.which.Which.{Which}
 use Rattle.pie_explain.specs.declared.which.Which.TheVariants.{Number, Tag, Lost, Marked, All}
-use Rattle.pie_explain.specs.Since.{explanations_since}
+use Rattle.pie_explain.specs.Explanations.{explanations_since}
 use Rattle.pie_audit.specs.declared.auditor.Finding.TheVariants as finding
 
 -- why an event is not explained that is none of those of a text: so many were before it, and so many are up to its end
@@ -52,12 +52,12 @@ IsAsAudited audited (Err NoneWithin) = (events : ℕ) × (audited ≡ Ok (Clean 
 -- ---- how far explaining has come
 
 -- these lines were looked at, of which a text has those after its beginning, and were shown their chosen events, of which the tale joined what was
--- there before; where none differs, these were counted
+-- there before, and which were counted
 pub record Explains (start : Start) (opening : Opening) (choice : Selection) (tale : List Explained → List ℕ) (shows : List Explained → Type 0)
     (lines : List Line) (auditor : AuditorView) (set_by : Setter) (explained : ℕ) (before now : Option (List ℕ)) : Type 0 where
   pub follows : Follows start opening lines auditor set_by
-  pub counted : auditor.differs ≡ None → explained ≡ length (explanations_since start opening choice lines)
-  pub few : auditor.differs ≡ None → explained ≤ event_count lines
+  pub counted : explained ≡ length (explanations_since start opening choice lines)
+  pub few : explained ≤ event_count lines
   pub shown : shows (explanations_since start opening choice lines)
   pub written : Appends before now (tale (explanations_since start opening choice lines))
 
@@ -70,4 +70,4 @@ IsSaid choice whole start opening lines said = said ≡ whole (explanations_sinc
 -- all lines were looked at, and the explained events counted
 abbrev pub HasExplained : Selection → Start → Opening → List Line → Follower → ℕ → Type 0
 HasExplained choice start opening lines follower explained = (start.events ≡ follower.before) × Audits opening follower.auditor lines
-    × (follower.auditor.differs ≡ None → explained ≡ length (explanations_since start opening choice lines))
+    × (explained ≡ length (explanations_since start opening choice lines))

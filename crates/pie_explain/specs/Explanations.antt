@@ -1,8 +1,8 @@
 -- What there is to say of the events of a history's lines.
-use Rattle.std.specs.Prelude.{◌+◌, ◌∷◌, ◌++◌}
+use Rattle.std.specs.Prelude.{◌+◌, ◌∷◌, ◌++◌, if◌then◌else◌}
 use Rattle.pie_explain.specs.Names.{ℕ, Bool, true, false, List, [], Option, Some, None, option_map, filter_map, Opening, Line, Made, event_count}
 use Rattle.pie_explain.specs.Names.{latest_clock, events_of, first_difference, Explained, Explanation, Selection, Setter, picks, explanation, moment_of}
-use Rattle.pie_explain.specs.Names.{with_after, setter_after, setter_by}
+use Rattle.pie_explain.specs.Names.{with_after, setter_after, setter_by, setter_told, nat_lt, Start}
 use Rattle.pie_record.specs.declared.history_record.Line.TheVariants.{Unmakeable, Note}
 use Rattle.pie_audit.specs.Finding.{LinePlace, line_places}
 use Rattle.pie_record.specs.declared.history_record.Line.TheVariants as line
@@ -39,3 +39,17 @@ told_at opening choice place =
 -- what there is to say of the chosen events of these lines, in their order
 unfoldable pub explanations : Opening → Selection → List Line → List Explained
 explanations opening choice lines = filter_map (told_at opening choice) (line_places lines)
+
+-- ---- of a text that goes on from the middle of a history: those of the whole, of the events after its beginning
+
+-- an explanation, as the text gives it
+abbrev pub as_told : Start → Explained → Explained
+as_told start one = record one { told = record one.told { set_by = setter_told start one.told.set_by } }
+
+-- .. where it is of an event of the text
+abbrev pub told_since : Start → Explained → Option Explained
+told_since start one = if nat_lt start.events one.told.number then Some (as_told start one) else None
+
+-- what there is to say of the chosen events of a history of these lines, of those that a text has which begins so
+unfoldable pub explanations_since : Start → Opening → Selection → List Line → List Explained
+explanations_since start opening choice lines = filter_map (told_since start) (explanations opening choice lines)

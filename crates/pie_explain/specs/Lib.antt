@@ -7,11 +7,9 @@ pub mod Report
 pub mod Output
 pub mod Names
 pub mod Explanations
-pub mod Since
 pub mod Answer
 pub mod Either
 unfoldable pub use Names.*
 unfoldable pub use Explanations.*
-unfoldable pub use Since.*
 unfoldable pub use Answer.*
 unfoldable pub use Either.*

@@ -14,6 +14,9 @@ use pie_queue::{Ecn, Packet};
 use pie_record::Clock;
 use std::alloc::AllocError;
 
+/// Whether the words were written: they are, unless there is no memory.
+type Written = Result<(), AllocError>;
+
 /// An ECN field as RFC 3168 names it.
 fn ecn_name(ecn: Ecn) -> &'static str
     ensures { result.now ≡ ecn_name ecn }
@@ -42,7 +45,7 @@ fn verdict_text(answer: Answer) -> &'static str
 
 /// The beginning of the first line of an event about a packet.
 #[tactic(auto, unfolding(crate::specs::Words::packet_words))]
-fn push_packet(page: &mut String, number: u64, packet: Packet) -> Result<(), AllocError>
+fn push_packet(page: &mut String, number: u64, packet: Packet) -> Written
     ensures { OnOk result (string_bytes page.new ≡ string_bytes page.old ++ packet_words number packet) }
 {
     let Packet { tag, size, ecn } = packet;
@@ -51,7 +54,7 @@ fn push_packet(page: &mut String, number: u64, packet: Packet) -> Result<(), All
 }
 
 /// The first line of an event with no packet, and what follows there.
-fn push_event(page: &mut String, number: u64, rest: &str) -> Result<(), AllocError>
+fn push_event(page: &mut String, number: u64, rest: &str) -> Written
     ensures { OnOk result (string_bytes page.new ≡ string_bytes page.old ++ joined (codes "event " ∷ decimal number ∷ rest.now ∷ [])) }
 {
     write!(page, "event {number}{rest}")
@@ -59,12 +62,7 @@ fn push_event(page: &mut String, number: u64, rest: &str) -> Result<(), AllocErr
 
 /// The first lines of a departure.
 #[tactic(auto, unfolding(crate::specs::Words::departure_words))]
-fn push_departure(
-    page: &mut String,
-    number: u64,
-    answer: Answer,
-    waited: u64,
-) -> Result<(), AllocError>
+fn push_departure(page: &mut String, number: u64, answer: Answer, waited: u64) -> Written
     ensures { OnOk result (string_bytes page.new ≡ string_bytes page.old ++ departure_words number answer waited) }
 {
     match answer {
@@ -77,32 +75,9 @@ fn push_departure(
     }
 }
 
-/// The first lines of an update that took a delay.
-#[tactic(auto, unfolding(crate::specs::Words::update_words))]
-fn push_updated(
-    page: &mut String,
-    number: u64,
-    delay: u64,
-    prob: u64,
-    burst: u64,
-) -> Result<(), AllocError>
-    ensures { OnOk result (string_bytes page.new ≡ string_bytes page.old ++ update_words number true (Updated delay prob burst)) }
-{
-    let (delay, prob, burst) = (Millis(delay), PerCent(prob), Millis(burst));
-    write!(
-        page,
-        "event {number}: an update\n  it took a delay of {delay}, and made the probability {prob}\n  and the burst allowance {burst}\n"
-    )
-}
-
 /// The first lines of an update.
 #[tactic(auto, unfolding(crate::specs::Words::update_words))]
-fn push_update(
-    page: &mut String,
-    number: u64,
-    active: bool,
-    answer: Answer,
-) -> Result<(), AllocError>
+fn push_update(page: &mut String, number: u64, active: bool, answer: Answer) -> Written
     ensures { OnOk result (string_bytes page.new ≡ string_bytes page.old ++ update_words number active answer) }
 {
     if !active {
@@ -113,42 +88,32 @@ fn push_update(
         );
     }
     match answer {
-        Answer::Updated { delay, prob, burst } => push_updated(page, number, delay, prob, burst),
+        Answer::Updated { delay, prob, burst } => {
+            let (delay, prob, burst) = (Millis(delay), PerCent(prob), Millis(burst));
+            write!(
+                page,
+                "event {number}: an update\n  it took a delay of {delay}, and made the probability {prob}\n  and the burst allowance {burst}\n"
+            )
+        }
         _ => push_event(page, number, ": an update\n"),
     }
 }
 
-/// The first line of an arrival.
-fn push_arrival(
-    page: &mut String,
-    number: u64,
-    packet: Packet,
-    answer: Answer,
-) -> Result<(), AllocError>
-    ensures { OnOk result (string_bytes page.new ≡ string_bytes page.old
-        ++ joined (packet_words number packet ∷ verdict_text answer ∷ codes "\n" ∷ [])) }
-{
-    push_packet(page, number, packet)?;
-    let verdict = verdict_text(answer);
-    write!(page, "{verdict}\n")
-}
-
 /// The first lines: what the event did.
 #[tactic(auto, unfolding(crate::specs::Words::deed_words))]
-fn push_deed(
-    page: &mut String,
-    number: u64,
-    active: bool,
-    command: Command,
-    answer: Answer,
-    waited: u64,
-) -> Result<(), AllocError>
-    ensures { OnOk result (string_bytes page.new ≡ string_bytes page.old ++ deed_words number active command answer waited) }
+fn push_deed(page: &mut String, told: &Explanation) -> Written
+    ensures { OnOk result (string_bytes page.new ≡ string_bytes page.old
+        ++ deed_words told.now.number told.now.before.active told.now.event.command told.now.event.answer told.now.waited) }
 {
-    match command {
-        Command::Arrive { packet, .. } => push_arrival(page, number, packet, answer),
-        Command::Depart { .. } => push_departure(page, number, answer, waited),
-        Command::Update { .. } => push_update(page, number, active, answer),
+    let (number, answer) = (told.number, told.event.answer);
+    match told.event.command {
+        Command::Arrive { packet, .. } => {
+            push_packet(page, number, packet)?;
+            let verdict = verdict_text(answer);
+            write!(page, "{verdict}\n")
+        }
+        Command::Depart { .. } => push_departure(page, number, answer, told.waited),
+        Command::Update { .. } => push_update(page, number, told.before.active, answer),
         Command::Reset { .. } => push_event(page, number, ": a reset\n"),
         Command::SetParams { .. } => push_event(page, number, ": new parameters\n"),
     }
@@ -156,7 +121,7 @@ fn push_deed(
 
 /// Why a picked packet was marked or dropped.
 #[tactic(auto, unfolding(crate::specs::Words::picked_words))]
-fn push_fate(page: &mut String, fate: Fate) -> Result<(), AllocError>
+fn push_fate(page: &mut String, fate: Fate) -> Written
     ensures { OnOk result (string_bytes page.new ≡ string_bytes page.old ++ picked_words fate) }
 {
     match fate {
@@ -180,7 +145,7 @@ fn push_fate(page: &mut String, fate: Fate) -> Result<(), AllocError>
 
 /// What the probability comes to for a packet whose size scales it; nothing where that is the probability itself.
 #[tactic(auto, unfolding(crate::specs::Words::scaled_words))]
-fn push_scaled(page: &mut String, prob: u64, counted: u64) -> Result<(), AllocError>
+fn push_scaled(page: &mut String, prob: u64, counted: u64) -> Written
     ensures { OnOk result (string_bytes page.new ≡ string_bytes page.old ++ scaled_words prob counted) }
 {
     if counted == prob {
@@ -195,7 +160,7 @@ fn push_scaled(page: &mut String, prob: u64, counted: u64) -> Result<(), AllocEr
 
 /// What was accumulated, with what the probability counts as for this arrival, below what that comes to.
 #[tactic(auto, unfolding(crate::specs::Words::sum_words))]
-fn push_sum(page: &mut String, prob: u64, accu: u64, counted: u64) -> Result<(), AllocError>
+fn push_sum(page: &mut String, prob: u64, accu: u64, counted: u64) -> Written
     ensures { OnOk result (string_bytes page.new ≡ string_bytes page.old ++ sum_words prob accu counted) }
 {
     push_scaled(page, prob, counted)?;
@@ -220,7 +185,7 @@ fn counted_name(prob: u64, counted: u64) -> &'static str
 
 /// Why nothing could pick an arrival: the probability is 0, or comes to it.
 #[tactic(auto, unfolding(crate::specs::Words::never_words))]
-fn push_never(page: &mut String, prob: u64) -> Result<(), AllocError>
+fn push_never(page: &mut String, prob: u64) -> Written
     ensures { OnOk result (string_bytes page.new ≡ string_bytes page.old ++ never_words prob) }
 {
     if prob == 0 {
@@ -231,7 +196,7 @@ fn push_never(page: &mut String, prob: u64) -> Result<(), AllocError>
 
 /// Why an arrival was decided so, at this probability.
 #[tactic(auto, unfolding(crate::specs::Words::cause_words))]
-fn push_cause(page: &mut String, shown: u64, cause: Cause) -> Result<(), AllocError>
+fn push_cause(page: &mut String, shown: u64, cause: Cause) -> Written
     ensures { OnOk result (string_bytes page.new ≡ string_bytes page.old ++ cause_words shown cause) }
 {
     match cause {
@@ -271,13 +236,7 @@ fn push_cause(page: &mut String, shown: u64, cause: Cause) -> Result<(), AllocEr
 }
 
 /// What was accumulated, and what it is compared with.
-fn push_against(
-    page: &mut String,
-    shown: u64,
-    accu: u64,
-    prob: u64,
-    against: &str,
-) -> Result<(), AllocError>
+fn push_against(page: &mut String, shown: u64, accu: u64, prob: u64, against: &str) -> Written
     ensures { OnOk result (string_bytes page.new ≡ string_bytes page.old ++ joined (sum_words shown accu prob ∷ against.now ∷ [])) }
 {
     push_sum(page, shown, accu, prob)?;
@@ -294,7 +253,7 @@ fn push_compared(
     word: u64,
     outcome: &str,
     compares: &str,
-) -> Result<(), AllocError>
+) -> Written
     ensures { OnOk result (string_bytes page.new ≡ string_bytes page.old
         ++ joined (sum_words shown accu prob ∷ compared_words (counted_name shown prob) word prob outcome.now compares.now ∷ [])) }
 {
@@ -308,7 +267,7 @@ fn push_compared(
 
 /// Why an arrival was decided so that was considered, where the probability counted as one above 0.
 #[tactic(auto, unfolding(crate::specs::Words::considered_words))]
-fn push_considered(page: &mut String, shown: u64, cause: Cause) -> Result<(), AllocError>
+fn push_considered(page: &mut String, shown: u64, cause: Cause) -> Written
     ensures { OnOk result (string_bytes page.new ≡ string_bytes page.old ++ considered_words shown cause) }
 {
     match cause {
@@ -337,12 +296,7 @@ fn push_considered(page: &mut String, shown: u64, cause: Cause) -> Result<(), Al
 
 /// How long what decided an arrival goes on, where a bound says it, the last update having been at this moment.
 #[tactic(auto, unfolding(crate::specs::Words::lasting_words))]
-fn push_lasting(
-    page: &mut String,
-    clock: Option<Clock>,
-    last: u64,
-    cause: Cause,
-) -> Result<(), AllocError>
+fn push_lasting(page: &mut String, clock: Option<Clock>, last: u64, cause: Cause) -> Written
     ensures { OnOk result (string_bytes page.new ≡ string_bytes page.old ++ lasting_words clock last cause) }
 {
     match cause {
@@ -374,7 +328,7 @@ fn push_reason(
     clock: Option<Clock>,
     before: &Registers,
     cause: Option<Cause>,
-) -> Result<(), AllocError>
+) -> Written
     ensures { OnOk result (string_bytes page.new ≡ string_bytes page.old ++ reason_words clock before.now cause) }
 {
     match cause {
@@ -388,7 +342,7 @@ fn push_reason(
 
 /// The probability before the event, and what set it.
 #[tactic(auto, unfolding(crate::specs::Words::setter_words))]
-fn push_setter(page: &mut String, set_by: Setter, before: &Registers) -> Result<(), AllocError>
+fn push_setter(page: &mut String, set_by: Setter, before: &Registers) -> Written
     ensures { OnOk result (string_bytes page.new ≡ string_bytes page.old ++ setter_words set_by before.now) }
 {
     let prob = PerCent(before.prob);
@@ -401,12 +355,7 @@ fn push_setter(page: &mut String, set_by: Setter, before: &Registers) -> Result<
 
 /// When the last of so many updates was.
 #[tactic(auto, unfolding(crate::specs::Words::last_words))]
-fn push_last(
-    page: &mut String,
-    clock: Option<Clock>,
-    updates: u64,
-    last: u64,
-) -> Result<(), AllocError>
+fn push_last(page: &mut String, clock: Option<Clock>, updates: u64, last: u64) -> Written
     ensures { OnOk result (string_bytes page.new ≡ string_bytes page.old ++ last_words clock updates last) }
 {
     if updates == 0 {
@@ -433,11 +382,7 @@ fn turned_text(was_active: bool, is_active: bool) -> &'static str
 
 /// What the controller held before the event.
 #[tactic(auto, unfolding(crate::specs::Words::before_words))]
-fn push_before(
-    page: &mut String,
-    clock: Option<Clock>,
-    told: &Explanation,
-) -> Result<(), AllocError>
+fn push_before(page: &mut String, clock: Option<Clock>, told: &Explanation) -> Written
     ensures { OnOk result (string_bytes page.new ≡ string_bytes page.old ++ before_words clock told.now) }
 {
     let before = &told.before;
@@ -454,11 +399,7 @@ fn push_before(
 
 /// Writes an explanation in words, its moments as times of day where this record tells them.
 #[tactic(auto, unfolding(crate::specs::Words::words_by))]
-pub(crate) fn push_text(
-    page: &mut String,
-    clock: Option<Clock>,
-    all: &Explained,
-) -> Result<(), AllocError>
+pub(crate) fn push_text(page: &mut String, clock: Option<Clock>, all: &Explained) -> Written
     ensures { OnOk result (string_bytes page.new ≡ string_bytes page.old ++ words_by clock all.now) }
 {
     let told = &all.told;
@@ -468,14 +409,7 @@ pub(crate) fn push_text(
         clock,
         moment: told.moment,
     };
-    push_deed(
-        page,
-        told.number,
-        was_active,
-        event.command,
-        event.answer,
-        told.waited,
-    )?;
+    push_deed(page, told)?;
     write!(page, "  at {now}, by caller {caller}\n")?;
     push_reason(page, clock, &told.before, told.cause)?;
     page.push_str(turned_text(was_active, all.after.active))?;

@@ -4,12 +4,12 @@ use Rattle.pie_book.specs.Core.{Shows}
 use Rattle.pie_explain.proofs.explainer.chosen.Goals as goal
 
 -- what is said of the next event, by the numbers that an auditor holds
-told-next : (opening : Opening) (choice : Selection) (lines : List Line) (set_by : Setter) (event : Event) (auditor : AuditorView) (number moment : ℕ)
-    (clock : Option Clock) (picked : Bool) → auditor.differs ≡ None → Audits opening auditor lines
+told-next : {opening : Opening} {lines : List Line} {auditor : AuditorView} {number moment : ℕ} {clock : Option Clock} {picked : Bool}
+    (choice : Selection) (set_by : Setter) (event : Event) → auditor.differs ≡ None → Audits opening auditor lines
     → number ≡ event_count lines + 1 → moment ≡ moment_of opening (events_of lines) event → clock ≡ auditor.clock
     → picks choice number moment clock event ≡ picked
     → told_if picked (explanation opening (events_of lines) number event set_by clock) ≡ told_after opening choice lines set_by (Made event)
-told-next opening choice lines set_by event auditor number moment clock picked none audits number-is moment-is clock-is picked-is =
+told-next choice set_by event none audits number-is moment-is clock-is picked-is =
     rw (← picked-is, clock-is, (audits.agrees none).clock, moment-is, number-is) refl
 
 pub returns-then-not-picks : goal.returns-then-not-picks
@@ -17,8 +17,7 @@ returns-then-not-picks c = λ opening lines audits number.
     let shows : Shows opening c.core-core.result.now (events_of lines) = rw c.core-core.ensures (audits.agrees c.requires).shows in
     let unpicked : picks c.args.choice c.args.number c.moment_of-moment.result c.clock-clock.result c.args.event.now
     ≡ false = search rules in
-    told-next opening c.args.choice lines c.args.follower.now.set_by c.args.event.now c.args.follower.now.auditor c.args.number
-    c.moment_of-moment.result c.clock-clock.result false c.requires audits number
+    told-next c.args.choice c.args.follower.now.set_by c.args.event.now c.requires audits number
     (c.moment_of-moment.ensures opening (events_of lines) shows) c.clock-clock.ensures unpicked
 
 pub returns : goal.returns
@@ -26,7 +25,5 @@ returns c = λ opening lines audits number.
     let shows : Shows opening c.core-core.result.now (events_of lines) = rw c.core-core.ensures (audits.agrees c.requires).shows in
     let picked : picks c.args.choice c.args.number c.moment_of-moment.result c.clock-clock.result c.args.event.now
     ≡ true = search rules in
-    rw (c.begin.ensures.told opening (events_of lines) shows)
-    (told-next opening c.args.choice lines c.args.follower.now.set_by c.args.event.now c.args.follower.now.auditor c.args.number
-    c.moment_of-moment.result c.clock-clock.result true c.requires audits number
-    (c.moment_of-moment.ensures opening (events_of lines) shows) c.clock-clock.ensures picked)
+    rw (c.begin.ensures.told opening (events_of lines) shows) (told-next c.args.choice c.args.follower.now.set_by c.args.event.now c.requires audits
+    number (c.moment_of-moment.ensures opening (events_of lines) shows) c.clock-clock.ensures picked)

@@ -1,10 +1,6 @@
 use Rattle.pie_explain.specs.Words.{deed_words}
 use Rattle.pie_explain.proofs.text.push_deed.Goals as goal
 
-pub returns-in-Arrive : goal.returns-in-Arrive
-unfolding deed_words
-returns-in-Arrive c = rw c.in-Arrive.is c.push_arrival.ensures
-
 pub returns-in-Depart : goal.returns-in-Depart
 unfolding deed_words
 returns-in-Depart c = rw c.in-Depart.is c.push_departure.ensures

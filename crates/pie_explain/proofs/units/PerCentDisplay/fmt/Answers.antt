@@ -1,10 +1,10 @@
 use Rattle.std.proofs.Common.{append_assoc}
 use Rattle.std.proofs.Output.{has_written_of_eq}
 use Rattle.pie_explain.specs.Words.{per_cent}
-use Rattle.pie_explain.proofs.WordFacts.{four-digits}
+use Rattle.pie_explain.proofs.WordFacts.{padded}
 use Rattle.pie_explain.proofs.units.PerCentDisplay.fmt.Goals as goal
 
 pub returns-clause-writes : goal.returns-clause-writes
 unfolding per_cent
-returns-clause-writes g c = λ plain ok. has_written_of_eq _ _ _ _ _ (rw (c.laid_out.ensures, four-digits) (simp append_assoc))
+returns-clause-writes g c = λ plain ok. has_written_of_eq _ _ _ _ _ (rw (c.laid_out.ensures, padded) (simp append_assoc))
     (c.write.ensures.writes plain ok)

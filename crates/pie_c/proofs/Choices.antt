@@ -1,6 +1,6 @@
 -- The optional elements by their flags.
-use Rattle.pie_c.proofs.Names.{◌≡◌, ℕ, suc, ◌≤◌, ◌==◌, ◌&&◌, if◌then◌else◌, Bool, true, false, refl, arith, eqb-true, nat_tests, Half, Stamp, Random}
-use Rattle.pie_c.proofs.Names.{Uncapped, Scaled, usual, choices_of, elements_of}
+use Rattle.pie_c.proofs.Names.{Half, Random, Scaled, Uncapped, ◌≡◌, ℕ, suc, ◌≤◌, ◌==◌, ◌&&◌, if◌then◌else◌, Bool, true, refl, arith, Stamp, usual}
+use Rattle.pie_c.proofs.Names.{choices_of, elements_of}
 use Rattle.std.proofs.Common.{zero}
 use Rattle.std.proofs.lemmas.Bool.Decides.{Decides-below_and, Decides-eqb}
 use Rattle.pie_params.specs.declared.elements.Elements.{Elements}
@@ -14,71 +14,50 @@ use Rattle.pie_params.specs.declared.elements.Step.{Step}
 use Rattle.pie_params.specs.declared.elements.Step.TheVariants.{Capped}
 use Rattle.pie_params.specs.declared.elements.Size.{Size}
 use Rattle.pie_params.specs.declared.elements.Size.TheVariants.{Unscaled}
-use Rattle.pie_abi.specs.Choices.{decay_flag, delay_flag, picking_flag, size_flag, step_flag}
 
 of-parts : (d : Delay) (p : Picking) (t : Step) (z : Size) (c : Decay)
-    → elements_of (choices_of (record { delay = d; picking = p; step = t; size = z; decay = c }))
-    ≡ record { delay = d; picking = p; step = t; size = z; decay = c }
+    → (elements_of (choices_of (record { delay = d; picking = p; step = t; size = z; decay = c }))
+    ≡ record { delay = d; picking = p; step = t; size = z; decay = c })
+    × (choices_of (record { delay = d; picking = p; step = t; size = z; decay = c }) ≤ 31)
 unfolding elements_of choices_of
-of-parts Rate Derandomized Capped Unscaled Zero = refl
-of-parts Rate Derandomized Capped Unscaled Half = refl
-of-parts Rate Derandomized Capped Scaled Zero = refl
-of-parts Rate Derandomized Capped Scaled Half = refl
-of-parts Rate Derandomized Uncapped Unscaled Zero = refl
-of-parts Rate Derandomized Uncapped Unscaled Half = refl
-of-parts Rate Derandomized Uncapped Scaled Zero = refl
-of-parts Rate Derandomized Uncapped Scaled Half = refl
-of-parts Rate Random Capped Unscaled Zero = refl
-of-parts Rate Random Capped Unscaled Half = refl
-of-parts Rate Random Capped Scaled Zero = refl
-of-parts Rate Random Capped Scaled Half = refl
-of-parts Rate Random Uncapped Unscaled Zero = refl
-of-parts Rate Random Uncapped Unscaled Half = refl
-of-parts Rate Random Uncapped Scaled Zero = refl
-of-parts Rate Random Uncapped Scaled Half = refl
-of-parts Stamp Derandomized Capped Unscaled Zero = refl
-of-parts Stamp Derandomized Capped Unscaled Half = refl
-of-parts Stamp Derandomized Capped Scaled Zero = refl
-of-parts Stamp Derandomized Capped Scaled Half = refl
-of-parts Stamp Derandomized Uncapped Unscaled Zero = refl
-of-parts Stamp Derandomized Uncapped Unscaled Half = refl
-of-parts Stamp Derandomized Uncapped Scaled Zero = refl
-of-parts Stamp Derandomized Uncapped Scaled Half = refl
-of-parts Stamp Random Capped Unscaled Zero = refl
-of-parts Stamp Random Capped Unscaled Half = refl
-of-parts Stamp Random Capped Scaled Zero = refl
-of-parts Stamp Random Capped Scaled Half = refl
-of-parts Stamp Random Uncapped Unscaled Zero = refl
-of-parts Stamp Random Uncapped Unscaled Half = refl
-of-parts Stamp Random Uncapped Scaled Zero = refl
-of-parts Stamp Random Uncapped Scaled Half = refl
+of-parts Rate Derandomized Capped Unscaled Zero = (refl, omega arith)
+of-parts Rate Derandomized Capped Unscaled Half = (refl, omega arith)
+of-parts Rate Derandomized Capped Scaled Zero = (refl, omega arith)
+of-parts Rate Derandomized Capped Scaled Half = (refl, omega arith)
+of-parts Rate Derandomized Uncapped Unscaled Zero = (refl, omega arith)
+of-parts Rate Derandomized Uncapped Unscaled Half = (refl, omega arith)
+of-parts Rate Derandomized Uncapped Scaled Zero = (refl, omega arith)
+of-parts Rate Derandomized Uncapped Scaled Half = (refl, omega arith)
+of-parts Rate Random Capped Unscaled Zero = (refl, omega arith)
+of-parts Rate Random Capped Unscaled Half = (refl, omega arith)
+of-parts Rate Random Capped Scaled Zero = (refl, omega arith)
+of-parts Rate Random Capped Scaled Half = (refl, omega arith)
+of-parts Rate Random Uncapped Unscaled Zero = (refl, omega arith)
+of-parts Rate Random Uncapped Unscaled Half = (refl, omega arith)
+of-parts Rate Random Uncapped Scaled Zero = (refl, omega arith)
+of-parts Rate Random Uncapped Scaled Half = (refl, omega arith)
+of-parts Stamp Derandomized Capped Unscaled Zero = (refl, omega arith)
+of-parts Stamp Derandomized Capped Unscaled Half = (refl, omega arith)
+of-parts Stamp Derandomized Capped Scaled Zero = (refl, omega arith)
+of-parts Stamp Derandomized Capped Scaled Half = (refl, omega arith)
+of-parts Stamp Derandomized Uncapped Unscaled Zero = (refl, omega arith)
+of-parts Stamp Derandomized Uncapped Unscaled Half = (refl, omega arith)
+of-parts Stamp Derandomized Uncapped Scaled Zero = (refl, omega arith)
+of-parts Stamp Derandomized Uncapped Scaled Half = (refl, omega arith)
+of-parts Stamp Random Capped Unscaled Zero = (refl, omega arith)
+of-parts Stamp Random Capped Unscaled Half = (refl, omega arith)
+of-parts Stamp Random Capped Scaled Zero = (refl, omega arith)
+of-parts Stamp Random Capped Scaled Half = (refl, omega arith)
+of-parts Stamp Random Uncapped Unscaled Zero = (refl, omega arith)
+of-parts Stamp Random Uncapped Unscaled Half = (refl, omega arith)
+of-parts Stamp Random Uncapped Scaled Zero = (refl, omega arith)
+of-parts Stamp Random Uncapped Scaled Half = (refl, omega arith)
 
 pub elements-back : (e : Elements) → elements_of (choices_of e) ≡ e
-elements-back e = of-parts e.delay e.picking e.step e.size e.decay
+elements-back e = (of-parts e.delay e.picking e.step e.size e.decay).0
 
 pub few-choices : (e : Elements) → choices_of e ≤ 31
-unfolding choices_of
-few-choices e = omega (arith, delay e.delay, picking e.picking, step e.step, size e.size, decay e.decay)
-  where
-    delay : (d : Delay) → delay_flag d ≤ 1
-    delay Rate = omega arith
-    delay Stamp = omega arith
-
-    picking : (p : Picking) → picking_flag p ≤ 2
-    picking Derandomized = omega arith
-    picking Random = omega arith
-
-    step : (t : Step) → step_flag t ≤ 4
-    step Capped = omega arith
-    step Uncapped = omega arith
-
-    size : (z : Size) → size_flag z ≤ 8
-    size Unscaled = omega arith
-    size Scaled = omega arith
-
-    decay : (c : Decay) → decay_flag c ≤ 16
-    decay Zero = omega arith
-    decay Half = omega arith
+few-choices e = (of-parts e.delay e.picking e.step e.size e.decay).1
 
 -- each number below one gives its flags back
 abbrev back_below : ℕ → Bool
@@ -94,8 +73,6 @@ choices-back n few =
 -- at most the first is chosen
 pub nearly_usual : (n : ℕ) → n ≤ 1 → elements_of n ≡ (if n == 1 then record usual { delay = Stamp } else usual)
 unfolding elements_of
-nearly_usual n h = by (n == 1) refl
-  where
-    by : (one : Bool) → (n == 1) ≡ one → elements_of n ≡ (if one then record usual { delay = Stamp } else usual)
-    by true e = rw (eqb-true n 1 e) refl
-    by false e = let none : n ≡ 0 = grind (arith, nat_tests) in rw none refl
+nearly_usual zero h = refl
+nearly_usual (suc zero) h = refl
+nearly_usual (suc (suc n)) h = absurd (omega (arith, h))

@@ -1,12 +1,10 @@
 -- The definitions on worked rows: each theorem computes.
-use Rattle.pie_c.proofs.Names.{◌≡◌, ◌^◌, true, false, refl, PieParams, PieState, usual, Half, Stamp, Random, Uncapped, Scaled, One, Held, accu_left}
-use Rattle.pie_c.proofs.Names.{arrived, capped, departed, opened, updated, verdict, arrival_of, arrival_refusal, packet_refusal, waited_refusal}
+use Rattle.pie_c.proofs.Names.{◌≡◌, ◌^◌, true, false, refl, PieParams, PieState, usual, Half, Stamp, Random, Uncapped, Scaled, One, accu_left}
+use Rattle.pie_c.proofs.Names.{arrived, capped, departed, opened, verdict, arrival_of, arrival_refusal, packet_refusal, waited_refusal}
 use Rattle.pie_c.proofs.Names.{departure_refusal, moment_refusal, reset_refusal, update_refusal, opening_refusal, raw_of, PieOpening, choices_of}
 use Rattle.pie_c.proofs.Names.{elements_of, are_in_range, is_choice_sound, held_in, is_activity_sound, is_control_sound, is_rate_sound, is_sound}
 use Rattle.pie_c.proofs.Names.{state_of, with_arrival, with_rate}
 use Rattle.std.proofs.Common.{◌+◌, ◌-◌}
-use Rattle.pie_control.specs.Delay.{delay_of}
-use Rattle.pie_control.specs.Next.{raw_step, tuning_divisor, tuned_step, decayed, next}
 use Rattle.pie_early.specs.Decision.{is_considered, is_picked}
 use Rattle.pie_c.specs.Calls.{state_refusal}
 use Rattle.pie_c.specs.Opening.{default_opening}
@@ -86,19 +84,3 @@ too_soon : (update_refusal start 0 14_999_999 ≡ 103) × (update_refusal start 
     × (update_refusal (record start { moment = 15_000_000 }) 0 3 ≡ 0)
 unfolding state_of held_in update_refusal is_sound are_in_range is_control_sound is_rate_sound is_activity_sound is_choice_sound choices_of elements_of
 too_soon = (refl, refl, refl)
-
--- three departures: a cycle opens, closes and opens, and closes
-abbrev after_two : Held
-after_two = departed (departed (opened One usual (raw_of defaults) 0) 1500 20000 0 1000) 16384 16384 0 12_001_000
-
-rates : ((state_of after_two).average ≡ 12_000_000) × ((state_of after_two).measuring ≡ 1)
-    × ((state_of (departed after_two 16384 0 0 32_001_000)).average ≡ 14_000_000) × ((state_of (departed after_two 16384 0 0 32_001_000)).cycle_start ≡ 0)
-unfolding state_of elements_of choices_of
-rates = (refl, refl, refl, refl)
-
-abbrev made : PieState
-made = state_of (updated (held_in (record start { average = 30_000_000 })) 16384 15_000_000)
-
-updates : (made.old_delay ≡ 30_000_000) × (made.prob ≡ 19_226_074) × (made.burst ≡ 135_000_000) × (made.last ≡ 15_000_000)
-unfolding held_in state_of delay_of next raw_step tuning_divisor tuned_step decayed elements_of choices_of
-updates = (refl, refl, refl, refl)

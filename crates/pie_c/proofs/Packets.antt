@@ -1,23 +1,22 @@
 -- What the calls for each packet leave of a sound state is what the controller then holds.
-use Rattle.pie_c.proofs.Names.{◌≡◌, ℕ, ◌≤◌, ◌<◌, ◌^◌, ◌==◌, ◌&&◌, min, if◌then◌else◌, nat_lt, Bool, true, false, List, [], ◌∷◌, Some, ◌++◌, arith}
-use Rattle.pie_c.proofs.Names.{refl, sym, ap, ◌∙◌, eqb-true, nat_tests, ArrivingPacket, Verdict, Depart, RawParams, first_bad, One, Two, Held}
-use Rattle.pie_c.proofs.Names.{accu_left, arrived, capped, count_kept_open, departed, is_unmeasured, cause, opened, passed, verdict, with_count}
-use Rattle.pie_c.proofs.Names.{name_of, place_of_cause, PieParams, PieState, is_bad_size, departure_refusal, if_taken, packet_refusal, unless_refused}
-use Rattle.pie_c.proofs.Names.{PieOpening, Opening, opening_in, opening_of, opening_refusal, held_by_opening, params_of, raw_of, choices_of}
-use Rattle.pie_c.proofs.Names.{elements_of, last_moment, profile_number, profile_of, held_in, is_sound, state_of, takes_stamps, are_in_range}
-use Rattle.pie_c.proofs.Names.{with_arrival, with_departure, with_rate, with_registers}
+use Rattle.pie_c.proofs.Names.{reset_refusal, ◌≡◌, ℕ, ◌≤◌, ◌<◌, ◌^◌, ◌==◌, ◌&&◌, min, if◌then◌else◌, nat_lt, Bool, true, false, List, [], ◌∷◌, Some}
+use Rattle.pie_c.proofs.Names.{◌++◌, arith, refl, sym, ap, ◌∙◌, eqb-true, nat_tests, ArrivingPacket, Verdict, Depart, RawParams, first_bad, One, Two}
+use Rattle.pie_c.proofs.Names.{Held, accu_left, arrived, capped, count_kept_open, departed, is_unmeasured, cause, opened, passed, verdict, with_count}
+use Rattle.pie_c.proofs.Names.{name_of, place_of_cause, PieParams, PieState, is_bad_size, departure_refusal, waited_refusal, moment_refusal, if_taken}
+use Rattle.pie_c.proofs.Names.{packet_refusal, unless_refused, PieOpening, Opening, opening_in, opening_of, opening_refusal, held_by_opening}
+use Rattle.pie_c.proofs.Names.{params_of, raw_of, choices_of, elements_of, last_moment, profile_number, profile_of, held_in, is_sound, state_of}
+use Rattle.pie_c.proofs.Names.{takes_stamps, are_in_range, with_arrival, with_departure, with_rate, with_registers}
 use Rattle.std.proofs.Common.{◌||◌, not, max, Ok}
-use Rattle.pie_aqm.specs.Calls.{Call, IsTaken, after_call, shown_by}
+use Rattle.pie_aqm.specs.Calls.{Arrive, Call, Change, IsTaken, Pass, Restart, after_call, shown_by}
 use Rattle.pie_aqm.specs.Events.{ControllerEvent, Opened}
 use Rattle.pie_params.specs.Range.{is_dq_threshold}
 use Rattle.std.specs.Prelude.{IsTrue, None}
 use Rattle.pie_aqm.specs.History.{Shows}
 use Rattle.pie_aqm.specs.Steps.{anew, bytes_with, changed, judged, reset, turns_on}
-use Rattle.pie_c.specs.Calls.{Arrives, Leaves, Makes, kept_if_refused}
+use Rattle.pie_c.specs.Calls.{Arrives, Departs, Leaves, Makes, Passes, Steps, kept_if_refused, params_refusal}
 use Rattle.pie_c.specs.Laws.{KeepsSound, LooksBack}
 use Rattle.pie_c.proofs.Choices.{choices-back}
-use Rattle.pie_c.proofs.Sound.{choice-from, held-sound, held-state, kept-by, params-from, parts-of, profile-back, state-held}
-use Rattle.pie_c.proofs.Sound.{state-sound}
+use Rattle.pie_c.proofs.Sound.{held-sound, held-state, kept-by, params-from, parts-of, profile-back, state-held, state-sound}
 
 -- ---- a call that nothing refuses
 
@@ -51,12 +50,9 @@ threshold-in params good =
     let power : IsTrue (is_dq_threshold params.dq_threshold) = grind (arith, nat_tests) in
     grind (arith, nat_tests, power)
 
-threshold-of : (s : PieState) → is_sound s ≡ true → s.params.dq_threshold ≤ 65536
-threshold-of s sound = threshold-in (raw_of s.params) (params-from s.params (parts-of s sound).params)
-
 pub threshold-held : (s : PieState) → is_sound s ≡ true → (held_in s).params.dq_threshold ≤ 65536
 unfolding held_in
-threshold-held s sound = threshold-of s sound
+threshold-held s sound = threshold-in (raw_of s.params) (parts-of s sound).params
 
 -- ---- what follows for a call that leaves this of a sound state: it stays sound, and shows the call
 
@@ -82,16 +78,7 @@ module _ (s t : PieState) (call : Call) (refusal : ℕ) (keeps : KeepsSound) (lo
   shows-call o events free shows =
       rw (left, free, held-state (after_call (held_in s) call)) (looks o events (held_in s) shows (threshold-held s sound) call)
 
--- all three, of a call that handed in this moment
-pub leaves : KeepsSound → LooksBack → (s t : PieState) (call : Call) (refusal : ℕ)
-    → (is_sound s ≡ true → t ≡ kept_if_refused refusal s (after_call (held_in s) call)) → (refusal ≡ 0 → IsTaken call) → Leaves s call refusal t
-leaves keeps looks s t call refusal left taken = record {
-  after = left;
-  sound = λ sound. stays-sound s t call refusal keeps looks sound (left sound) taken;
-  shows = λ o events sound. shows-call s t call refusal keeps looks sound (left sound) o events;
-}
-
--- .. of a call that checks the state
+-- all three
 pub makes : KeepsSound → LooksBack → (s t : PieState) (call : Call) (refusal : ℕ) → is_sound s ≡ true
     → t ≡ kept_if_refused refusal s (after_call (held_in s) call) → (refusal ≡ 0 → IsTaken call) → Makes s call refusal t
 makes keeps looks s t call refusal sound left taken = record {
@@ -100,25 +87,17 @@ makes keeps looks s t call refusal sound left taken = record {
   shows = shows-call s t call refusal keeps looks sound left;
 }
 
--- .. and where it is refused by this number
-pub unmade : (s : PieState) (call : Call) (refusal code : ℕ) → code ≡ refusal → (code == 0) ≡ false → Makes s call refusal s
-unmade s call refusal code is some = rw (← is) record {
+-- .. and where it is refused
+pub unmade : (s : PieState) (call : Call) (refusal : ℕ) → (refusal == 0) ≡ false → Makes s call refusal s
+unmade s call refusal some = record {
   after = rw some refl;
   sound = λ sound. sound;
-  shows = λ o events free. let none : (code == 0) ≡ true = rw free refl in cc;
+  shows = λ o events free. let none : (refusal == 0) ≡ true = rw free refl in cc;
 }
 
 -- a refused arrival leaves all as it was
-pub untouched : (s : PieState) (a : ArrivingPacket) (refusal moment code : ℕ) → code ≡ refusal → (code == 0) ≡ false → Arrives s a refusal moment code s
-untouched s a refusal moment code is some = rw (← is) record {
-  answer = rw some refl;
-  fields = rw some refl;
-  held = record {
-    after = λ sound. rw some refl;
-    sound = λ sound. sound;
-    shows = λ o events sound free. let none : (code == 0) ≡ true = rw free refl in cc;
-  };
-}
+pub untouched : (s : PieState) (a : ArrivingPacket) (refusal moment code : ℕ) → code ≡ refusal → (refusal == 0) ≡ false → Arrives s a refusal moment code s
+untouched s a refusal moment code is some = record { answer = rw (is, some) refl; fields = rw some refl; held = λ _. unmade s (Arrive a moment) refusal some }
 
 -- ---- the state after it
 
@@ -135,10 +114,10 @@ registers-state s h same kind chosen =
     λ i. record (with_registers s h) { params = params_of ((sym same) i); profile = (sym kind) i; choices = (sym chosen) i }
 
 kind-back : (s : PieState) → is_sound s ≡ true → profile_number (profile_of s.profile) ≡ s.profile
-kind-back s sound = let parts = parts-of s sound in profile-back (s.profile == 2) s refl parts.activity
+kind-back s sound = profile-back (s.profile == 2) s refl (parts-of s sound).activity
 
 chosen-back : (s : PieState) → is_sound s ≡ true → choices_of (elements_of s.choices) ≡ s.choices
-chosen-back s sound = let parts = parts-of s sound in choices-back s.choices (choice-from s parts.choice).known
+chosen-back s sound = choices-back s.choices (parts-of s sound).choices
 
 pub arrived-state : (s : PieState) (a : ArrivingPacket) (moment : ℕ) → is_sound s ≡ true
     → with_arrival s (arrived (held_in s) a moment) ≡ state_of (arrived (held_in s) a moment)
@@ -161,7 +140,7 @@ pub departed-state : (s : PieState) (size left since moment : ℕ) → is_sound 
     → with_departure s (departed (capped (held_in s)) size left since moment) ≡ state_of (departed (held_in s) size left since moment)
 unfolding held_in state_of elements_of
 departed-state s size left since moment sound =
-    ap (λ (h : Held). with_departure s (departed h size left since moment)) (capped-is (held_in s) (threshold-of s sound)) ∙ by (takes_stamps s) refl
+    ap (λ (h : Held). with_departure s (departed h size left since moment)) (capped-is (held_in s) (threshold-held s sound)) ∙ by (takes_stamps s) refl
   where
     two : Bool → Held → PieState
     two b h = if b then record s { moment = h.moment; waited = h.waited } else with_rate s h
@@ -185,17 +164,25 @@ unfolding held_in elements_of
 by-rate s size left since moment is = rw is refl
 
 -- what a departure leaves of each field
-pub departed-after : (s t : PieState) (size left since moment refusal : ℕ)
-    → t ≡ if_taken refusal s (with_departure s (departed (capped (held_in s)) size left since moment)) → is_sound s ≡ true
-    → t ≡ kept_if_refused refusal s (after_call (held_in s) (Depart size left since moment))
-departed-after s t size left since moment refusal is sound =
-    is ∙ ap (λ (u : PieState). if_taken refusal s u) (departed-state s size left since moment sound)
+left-by : KeepsSound → LooksBack → (s t : PieState) (size left since moment rest : ℕ) → let refusal = unless_refused (packet_refusal size left moment) rest in
+    t ≡ if_taken refusal s (with_departure s (departed (capped (held_in s)) size left since moment)) → Leaves s (Depart size left since moment) refusal t
+left-by keeps looks s t size left since moment rest is sound = let refusal = unless_refused (packet_refusal size left moment) rest in
+    makes keeps looks s t (Depart size left since moment) refusal sound
+    (is ∙ ap (λ (u : PieState). if_taken refusal s u) (departed-state s size left since moment sound)) (departed-moment size left moment rest)
+
+pub departs : KeepsSound → LooksBack → (s t : PieState) (size left since moment : ℕ)
+    → t ≡ if_taken (waited_refusal s size left since moment) s (with_departure s (departed (capped (held_in s)) size left since moment))
+    → Departs s size left since moment t
+departs keeps looks s t size left since moment is = record { fields = is; held = left-by keeps looks s t size left since moment _ is }
 
 -- .. and of one that is refused where delays come from time stamps
-pub rate-after : (s t : PieState) (size left moment : ℕ)
+pub departs_by_rate : KeepsSound → LooksBack → (s t : PieState) (size left moment : ℕ)
     → t ≡ if_taken (departure_refusal s size left moment) s (with_rate s (departed (capped (held_in s)) size left 0 moment))
-    → t ≡ if_taken (departure_refusal s size left moment) s (with_departure s (departed (capped (held_in s)) size left 0 moment))
-rate-after s t size left moment is = grind (arith, nat_tests, by-rate s size left 0 moment)
+    → Steps s (Depart size left 0 moment) (departure_refusal s size left moment) (with_rate s (departed (capped (held_in s)) size left 0 moment)) t
+departs_by_rate keeps looks s t size left moment is = record {
+  fields = is;
+  held = left-by keeps looks s t size left 0 moment _ (grind (arith, nat_tests, by-rate s size left 0 moment));
+}
 
 -- a packet that leaves the open cycle open changes its count and the moment alone
 abbrev pub cycle_limit : PieState → ℕ
@@ -226,6 +213,15 @@ unmeasured-state s h moment closed is = rw (is, closed) refl
 pub passed-state : (s : PieState) (moment : ℕ) → is_sound s ≡ true → record s { moment = max s.moment moment } ≡ state_of (passed (held_in s) moment)
 unfolding held_in state_of
 passed-state s moment sound = kept-by s (passed (held_in s) moment) (λ (t : PieState). record t { moment = max s.moment moment }) sound refl
+
+pub passes : KeepsSound → LooksBack → (s t : PieState) (moment : ℕ)
+    → t ≡ if_taken (moment_refusal moment) s (record s { moment = max s.moment moment }) → Passes s moment t
+unfolding moment_refusal
+passes keeps looks s t moment is = record {
+  fields = is;
+  held = λ sound. makes keeps looks s t (Pass moment) (moment_refusal moment) sound
+      (is ∙ ap (λ (u : PieState). if_taken (moment_refusal moment) s u) (passed-state s moment sound)) (handed moment _);
+}
 
 -- an arrival at a state that has its moment already
 abbrev pub at_later : PieState → ℕ → PieState
@@ -268,18 +264,36 @@ place-later s t a b moment packets h place at held is same = is packets ∙ rw (
 
 -- ---- the state after the other calls
 
-pub reset-state : (s : PieState) (h g : Held) (moment : ℕ) → is_sound s ≡ true → h ≡ held_in s → g ≡ reset h moment
-    → with_registers s g ≡ state_of (reset (held_in s) moment)
-unfolding held_in
-reset-state s h g moment sound held after = rw (after, held) (registers-state s (reset (held_in s) moment) refl (kind-back s sound) (chosen-back s sound))
+reset-taken : (s : PieState) (moment : ℕ) → reset_refusal s moment ≡ 0 → (is_sound s ≡ true) × (moment < 2 ^ 60)
+unfolding reset_refusal
+reset-taken s moment free = (grind (arith, nat_tests), grind (arith, nat_tests))
 
-pub changed-state : (s : PieState) (params : PieParams) (raw : RawParams) (h g : Held) (moment : ℕ) → is_sound s ≡ true → h ≡ held_in s
-    → g ≡ changed h raw moment
-    → with_rate (record s { params = params }) g ≡ state_of (changed (held_in s) (raw_of params) moment)
+reset-state : (s : PieState) (moment : ℕ) → is_sound s ≡ true → with_registers s (reset (held_in s) moment) ≡ state_of (reset (held_in s) moment)
+unfolding held_in
+reset-state s moment sound = registers-state s (reset (held_in s) moment) refl (kind-back s sound) (chosen-back s sound)
+
+pub resets : KeepsSound → LooksBack → (s t : PieState) (moment : ℕ) → reset_refusal s moment ≡ 0 → t ≡ with_registers s (reset (held_in s) moment)
+    → Makes s (Restart moment) (reset_refusal s moment) t
+resets keeps looks s t moment free is = let taken = reset-taken s moment free in
+    makes keeps looks s t (Restart moment) (reset_refusal s moment) taken.0 (rw free (is ∙ reset-state s moment taken.0)) (λ _. taken.1)
+
+change-taken : (s : PieState) (params : PieParams) (moment : ℕ) → params_refusal s params moment ≡ 0
+    → (is_sound s ≡ true) × (are_in_range params ≡ true) × (moment < 2 ^ 60)
+unfolding params_refusal
+change-taken s params moment free = (grind (arith, nat_tests), grind (arith, nat_tests), grind (arith, nat_tests))
+
+changed-state : (s : PieState) (params : PieParams) (moment : ℕ) → is_sound s ≡ true
+    → with_rate (record s { params = params }) (changed (held_in s) (raw_of params) moment) ≡ state_of (changed (held_in s) (raw_of params) moment)
 unfolding held_in state_of
-changed-state s params raw h g moment sound held after =
-    rw (after, held)
-    (ap (λ (t : PieState). with_rate (record t { params = params }) (changed (held_in s) (raw_of params) moment)) (sym (state-held s sound)))
+changed-state s params moment sound =
+    ap (λ (t : PieState). with_rate (record t { params = params }) (changed (held_in s) (raw_of params) moment)) (sym (state-held s sound))
+
+pub changes : KeepsSound → LooksBack → (s t : PieState) (params : PieParams) (moment : ℕ) → params_refusal s params moment ≡ 0
+    → t ≡ with_rate (record s { params = params }) (changed (held_in s) (raw_of params) moment)
+    → Makes s (Change (raw_of params) moment) (params_refusal s params moment) t
+changes keeps looks s t params moment free is = let taken = change-taken s params moment free in
+    makes keeps looks s t (Change (raw_of params) moment) (params_refusal s params moment) taken.0 (rw free (is ∙ changed-state s params moment taken.0))
+    (λ _. (taken.2, params-from params taken.1))
 
 pub opened-in : (o : PieOpening) (it : Opening) (raw : RawParams) → it ≡ opening_in o → raw ≡ it.params
     → opened it.choices.profile it.choices.elements raw it.moment ≡ held_by_opening o

@@ -1,7 +1,7 @@
 -- What the calls that sum up add to a period.
-use Rattle.pie_c.proofs.Names.{◌≡◌, ◌≤◌, min, ◌==◌, arith, ℕ, Bool, true, false, nat_le, List, [], ◌∷◌, ◌++◌, refl, sym, ap, ◌∙◌, subst, eqb-true}
-use Rattle.pie_c.proofs.Names.{nat_tests, Event, Verdict, verdict_number, PieState, arrival_refusal, if_taken, moment_refusal, unless_refused}
-use Rattle.pie_c.proofs.Names.{update_refusal, held_in, takes_stamps, with_departure, with_rate, Held, waiting_after, Opening}
+use Rattle.pie_c.proofs.Names.{◌≡◌, ◌≤◌, min, ◌==◌, arith, ℕ, Bool, true, false, nat_le, List, [], ◌∷◌, ◌++◌, refl, sym, ap, ◌∙◌, subst, nat_tests}
+use Rattle.pie_c.proofs.Names.{Event, Verdict, verdict_number, PieState, arrival_refusal, if_taken, moment_refusal, unless_refused, update_refusal}
+use Rattle.pie_c.proofs.Names.{held_in, takes_stamps, with_departure, with_rate, Held, waiting_after, Opening}
 use Rattle.std.specs.Prelude.{Option, if◌then◌else◌}
 use Rattle.pie_event.specs.declared.cause.Cause.{Cause}
 use Rattle.pie_event.specs.declared.verdict.Verdict.TheVariants.{Enqueued}
@@ -12,9 +12,10 @@ use Rattle.pie_summary.specs.declared.live.LivePeriod.{LivePeriod}
 use Rattle.pie_summary.specs.declared.noted.Met.{Met}
 use Rattle.pie_summary.specs.declared.noted.Noted.{Noted}
 use Rattle.pie_summary.specs.Live.{Holds, IsSet, Meets, clock_of, noted_of}
-use Rattle.pie_summary.specs.Sums.{answer_place}
+use Rattle.pie_summary.specs.Sums.{answer_place, size_by, size_in}
 use Rattle.pie_c.specs.Calls.{updated_by}
-use Rattle.pie_c.specs.Summed.{Adds, Tells}
+use Rattle.pie_c.specs.Summed.{Adds, Tells, met_by}
+use Rattle.std.specs.Bool.{Decides}
 use Rattle.pie_book.specs.Decision.{cause_after}
 use Rattle.pie_book.specs.Estimates.{held_after}
 use Rattle.pie_book.specs.Registers.{registers_after}
@@ -23,45 +24,12 @@ use Rattle.pie_event.specs.Deed.{deed_of}
 use Rattle.pie_event.specs.declared.setter.Setter.{Setter}
 use Rattle.pie_explain.specs.Explanation.{explanation, moment_of, with_after}
 
--- what an event met, by the states before and after it
-abbrev pub met_by : PieState → PieState → Met
-met_by before after = record {
-  moment = after.moment;
-  was = before.active == 1;
-  is = after.active == 1;
-  held = before.params.target;
-  last = before.last;
-  prob = after.prob;
-  burst = after.burst;
-  target = after.params.target;
-}
-
-pub meets : (before after : PieState) (clock : Option Clock) (event : Event) (cause : Option Cause) (waited : ℕ) (one : Explained) (met : Met)
-    → met ≡ met_by before after → Tells before after clock event cause waited one → Meets met one
-meets before after clock event cause waited one met is t = subst (λ (m : Met). Meets m one) (sym is) (record {
-  moment = t.moment;
-  was = t.was;
-  is = t.is;
-  held = t.held;
-  last = t.last;
-  prob = t.prob;
-  burst = t.burst;
-  target = t.target;
-})
-
 -- a departure leaves what it met, but for what it changes
 pub unmoved : (before after : PieState) (refusal : ℕ) (held : Held) → after ≡ if_taken refusal before (with_departure before held)
-    → met_by after after ≡ met_by before after
-unmoved before after refusal held is = λ i. record {
-  moment = after.moment;
-  was = (kept (λ (s : PieState). s.active == 1) refl refl) i;
-  is = after.active == 1;
-  held = (kept (λ (s : PieState). s.params.target) refl refl) i;
-  last = (kept (λ (s : PieState). s.last) refl refl) i;
-  prob = after.prob;
-  burst = after.burst;
-  target = after.params.target;
-}
+    → met_by (after.active == 1) after.params.target after.last after ≡ met_by (before.active == 1) before.params.target before.last after
+unmoved before after refusal held is =
+    λ i. met_by (kept (λ (s : PieState). s.active == 1) refl refl i) (kept (λ (s : PieState). s.params.target) refl refl i)
+    (kept (λ (s : PieState). s.last) refl refl i) after
   where
     kept : {A : Type 0} (of : PieState → A) → of (record before { moment = held.moment; waited = held.waited }) ≡ of before
         → of (with_rate before held) ≡ of before → of after ≡ of before
@@ -72,6 +40,17 @@ unmoved before after refusal held is = λ i. record {
         by_test true true = stamped
         by_test true false = by_rate
         by_test false stamps = refl
+
+-- an event that is told so is noted so, where what its kind notes is noted
+pub told : (before after : PieState) (day : Option Clock) (made : Event) (decided : Option Cause) (wait : ℕ) (one : Explained) (met : Met) (noted : Noted)
+    → met ≡ met_by (before.active == 1) before.params.target before.last after → Tells before after day made decided wait one
+    → (Meets met one → one.told.event.answer ≡ made.answer → size_in one ≡ size_by made.command → noted ≡ noted_of one)
+    → (noted ≡ noted_of one) × (one.told.clock ≡ day)
+told before after day made decided wait one met noted is tells notes = (
+  notes (subst (λ (m : Met). Meets m one) (sym is) tells.meets) (ap (λ (e : Event). e.answer) tells.event)
+      (ap (λ (e : Event). size_by e.command) tells.event),
+  tells.clock,
+)
 
 -- the place of a verdict's count is its number
 pub verdict-place : (verdict : Verdict) → verdict_number verdict ≡ answer_place (answer_of verdict)
@@ -87,39 +66,33 @@ pub adds-by : (refusal : ℕ) (before after : LivePeriod) (told : Explained → 
     → (taken ≡ false → after ≡ before)
     → ((all : List Explained) (one : Explained) → taken ≡ true → noted ≡ noted_of one → one.told.clock ≡ clock_of before → Holds before all
     → Holds after (all ++ one ∷ []))
-    → (taken ≡ true → refusal ≡ 0) → (taken ≡ false → refusal ≡ 0 → ⊥)
+    → Decides taken (refusal ≡ 0)
     → ((one : Explained) → refusal ≡ 0 → told one → (noted ≡ noted_of one) × (one.told.clock ≡ clock_of before))
     → Adds refusal before after told
-adds-by refusal before after told true noted set same adds so otherwise is = record {
-  refused = λ r. absurd (r (so refl));
+adds-by refusal before after told true noted set same adds decides is = record {
+  refused = λ r. absurd (r (decides.0 refl));
   settings = set;
-  adds = λ all one taken tells holds. adds all one refl (is one taken tells).0 (is one taken tells).1 holds;
+  adds = λ all one free tells holds. adds all one refl (is one free tells).0 (is one free tells).1 holds;
 }
-adds-by refusal before after told false noted set same adds so otherwise is = record {
+adds-by refusal before after told false noted set same adds decides is = record {
   refused = λ r. same refl;
   settings = set;
-  adds = λ all one taken tells holds. absurd (otherwise refl taken);
+  adds = λ all one free tells holds. let wrong = decides.1 free in cc;
 }
 
 -- ---- what an answer says of the refusal
 
--- an answer that is a verdict says that the call was taken, and no other
-pub arrival-taken-by : (queued size ecn moment answer : ℕ) (verdict : Verdict)
-    → answer ≡ unless_refused (arrival_refusal queued size ecn moment) (verdict_number verdict) → nat_le answer 4 ≡ true
-    → arrival_refusal queued size ecn moment ≡ 0
+-- an answer that is a verdict says that an arrival was taken, and no other
+pub arrival-decides : (queued size ecn moment answer : ℕ) (verdict : Verdict)
+    → answer ≡ unless_refused (arrival_refusal queued size ecn moment) (verdict_number verdict)
+    → Decides (nat_le answer 4) (arrival_refusal queued size ecn moment ≡ 0)
 unfolding arrival_refusal
-arrival-taken-by queued size ecn moment answer verdict is few = grind (arith, nat_tests)
-
-pub arrival-refused-by : (refusal answer : ℕ) (verdict : Verdict) → answer ≡ unless_refused refusal (verdict_number verdict)
-    → nat_le answer 4 ≡ false → refusal ≡ 0 → ⊥
-arrival-refused-by refusal answer verdict is many taken = grind (arith, nat_tests, verdict-few verdict)
+arrival-decides queued size ecn moment answer verdict is =
+    (λ few. grind (arith, nat_tests), λ free. grind (arith, nat_tests, verdict-few verdict))
 
 -- a call that answers its refusal
-pub done-taken : (refusal answer : ℕ) → answer ≡ refusal → (answer == 0) ≡ true → refusal ≡ 0
-done-taken refusal answer is so = sym is ∙ eqb-true answer 0 so
-
-pub done-refused : (refusal answer : ℕ) → answer ≡ refusal → (answer == 0) ≡ false → refusal ≡ 0 → ⊥
-done-refused refusal answer is otherwise taken = grind (arith, nat_tests)
+pub done-decides : (refusal answer : ℕ) → answer ≡ refusal → Decides (answer == 0) (refusal ≡ 0)
+done-decides refusal answer is = (λ so. grind (arith, nat_tests), λ free. grind (arith, nat_tests))
 
 -- an arrival that is taken is answered by a verdict
 pub arrival-few : (refusal answer : ℕ) (verdict : Verdict) → answer ≡ unless_refused refusal (verdict_number verdict) → refusal ≡ 0 → answer ≤ 4
@@ -136,21 +109,14 @@ arrival-place refusal answer verdict is taken =
     same ∙ verdict-place verdict
 
 -- a departure that found no packet is answered by 5, which is no refusal
-pub none-taken : (moment answer : ℕ) → answer ≡ unless_refused (moment_refusal moment) 5 → (answer == 5) ≡ true → moment_refusal moment ≡ 0
+pub none-decides : (moment answer : ℕ) → answer ≡ unless_refused (moment_refusal moment) 5 → Decides (answer == 5) (moment_refusal moment ≡ 0)
 unfolding moment_refusal
-none-taken moment answer is so = grind (arith, nat_tests)
-
-pub none-refused : (moment answer : ℕ) → answer ≡ unless_refused (moment_refusal moment) 5 → (answer == 5) ≡ false → moment_refusal moment ≡ 0 → ⊥
-none-refused moment answer is otherwise taken = grind (arith, nat_tests)
+none-decides moment answer is = (λ so. grind (arith, nat_tests), λ free. grind (arith, nat_tests))
 
 -- an update's answer is 0 where it was made
-pub update-taken : (state : PieState) (queued moment answer : ℕ) → answer ≡ (updated_by state queued moment).code → (answer == 0) ≡ true
-    → update_refusal state queued moment ≡ 0
-update-taken state queued moment answer is so = grind (arith, nat_tests)
-
-pub update-refused : (state : PieState) (queued moment answer : ℕ) → answer ≡ (updated_by state queued moment).code → (answer == 0) ≡ false
-    → update_refusal state queued moment ≡ 0 → ⊥
-update-refused state queued moment answer is otherwise taken = grind (arith, nat_tests)
+pub update-decides : (state : PieState) (queued moment answer : ℕ) → answer ≡ (updated_by state queued moment).code
+    → Decides (answer == 0) (update_refusal state queued moment ≡ 0)
+update-decides state queued moment answer is = (λ so. grind (arith, nat_tests), λ free. grind (arith, nat_tests))
 
 -- ---- what is told is what is explained
 
@@ -164,13 +130,15 @@ explained opening history made before after number set_by day held left moment =
   event = refl;
   cause = refl;
   waited = ap (λ (at : ℕ). wait_of (deed_of made) at (waiting_after opening history)) (sym moment);
-  moment = sym moment;
-  was = ap (λ (h : Held). h.active) (sym held);
-  is = ap (λ (h : Held). h.active) (sym left);
-  held = ap (λ (h : Held). h.params.target) (sym held);
-  last = ap (λ (h : Held). h.control.last) (sym held);
-  prob = ap (λ (h : Held). h.control.prob) (sym left);
-  burst = ap (λ (h : Held). h.control.burst) (sym left);
-  target = ap (λ (h : Held). h.params.target) (sym left);
   clock = refl;
+  meets = record {
+    moment = sym moment;
+    was = ap (λ (h : Held). h.active) (sym held);
+    is = ap (λ (h : Held). h.active) (sym left);
+    held = ap (λ (h : Held). h.params.target) (sym held);
+    last = ap (λ (h : Held). h.control.last) (sym held);
+    prob = ap (λ (h : Held). h.control.prob) (sym left);
+    burst = ap (λ (h : Held). h.control.burst) (sym left);
+    target = ap (λ (h : Held). h.params.target) (sym left);
+  };
 }

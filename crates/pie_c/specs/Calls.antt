@@ -1,18 +1,18 @@
 -- Why each call is refused, and what it answers. What a call leaves is what the controller makes of what was held.
-use Rattle.std.specs.Prelude.{ℕ, ◌≡◌, ◌^◌, ◌==◌, ◌&&◌, true, nat_lt, not, List, [], ◌∷◌, ◌++◌, if◌then◌else◌}
+use Rattle.std.specs.Prelude.{ℕ, ◌≡◌, ◌^◌, ◌==◌, ◌&&◌, true, max, nat_lt, not, List, [], ◌∷◌, ◌++◌, if◌then◌else◌}
 use Rattle.pie_aqm.specs.declared.verdict.ArrivingPacket.{ArrivingPacket}
-use Rattle.pie_aqm.specs.Calls.{Arrive, Call, after_call, shown_by}
+use Rattle.pie_aqm.specs.Calls.{Arrive, Call, Depart, Pass, after_call, shown_by}
 use Rattle.pie_aqm.specs.Events.{ControllerEvent, Opened}
 use Rattle.pie_aqm.specs.Held.{Held}
 use Rattle.pie_aqm.specs.History.{Shows}
-use Rattle.pie_aqm.specs.Steps.{arrived, delay_answered, due, is_too_soon, updated, verdict}
+use Rattle.pie_aqm.specs.Steps.{arrived, capped, delay_answered, departed, due, is_too_soon, updated, verdict}
 use Rattle.pie_abi.specs.declared.params.PieParams.{PieParams}
 use Rattle.pie_abi.specs.Packets.{ecn_at, is_bad_size, verdict_number}
 use Rattle.pie_c.specs.declared.state.PieState.{PieState}
 use Rattle.pie_c.specs.declared.updated.PieUpdated.{PieUpdated}
 use Rattle.pie_abi.specs.Choices.{last_moment}
 use Rattle.pie_abi.specs.Params.{are_in_range}
-use Rattle.pie_c.specs.State.{held_in, is_sound, state_of, takes_stamps, with_arrival}
+use Rattle.pie_c.specs.State.{held_in, is_sound, state_of, takes_stamps, with_arrival, with_departure}
 
 -- the answer of a call that is refused by a number, where that isn't 0, and else this one
 abbrev pub unless_refused : ℕ → ℕ → ℕ
@@ -46,15 +46,6 @@ arrival_of queued size room bits word = record { queued = queued; is_full = room
 
 -- ---- what a call for one packet leaves
 
--- what it leaves of a sound state, where it is refused by this number: what the controller then holds, in every field, which is sound
--- and, where it showed what came before, shows the call too
-pub record Leaves (before : PieState) (call : Call) (refusal : ℕ) (left : PieState) : Type 0 where
-  pub after : is_sound before ≡ true → left ≡ kept_if_refused refusal before (after_call (held_in before) call)
-  pub sound : is_sound before ≡ true → is_sound left ≡ true
-  pub shows : (opened : Opened) (events : List ControllerEvent) → is_sound before ≡ true → refusal ≡ 0
-      → Shows opened events (held_in before)
-      → Shows opened (events ++ shown_by (held_in before) call ∷ []) (held_in left)
-
 -- what a call that checks the whole state leaves, where it is refused by this number: in every field what the controller then holds; a sound
 -- state stays sound and, where it showed what came before, shows the call too
 pub record Makes (before : PieState) (call : Call) (refusal : ℕ) (left : PieState) : Type 0 where
@@ -62,6 +53,15 @@ pub record Makes (before : PieState) (call : Call) (refusal : ℕ) (left : PieSt
   pub sound : is_sound before ≡ true → is_sound left ≡ true
   pub shows : (opened : Opened) (events : List ControllerEvent) → refusal ≡ 0 → Shows opened events (held_in before)
       → Shows opened (events ++ shown_by (held_in before) call ∷ []) (held_in left)
+
+-- what a call for one packet leaves: of a sound state the same
+abbrev pub Leaves : PieState → Call → ℕ → PieState → Type 0
+Leaves before call refusal left = is_sound before ≡ true → Makes before call refusal left
+
+-- .. and of any state each field: this, where it isn't refused
+pub record Steps (before : PieState) (call : Call) (refusal : ℕ) (after left : PieState) : Type 0 where
+  pub fields : left ≡ if_taken refusal before after
+  pub held : Leaves before call refusal left
 
 -- what an arrival answers and leaves, where it is refused by this number: of any state each field, and of a sound one what the
 -- controller then holds
@@ -86,9 +86,19 @@ abbrev pub waited_refusal : PieState → ℕ → ℕ → ℕ → ℕ → ℕ
 waited_refusal state size left arrived moment =
     unless_refused (packet_refusal size left moment) (if takes_stamps state && nat_lt state.moment arrived then 118 else 0)
 
+-- what the departure of a packet that arrived then leaves
+abbrev pub Departs : PieState → ℕ → ℕ → ℕ → ℕ → PieState → Type 0
+Departs before size left arrived moment after =
+    Steps before (Depart size left arrived moment) (waited_refusal before size left arrived moment)
+    (with_departure before (departed (capped (held_in before)) size left arrived moment)) after
+
 -- why a departure that found no packet is refused, and 0 where it isn't
 unfoldable pub moment_refusal : ℕ → ℕ
 moment_refusal moment = if nat_lt last_moment moment then 101 else 0
+
+-- what such a departure leaves: the moment counts
+abbrev pub Passes : PieState → ℕ → PieState → Type 0
+Passes before moment after = Steps before (Pass moment) (moment_refusal moment) (record before { moment = max before.moment moment }) after
 
 -- why a state is refused, and 0 where it isn't
 abbrev pub state_refusal : PieState → ℕ

@@ -1,15 +1,16 @@
 -- What a state says that a controller holds, and which states are sound.
 use Rattle.std.specs.Prelude.{ℕ, ◌^◌, ◌%◌, Bool, not, ◌&&◌, ◌==◌, nat_lt, nat_le, Option, Some, None, if◌then◌else◌}
-use Rattle.pie_rate.specs.Estimate.{Begun, Estimate}
-use Rattle.pie_control.specs.Parts.{Parts}
-use Rattle.pie_aqm.specs.Held.{Held}
+use Rattle.pie_rate.specs.Estimate.{Begun}
+use Rattle.pie_rate.specs.declared.raw.RawCycle.{RawCycle}
+use Rattle.pie_aqm.specs.Held.{Held, held_by}
+use Rattle.pie_aqm.specs.declared.raw.RawController.{RawController}
 use Rattle.pie_abi.specs.Choices.{choices_of, elements_of, last_moment, profile_number, profile_of}
 use Rattle.pie_abi.specs.Params.{are_in_range, params_of, raw_of}
 use Rattle.pie_c.specs.declared.state.PieState.{PieState}
 
 -- the cycle of the departure rate that is begun, where the flag says so
-abbrev pub begun_in : ℕ → ℕ → ℕ → Option Begun
-begun_in measuring start count = if measuring == 1 then Some (record { start = start; count = count }) else None
+abbrev pub cycle_in : ℕ → ℕ → ℕ → Option RawCycle
+cycle_in measuring start count = if measuring == 1 then Some (record { start = start; count = count }) else None
 
 -- the numbers of a cycle, 0 with none
 abbrev pub flag_of : Option Begun → ℕ
@@ -28,26 +29,22 @@ count_of (Some cycle) = cycle.count
 abbrev pub flag : Bool → ℕ
 flag so = if so then 1 else 0
 
--- the parts, by a state
-abbrev pub control_in : PieState → Parts
-control_in s = record { prob = s.prob; old_delay = s.old_delay; burst = s.burst; last = s.last }
-
-abbrev pub rate_in : PieState → Estimate
-rate_in s = record { average = s.average; begun = begun_in s.measuring s.cycle_start s.cycle_count }
-
--- what a controller holds, by this state
-unfoldable pub held_in : PieState → Held
-held_in s = record {
+-- what a controller holds, by this state, each number by itself
+abbrev pub controller_in : PieState → RawController
+controller_in s = record {
   profile = profile_of s.profile;
   elements = elements_of s.choices;
   params = raw_of s.params;
   moment = s.moment;
   active = s.active == 1;
-  rate = rate_in s;
+  rate = record { average = s.average; begun = cycle_in s.measuring s.cycle_start s.cycle_count };
   waited = s.waited;
-  control = control_in s;
+  control = record { prob = s.prob; old_delay = s.old_delay; burst = s.burst; last = s.last };
   accu = s.accu;
 }
+
+unfoldable pub held_in : PieState → Held
+held_in s = held_by (controller_in s)
 
 -- the state that says this
 unfoldable pub state_of : Held → PieState

@@ -1,28 +1,41 @@
 -- What the calls that sum up add to a period: their event, as it is explained.
-use Rattle.std.specs.Prelude.{ℕ, ◌≡◌, ◌==◌, ◌||◌, nat_lt, List, [], ◌∷◌, ◌++◌, Option, if◌then◌else◌}
+use Rattle.std.specs.Prelude.{ℕ, ◌≡◌, ◌==◌, ◌||◌, Bool, nat_lt, List, [], ◌∷◌, ◌++◌, Option, Some, if◌then◌else◌}
 use Rattle.pie_event.specs.declared.cause.Cause.{Cause}
 use Rattle.pie_event.specs.declared.command.Event.{Event}
 use Rattle.pie_record.specs.declared.clock.Clock.{Clock}
 use Rattle.pie_explain.specs.declared.explanation.Explained.{Explained}
 use Rattle.pie_summary.specs.declared.live.LivePeriod.{LivePeriod}
-use Rattle.pie_summary.specs.Live.{Holds, IsSet}
+use Rattle.pie_summary.specs.declared.noted.Met.{Met}
+use Rattle.pie_summary.specs.Live.{Holds, IsSet, Meets, clock_of}
+use Rattle.pie_aqm.specs.Steps.{cause, verdict}
 use Rattle.pie_abi.specs.Choices.{last_moment}
+use Rattle.pie_abi.specs.Packets.{ecn_at}
+use Rattle.pie_abi.specs.declared.event.PieEvent.{PieEvent}
+use Rattle.pie_c.specs.Calls.{arrival_of, arrival_refusal}
+use Rattle.pie_c.specs.Events.{arrival_with}
+use Rattle.pie_c.specs.State.{held_in}
 use Rattle.pie_c.specs.declared.state.PieState.{PieState}
+
+-- what an event met that left this state, where the controller was active before it or not, with this target and this last update
+abbrev pub met_by : Bool → ℕ → ℕ → PieState → Met
+met_by was held last after = record {
+  moment = after.moment;
+  was = was;
+  is = after.active == 1;
+  held = held;
+  last = last;
+  prob = after.prob;
+  burst = after.burst;
+  target = after.params.target;
+}
 
 -- an event is explained as the one that left this of that state: with this cause, and such a wait of the packet that left
 pub record Tells (before after : PieState) (day : Option Clock) (made : Event) (decided : Option Cause) (wait : ℕ) (one : Explained) : Type 0 where
   pub event : one.told.event ≡ made
   pub cause : one.told.cause ≡ decided
   pub waited : one.told.waited ≡ wait
-  pub moment : one.told.moment ≡ after.moment
-  pub was : one.told.before.active ≡ (before.active == 1)
-  pub is : one.after.active ≡ (after.active == 1)
-  pub held : one.told.before.params.target ≡ before.params.target
-  pub last : one.told.before.last ≡ before.last
-  pub prob : one.after.prob ≡ after.prob
-  pub burst : one.after.burst ≡ after.burst
-  pub target : one.after.params.target ≡ after.params.target
   pub clock : one.told.clock ≡ day
+  pub meets : Meets (met_by (before.active == 1) before.params.target before.last after) one
 
 -- what a call leaves of a period, where it is refused by this number: a period that holds some events holds one more that is told so; and after a
 -- refusal it is as it was
@@ -30,6 +43,13 @@ pub record Adds (refusal : ℕ) (before after : LivePeriod) (told : Explained �
   pub refused : (refusal ≡ 0 → ⊥) → after ≡ before
   pub settings : IsSet before after
   pub adds : (all : List Explained) (one : Explained) → refusal ≡ 0 → told one → Holds before all → Holds after (all ++ one ∷ [])
+
+-- what an arrival adds: its verdict and its cause, in which the number of packets has no part
+abbrev pub AddsArrival : PieState → ℕ → ℕ → PieEvent → LivePeriod → PieState → PieEvent → LivePeriod → Type 0
+AddsArrival before queued room e period after filled left = let arrival = arrival_of queued e.size room e.ecn e.word in
+    (packets : ℕ) → Adds (arrival_refusal queued e.size e.ecn e.moment) period left
+    (Tells before after (clock_of period) (arrival_with filled (ecn_at e.ecn) (verdict (held_in before) arrival))
+    (Some (cause (held_in before) arrival packets)) 0)
 
 -- why a length of periods is refused, and 0 where it isn't
 abbrev pub every_refusal : ℕ → ℕ

@@ -1,18 +1,16 @@
 //! The calls on a state. Those for each packet read the state's numbers as they are: their rules are total, so nothing of the state
 //! is checked. The others refuse a state that isn't sound. Each refuses what it is handed out of its range, lets the controller
 //! make its step, and writes back what that changed.
-ghost use Rattle.std.specs.Prelude.{◌≡◌, ◌<◌, ◌+◌, ◌-◌, ◌^◌, ◌≤◌, ◌∷◌, [], ◌++◌, ℕ, List, if◌then◌else◌, max, min, true};
-ghost use Rattle.pie_aqm.specs.Calls.{Arrive, Change, Depart, Pass, Restart, Update, after_call, shown_by};
-ghost use Rattle.pie_aqm.specs.Events.{ControllerEvent, Opened};
-ghost use Rattle.pie_aqm.specs.History.{Shows};
+ghost use Rattle.std.specs.Prelude.{◌≡◌, ◌<◌, ◌+◌, ◌-◌, ◌^◌, ◌≤◌, ℕ, if◌then◌else◌, max, min, true};
+ghost use Rattle.pie_aqm.specs.Calls.{Change, Depart, Restart, Update};
 ghost use Rattle.pie_aqm.specs.Steps.{arrived, capped, cause, departed, verdict};
 ghost use Rattle.pie_event.specs.CauseName.{name_of, place_of_cause};
 ghost use Rattle.pie_abi.specs.Params.{raw_of};
 ghost use Rattle.pie_abi.specs.Choices.{elements_of};
 ghost use Rattle.pie_c.specs.State.{held_in, is_sound, takes_stamps, with_departure, with_rate};
 ghost use Rattle.pie_c.specs.Laws.{KeepsSound, LooksBack};
-ghost use Rattle.pie_c.specs.Calls.{Arrives, Leaves, Makes, Takes, arrival_of, arrival_refusal, departure_refusal, if_taken, kept_if_refused};
-ghost use Rattle.pie_c.specs.Calls.{moment_refusal, params_refusal, reset_refusal, state_refusal, unless_refused, update_refusal, updated_by, waited_refusal};
+ghost use Rattle.pie_c.specs.Calls.{Arrives, Departs, Makes, Passes, Steps, Takes, arrival_of, arrival_refusal, departure_refusal, moment_refusal};
+ghost use Rattle.pie_c.specs.Calls.{params_refusal, reset_refusal, state_refusal, update_refusal, updated_by, waited_refusal};
 
 use crate::checked::{is_sound, raw, raw_with, takes_stamps, usual_but_delay};
 use crate::state::PieState;
@@ -141,9 +139,8 @@ fn arrive_apart(
 #[unsafe(no_mangle)]
 pub extern "C" fn pie_depart(state: &mut PieState, size: u32, left: u64, moment: u64) -> u32
     ensures answer { result ≡ departure_refusal state.old size left moment }
-    ensures fields { state.new ≡ if_taken (departure_refusal state.old size left moment) state.old
-        (with_rate state.old (departed (capped (held_in state.old)) size left 0 moment)) }
-    ensures held { Leaves state.old (Depart size left 0 moment) (departure_refusal state.old size left moment) state.new }
+    ensures steps { Steps state.old (Depart size left 0 moment) (departure_refusal state.old size left moment)
+        (with_rate state.old (departed (capped (held_in state.old)) size left 0 moment)) state.new }
 {
     laws();
     if depart_counted(state, size, left, moment) {
@@ -230,9 +227,7 @@ pub extern "C" fn pie_depart_waited(
     moment: u64,
 ) -> u32
     ensures answer { result ≡ waited_refusal state.old size left arrived moment }
-    ensures fields { state.new ≡ if_taken (waited_refusal state.old size left arrived moment) state.old
-        (with_departure state.old (departed (capped (held_in state.old)) size left arrived moment)) }
-    ensures held { Leaves state.old (Depart size left arrived moment) (waited_refusal state.old size left arrived moment) state.new }
+    ensures steps { Departs state.old size left arrived moment state.new }
 {
     laws();
     if takes_stamps(state) {
@@ -274,8 +269,7 @@ fn depart_stamped(state: &mut PieState, size: u32, left: u64, arrived: u64, mome
 #[unsafe(no_mangle)]
 pub extern "C" fn pie_empty(state: &mut PieState, moment: u64) -> u32
     ensures answer { result ≡ moment_refusal moment }
-    ensures fields { state.new ≡ if_taken (moment_refusal moment) state.old (record state.old { moment = max state.old.moment moment }) }
-    ensures held { Leaves state.old (Pass moment) (moment_refusal moment) state.new }
+    ensures steps { Passes state.old moment state.new }
 {
     if moment > MAX_NANOS {
         return BAD_MOMENT;

@@ -1,4 +1,4 @@
-ghost use Rattle.std.specs.Prelude.{◌≡◌, ◌==◌, max, true};
+ghost use Rattle.std.specs.Prelude.{◌≡◌, max, true};
 ghost use Rattle.pie_aqm.specs.Held.{held_by};
 ghost use Rattle.pie_c.specs.State.{held_in, is_sound, state_of, with_arrival, with_rate, with_registers};
 

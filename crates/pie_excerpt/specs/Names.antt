@@ -45,4 +45,5 @@ pub use Rattle.pie_record.specs.Write.{chosen_row, decay_row, event_row, nine_of
 pub use Rattle.pie_record.specs.declared.fault.Flaw.{Flaw}
 pub use Rattle.pie_record.specs.declared.fault.TraceFault.{TraceFault}
 pub use Rattle.pie_record.specs.declared.first_record.Draft.{Draft}
-pub use Rattle.pie_text.specs.Plain.{are_plain, counted, onto}
+pub use Rattle.pie_text.specs.Plain.{are_plain, onto}
+pub use Rattle.pie_record.specs.Answer.{counted}

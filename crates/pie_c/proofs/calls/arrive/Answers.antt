@@ -1,7 +1,7 @@
-use Rattle.pie_c.proofs.Names.{◌≡◌, ◌==◌, ◌∙◌, ap, arith, refl, rules, nat_tests, Ecn, ArrivingPacket, arrived, verdict, PieState, verdict_number}
-use Rattle.pie_c.proofs.Names.{arrival_of, arrival_refusal, held_in, with_arrival}
+use Rattle.pie_c.proofs.Names.{◌≡◌, ◌==◌, ◌∙◌, ap, arith, nat_tests, Ecn, ArrivingPacket, arrived, verdict, PieState, verdict_number, arrival_of}
+use Rattle.pie_c.proofs.Names.{arrival_refusal, held_in, with_arrival}
 use Rattle.pie_aqm.specs.Calls.{Arrive}
-use Rattle.pie_c.proofs.Packets.{arrived-state, handed, kept-later, leaves, moment-later, place-later, untouched, verdict-later}
+use Rattle.pie_c.proofs.Packets.{arrived-state, handed, kept-later, makes, moment-later, place-later, verdict-later}
 use Rattle.pie_c.proofs.calls.arrive.Goals as goal
 use Rattle.pie_c.proofs.calls.arrive.Goals.{After-of_verdict}
 
@@ -31,26 +31,13 @@ module _ (c : After-of_verdict) where
 pub keep_arrived-requires : goal.keep_arrived-requires
 keep_arrived-requires c = moment-later c.reach.new.self _ _ _ c.raw_with-held.ensures.held c.arrive_with_place-verdict.ensures.after
 
-pub returns-then-moment-gt-MAX_NANOS-clause-arrives : goal.returns-then-moment-gt-MAX_NANOS-clause-arrives
-unfolding arrival_refusal
-returns-then-moment-gt-MAX_NANOS-clause-arrives c = untouched c.args.state.now _ _ c.args.moment 101 (search rules) refl
-
-pub returns-then-is_bad_size-clause-arrives : goal.returns-then-is_bad_size-clause-arrives
-unfolding arrival_refusal
-returns-then-is_bad_size-clause-arrives c = untouched c.args.state.now _ _ c.args.moment 102 (search rules) refl
-
-pub returns-then-queued-gt-MAX_QUEUED-clause-arrives : goal.returns-then-queued-gt-MAX_QUEUED-clause-arrives
-unfolding arrival_refusal
-returns-then-queued-gt-MAX_QUEUED-clause-arrives c =
-    untouched c.args.state.now _ _ c.args.moment 112 (grind (c.in-Some.ensures.two, arith, nat_tests)) refl
-
 pub returns-clause-arrives : goal.returns-clause-arrives
 unfolding arrival_refusal
 returns-clause-arrives c = let a = c.args in record {
   answer = rw (taken c) (c.of_verdict.ensures ∙ ap verdict_number (decided c));
   fields = rw (taken c) (left c);
-  held = leaves c.laws.ensures.keeps c.laws.ensures.looks a.state.now _ (Arrive (arrival c) a.moment) _ (λ sound. rw (taken c) (left c ∙ arrived-state (state c) (arrival c) a.moment sound))
-      (handed a.moment _);
+  held = λ sound. makes c.laws.ensures.keeps c.laws.ensures.looks a.state.now _ (Arrive (arrival c) a.moment) _ sound
+      (rw (taken c) (left c ∙ arrived-state (state c) (arrival c) a.moment sound)) (handed a.moment _);
 }
 
 pub returns-clause-place : goal.returns-clause-place

@@ -1,24 +1,12 @@
-use Rattle.pie_c.proofs.Names.{◌≡◌, ℕ, ◌∙◌, true, ap, arith, refl, rules, subst, sym, Held, IsSound, held_by, updated, update_refusal, held_in}
-use Rattle.pie_c.proofs.Names.{is_sound, state_of}
+use Rattle.pie_c.proofs.Names.{◌≡◌, ℕ, ◌∙◌, true, ap, arith, rules, subst, sym, Held, IsSound, held_by, updated, update_refusal, held_in, is_sound}
+use Rattle.pie_c.proofs.Names.{state_of}
 use Rattle.pie_aqm.specs.Calls.{Update}
 use Rattle.pie_aqm.specs.Steps.{delay_answered}
 use Rattle.pie_c.specs.Calls.{updated_with}
-use Rattle.pie_c.proofs.Packets.{makes, unmade}
+use Rattle.pie_c.proofs.Packets.{makes}
 use Rattle.pie_c.proofs.Sound.{held-sound}
 use Rattle.pie_c.proofs.calls.pie_update.Goals as goal
 use Rattle.pie_c.proofs.calls.pie_update.Goals.{After-made, After-made-2}
-
-pub returns-then-not-is_sound-clause-made : goal.returns-then-not-is_sound-clause-made
-unfolding update_refusal
-returns-then-not-is_sound-clause-made c = unmade c.args.state.now (Update c.args.queued c.args.moment) _ 110 (search rules) refl
-
-pub returns-then-moment-gt-MAX_NANOS-clause-made : goal.returns-then-moment-gt-MAX_NANOS-clause-made
-unfolding update_refusal
-returns-then-moment-gt-MAX_NANOS-clause-made c = unmade c.args.state.now (Update c.args.queued c.args.moment) _ 101 (search rules) refl
-
-pub returns-then-queued-gt-MAX_QUEUED-clause-made : goal.returns-then-queued-gt-MAX_QUEUED-clause-made
-unfolding update_refusal
-returns-then-queued-gt-MAX_QUEUED-clause-made c = unmade c.args.state.now (Update c.args.queued c.args.moment) _ 112 (search rules) refl
 
 pub is_too_soon-requires : goal.is_too_soon-requires
 is_too_soon-requires c = rw c.raw-held.ensures (held-sound c.args.state.now (sym c.is_sound.ensures ∙ c.if-not-is_sound.false))
@@ -34,9 +22,6 @@ pub returns-then-is_too_soon-clause-answer : goal.returns-then-is_too_soon-claus
 unfolding held_in
 returns-then-is_too_soon-clause-answer c =
     rw (too_soon c, c.made.ensures) (ap (λ (h : Held). updated_with 103 h.control.old_delay h) c.raw-held.ensures)
-
-pub returns-then-is_too_soon-clause-made : goal.returns-then-is_too_soon-clause-made
-returns-then-is_too_soon-clause-made c = unmade c.args.state.now (Update c.args.queued c.args.moment) _ 103 (sym (too_soon c)) refl
 
 pub update-delay-requires-clause-sound : goal.update-delay-requires-clause-sound
 update-delay-requires-clause-sound c = rw c.raw-held.ensures (held-sound c.args.state.now (sym c.is_sound.ensures ∙ c.if-not-is_sound.false))

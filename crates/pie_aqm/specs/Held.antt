@@ -9,10 +9,6 @@ use Rattle.pie_aqm.specs.declared.raw.RawController.{RawController}
 abbrev pub Held : Type 0
 Held = RawController
 
--- what plain numbers say that a controller holds: those numbers
-abbrev pub held_by : RawController → Held
-held_by raw = raw
-
 -- a cycle of the departure rate that is begun began no later than now, and has counted less than the threshold
 abbrev pub IsWithin : ℕ → ℕ → Option Begun → Type 0
 IsWithin threshold now None = ⊤

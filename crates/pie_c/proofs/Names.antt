@@ -13,7 +13,7 @@ unfoldable pub use Rattle.pie_abi.specs.Params.{are_in_range}
 pub use Rattle.pie_abi.specs.declared.opening.PieOpening.{PieOpening}
 pub use Rattle.pie_abi.specs.declared.params.PieParams.{PieParams}
 pub use Rattle.pie_aqm.specs.Calls.{Depart}
-pub use Rattle.pie_aqm.specs.Held.{Held, IsSound, held_by}
+pub use Rattle.pie_aqm.specs.Held.{Held, IsSound}
 pub use Rattle.pie_aqm.specs.Steps.{arrived, capped, departed, opened, passed, updated, with_count}
 unfoldable pub use Rattle.pie_aqm.specs.Steps.{accu_left, cause, count_kept_open, is_unmeasured, verdict}
 pub use Rattle.pie_aqm.specs.declared.verdict.ArrivingPacket.{ArrivingPacket}

@@ -4,7 +4,7 @@ use Rattle.pie_c.proofs.Names.{arith, refl, sym, ap, ◌∙◌, nat_tests, first
 use Rattle.pie_c.proofs.Names.{held_in, is_activity_sound, is_control_sound, is_rate_sound, is_sound, last_moment, profile_number, profile_of}
 use Rattle.pie_c.proofs.Names.{is_choice_sound, state_of}
 use Rattle.std.proofs.Common.{Option, is_none, option_map}
-use Rattle.pie_rate.specs.Estimate.{Begun, cycle_of}
+use Rattle.pie_rate.specs.Estimate.{Begun}
 use Rattle.pie_event.specs.declared.profile.Profile.{Profile}
 use Rattle.pie_aqm.specs.Held.{IsWithin}
 use Rattle.pie_c.specs.State.{count_of, cycle_in, flag, flag_of, is_cycle_sound, start_of}
@@ -20,7 +20,7 @@ active-is : (active : Bool) → (flag active == 1) ≡ active
 active-is true = refl
 active-is false = refl
 
-begun-is : (o : Option Begun) → option_map cycle_of (cycle_in (flag_of o) (start_of o) (count_of o)) ≡ o
+begun-is : (o : Option Begun) → cycle_in (flag_of o) (start_of o) (count_of o) ≡ o
 begun-is None = refl
 begun-is (Some cycle) = refl
 
@@ -97,7 +97,7 @@ unfolding is_sound
 choice_first s = grind (arith, nat_tests)
 
 within-at : (b : Bool) (s : PieState) → (s.measuring == 1) ≡ b → is_cycle_sound s ≡ true
-    → IsWithin s.params.dq_threshold s.moment (option_map cycle_of (if b then Some (record { start = s.cycle_start; count = s.cycle_count }) else None))
+    → IsWithin s.params.dq_threshold s.moment (if b then Some (record { start = s.cycle_start; count = s.cycle_count }) else None)
 within-at true s e h = (grind (arith, nat_tests), grind (arith, nat_tests))
 within-at false s e h = tt
 
@@ -175,7 +175,7 @@ record CycleBack (s : PieState) (o : Option Begun) : Type 0 where
   count : count_of o ≡ s.cycle_count
 
 cycle-back : (b : Bool) (s : PieState) → (s.measuring == 1) ≡ b → is_cycle_sound s ≡ true
-    → CycleBack s (option_map cycle_of (if b then Some (record { start = s.cycle_start; count = s.cycle_count }) else None))
+    → CycleBack s (if b then Some (record { start = s.cycle_start; count = s.cycle_count }) else None)
 cycle-back true s e h = record { flag = grind (arith, nat_tests); start = refl; count = refl }
 cycle-back false s e h = record { flag = grind (arith, nat_tests); start = grind (arith, nat_tests); count = grind (arith, nat_tests) }
 

@@ -2,7 +2,7 @@
 use Rattle.std.specs.Prelude.{ℕ, ◌^◌, ◌%◌, Bool, not, ◌&&◌, ◌==◌, nat_lt, nat_le, Option, Some, None, if◌then◌else◌}
 use Rattle.pie_rate.specs.Estimate.{Begun}
 use Rattle.pie_rate.specs.declared.raw.RawCycle.{RawCycle}
-use Rattle.pie_aqm.specs.Held.{Held, held_by}
+use Rattle.pie_aqm.specs.Held.{Held}
 use Rattle.pie_aqm.specs.declared.raw.RawController.{RawController}
 use Rattle.pie_abi.specs.Choices.{choices_of, elements_of, last_moment, profile_number, profile_of}
 use Rattle.pie_abi.specs.Params.{are_in_range, params_of, raw_of}

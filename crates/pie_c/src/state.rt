@@ -1,5 +1,4 @@
 ghost use Rattle.std.specs.Prelude.{◌≡◌, max, true};
-ghost use Rattle.pie_aqm.specs.Held.{held_by};
 ghost use Rattle.pie_c.specs.State.{held_in, is_sound, state_of, with_arrival, with_rate, with_registers};
 
 use pie_abi::PieParams;
@@ -61,7 +60,7 @@ impl PieState {
     #[inline(always)]
     pub(crate) fn keep_arrived(&mut self, held: &RawController)
         requires { held.now.moment ≡ self.old.moment }
-        ensures { self.new ≡ with_arrival self.old (held_by held.now) }
+        ensures { self.new ≡ with_arrival self.old held.now }
     {
         if held.active && self.active != 1 {
             self.keep_registers(held);
@@ -72,7 +71,7 @@ impl PieState {
 
     /// Each register, and whether the controller is active.
     pub(crate) fn keep_registers(&mut self, held: &RawController)
-        ensures { self.new ≡ with_registers self.old (held_by held.now) }
+        ensures { self.new ≡ with_registers self.old held.now }
     {
         self.keep_departed(held);
         self.keep_control(held);
@@ -93,7 +92,7 @@ impl PieState {
     /// What a departure changes, and new parameters beside themselves: the moment and the estimate of the departure rate.
     #[inline(always)]
     pub(crate) fn keep_departed(&mut self, held: &RawController)
-        ensures { self.new ≡ with_rate self.old (held_by held.now) }
+        ensures { self.new ≡ with_rate self.old held.now }
     {
         self.moment = held.moment;
         self.average = held.rate.average;
@@ -125,9 +124,9 @@ impl PieState {
     #[inline(always)]
     pub(crate) fn keep_updated(&mut self, held: &RawController)
         requires sound { is_sound self.old ≡ true }
-        requires same { held_by held.now ≡ record (held_in self.old)
+        requires same { held.now ≡ record (held_in self.old)
             { moment = held.now.moment; active = held.now.active; control = held.now.control } }
-        ensures { self.new ≡ state_of (held_by held.now) }
+        ensures { self.new ≡ state_of held.now }
     {
         self.moment = held.moment;
         self.keep_control(held);

@@ -1,5 +1,5 @@
 ghost use Rattle.std.specs.Prelude.{◌≡◌};
-ghost use Rattle.pie_aqm.specs.Held.{IsSound, held_by};
+ghost use Rattle.pie_aqm.specs.Held.{IsSound};
 ghost use Rattle.pie_c.specs.Calls.{nothing_updated, updated_with};
 
 use pie_aqm::RawController;
@@ -36,8 +36,8 @@ impl PieUpdated {
 
     /// What an update answers with this number and this delay, from the registers.
     pub(crate) fn made(code: u32, delay: u64, held: &RawController) -> PieUpdated
-        requires { IsSound (held_by held.now) }
-        ensures { result ≡ updated_with code delay (held_by held.now) }
+        requires { IsSound held.now }
+        ensures { result ≡ updated_with code delay held.now }
     {
         PieUpdated {
             code: u64::from(code),

@@ -1,4 +1,4 @@
-use Rattle.pie_c.proofs.Names.{◌≡◌, ℕ, ◌∙◌, true, ap, arith, rules, subst, sym, Held, IsSound, held_by, updated, update_refusal, held_in, is_sound}
+use Rattle.pie_c.proofs.Names.{◌≡◌, ℕ, ◌∙◌, true, ap, arith, rules, subst, sym, Held, IsSound, updated, update_refusal, held_in, is_sound}
 use Rattle.pie_c.proofs.Names.{state_of}
 use Rattle.pie_aqm.specs.Calls.{Update}
 use Rattle.pie_aqm.specs.Steps.{delay_answered}
@@ -37,7 +37,7 @@ taken : (c : After-made-2) → update_refusal c.args.state.now c.args.queued c.a
 unfolding held_in update_refusal
 taken c = search rules
 
-after : (c : After-made-2) → held_by c.update-delay.new.self ≡ updated (held_in c.args.state.now) c.args.queued c.args.moment
+after : (c : After-made-2) → c.update-delay.new.self ≡ updated (held_in c.args.state.now) c.args.queued c.args.moment
 after c = c.update-delay.ensures.after ∙ ap (λ (h : Held). updated h c.args.queued c.args.moment) c.raw-held.ensures
 
 pub returns-clause-answer : goal.returns-clause-answer

@@ -1,4 +1,4 @@
-use Rattle.pie_c.proofs.Names.{◌≡◌, ◌∙◌, sym, ap, Held, held_by, opening_refusal, held_by_opening, raw_of, elements_of, profile_of, with_registers}
+use Rattle.pie_c.proofs.Names.{◌≡◌, ◌∙◌, sym, ap, Held, opening_refusal, held_by_opening, raw_of, elements_of, profile_of, with_registers}
 use Rattle.pie_c.proofs.Packets.{opened-in, opened-state, opening-taken, says-opening}
 use Rattle.pie_c.proofs.Sound.{held-state, params-from, state-sound}
 use Rattle.pie_c.proofs.opening.pie_open.Goals as goal
@@ -11,7 +11,7 @@ pub returns-clause-after : goal.returns-clause-after
 returns-clause-after c =
     let a = c.args in
     let says = says-opening a.opening.now c.in-Ok.it (sym c.checked.ensures ∙ c.in-Ok.is) in
-    let held : held_by c.opened-held.result ≡ held_by_opening a.opening.now =
+    let held : c.opened-held.result ≡ held_by_opening a.opening.now =
     c.opened-held.ensures ∙ opened-in a.opening.now c.in-Ok.it c.raw.result says.1 c.raw.ensures.same in
     rw (free c) (c.keep_registers.ensures
     ∙ ap (λ (h : Held). with_registers (record a.state.now { params = a.opening.now.params; profile = a.opening.now.profile; choices = a.opening.now.choices }) h) held

@@ -29,7 +29,7 @@ pub use Rattle.pie_queue.specs.declared.packet.Packet.{Packet}
 pub use Rattle.pie_queue.specs.declared.packet.Waiting.{Waiting}
 pub use Rattle.pie_rate.specs.declared.raw.RawCycle.{RawCycle}
 pub use Rattle.pie_rate.specs.declared.raw.RawRate.{RawRate}
-pub use Rattle.pie_record.specs.Answer.{flag}
+pub use Rattle.pie_record.specs.Answer.{counted, flag}
 pub use Rattle.pie_record.specs.Fault.{IsOfInput, IsWrite, fault_at, is_device}
 pub use Rattle.pie_record.specs.Field.{and_then, is_kind, most_u128, most_u64, number_at}
 unfoldable pub use Rattle.pie_record.specs.Field.{packet_at, params_at}
@@ -45,4 +45,4 @@ pub use Rattle.pie_record.specs.Write.{chosen_row, decay_row, event_row, nine_of
 pub use Rattle.pie_record.specs.declared.fault.Flaw.{Flaw}
 pub use Rattle.pie_record.specs.declared.fault.TraceFault.{TraceFault}
 pub use Rattle.pie_record.specs.declared.first_record.Draft.{Draft}
-pub use Rattle.pie_text.specs.Plain.{are_plain, counted, onto}
+pub use Rattle.pie_text.specs.Plain.{are_plain, onto}

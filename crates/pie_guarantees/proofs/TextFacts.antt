@@ -15,7 +15,7 @@ use Rattle.pie_record.specs.FirstRecord.{opening_by, opening_of, opening_read}
 use Rattle.pie_record.specs.ReadBack.{TellsHistory}
 use Rattle.pie_record.specs.Text.{Row, records_of}
 use Rattle.pie_record.proofs.Laws.{LineFits, lines-fit}
-use Rattle.pie_record.proofs.Openings.{checked}
+use Rattle.pie_record.proofs.OpeningBack.{checked}
 use Rattle.pie_audit.specs.Finding.{event_in, events_of}
 
 -- ---- the opening

@@ -29,7 +29,7 @@ pub use Rattle.pie_queue.specs.declared.packet.Packet.{Packet}
 pub use Rattle.pie_queue.specs.declared.packet.Waiting.{Waiting}
 pub use Rattle.pie_rate.specs.declared.raw.RawCycle.{RawCycle}
 pub use Rattle.pie_rate.specs.declared.raw.RawRate.{RawRate}
-pub use Rattle.pie_record.specs.Answer.{flag}
+pub use Rattle.pie_record.specs.Answer.{counted, flag}
 pub use Rattle.pie_record.specs.Fault.{IsOfInput, IsWrite, fault_at, is_device}
 pub use Rattle.pie_record.specs.Field.{and_then, is_kind, most_u128, most_u64, number_at}
 unfoldable pub use Rattle.pie_record.specs.Field.{packet_at, params_at}

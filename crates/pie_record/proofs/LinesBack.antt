@@ -140,11 +140,7 @@ pub asked-shape : (asks : Asked) (more : Row) → (asked_fields asks ≡ word_fo
     × (command_length (asked_kind asks) ≡ length (asked_fields asks)) × (command_kind (asked_fields asks ++ more) ≡ Some (asked_kind asks))
 unfolding command_kind field_at command_fields
 asked-shape (asked.Command caller (Arrive moment packet word)) more = (refl, refl, refl)
-asked-shape (asked.Command caller (Depart moment)) more = (refl, refl, refl)
-asked-shape (asked.Command caller (Update moment)) more = (refl, refl, refl)
-asked-shape (asked.Command caller (Reset moment)) more = (refl, refl, refl)
-asked-shape (asked.Command caller (SetParams moment params)) more = (refl, refl, refl)
-asked-shape (asked.BadParams change) more = (refl, refl, refl)
+asked-shape _ more = (refl, refl, refl)
 
 -- the record of a command alone
 pub record WrittenAs (row : Row) (asks : Asked) : Type 0 where
@@ -189,9 +185,8 @@ clock-fields row clock e =
 
 pub clock-read : (version : Version) (row : Row) (clock : Clock) → clock_in version row ≡ Ok clock → ClockRead version row clock
 unfolding clock_in
-clock-read One row clock e = cc
-clock-read Two row clock e = cc
 clock-read Three row clock e = let fields = clock-fields row clock e in record { reads = e; fits = fields.0; is = fields.1 }
+clock-read _ row clock e = cc
 
 -- ---- a record of a trace
 
@@ -261,14 +256,7 @@ params-behind a b c params more fits = params-back params more fits
 pub command-back : (asks : Asked) (more : Row) → AskedFits asks → command_at (asked_fields asks ++ more) (asked_kind asks) ≡ Ok asks
 unfolding command_at arrival_at change_at packet_at field_at command_fields
 command-back (asked.Command caller (Arrive moment packet word)) more f =
-    rw (
-      back_u16 caller f.0,
-      back_u64 moment f.1.0,
-      back_u64 packet.tag f.1.1.tag,
-      back_u32 packet.size f.1.1.size,
-      back_ecn packet.ecn,
-      back_u64 word f.1.2,
-    ) refl
+    rw (back_u16 _ f.0, back_u64 _ f.1.0, back_u64 _ f.1.1.tag, back_u32 _ f.1.1.size, back_ecn packet.ecn, back_u64 _ f.1.2) refl
 command-back (asked.Command caller (Depart moment)) more f = rw (back_u16 caller f.0, back_u64 moment f.1) refl
 command-back (asked.Command caller (Update moment)) more f = rw (back_u16 caller f.0, back_u64 moment f.1) refl
 command-back (asked.Command caller (Reset moment)) more f = rw (back_u16 caller f.0, back_u64 moment f.1) refl
@@ -372,8 +360,7 @@ unfolding shown_line
 shown-fits One row told e =
     let a = and_after (registers_at row) _ told (tested (length row == 12) _ _ told e).1 in
     let b = and_after (number_at row 11 1) _ told a.rest in read-as LineFits line.Note told b.rest tt
-shown-fits Two row told e = active-fits row told e
-shown-fits Three row told e = active-fits row told e
+shown-fits _ row told e = active-fits row told e
 
 clock-fits : (version : Version) (row : Row) (told : Line) → Says (and_then (clock_in version row) (λ clock. Ok (line.Clock clock))) told
     → LineFits told
@@ -504,8 +491,7 @@ active-note r f = rw (registers-back r Two f, back-flag r.measuring, back-flag r
 pub shown-note : (version : Version) (r : Registers) → RegistersFit r → line_of version (shown_row version r) ≡ Ok line.Note
 unfolding line_of command_kind shown_line field_at shown_row
 shown-note One r f = rw (registers-back r One f, back-flag r.measuring) refl
-shown-note Two r f = active-note r f
-shown-note Three r f = active-note r f
+shown-note _ r f = active-note r f
 
 pub tallied-note : (version : Version) (s : Stats) → StatsFit s → line_of version (tallied_row s) ≡ Ok line.Note
 unfolding line_of command_kind note_line field_at tallied_row

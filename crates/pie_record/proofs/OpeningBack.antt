@@ -64,13 +64,7 @@ long-draft : (choices : Choices) (moment : ℕ) (limits : Limits) (params : RawP
     → draft_at (numbers_row moment limits (map decimal (nine_of params))) 0 choices ≡ drafted moment limits params choices
 unfolding draft_at limits_at field_at
 long-draft choices moment limits params small fits nine =
-    rw (
-      back_u64 moment small,
-      back_u32 limits.packets fits.packets,
-      back_u32 limits.tail fits.tail,
-      back_u64 limits.events fits.events,
-      params-behind _ _ _ _ params nine,
-    ) refl
+    rw (back_u64 _ small, back_u32 _ fits.packets, back_u32 _ fits.tail, back_u64 _ fits.events, params-behind _ _ _ _ params nine) refl
 
 -- where they are short, the parameters are the defaults
 abbrev params_row : RawParams → Bool → Row
@@ -105,21 +99,17 @@ earlier_kind Two mode = kinds.Open2
 held-earlier : (profile : Profile) (mode : Mode) (limits : Limits) → are_of_version_two limits ≡ true
     → holds_limits (earlier_kind profile mode) limits ≡ true
 held-earlier One Bounded limits e = e
-held-earlier One Rolling limits e = e
-held-earlier Two mode limits e = e
+held-earlier _ _ limits e = e
 
 earlier-read : (profile : Profile) (mode : Mode) (moment : ℕ) (limits : Limits) (params : RawParams) (short : Bool)
     → opening_of (earlier_row profile mode ++ numbers_row moment limits (params_row params short))
     ≡ opening_read (earlier_kind profile mode) (draft_at (numbers_row moment limits (params_row params short)) 0 (chosen profile mode))
 unfolding opening_of first_kind version_one_fields version_two_fields profile_of which_of draft_at limits_at params_at field_at
 earlier-read One Bounded moment limits params true = refl
-earlier-read One Bounded moment limits params false = refl
 earlier-read One Rolling moment limits params true = refl
-earlier-read One Rolling moment limits params false = refl
 earlier-read Two Bounded moment limits params true = refl
-earlier-read Two Bounded moment limits params false = refl
 earlier-read Two Rolling moment limits params true = refl
-earlier-read Two Rolling moment limits params false = refl
+earlier-read _ _ moment limits params _ = refl
 
 usual-elements : (e : Elements) → are_usual e ≡ true → e ≡ usual
 usual-elements e = by e.delay e.picking e.step e.size e.decay
@@ -170,21 +160,7 @@ chosen-read : (row : Row) (c : Choices) (told : Bool) (place : ℕ) → field_at
     → decay_at row 6 told ≡ Ok c.elements.decay → field_at row place ≡ Some (mode_word c.mode) → chosen_at row told place ≡ draft_at row (place + 1) c
 unfolding chosen_at elements_at
 chosen-read row c told place profile delay picking step size decay mode =
-    rw (
-      profile,
-      profile-back c.profile,
-      delay,
-      delay-back c.elements.delay,
-      picking,
-      picking-back c.elements.picking,
-      step,
-      step-back c.elements.step,
-      size,
-      size-back c.elements.size,
-      decay,
-      mode,
-      mode-back c.mode,
-    ) refl
+    rw (profile, profile-back, delay, delay-back, picking, picking-back, step, step-back, size, size-back, decay, mode, mode-back) refl
 
 -- what is chosen, with this decay, of which the one makes the record a field longer
 abbrev decaying : Choices → Decay → Choices

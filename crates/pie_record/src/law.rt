@@ -1,5 +1,6 @@
 //! The laws of records and texts: what is written is read back, and what was read is written again.
-ghost use Rattle.pie_record.specs.{Opening, ◌≡◌, Ok, first_bad, Draft, FirstKind, Checked, checked_opening, AnswersAreReadBack};
+ghost use Rattle.std.specs.Prelude.{◌≡◌};
+ghost use Rattle.pie_record.specs.{Opening, Ok, first_bad, Draft, FirstKind, Checked, checked_opening, AnswersAreReadBack};
 ghost use Rattle.pie_record.specs.{RequestsAreWrittenAgain, TextsAreReadBack};
 
 /// The history record of what a trace asked is read back as it was written: the event with its answer, the time of day, a note for all else.

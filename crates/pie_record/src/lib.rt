@@ -22,6 +22,7 @@ pub mod first_record;
 pub mod history_reader;
 pub mod history_record;
 pub mod law;
+pub mod long;
 pub mod number;
 pub mod records;
 pub mod rows;

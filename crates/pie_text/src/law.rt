@@ -1,5 +1,6 @@
 //! The law of lost events: no text with their record is a history without a fault.
-ghost use Rattle.pie_text.specs.{◌≢◌, ◌++◌, ◌∷◌, ℕ, List, IfOk, None, history_opening, later_fault, Row, lost_row};
+ghost use Rattle.std.specs.Prelude.{◌≢◌, ◌++◌, ◌∷◌};
+ghost use Rattle.pie_text.specs.{ℕ, List, IfOk, None, history_opening, later_fault, Row, lost_row};
 
 /// Where a record of lost events stands among the records of a text, whoever reads that text as a history meets a fault: the first record opens
 /// none, or a later one has a fault. So no audit finds it clean.

@@ -1,7 +1,8 @@
 //! The numbers of an event are those that the types of its fields hold. These functions do nothing: their contracts
 //! say it of values in hand.
 ghost use Rattle.pie_record.specs.Field.{most_u16};
-ghost use Rattle.pie_text.specs.{◌≤◌, AnswerFits, CommandFits, PacketFits, ◌≡◌, ◌<◌, ◌^◌, true, fits, ParamsFit, EventFits};
+ghost use Rattle.std.specs.Prelude.{◌≤◌, ◌≡◌, ◌<◌, ◌^◌};
+ghost use Rattle.pie_text.specs.{AnswerFits, CommandFits, PacketFits, true, fits, ParamsFit, EventFits};
 
 use pie_event::{Answer, Command, Event};
 use pie_params::Params;

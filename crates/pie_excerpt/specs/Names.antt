@@ -46,4 +46,3 @@ pub use Rattle.pie_record.specs.declared.fault.Flaw.{Flaw}
 pub use Rattle.pie_record.specs.declared.fault.TraceFault.{TraceFault}
 pub use Rattle.pie_record.specs.declared.first_record.Draft.{Draft}
 pub use Rattle.pie_text.specs.Plain.{are_plain, onto}
-pub use Rattle.pie_record.specs.Answer.{counted}

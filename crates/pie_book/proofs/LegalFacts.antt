@@ -2,15 +2,14 @@
 use Rattle.pie_book.proofs.Names.{arith, ◌≡◌, ℕ, List, [], ◌∷◌, ◌++◌, refl, sym, subst, ap, ◌∙◌, All, None, nat_tests, append_assoc, All-head}
 use Rattle.pie_book.proofs.Names.{All-tail, first_bad, Waiting, ArrivingPacket, Held, Command, Arrive, Depart, SetParams, Answer, Event, Opening}
 use Rattle.pie_book.proofs.Names.{arrival_of, departure_call, CoreView, Shows, closed, refusal_of, IsLegal, IsLegalAt, event_of, no_stats, IsNext}
-use Rattle.pie_book.proofs.Names.{after_command, answer_in, call_in, HasThreshold, after_call, threshold-holds, place_of}
-use Rattle.pie_book.proofs.Names.{Some, CommandFits, map, map-append, opened_by, answer_by, decision, refusal_by_rule, waiting_after, Place, places}
-use Rattle.pie_book.proofs.Names.{places-push, append-nil}
+use Rattle.pie_book.proofs.Names.{after_command, answer_in, call_in, HasThreshold, after_call, threshold-holds, place_of, Some, CommandFits, map}
+use Rattle.pie_book.proofs.Names.{map-append, opened_by, answer_by, decision, refusal_by_rule, waiting_after, Place, places, places-push, append-nil}
 use Rattle.std.proofs.lemmas.List.{append-nil}
 use Rattle.pie_aqm.proofs.Laws.{has_threshold}
 use Rattle.std.proofs.lemmas.List.Elements.{All-pop}
 use Rattle.pie_book.proofs.CoreFacts.{Shows-opened, at_place, legal-all, next-decided, next-shows, refusal-is, held-is}
 use Rattle.pie_aqm.specs.Calls.{Call}
-use Rattle.pie_book.specs.{IsOpening, IsStep, after_calls, call_at, calls_of, held_after_calls, call_of, Follows}
+use Rattle.pie_book.specs.{after_calls, call_at, calls_of, held_after_calls, Follows}
 use Rattle.std.proofs.Common.{◌↔◌, append_assoc}
 use Rattle.pie_aqm.specs.Steps as Steps
 
@@ -102,24 +101,7 @@ module _ (P : List Event → CoreView → Type 0) (opening : Opening) (stays : S
       run-next before event (run both.0) here both.1)
       history legal fit
 
--- ---- a controller beside a queue decides and holds what a core does
-
-pub opening_beside : (opening : Opening) → IsOpening opening (opened_by opening)
-opening_beside opening = record { core = first_core opening; shows = first-shows opening; holds = refl }
-
-pub step_beside : (opening : Opening) (core : CoreView) (history : List Event) → Shows opening core history → (caller : ℕ) (command : Command)
-    → first_bad core.held.params ≡ None
-    → refusal_of core command ≡ None
-    → IsStep opening history caller command (answer_by core.held core.waiting core.packets command)
-    (after_call core.held (call_of core.waiting core.packets command))
-step_beside opening core history shows caller command good free = record {
-  decided = next-decided opening core history shows command;
-  core_after = closed (after_command core command);
-  shows = next-shows opening core history shows caller command (threshold-of core command good) free;
-  holds = refl;
-}
-
--- ---- a whole run
+-- ---- a controller beside a queue decides and holds what a core does: a whole run
 
 calls-push : (opening : Opening) (history : List Event) (event : Event)
     → calls_of opening (history ++ event ∷ []) ≡ calls_of opening history ++ call_at opening (place_of history event) ∷ []

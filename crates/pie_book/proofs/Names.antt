@@ -18,7 +18,7 @@ pub use Rattle.pie_aqm.specs.Calls.{HasThreshold, after_call}
 pub use Rattle.pie_aqm.specs.Held.{IsSound}
 pub use Rattle.pie_aqm.specs.Places.{Place, up_to}
 unfoldable pub use Rattle.pie_aqm.specs.Places.{greatest, places}
-pub use Rattle.pie_aqm.specs.Steps.{anew, bytes_with, judged, now_at}
+pub use Rattle.pie_aqm.specs.Steps.{bytes_with, now_at}
 unfoldable pub use Rattle.pie_aqm.specs.Steps.{cause}
 pub use Rattle.pie_book.specs.{Answer, Arrive, ArrivingPacket, BookView, Bounded, Command, CoreView, Depart, Done, DroppedBytes, DroppedEarly}
 pub use Rattle.pie_book.specs.{DroppedPackets, Empty, Enqueued, Event, Held, IsLegal, IsLegalAt, IsNext, Left, Marked, One, Opening, Packet}

@@ -242,18 +242,7 @@ allowed_where_kept opening before later lawful keep =
 
 -- ---- where the allowance is whole
 
-pub whole_at_opening : (opening : Opening) → IsLawful opening [] → IsWhole opening []
-whole_at_opening opening lawful = subst (λ (g : Held). g.control.burst ≡ g.params.max_burst) (first-held opening) refl
-
-pub whole_at_reset : (opening : Opening) (before : List Event) (event : Event) (later : List Event) (moment : ℕ)
-    → IsLawful opening (before ++ event ∷ later) → event.command ≡ Reset moment → IsWhole opening (before ++ event ∷ [])
-whole_at_reset opening before event later moment lawful is =
-    let step = step_at opening before event later lawful in
-    let h : held_after opening (before ++ event ∷ []) ≡ Steps.reset (held_after opening before) moment =
-    step.held ∙ ap (λ (c : Command). after_call (held_after opening before) (call_of (waiting_after opening before) opening.limits.packets c)) is in
-    subst (λ (g : Held). g.control.burst ≡ g.params.max_burst) (sym h) refl
-
-wakes-whole : (h : Held) (waiting : List Waiting) (packets : ℕ) (command : Command) → h.active ≡ false
+pub wakes-whole : (h : Held) (waiting : List Waiting) (packets : ℕ) (command : Command) → h.active ≡ false
     → (after_call h (call_of waiting packets command)).active ≡ true
     → (after_call h (call_of waiting packets command)).control.burst ≡ (after_call h (call_of waiting packets command)).params.max_burst
 wakes-whole h waiting packets (Arrive moment packet word) off on =
@@ -266,13 +255,3 @@ wakes-whole h waiting packets (Update moment) off on =
     let wrong : false ≡ true = sym same ∙ on in cc
 wakes-whole h waiting packets (Reset moment) off on = refl
 wakes-whole h waiting packets (SetParams moment params) off on = let wrong : false ≡ true = sym off ∙ on in cc
-
-pub whole_turned_on : (opening : Opening) (before : List Event) (event : Event) (later : List Event)
-    → IsLawful opening (before ++ event ∷ later) → active_after opening before ≡ false
-    → active_after opening (before ++ event ∷ []) ≡ true → IsWhole opening (before ++ event ∷ [])
-whole_turned_on opening before event later lawful off on =
-    let step = step_at opening before event later lawful in
-    let h = held_after opening before in
-    let w = waiting_after opening before in
-    subst (λ (g : Held). g.control.burst ≡ g.params.max_burst) (sym step.held)
-    (wakes-whole h w opening.limits.packets event.command off (sym (ap (λ (g : Held). g.active) step.held) ∙ on))

@@ -7,7 +7,7 @@ use Rattle.pie_guarantees.proofs.Names.{Waiting, Verdict, Command, Arrive, Depar
 use Rattle.pie_guarantees.proofs.Names.{DroppedBytes, DroppedPackets, Empty, Left, Event, Opening, arrival_of, call_of, answer_by, held_after}
 use Rattle.pie_guarantees.proofs.Names.{params_after, bytes_after, effective_moment, waiting_after, count_of, is_dropped_bytes, is_dropped_early}
 use Rattle.pie_guarantees.proofs.Names.{is_dropped_packets, is_marked, is_queued, answer-fits, held-is, waiting_next, first-shows, first_core}
-use Rattle.pie_guarantees.proofs.Names.{ArrivingPacket, IsLawful, nat_tests}
+use Rattle.pie_guarantees.proofs.Names.{ArrivingPacket, IsLawful, arrival_deed, nat_tests}
 use Rattle.std.proofs.Common.{take}
 use Rattle.std.proofs.Math.Seq.{take-append_seam}
 use Rattle.std.proofs.lemmas.List.{append_cancel_left}
@@ -30,28 +30,32 @@ count-push : (test : Deed → Bool) (before : List Event) (event : Event)
     → count_of test (before ++ event ∷ []) ≡ count_of test before + cond (test (deed_of event)) 1 0
 count-push test before event = sum_by_push (λ (e : Event). cond (test (deed_of e)) 1 0) before event
 
--- one event counts once
-once-more : (command : Command) (answer : Answer) → fits command answer ≡ true
-    → cond (hands_in command) 1 0 ≡ cond (is_queued (deed command answer)) 1 0 + cond (is_marked (deed command answer)) 1 0
-    + cond (is_dropped_early (deed command answer)) 1 0 + cond (is_dropped_bytes (deed command answer)) 1 0
-    + cond (is_dropped_packets (deed command answer)) 1 0
-once-more (Arrive moment packet word) Enqueued e = refl
-once-more (Arrive moment packet word) Marked e = refl
-once-more (Arrive moment packet word) DroppedEarly e = refl
-once-more (Arrive moment packet word) DroppedBytes e = refl
-once-more (Arrive moment packet word) DroppedPackets e = refl
-once-more (Arrive moment packet word) _ e = cc
-once-more (Depart moment) Empty e = refl
-once-more (Depart moment) (Left packet) e = refl
-once-more (Depart moment) _ e = cc
-once-more _ answer e = refl
+-- what the event did, by what was held before it
+deed-is : (opening : Opening) (before : List Event) (event : Event) → IsStep opening before event
+    → deed_of event ≡ deed event.command (answer_by (held_after opening before) (waiting_after opening before) opening.limits.packets event.command)
+deed-is opening before event step = ap (λ (a : Answer). deed event.command a) step.here.answered
+
+-- one command counts once
+once-more : (h : Held) (waiting : List Waiting) (packets : ℕ) (command : Command)
+    → cond (hands_in command) 1 0 ≡ cond (is_queued (deed command (answer_by h waiting packets command))) 1 0
+    + cond (is_marked (deed command (answer_by h waiting packets command))) 1 0
+    + cond (is_dropped_early (deed command (answer_by h waiting packets command))) 1 0
+    + cond (is_dropped_bytes (deed command (answer_by h waiting packets command))) 1 0
+    + cond (is_dropped_packets (deed command (answer_by h waiting packets command))) 1 0
+once-more h waiting packets (Arrive moment packet word) = by (Steps.verdict h (arrival_of waiting packets packet word))
+  where
+    by : (v : Verdict) → 1 ≡ cond (is_queued (arrival_deed packet (answer_of v))) 1 0 + cond (is_marked (arrival_deed packet (answer_of v))) 1 0
+        + cond (is_dropped_early (arrival_deed packet (answer_of v))) 1 0 + cond (is_dropped_bytes (arrival_deed packet (answer_of v))) 1 0
+        + cond (is_dropped_packets (arrival_deed packet (answer_of v))) 1 0
+    by verdict.Enqueued = refl
+    by _ = refl
+once-more h [] packets (Depart moment) = refl
+once-more h (oldest ∷ others) packets (Depart moment) = refl
+once-more h waiting packets _ = refl
 
 adds-next : (opening : Opening) (before : List Event) (event : Event) → IsStep opening before event → Adds before → Adds (before ++ event ∷ [])
 adds-next opening before event step old =
-    let kind : fits event.command event.answer ≡ true =
-    ap (λ (a : Answer). fits event.command a) step.here.answered
-    ∙ answer-fits (held_after opening before) (waiting_after opening before) opening.limits.packets event.command in
-    let one = once-more event.command event.answer kind in
+    let one = once-more (held_after opening before) (waiting_after opening before) opening.limits.packets event.command in
     rw (
       sum_by_push (λ (e : Event). cond (hands_in e.command) 1 0) before event,
       count-push is_queued before event,
@@ -59,6 +63,7 @@ adds-next opening before event step old =
       count-push is_dropped_early before event,
       count-push is_dropped_bytes before event,
       count-push is_dropped_packets before event,
+      deed-is opening before event step,
     ) (omega (arith, one, old))
 
 pub each_once : (opening : Opening) (history : List Event) → IsLawful opening history → Adds history
@@ -68,11 +73,6 @@ each_once opening history lawful = throughout Adds opening refl (adds-next openi
 
 abbrev packets-of : List Waiting → List Packet
 packets-of waiting = map (λ (entry : Waiting). entry.packet) waiting
-
--- what the event did, by what was held before it
-deed-is : (opening : Opening) (before : List Event) (event : Event) → IsStep opening before event
-    → deed_of event ≡ deed event.command (answer_by (held_after opening before) (waiting_after opening before) opening.limits.packets event.command)
-deed-is opening before event step = ap (λ (a : Answer). deed event.command a) step.here.answered
 
 one-new : (gone all : List Packet) (waiting : List Waiting) (new : Waiting) → gone ++ packets-of waiting ≡ all
     → gone ++ packets-of (waiting ++ new ∷ []) ≡ all ++ new.packet ∷ []

@@ -48,26 +48,24 @@ pub divisor-some : (prob : ℕ) → 0 < tuning_divisor prob
 unfolding tuning_divisor
 divisor-some prob = grind (arith, nat_tests)
 
--- a tuned step is the quotient, or where it is capped the less of it and two hundredths
-pub tuned-by : (P : ℤ → Type 0) (step : Step) (prob : ℕ) (x : ℤ) → P (int_min (int_div x (pos (tuning_divisor prob))) (pos 20_000_000_000))
-    → P (int_div x (pos (tuning_divisor prob))) → P (tuned_step step prob x)
+-- tuned steps are the quotients, or where they are capped the less of each and two hundredths
+pub tuned-by : (P : ℤ → ℤ → Type 0) (step : Step) (prob : ℕ) (x y : ℤ)
+    → P (int_min (int_div x (pos (tuning_divisor prob))) (pos 20_000_000_000)) (int_min (int_div y (pos (tuning_divisor prob))) (pos 20_000_000_000))
+    → P (int_div x (pos (tuning_divisor prob))) (int_div y (pos (tuning_divisor prob))) → P (tuned_step step prob x) (tuned_step step prob y)
 unfolding tuned_step
-tuned-by P step prob x capped whole = by (is_capped step && nat_le (10 ^ 11) prob)
+tuned-by P step prob x y capped whole = by (is_capped step && nat_le (10 ^ 11) prob)
   where
-    by : (b : Bool) → P (if b then int_min (int_div x (pos (tuning_divisor prob))) (pos 20_000_000_000) else int_div x (pos (tuning_divisor prob)))
+    by : (b : Bool)
+        → P (if b then int_min (int_div x (pos (tuning_divisor prob))) (pos 20_000_000_000) else int_div x (pos (tuning_divisor prob)))
+        (if b then int_min (int_div y (pos (tuning_divisor prob))) (pos 20_000_000_000) else int_div y (pos (tuning_divisor prob)))
     by true = capped
     by false = whole
 
 tuned-mono : (step : Step) (prob : ℕ) (x y : ℤ) → x ≤ℤ y → tuned_step step prob x ≤ℤ tuned_step step prob y
-unfolding tuned_step
-tuned-mono step prob x y le = by (is_capped step && nat_le (10 ^ 11) prob)
-  where
-    by : (capped : Bool) → (if capped then int_min (int_div x (pos (tuning_divisor prob))) (pos 20_000_000_000) else int_div x (pos
-        (tuning_divisor prob)))
-        ≤ℤ (if capped then int_min (int_div y (pos (tuning_divisor prob))) (pos 20_000_000_000) else int_div y (pos (tuning_divisor prob)))
-    by true = min-mono (int_div x (pos (tuning_divisor prob))) (int_div y (pos (tuning_divisor prob))) (pos 20_000_000_000)
-        (div-mono-int x y (tuning_divisor prob) (divisor-some prob) le)
-    by false = div-mono-int x y (tuning_divisor prob) (divisor-some prob) le
+tuned-mono step prob x y le =
+    let quotients = div-mono-int x y (tuning_divisor prob) (divisor-some prob) le in
+    tuned-by (λ (z w : ℤ). z ≤ℤ w) step prob x y
+    (min-mono (int_div x (pos (tuning_divisor prob))) (int_div y (pos (tuning_divisor prob))) (pos 20_000_000_000) quotients) quotients
 
 -- a decay never gives more than what decays, once both are bounded
 decay-less : (x : ℤ) → bounded_of (int_div (x *ℤ pos 98) (pos 100)) ≤ bounded_of x
@@ -106,7 +104,7 @@ next_mono elements params prob old delay more le =
 -- ---- up and down
 
 tuned-zero : (step : Step) (prob : ℕ) → tuned_step step prob (pos 0) ≡ pos 0
-tuned-zero step prob = tuned-by (λ (z : ℤ). z ≡ pos 0) step prob (pos 0) (omega (arith, ints, clamps)) (omega (arith, ints))
+tuned-zero step prob = tuned-by (λ (z w : ℤ). z ≡ pos 0) step prob (pos 0) (pos 0) (omega (arith, ints, clamps)) (omega (arith, ints))
 
 tuned-up : (step : Step) (prob : ℕ) (params : RawParams) (delay old : ℕ) → params.target ≤ delay → old ≤ delay
     → pos 0 ≤ℤ tuned_step step prob (raw_step params delay old)
@@ -157,11 +155,9 @@ next_down elements params prob delay old below fallen =
 tuned-capped : (step : Step) (prob : ℕ) (x : ℤ) → is_capped step ≡ true → 10 ^ 11 ≤ prob → tuned_step step prob x ≤ℤ pos 20_000_000_000
 unfolding tuned_step
 tuned-capped step prob x capped large =
-    rw (capped, many) (let m = min-below (int_div x (pos (tuning_divisor prob))) in m)
+    let many : nat_le (10 ^ 11) prob ≡ true = grind (arith, nat_tests) in
+    rw (capped, many) (min-below (int_div x (pos (tuning_divisor prob))))
   where
-    many : nat_le (10 ^ 11) prob ≡ true
-    many = grind (arith, nat_tests)
-
     min-below : (z : ℤ) → int_min z (pos 20_000_000_000) ≤ℤ pos 20_000_000_000
     min-below z = omega (arith, ints, clamps)
 

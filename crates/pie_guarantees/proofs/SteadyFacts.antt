@@ -53,17 +53,17 @@ fallen (negsuc a) prob fall e = omega (arith, ints, e)
 tuned-below : (step : Step) (prob n : ℕ) → tuned_step step prob (pos 0 -ℤ pos n) ≡ pos 0 -ℤ pos (n / tuning_divisor prob)
 tuned-below step prob n =
     let q = quotient-below n (tuning_divisor prob) in
-    tuned-by (λ (z : ℤ). z ≡ pos 0 -ℤ pos (n / tuning_divisor prob)) step prob (pos 0 -ℤ pos n) (rw q (omega (arith, ints, clamps))) q
+    tuned-by (λ (z w : ℤ). z ≡ pos 0 -ℤ pos (n / tuning_divisor prob)) step prob (pos 0 -ℤ pos n) (pos 0) (rw q (omega (arith, ints, clamps))) q
 
 least-tuned : (step : Step) (params : RawParams) (delay prob : ℕ)
     → pos (least_rise params delay prob) ≤ℤ tuned_step step prob (pos (untuned_rise params delay))
 least-tuned step params delay prob =
-    tuned-by (λ (z : ℤ). pos (least_rise params delay prob) ≤ℤ z) step prob (pos (untuned_rise params delay))
+    tuned-by (λ (z w : ℤ). pos (least_rise params delay prob) ≤ℤ z) step prob (pos (untuned_rise params delay)) (pos 0)
     (omega (arith, ints, clamps)) (omega (arith, ints, clamps))
 
 tuned-most : (step : Step) (prob n : ℕ) → tuned_step step prob (pos n) ≤ℤ pos (n / tuning_divisor prob)
 tuned-most step prob n =
-    tuned-by (λ (z : ℤ). z ≤ℤ pos (n / tuning_divisor prob)) step prob (pos n) (omega (arith, ints, clamps)) (omega (arith, ints))
+    tuned-by (λ (z w : ℤ). z ≤ℤ pos (n / tuning_divisor prob)) step prob (pos n) (pos 0) (omega (arith, ints, clamps)) (omega (arith, ints))
 
 -- a sum that is at least this is as a probability
 least-bounded : (prob rise : ℕ) (x : ℤ) → pos rise ≤ℤ x → min (10 ^ 12) (prob + rise) ≤ bounded_of (pos prob +ℤ x)

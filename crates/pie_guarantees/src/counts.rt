@@ -11,8 +11,7 @@ ghost use Rattle.pie_guarantees.specs.Lawful.{IsLawful};
 
 /// Every packet that was handed in was queued, marked, dropped early, or dropped for want of room, exactly once (`once`); those that departed,
 /// and then those that wait, are exactly those that were queued or marked, in the order in which they arrived, unchanged but for CE where one was
-/// marked (`order`).
-/// (This project's own.)
+/// marked (`order`; both are this project's own).
 pub fn every_packet_is_accounted_for()
     ensures once { (opening : Opening) (history : List Event) → IsLawful opening history
         → packets_handed_in history ≡ count_of is_queued history + count_of is_marked history + count_of is_dropped_early history
@@ -36,8 +35,7 @@ pub fn queues_stay_within_their_limits()
 
 /// Where as many packets depart as wait at some moment, they are those, in their order (`first_in_first_out`). So a packet that is queued, and
 /// departs with the last of the events between, has waited for at most `limit_bytes` over the rate at which the link carried packets in that
-/// time, in which at least this one waited (`waits`): 262144 bytes at 10 Mbit/s are 210 milliseconds.
-/// (This project's own.)
+/// time, in which at least this one waited (`waits`; both are this project's own): 262144 bytes at 10 Mbit/s are 210 milliseconds.
 pub fn waits_are_bounded()
     ensures first_in_first_out { (opening : Opening) (before : List Event) (between : List Event) (later : List Event)
         → IsLawful opening (before ++ between ++ later) → length (packets_departed between) ≡ length (waiting_after opening before)

@@ -7,7 +7,7 @@ use Rattle.pie_guarantees.proofs.Names.{call_of, is_too_soon, active_after, held
 use Rattle.pie_guarantees.proofs.Names.{waiting_after, held-is, first-shows, first_core, AllAllow, Allows, IsAllowed, IsWhole, KeepsParams, SetsAllow}
 use Rattle.pie_guarantees.proofs.Names.{burst_left, updates_in, IsLawful, IsEarly}
 use Rattle.pie_aqm.specs.Steps as Steps
-use Rattle.pie_guarantees.proofs.LawfulFacts.{IsStep, along, sound_at, step_at}
+use Rattle.pie_guarantees.proofs.LawfulFacts.{IsStep, all_along, along, counted-cons, first-held, sound_at, step_at}
 use Rattle.std.proofs.Common.{get_or}
 use Rattle.pie_guarantees.proofs.CallFacts.{after-arrival, asks_update, burst-updated, last-updated, update-is}
 use Rattle.pie_guarantees.proofs.EarlyFacts.{early_at}
@@ -97,104 +97,84 @@ module _ (burst least most start last : ℕ) where
 
 -- ---- along a lawful history
 
-counted-push : (before : List Event) (event : Event) → updates_in (before ++ event ∷ []) ≡ updates_in before + cond (is_update (deed_of event)) 1 0
-counted-push before event = sum_by_push (λ (e : Event). cond (is_update (deed_of e)) 1 0) before event
-
-counted-append : (before between : List Event) → updates_in (before ++ between) ≡ updates_in before + updates_in between
-counted-append before between = sum_by-append (λ (e : Event). cond (is_update (deed_of e)) 1 0) before between
-
-module _ (burst least most : ℕ) (opening : Opening) (before : List Event) where
+module _ (burst least most : ℕ) (opening : Opening) (before between : List Event) where
   -- so many updates after these events
   abbrev HoldsAfter : ℕ → List Event → Type 0
   HoldsAfter n history =
       Holds burst least most (effective_moment opening before) (held_after opening before).control.last n (held_after opening history)
 
-  -- after a history that begins with these events
-  record Since (history : List Event) : Type 0 where
+  -- after a history that begins with these events, with others still to come
+  record Since (history left : List Event) : Type 0 where
     n : ℕ
-    counted : updates_in history ≡ updates_in before + n
+    counted : updates_in between ≡ n + updates_in left
     moment : (held_after opening history).moment ≡ effective_moment opening history
     holds : HoldsAfter n history
 
-  since-next : (earlier : List Event) (event : Event) → IsStep opening earlier event → SetsAllow burst least most event.command → Since earlier
-      → Since (earlier ++ event ∷ [])
-  since-next earlier event step set old =
+  since-next : (earlier : List Event) (event : Event) (left : List Event) → IsStep opening earlier event
+      → SetsAllow burst least most event.command → Since earlier (event ∷ left) → Since (earlier ++ event ∷ []) left
+  since-next earlier event left step set old =
       let h = held_after opening earlier in
       let due : is_too_soon h.moment (Steps.due h) event.command ≡ false =
       subst (λ (m : ℕ). is_too_soon m (Steps.due h) event.command ≡ false) (sym step.same_moment) step.free.in_time in
-      let count = counted-push earlier event in
+      let count = counted-cons event left in
       let one = counted-with event.command event.answer old.n in
       let was = old.counted in
       record {
         n = counted_with event.command old.n;
         counted = omega (arith, count, one, was);
         moment = step.next_moment;
-        holds = subst (λ (g : Held). Holds burst least most (effective_moment opening before) (held_after opening before).control.last
-            (counted_with event.command old.n) g) (sym step.held)
+        holds = subst (Holds burst least most (effective_moment opening before) (held_after opening before).control.last
+            (counted_with event.command old.n)) (sym step.held)
             (call-holds burst least most (effective_moment opening before) (held_after opening before).control.last old.n h
             (waiting_after opening earlier) opening.limits.packets event.command old.holds set due);
       }
 
-  since-first : IsSound (held_after opening before) → (held_after opening before).moment ≡ effective_moment opening before
-      → burst ≤ burst_left opening before → Allows burst least most (params_after opening before) → Since before
-  since-first sound moment left allows =
-      let last = sound.last in
-      record {
+  since-between : (later : List Event) → IsLawful opening (before ++ between ++ later) → burst ≤ burst_left opening before
+      → AllAllow burst least most opening before between
+      → HoldsAfter (updates_in between) (before ++ between)
+      × ((held_after opening (before ++ between)).moment ≡ effective_moment opening (before ++ between))
+  since-between later lawful left allow =
+      let it = sound_at opening before (between ++ later) (rw (append_assoc before between later) at lawful) in
+      let last = it.0.last in
+      let moment = it.1 in
+      let first : Since before between = record {
         n = 0;
         counted = omega arith;
         moment = moment;
         holds = record {
-          allows = allows;
+          allows = allow.force;
           whole = omega (arith, left);
           apart = omega arith;
           since = omega arith;
           later = omega (arith, moment);
           sound = last;
         };
-      }
-
-  -- by the updates between
-  by-updates : (between : List Event) → Since (before ++ between)
-      → HoldsAfter (updates_in between) (before ++ between)
-      × ((held_after opening (before ++ between)).moment ≡ effective_moment opening (before ++ between))
-  by-updates between s =
-      let count = s.counted in
-      let both = counted-append before between in
-      let n : s.n ≡ updates_in between = omega (arith, count, both) in
+      } in
+      let s = along Since (λ earlier event. SetsAllow burst least most event.command) opening since-next before between later lawful
+      (all_along (λ (event : Event). SetsAllow burst least most event.command) before between allow.set) first in
+      let n : s.n ≡ updates_in between = let count = s.counted in omega (arith, count) in
       (subst (λ (k : ℕ). HoldsAfter k (before ++ between)) n s.holds, s.moment)
 
-  since-between : (between later : List Event) → IsLawful opening (before ++ between ++ later) → burst ≤ burst_left opening before
-      → AllAllow burst least most opening before between
-      → HoldsAfter (updates_in between) (before ++ between)
-      × ((held_after opening (before ++ between)).moment ≡ effective_moment opening (before ++ between))
-  since-between between later lawful left allow =
-      let it = sound_at opening before (between ++ later) (rw (append_assoc before between later) at lawful) in
-      by-updates between (along Since (λ (event : Event). SetsAllow burst least most event.command) opening since-next before between later lawful
-      allow.set (since-first it.0 it.1 left allow.force))
+module _ (burst least most : ℕ) (opening : Opening) (before between later : List Event) (lawful : IsLawful opening (before ++ between ++ later))
+    (left : burst ≤ burst_left opening before) (allow : AllAllow burst least most opening before between) where
+  pub updates_apart : effective_moment opening before + updates_in between * least ≤ effective_moment opening (before ++ between) + least
+  updates_apart =
+      let s = since-between burst least most opening before between later lawful left allow in
+      omega (arith, s.0.apart, s.0.sound, s.0.later, s.1)
 
-pub updates_before : (burst : ℕ) (least : ℕ) (most : ℕ) (opening : Opening) (before : List Event) (between : List Event) (event : Event)
-    (later : List Event) → IsLawful opening (before ++ between ++ event ∷ later) → burst ≤ burst_left opening before
-    → AllAllow burst least most opening before between → IsEarly event → burst ≤ updates_in between * most
-updates_before burst least most opening before between event later lawful left allow early =
-    let whole = (since-between burst least most opening before between (event ∷ later) lawful left allow).0.whole in
-    let none = (early_at opening (before ++ between) event (step_at opening (before ++ between) event later lawful) early).no_burst in
-    omega (arith, whole, none)
+  updates-since : (held_after opening before).control.last + updates_in between * least ≤ effective_moment opening (before ++ between)
+  updates-since =
+      let s = since-between burst least most opening before between later lawful left allow in
+      omega (arith, s.0.since, s.0.sound, s.1)
 
-pub updates_apart : (burst : ℕ) (least : ℕ) (most : ℕ) (opening : Opening) (before : List Event) (between : List Event)
-    (later : List Event) → IsLawful opening (before ++ between ++ later) → burst ≤ burst_left opening before
-    → AllAllow burst least most opening before between
-    → effective_moment opening before + updates_in between * least ≤ effective_moment opening (before ++ between) + least
-updates_apart burst least most opening before between later lawful left allow =
-    let s = since-between burst least most opening before between later lawful left allow in
-    omega (arith, s.0.apart, s.0.sound, s.0.later, s.1)
-
-updates-since : (burst : ℕ) (least : ℕ) (most : ℕ) (opening : Opening) (before : List Event) (between : List Event)
-    (later : List Event) → IsLawful opening (before ++ between ++ later) → burst ≤ burst_left opening before
-    → AllAllow burst least most opening before between
-    → (held_after opening before).control.last + updates_in between * least ≤ effective_moment opening (before ++ between)
-updates-since burst least most opening before between later lawful left allow =
-    let s = since-between burst least most opening before between later lawful left allow in
-    omega (arith, s.0.since, s.0.sound, s.1)
+module _ (burst least most : ℕ) (opening : Opening) (before between : List Event) (event : Event) (later : List Event)
+    (lawful : IsLawful opening (before ++ between ++ event ∷ later)) (left : burst ≤ burst_left opening before)
+    (allow : AllAllow burst least most opening before between) (early : IsEarly event) where
+  pub updates_before : burst ≤ updates_in between * most
+  updates_before =
+      let whole = (since-between burst least most opening before between (event ∷ later) lawful left allow).0.whole in
+      let none = (early_at opening (before ++ between) event (step_at opening (before ++ between) event later lawful) early).no_burst in
+      omega (arith, whole, none)
 
 keeps-allows : (burst least most : ℕ) (command : Command) → KeepsParams command → SetsAllow burst least most command
 keeps-allows burst least most (SetParams moment params) keep = absurd keep
@@ -211,22 +191,27 @@ allow-own opening before between allowed keep = record {
 module _ (opening : Opening) (before : List Event) (between : List Event) (event : Event) (later : List Event)
     (lawful : IsLawful opening (before ++ between ++ event ∷ later)) (allowed : IsAllowed opening before)
     (keep : All (λ event. KeepsParams event.command) between) (early : IsEarly event) where
-  used : burst_left opening before ≤ updates_in between * (params_after opening before).t_update
-  used = updates_before (burst_left opening before) (params_after opening before).t_update (params_after opening before).t_update
-      opening before between event later lawful (omega arith) (allow-own opening before between allowed keep) early
+  abbrev left : ℕ
+  left = burst_left opening before
 
-  pub earliest_drop : effective_moment opening before + burst_left opening before
-      ≤ effective_moment opening (before ++ between) + (params_after opening before).t_update
+  abbrev t : ℕ
+  t = (params_after opening before).t_update
+
+  own : AllAllow left t t opening before between
+  own = allow-own opening before between allowed keep
+
+  used : left ≤ updates_in between * t
+  used = updates_before left t t opening before between event later lawful (omega arith) own early
+
+  pub earliest_drop : effective_moment opening before + left ≤ effective_moment opening (before ++ between) + t
   earliest_drop =
-      let apart = updates_apart (burst_left opening before) (params_after opening before).t_update (params_after opening before).t_update
-      opening before between (event ∷ later) lawful (omega arith) (allow-own opening before between allowed keep) in
+      let apart = updates_apart left t t opening before between (event ∷ later) lawful (omega arith) own in
       let used = used in
       omega (arith, apart, used)
 
-  pub earliest_since : (parts_after opening before).last + burst_left opening before ≤ effective_moment opening (before ++ between)
+  pub earliest_since : (parts_after opening before).last + left ≤ effective_moment opening (before ++ between)
   earliest_since =
-      let since = updates-since (burst_left opening before) (params_after opening before).t_update (params_after opening before).t_update
-      opening before between (event ∷ later) lawful (omega arith) (allow-own opening before between allowed keep) in
+      let since = updates-since left t t opening before between (event ∷ later) lawful (omega arith) own in
       let used = used in
       omega (arith, since, used)
 
@@ -250,28 +235,14 @@ within-next h waiting packets (SetParams moment params) old keep = absurd keep
 pub allowed_where_kept : (opening : Opening) (before : List Event) (later : List Event) → IsLawful opening (before ++ later)
     → All (λ event. KeepsParams event.command) before → IsAllowed opening before
 allowed_where_kept opening before later lawful keep =
-    let h : (first_core opening).held ≡ held_after opening [] = held-is opening (first_core opening) [] (first-shows opening) in
-    along (λ history. Within (held_after opening history)) (λ (event : Event). KeepsParams event.command) opening
-    (λ earlier event step kept old. subst Within (sym step.held)
+    along (λ earlier left. Within (held_after opening earlier)) (λ earlier event. KeepsParams event.command) opening
+    (λ earlier event left step kept old. subst Within (sym step.held)
     (within-next (held_after opening earlier) (waiting_after opening earlier) opening.limits.packets event.command old kept)) [] before later
-    lawful keep (subst Within h (omega arith))
+    lawful (all_along (λ (event : Event). KeepsParams event.command) [] before keep) (subst Within (first-held opening) (omega arith))
 
 -- ---- where the allowance is whole
 
-pub whole_at_opening : (opening : Opening) → IsLawful opening [] → IsWhole opening []
-whole_at_opening opening lawful =
-    let h : (first_core opening).held ≡ held_after opening [] = held-is opening (first_core opening) [] (first-shows opening) in
-    subst (λ (g : Held). g.control.burst ≡ g.params.max_burst) h refl
-
-pub whole_at_reset : (opening : Opening) (before : List Event) (event : Event) (later : List Event) (moment : ℕ)
-    → IsLawful opening (before ++ event ∷ later) → event.command ≡ Reset moment → IsWhole opening (before ++ event ∷ [])
-whole_at_reset opening before event later moment lawful is =
-    let step = step_at opening before event later lawful in
-    let h : held_after opening (before ++ event ∷ []) ≡ Steps.reset (held_after opening before) moment =
-    step.held ∙ ap (λ (c : Command). after_call (held_after opening before) (call_of (waiting_after opening before) opening.limits.packets c)) is in
-    subst (λ (g : Held). g.control.burst ≡ g.params.max_burst) (sym h) refl
-
-wakes-whole : (h : Held) (waiting : List Waiting) (packets : ℕ) (command : Command) → h.active ≡ false
+pub wakes-whole : (h : Held) (waiting : List Waiting) (packets : ℕ) (command : Command) → h.active ≡ false
     → (after_call h (call_of waiting packets command)).active ≡ true
     → (after_call h (call_of waiting packets command)).control.burst ≡ (after_call h (call_of waiting packets command)).params.max_burst
 wakes-whole h waiting packets (Arrive moment packet word) off on =
@@ -284,13 +255,3 @@ wakes-whole h waiting packets (Update moment) off on =
     let wrong : false ≡ true = sym same ∙ on in cc
 wakes-whole h waiting packets (Reset moment) off on = refl
 wakes-whole h waiting packets (SetParams moment params) off on = let wrong : false ≡ true = sym off ∙ on in cc
-
-pub whole_turned_on : (opening : Opening) (before : List Event) (event : Event) (later : List Event)
-    → IsLawful opening (before ++ event ∷ later) → active_after opening before ≡ false
-    → active_after opening (before ++ event ∷ []) ≡ true → IsWhole opening (before ++ event ∷ [])
-whole_turned_on opening before event later lawful off on =
-    let step = step_at opening before event later lawful in
-    let h = held_after opening before in
-    let w = waiting_after opening before in
-    subst (λ (g : Held). g.control.burst ≡ g.params.max_burst) (sym step.held)
-    (wakes-whole h w opening.limits.packets event.command off (sym (ap (λ (g : Held). g.active) step.held) ∙ on))

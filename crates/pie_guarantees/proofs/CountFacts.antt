@@ -7,15 +7,18 @@ use Rattle.pie_guarantees.proofs.Names.{Waiting, Verdict, Command, Arrive, Depar
 use Rattle.pie_guarantees.proofs.Names.{DroppedBytes, DroppedPackets, Empty, Left, Event, Opening, arrival_of, call_of, answer_by, held_after}
 use Rattle.pie_guarantees.proofs.Names.{params_after, bytes_after, effective_moment, waiting_after, count_of, is_dropped_bytes, is_dropped_early}
 use Rattle.pie_guarantees.proofs.Names.{is_dropped_packets, is_marked, is_queued, answer-fits, held-is, waiting_next, first-shows, first_core}
-use Rattle.pie_guarantees.proofs.Names.{IsLawful}
+use Rattle.pie_guarantees.proofs.Names.{ArrivingPacket, IsLawful, arrival_deed, nat_tests}
+use Rattle.std.proofs.Common.{take}
+use Rattle.std.proofs.Math.Seq.{take-append_seam}
 use Rattle.std.proofs.lemmas.List.{append_cancel_left}
+use Rattle.std.proofs.lemmas.List.Recursion.{is_sum_by}
 use Rattle.pie_guarantees.specs.Counts.{Carries, SetsLimit, bytes_departed, hands_in, packet_queued, packets_departed, packets_handed_in}
 use Rattle.pie_guarantees.specs.Counts.{packets_queued, packets_waiting, time_of}
 use Rattle.pie_event.specs.declared.verdict.Verdict.TheVariants as verdict
-use Rattle.pie_early.specs.declared.early.Choice.TheVariants as choice
+use Rattle.pie_event.specs.Verdict as Verdicts
 use Rattle.pie_aqm.specs.Steps as Steps
 use Rattle.pie_guarantees.proofs.CallFacts.{after-arrival}
-use Rattle.pie_guarantees.proofs.LawfulFacts.{IsStep, along, beginning, stands_at, step_at, throughout}
+use Rattle.pie_guarantees.proofs.LawfulFacts.{IsStep, all_along, along, beginning, first-held, stands_at, step_at, throughout}
 
 -- ---- counts
 
@@ -27,28 +30,32 @@ count-push : (test : Deed → Bool) (before : List Event) (event : Event)
     → count_of test (before ++ event ∷ []) ≡ count_of test before + cond (test (deed_of event)) 1 0
 count-push test before event = sum_by_push (λ (e : Event). cond (test (deed_of e)) 1 0) before event
 
--- one event counts once
-once-more : (command : Command) (answer : Answer) → fits command answer ≡ true
-    → cond (hands_in command) 1 0 ≡ cond (is_queued (deed command answer)) 1 0 + cond (is_marked (deed command answer)) 1 0
-    + cond (is_dropped_early (deed command answer)) 1 0 + cond (is_dropped_bytes (deed command answer)) 1 0
-    + cond (is_dropped_packets (deed command answer)) 1 0
-once-more (Arrive moment packet word) Enqueued e = refl
-once-more (Arrive moment packet word) Marked e = refl
-once-more (Arrive moment packet word) DroppedEarly e = refl
-once-more (Arrive moment packet word) DroppedBytes e = refl
-once-more (Arrive moment packet word) DroppedPackets e = refl
-once-more (Arrive moment packet word) _ e = cc
-once-more (Depart moment) Empty e = refl
-once-more (Depart moment) (Left packet) e = refl
-once-more (Depart moment) _ e = cc
-once-more _ answer e = refl
+-- what the event did, by what was held before it
+deed-is : (opening : Opening) (before : List Event) (event : Event) → IsStep opening before event
+    → deed_of event ≡ deed event.command (answer_by (held_after opening before) (waiting_after opening before) opening.limits.packets event.command)
+deed-is opening before event step = ap (λ (a : Answer). deed event.command a) step.here.answered
+
+-- one command counts once
+once-more : (h : Held) (waiting : List Waiting) (packets : ℕ) (command : Command)
+    → cond (hands_in command) 1 0 ≡ cond (is_queued (deed command (answer_by h waiting packets command))) 1 0
+    + cond (is_marked (deed command (answer_by h waiting packets command))) 1 0
+    + cond (is_dropped_early (deed command (answer_by h waiting packets command))) 1 0
+    + cond (is_dropped_bytes (deed command (answer_by h waiting packets command))) 1 0
+    + cond (is_dropped_packets (deed command (answer_by h waiting packets command))) 1 0
+once-more h waiting packets (Arrive moment packet word) = by (Steps.verdict h (arrival_of waiting packets packet word))
+  where
+    by : (v : Verdict) → 1 ≡ cond (is_queued (arrival_deed packet (answer_of v))) 1 0 + cond (is_marked (arrival_deed packet (answer_of v))) 1 0
+        + cond (is_dropped_early (arrival_deed packet (answer_of v))) 1 0 + cond (is_dropped_bytes (arrival_deed packet (answer_of v))) 1 0
+        + cond (is_dropped_packets (arrival_deed packet (answer_of v))) 1 0
+    by verdict.Enqueued = refl
+    by _ = refl
+once-more h [] packets (Depart moment) = refl
+once-more h (oldest ∷ others) packets (Depart moment) = refl
+once-more h waiting packets _ = refl
 
 adds-next : (opening : Opening) (before : List Event) (event : Event) → IsStep opening before event → Adds before → Adds (before ++ event ∷ [])
 adds-next opening before event step old =
-    let kind : fits event.command event.answer ≡ true =
-    ap (λ (a : Answer). fits event.command a) step.here.answered
-    ∙ answer-fits (held_after opening before) (waiting_after opening before) opening.limits.packets event.command in
-    let one = once-more event.command event.answer kind in
+    let one = once-more (held_after opening before) (waiting_after opening before) opening.limits.packets event.command in
     rw (
       sum_by_push (λ (e : Event). cond (hands_in e.command) 1 0) before event,
       count-push is_queued before event,
@@ -56,6 +63,7 @@ adds-next opening before event step old =
       count-push is_dropped_early before event,
       count-push is_dropped_bytes before event,
       count-push is_dropped_packets before event,
+      deed-is opening before event step,
     ) (omega (arith, one, old))
 
 pub each_once : (opening : Opening) (history : List Event) → IsLawful opening history → Adds history
@@ -65,21 +73,6 @@ each_once opening history lawful = throughout Adds opening refl (adds-next openi
 
 abbrev packets-of : List Waiting → List Packet
 packets-of waiting = map (λ (entry : Waiting). entry.packet) waiting
-
-queued-push : (before : List Event) (event : Event)
-    → packets_queued (before ++ event ∷ []) ≡ with_one (packets_queued before) (packet_queued (deed_of event))
-unfolding packets_queued
-queued-push before event = filter_map-push (λ (e : Event). packet_queued (deed_of e)) before event
-
-departed-push : (before : List Event) (event : Event)
-    → packets_departed (before ++ event ∷ []) ≡ with_one (packets_departed before) (departure (deed_of event))
-unfolding packets_departed
-departed-push before event = filter_map-push (λ (e : Event). departure (deed_of e)) before event
-
--- what the event did, by what was held before it
-deed-is : (opening : Opening) (before : List Event) (event : Event) → IsStep opening before event
-    → deed_of event ≡ deed event.command (answer_by (held_after opening before) (waiting_after opening before) opening.limits.packets event.command)
-deed-is opening before event step = ap (λ (a : Answer). deed event.command a) step.here.answered
 
 one-new : (gone all : List Packet) (waiting : List Waiting) (new : Waiting) → gone ++ packets-of waiting ≡ all
     → gone ++ packets-of (waiting ++ new ∷ []) ≡ all ++ new.packet ∷ []
@@ -109,8 +102,10 @@ Ordered opening history = packets_departed history ++ packets_waiting opening hi
 
 ordered-next : (opening : Opening) (before : List Event) (event : Event) → IsStep opening before event → Ordered opening before
     → Ordered opening (before ++ event ∷ [])
+unfolding packets_departed packets_queued
 ordered-next opening before event step old =
-    rw (departed-push before event, queued-push before event, step.waiting, deed-is opening before event step)
+    rw (filter_map-push (λ (e : Event). departure (deed_of e)) before event, filter_map-push (λ (e : Event). packet_queued (deed_of e)) before event,
+    step.waiting, deed-is opening before event step)
     (in-order (held_after opening before) (waiting_after opening before) opening.limits.packets event.command
     (effective_moment opening (before ++ event ∷ [])) (packets_departed before) (packets_queued before) old)
 
@@ -135,36 +130,30 @@ record Bounded (limit before after : ℕ) (queued : Option Packet) : Type 0 wher
   or : (after ≤ before) ⊎ (after ≤ limit)
   queue : (packet : Packet) → queued ≡ Some packet → after ≤ limit
 
+-- a packet is queued only where the limit has room for it
+room-of : (h : Held) (a : ArrivingPacket) → Verdicts.is_queued (Steps.verdict h a) ≡ true → a.queued + a.size ≤ h.params.limit_bytes
+unfolding Steps.verdict
+room-of h a queued = grind (arith, nat_tests)
+
 bounded : (h : Held) (waiting : List Waiting) (packets : ℕ) (command : Command) (now : ℕ)
     → Bounded h.params.limit_bytes (bytes_of waiting)
     (bytes_of (waiting_next waiting now (deed command (answer_by h waiting packets command))))
     (packet_queued (deed command (answer_by h waiting packets command)))
-unfolding Steps.verdict
 bounded h waiting packets (Arrive moment packet word) now =
-    by (nat_lt h.params.limit_bytes (bytes_of waiting + packet.size)) (length waiting == packets) refl
-    (Steps.choice h (arrival_of waiting packets packet word))
+    by (Steps.verdict h (arrival_of waiting packets packet word)) (room-of h (arrival_of waiting packets packet word))
   where
-    same : Bounded h.params.limit_bytes (bytes_of waiting) (bytes_of waiting) None
-    same = record { or = inl (omega arith); queue = λ packet is. cc }
-
     more : (new : Waiting) → new.packet.size ≡ packet.size → bytes_of waiting + packet.size ≤ h.params.limit_bytes
         → Bounded h.params.limit_bytes (bytes_of waiting) (bytes_of (waiting ++ new ∷ [])) (Some new.packet)
     more new size room =
         let one : bytes_of (waiting ++ new ∷ []) ≡ bytes_of waiting + new.packet.size = sum_by_push (λ (w : Waiting). w.packet.size) waiting new in
         record { or = inr (omega (arith, one, size, room)); queue = λ packet is. omega (arith, one, size, room) }
 
-    by : (over full : Bool) → nat_lt h.params.limit_bytes (bytes_of waiting + packet.size) ≡ over → (choice : Choice)
-        → Bounded h.params.limit_bytes (bytes_of waiting) (bytes_of (waiting_next waiting now (deed (Arrive moment packet word) (answer_of
-        (if over then verdict.DroppedBytes else if full then verdict.DroppedPackets else Steps.chosen choice)))))
-        (packet_queued (deed (Arrive moment packet word) (answer_of
-        (if over then verdict.DroppedBytes else if full then verdict.DroppedPackets else Steps.chosen choice))))
-    by true full o choice = same
-    by false true o choice = same
-    by false false o choice.Enqueue = more (record { packet = packet; since = now }) refl (ltb-false h.params.limit_bytes
-        (bytes_of waiting + packet.size) o)
-    by false false o choice.Mark = more (record { packet = with_ce packet; since = now }) refl
-        (ltb-false h.params.limit_bytes (bytes_of waiting + packet.size) o)
-    by false false o choice.Drop = same
+    by : (v : Verdict) → (Verdicts.is_queued v ≡ true → bytes_of waiting + packet.size ≤ h.params.limit_bytes)
+        → Bounded h.params.limit_bytes (bytes_of waiting) (bytes_of (waiting_next waiting now (deed (Arrive moment packet word) (answer_of v))))
+        (packet_queued (deed (Arrive moment packet word) (answer_of v)))
+    by verdict.Enqueued room = more (record { packet = packet; since = now }) refl (room refl)
+    by verdict.Marked room = more (record { packet = with_ce packet; since = now }) refl (room refl)
+    by _ room = record { or = inl (omega arith); queue = λ packet is. cc }
 bounded h [] packets (Depart moment) now = record { or = inl (omega arith); queue = λ packet is. cc }
 bounded h (oldest ∷ others) packets (Depart moment) now =
     record {
@@ -220,39 +209,24 @@ pub bytes_below : (most : ℕ) (opening : Opening) (history : List Event) → Is
     → All (λ event. SetsLimit most event.command) history → bytes_after opening history ≤ most
 bytes_below most opening history lawful low set =
     let none : waiting_after opening [] ≡ [] = sym (first-shows opening).waiting in
-    let h : (first_core opening).held ≡ held_after opening [] = held-is opening (first_core opening) [] (first-shows opening) in
-    (along (Below most opening) (λ (event : Event). SetsLimit most event.command) opening (below-next most opening) [] history []
-    (rw (append-nil history) lawful) set (record {
-      limit = subst (λ (g : Held). g.params.limit_bytes ≤ most) h low;
+    (along (λ before left. Below most opening before) (λ before event. SetsLimit most event.command) opening
+    (λ before event left step set old. below-next most opening before event step set old) [] history []
+    (rw (append-nil history) lawful) (all_along (λ (event : Event). SetsLimit most event.command) [] history set) (record {
+      limit = subst (λ (g : Held). g.params.limit_bytes ≤ most) (first-held opening) low;
       bytes = rw none (omega arith);
     })).bytes
 
 -- ---- waits
 
-cons-same : (x y : Packet) (xs ys : List Packet) → x ∷ xs ≡ y ∷ ys → (x ≡ y) × (xs ≡ ys)
-cons-same x y xs ys e = (cc, cc)
-
 -- two lists of one length at the beginnings of the same list
 same-beginning : (some other : List Packet) (rest more : List Packet) → some ++ rest ≡ other ++ more → length some ≡ length other → some ≡ other
-same-beginning [] [] rest more e l = refl
-same-beginning [] (y ∷ other) rest more e l = absurd (omega arith)
-same-beginning (x ∷ some) [] rest more e l = absurd (omega arith)
-same-beginning (x ∷ some) (y ∷ other) rest more e l =
-    let parts = cons-same x y (some ++ rest) (other ++ more) e in
-    let tail = same-beginning some other rest more parts.1 (omega (arith, l)) in
-    rw (parts.0, tail) refl
-
-departed-append : (before between : List Event) → packets_departed (before ++ between) ≡ packets_departed before ++ packets_departed between
-unfolding packets_departed
-departed-append before between = filter_map-append (λ (e : Event). departure (deed_of e)) before between
-
-queued-append : (before between : List Event) → packets_queued (before ++ between) ≡ packets_queued before ++ packets_queued between
-unfolding packets_queued
-queued-append before between = filter_map-append (λ (e : Event). packet_queued (deed_of e)) before between
+same-beginning some other rest more e l =
+    sym (take-append_seam some rest) ∙ (λ i. take (l i) (e i)) ∙ take-append_seam other more
 
 pub first_out : (opening : Opening) (before : List Event) (between : List Event) (later : List Event)
     → IsLawful opening (before ++ between ++ later) → length (packets_departed between) ≡ length (waiting_after opening before)
     → packets_departed between ≡ packets_waiting opening before
+unfolding packets_departed packets_queued
 first_out opening before between later lawful many =
     let first = in_order opening before (beginning opening before (between ++ later) (rw (append_assoc before between later) at lawful)) in
     let both = in_order opening (before ++ between) (beginning opening (before ++ between) later lawful) in
@@ -262,7 +236,8 @@ first_out opening before between later lawful many =
     let rest = packets_waiting opening (before ++ between) in
     let new = packets_queued between in
     let one : (gone ++ left) ++ rest ≡ packets_queued before ++ new =
-    ap (λ (ps : List Packet). ps ++ rest) (sym (departed-append before between)) ∙ both ∙ queued-append before between in
+    ap (λ (ps : List Packet). ps ++ rest) (sym (filter_map-append (λ (e : Event). departure (deed_of e)) before between)) ∙ both
+    ∙ filter_map-append (λ (e : Event). packet_queued (deed_of e)) before between in
     let two : gone ++ (left ++ rest) ≡ gone ++ (waits ++ new) =
     sym (append_assoc gone left rest) ∙ one ∙ ap (λ (ps : List Packet). ps ++ new) (sym first) ∙ append_assoc gone waits new in
     let three = append_cancel_left gone (left ++ rest) (waits ++ new) two in
@@ -270,14 +245,8 @@ first_out opening before between later lawful many =
     same-beginning left waits rest new three length
 
 sizes-of : (waiting : List Waiting) → sum_by (λ (packet : Packet). packet.size) (packets-of waiting) ≡ bytes_of waiting
-sizes-of [] = refl
-sizes-of (oldest ∷ others) =
-    sum_by-cons (λ (packet : Packet). packet.size) oldest.packet (packets-of others)
-    ∙ ap (λ (n : ℕ). oldest.packet.size + n) (sizes-of others)
-    ∙ sym (sum_by-cons (λ (entry : Waiting). entry.packet.size) oldest others)
-
-scaled : (x bytes limit : ℕ) → x ≤ 8 * 10 ^ 9 * bytes → bytes ≤ limit → x ≤ 8 * 10 ^ 9 * limit
-scaled x bytes limit few room = omega arith
+sizes-of waiting = is_sum_by (λ (ws : List Waiting). sum_by (λ (packet : Packet). packet.size) (packets-of ws))
+    (λ (entry : Waiting). entry.packet.size) refl (λ w ws. sum_by-cons (λ (packet : Packet). packet.size) w.packet (packets-of ws)) waiting
 
 pub waits_bounded : (rate : ℕ) (opening : Opening) (before : List Event) (event : Event) (between : List Event) (later : List Event)
     (packet : Packet) → IsLawful opening (before ++ event ∷ [] ++ between ++ later) → packet_queued (deed_of event) ≡ Some packet
@@ -288,10 +257,8 @@ waits_bounded rate opening before event between later packet lawful in_queue man
     let b = before ++ event ∷ [] in
     let split : before ++ event ∷ [] ++ between ++ later ≡ before ++ (event ∷ (between ++ later)) =
     append_assoc b between later ∙ append_assoc before (event ∷ []) (between ++ later) in
-    let room = room_for_bytes opening before event (between ++ later) packet (subst (λ
-    (h : List Event). IsLawful opening h) split lawful) in_queue in
-    let out : packets_departed between ≡ packets_waiting opening b = first_out opening b between later lawful many in
+    let room = room_for_bytes opening before event (between ++ later) packet (rw split at lawful) in_queue in
     let bytes : bytes_departed between ≡ bytes_after opening b =
-    ap (λ (ps : List Packet). sum_by (λ (packet : Packet). packet.size) ps) out ∙ sizes-of (waiting_after opening b) in
-    scaled (rate * time_of opening b between) (bytes_departed between) (params_after opening before).limit_bytes carries (subst (λ
-    (n : ℕ). n ≤ (params_after opening before).limit_bytes) (sym bytes) room)
+    ap (λ (ps : List Packet). sum_by (λ (packet : Packet). packet.size) ps) (first_out opening b between later lawful many)
+    ∙ sizes-of (waiting_after opening b) in
+    omega (arith, carries, rw (← bytes) at room)

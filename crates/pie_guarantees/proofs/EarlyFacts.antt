@@ -18,10 +18,10 @@ pub record IsPicked (h : Held) (bytes : ℕ) : Type 0 where
   pub long : 2 * h.params.mean_pkt < bytes
   pub high : (h.params.target ≤ 2 * h.control.old_delay) ⊎ (200_000_000_000 ≤ h.control.prob)
 
-considered-facts : (params : RawParams) (control : Parts) (bytes : ℕ) → is_considered params control bytes ≡ true
-    → (control.burst ≡ 0) × (2 * params.mean_pkt < bytes) × ((params.target ≤ 2 * control.old_delay) ⊎ (200_000_000_000 ≤ control.prob))
+picked-of : (h : Held) (bytes : ℕ) → h.active ≡ true → is_considered h.params h.control bytes ≡ true → IsPicked h bytes
 unfolding is_considered
-considered-facts params control bytes e = grind (arith, nat_tests)
+picked-of h bytes on e =
+    record { active = on; no_burst = grind (arith, nat_tests); long = grind (arith, nat_tests); high = grind (arith, nat_tests) }
 
 pub record IsChosen (h : Held) (a : ArrivingPacket) : Type 0 where
   pub picked : IsPicked h a.queued
@@ -33,11 +33,7 @@ chosen-of : (h : Held) (a : ArrivingPacket) → is_early (answer_of (verdict h a
 chosen-of h a e =
     after-verdict h a (λ (v : Verdict) (left : ℕ). verdict h a ≡ v → is_early (answer_of v) ≡ true → IsChosen h a) (λ v e. cc) (λ v e. cc)
     (λ off v e. cc)
-    (λ on considered picked v e. let facts = considered-facts h.params h.control a.queued considered in record {
-      picked = record { active = on; no_burst = facts.0; long = facts.1; high = facts.2 };
-      by_sum = picked;
-      verdict = v;
-    })
+    (λ on considered picked v e. record { picked = picked-of h a.queued on considered; by_sum = picked; verdict = v })
     (λ on none v e. cc) (λ on some v e. cc) refl e
 
 -- the arrival that was marked or dropped early
@@ -99,25 +95,14 @@ module _ (opening : Opening) (before : List Event) (event : Event) (later : List
 
 -- ---- marks and drops of a packet
 
-fate-early : (params : RawParams) (prob : ℕ) (ecn : Ecn) → prob < params.mark_ecnth → is_capable ecn ≡ true
+pub fate-early : (params : RawParams) (prob : ℕ) (ecn : Ecn) → prob < params.mark_ecnth → is_capable ecn ≡ true
     → answer_of (chosen (picked_choice params prob ecn)) ≡ DroppedEarly → ⊥
-fate-early params prob ecn below capable = by (is_capable ecn) (nat_lt prob params.mark_ecnth) capable
-    (let yes : nat_lt prob params.mark_ecnth ≡ true =
-    grind (arith, nat_tests) in yes)
-  where
-    by : (a b : Bool) → a ≡ true → b ≡ true → answer_of (chosen (if a && b then Mark else Drop)) ≡ DroppedEarly → ⊥
-    by true true p q e = cc
-    by true false p q e = cc
-    by false b p q e = cc
+fate-early params prob ecn below capable dropped = grind (arith, nat_tests)
 
-fate-marked : (params : RawParams) (prob : ℕ) (ecn : Ecn) → is_capable ecn ≡ false → answer_of (chosen (picked_choice params prob ecn)) ≡ Marked → ⊥
-fate-marked params prob ecn other = by (is_capable ecn) (nat_lt prob params.mark_ecnth) other
-  where
-    by : (a b : Bool) → a ≡ false → answer_of (chosen (if a && b then Mark else Drop)) ≡ Marked → ⊥
-    by true b p e = cc
-    by false b p e = cc
+pub fate-marked : (params : RawParams) (prob : ℕ) (ecn : Ecn) → is_capable ecn ≡ false → answer_of (chosen (picked_choice params prob ecn)) ≡ Marked → ⊥
+fate-marked params prob ecn other marked = grind (arith, nat_tests)
 
-arrival-chosen : (opening : Opening) (before : List Event) (event : Event) (packet : Packet) → IsStep opening before event
+pub arrival-chosen : (opening : Opening) (before : List Event) (event : Event) (packet : Packet) → IsStep opening before event
     → IsArrivalOf event packet → is_early event.answer ≡ true
     → event.answer ≡ answer_of (chosen (picked_choice (held_after opening before).params (held_after opening before).control.prob packet.ecn))
 arrival-chosen opening before event packet step arrival e =
@@ -127,19 +112,3 @@ arrival-chosen opening before event packet step arrival e =
     let is : event.answer ≡ answer_of (verdict h a) =
     step.here.answered ∙ ap (λ (c : Command). answer_by h w opening.limits.packets c) arrival.2 in
     is ∙ ap answer_of (chosen-of h a (ap (λ (x : Answer). is_early x) (sym is) ∙ e)).verdict
-
-pub spared : (opening : Opening) (before : List Event) (event : Event) (later : List Event) → IsLawful opening (before ++ event ∷ later)
-    → OnlyMarks opening before → SparesCapable event
-spared opening before event later lawful below = λ packet arrival capable dropped.
-    let h = held_after opening before in
-    let step = step_at opening before event later lawful in
-    let is = arrival-chosen opening before event packet step arrival (ap (λ (x : Answer). is_early x) dropped) in
-    fate-early h.params h.control.prob packet.ecn below capable (sym is ∙ dropped)
-
-pub capable_alone : (opening : Opening) (before : List Event) (event : Event) (later : List Event) → IsLawful opening (before ++ event ∷ later)
-    → MarksOnlyCapable event
-capable_alone opening before event later lawful = λ packet arrival other marked.
-    let h = held_after opening before in
-    let step = step_at opening before event later lawful in
-    let is = arrival-chosen opening before event packet step arrival (ap (λ (x : Answer). is_early x) marked) in
-    fate-marked h.params h.control.prob packet.ecn other (sym is ∙ marked)

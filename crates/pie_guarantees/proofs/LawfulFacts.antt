@@ -7,16 +7,14 @@ use Rattle.pie_guarantees.proofs.Names.{chosen, now_at, place_of, Packet, Waitin
 use Rattle.pie_guarantees.proofs.Names.{Refusal, arrival_of, call_of, departure_call, IsLegalAt, answer_to_departure, has_bad_size, is_too_soon}
 use Rattle.pie_guarantees.proofs.Names.{refusal_by_rule, due_after, held_after, effective_moment, waiting_after, after_command}
 use Rattle.pie_guarantees.proofs.Names.{answer_in, call_in, waiting_next, at_place, departed-of-legal, held-is, first-shows, first_core, next-core}
-use Rattle.pie_guarantees.proofs.Names.{next-legal, IsLawful, SetsInRange}
+use Rattle.pie_guarantees.proofs.Names.{next-legal, AllAlong, IsLawful, SetsInRange, nat_tests, map, drop, All-cons, All-nil, Place, decision}
+use Rattle.pie_guarantees.proofs.Names.{Sound_call, Sound_opened, ◌+◌, cond, is_update, sum_by-cons, updates_in}
 use Rattle.std.proofs.Math.Seq.{drop-append_seam, take-append_seam}
 use Rattle.std.proofs.lemmas.List.Elements.{All-drop, All-take}
-use Rattle.pie_aqm.proofs.Sounds.{Sound_call, Sound_opened}
 use Rattle.pie_book.specs.Core.{CoreView, Shows, closed}
 use Rattle.pie_book.proofs.CoreFacts.{effective_moment-push, waiting_after-push}
-use Rattle.pie_book.proofs.RangeFacts.{HasRoom, waiting_next-room}
+use Rattle.pie_book.proofs.RangeFacts.{has-room, waiting_next-room}
 use Rattle.pie_event.specs.Opening as Opens
-use Rattle.pie_event.specs.declared.verdict.Verdict.TheVariants as verdict
-use Rattle.pie_event.specs.declared.refusal.Refusal.TheVariants as refusal
 use Rattle.pie_aqm.specs.Steps as Steps
 
 -- ---- which commands are taken
@@ -27,20 +25,10 @@ pub record IsFree (opening : Opening) (before : List Event) (command : Command) 
   pub size : has_bad_size command ≡ false
   pub in_time : is_too_soon (effective_moment opening before) (due_after opening before) command ≡ false
 
-free-by : (late bad soon full : Bool) (w x y z : Refusal) → (if late then Some w else if bad then Some x else if soon then Some y else if full then
-    Some z else None) ≡ None
-    → (late ≡ false) × (bad ≡ false) × (soon ≡ false)
-free-by false false false false w x y z e = (refl, refl, refl)
-free-by _ _ _ _ w x y z e = cc
-
 pub is_free : (opening : Opening) (before : List Event) (command : Command) → refusal_by_rule opening before command ≡ None
     → IsFree opening before command
 is_free opening before command e =
-    let facts = free-by (nat_lt Opens.last_moment (handed_in command)) (has_bad_size command)
-    (is_too_soon (effective_moment opening before) (due_after opening before) command) (length before == opening.limits.events)
-    refusal.Moment refusal.Size (refusal.TooSoon (due_after opening before)) refusal.Exhausted e in
-    let late = ltb-false Opens.last_moment (handed_in command) facts.0 in
-    record { moment = omega arith; size = facts.1; in_time = facts.2 }
+    record { moment = grind (arith, nat_tests); size = grind (arith, nat_tests); in_time = grind (arith, nat_tests) }
 
 -- ---- what a core holds at a place
 
@@ -65,37 +53,13 @@ stands-first opening good params = record {
 -- ---- one more event
 
 call-taken : (core : CoreView) (command : Command) → handed_in command < 2 ^ 60 → SetsInRange command → IsTaken (call_in core command)
-call-taken core (Arrive moment packet word) handed fit = handed
 call-taken core (Depart moment) handed fit = by core.waiting
   where
     by : (waiting : List Waiting) → IsTaken (departure_call waiting moment)
     by [] = handed
     by (oldest ∷ others) = handed
-call-taken core (Update moment) handed fit = handed
-call-taken core (Reset moment) handed fit = handed
 call-taken core (SetParams moment params) handed fit = (handed, fit)
-
--- a packet is queued only where the ring has room
-verdict-room : (over full : Bool) (choice : Choice) (packet : Packet) (waiting : List Waiting) (packets : ℕ) → (length waiting == packets) ≡ full
-    → length waiting ≤ packets
-    → HasRoom (arrival_deed packet (answer_of (if over then verdict.DroppedBytes else if full then verdict.DroppedPackets else chosen choice)))
-    waiting packets
-verdict-room false false Enqueue packet waiting packets is within = omega (arith, eqb-false (length waiting) packets is)
-verdict-room false false Mark packet waiting packets is within = omega (arith, eqb-false (length waiting) packets is)
-verdict-room _ _ _ packet waiting packets is within = tt
-
-departure-room : (all waiting : List Waiting) (packets : ℕ) → HasRoom (departure_deed (answer_to_departure all)) waiting packets
-departure-room [] waiting packets = tt
-departure-room (oldest ∷ others) waiting packets = tt
-
-has-room : (core : CoreView) (command : Command) → length core.waiting ≤ core.packets
-    → HasRoom (deed command (answer_in core command)) core.waiting core.packets
-unfolding Steps.verdict
-has-room core (Arrive moment packet word) within =
-    verdict-room (nat_lt core.held.params.limit_bytes (bytes_of core.waiting + packet.size)) (length core.waiting == core.packets)
-    (Steps.choice core.held (arrival_of core.waiting core.packets packet word)) packet core.waiting core.packets refl within
-has-room core (Depart moment) within = departure-room core.waiting core.waiting core.packets
-has-room core _ within = tt
+call-taken core _ handed fit = handed
 
 stands-next : (opening : Opening) (before : List Event) (event : Event) → Stands opening before → IsLegalAt opening (place_of before event)
     → SetsInRange event.command → Stands opening (before ++ event ∷ [])
@@ -152,36 +116,21 @@ set-after : (before rest : List Event) → All (λ (e : Event). SetsInRange e.co
 set-after before rest all =
     rw (drop-append_seam before rest) at (All-drop (λ (e : Event). SetsInRange e.command) (length before) (before ++ rest) all)
 
--- what is so before some events, and stays so at each of them that passes a test, is so after them
-module _ (P : List Event → Type 0) (Q : Event → Type 0) (opening : Opening)
-    (stays : (before : List Event) (event : Event) → IsStep opening before event → Q event → P before → P (before ++ event ∷ [])) where
-  -- .. where these events come later
-  record Goes (before between : List Event) : Type 0 where
-    stands : Stands opening (before ++ between)
-    so : P (before ++ between)
-
-  along-from : (before between later : List Event) → Stands opening before → P before
-      → All (IsLegalAt opening) (places (before ++ between ++ later)) → All (λ event. SetsInRange event.command) (between ++ later)
-      → All Q between → Goes before between
-  along-from before [] later old so legal fit pass = record { stands = rw (append-nil before) old; so = rw (append-nil before) so }
-  along-from before (event ∷ between) later old so legal fit pass =
-      let one : (before ++ event ∷ []) ++ between ≡ before ++ (event ∷ between) = append_assoc before (event ∷ []) between in
-      let here = at_place (IsLegalAt opening) before event (between ++ later) (rw (append_assoc before (event ∷ between) later) at legal) in
-      let set = All-head (λ (e : Event). SetsInRange e.command) event (between ++ later) fit in
-      let step = step-of opening before event old here set in
-      let next = along-from (before ++ event ∷ []) between later (stands-next opening before event old here set)
-      (stays before event step (All-head Q event between pass) so) (rw (← one) at legal)
-      (All-tail (λ (e : Event). SetsInRange e.command) event (between ++ later) fit) (All-tail Q event between pass) in
-      record { stands = rw (← one) next.stands; so = rw (← one) next.so }
-
-all-true : (events : List Event) → All (λ event. ⊤) events
-all-true events = λ k d within. tt
+stands-along : (opening : Opening) (before between later : List Event) → Stands opening before
+    → All (IsLegalAt opening) (places (before ++ between ++ later)) → All (λ event. SetsInRange event.command) (between ++ later)
+    → Stands opening (before ++ between)
+stands-along opening before [] later old legal fit = rw (append-nil before) old
+stands-along opening before (event ∷ between) later old legal fit =
+    let one : (before ++ event ∷ []) ++ between ≡ before ++ (event ∷ between) = append_assoc before (event ∷ []) between in
+    let here = at_place (IsLegalAt opening) before event (between ++ later) (rw (append_assoc before (event ∷ between) later) at legal) in
+    let next = stands-next opening before event old here (All-head (λ (e : Event). SetsInRange e.command) event (between ++ later) fit) in
+    rw (← one) (stands-along opening (before ++ event ∷ []) between later next (rw (← one) at legal)
+    (All-tail (λ (e : Event). SetsInRange e.command) event (between ++ later) fit))
 
 -- the events before a place of a lawful history are shown by a core
 pub stands_at : (opening : Opening) (before later : List Event) → IsLawful opening (before ++ later) → Stands opening before
 stands_at opening before later lawful =
-    (along-from (λ events. ⊤) (λ event. ⊤) opening (λ before event step passed so. tt) [] before later
-    (stands-first opening lawful.opens lawful.params) tt lawful.legal lawful.set (all-true before)).stands
+    stands-along opening [] before later (stands-first opening lawful.opens lawful.params) lawful.legal lawful.set
 
 -- each event of a lawful history is a step
 pub step_at : (opening : Opening) (before : List Event) (event : Event) (later : List Event) → IsLawful opening (before ++ event ∷ later)
@@ -191,28 +140,40 @@ step_at opening before event later lawful =
     (at_place (IsLegalAt opening) before event later lawful.legal)
     (All-head (λ (e : Event). SetsInRange e.command) event later (set-after before (event ∷ later) lawful.set))
 
--- what holds before some events of a lawful history, and stays so at each of them that passes a test, holds after them, where all do
-pub along : (P : List Event → Type 0) (Q : Event → Type 0) (opening : Opening)
-    → ((before : List Event) (event : Event) → IsStep opening before event → Q event → P before → P (before ++ event ∷ []))
-    → (before between later : List Event) → IsLawful opening (before ++ between ++ later) → All Q between → P before → P (before ++ between)
-along P Q opening stays before between later lawful pass so =
-    (along-from P Q opening stays before between later
-    (stands_at opening before (between ++ later) (rw (append_assoc before between later) at lawful)) so lawful.legal
-    (set-after before (between ++ later) (rw (append_assoc before between later) at lawful.set)) pass).so
+-- what holds before some events of a lawful history, with those still to come, and stays so at each of them, holds after them
+pub along : (P : List Event → List Event → Type 0) (Q : List Event → Event → Type 0) (opening : Opening)
+    → ((before : List Event) (event : Event) (left : List Event) → IsStep opening before event → Q before event → P before (event ∷ left)
+    → P (before ++ event ∷ []) left)
+    → (before between later : List Event) → IsLawful opening (before ++ between ++ later) → AllAlong Q before between → P before between
+    → P (before ++ between) []
+unfolding AllAlong
+along P Q opening stays before [] later lawful all so = rw (append-nil before) so
+along P Q opening stays before (event ∷ between) later lawful all so =
+    let one : (before ++ event ∷ []) ++ between ≡ before ++ (event ∷ between) = append_assoc before (event ∷ []) between in
+    let step = step_at opening before event (between ++ later) (rw (append_assoc before (event ∷ between) later) at lawful) in
+    rw (← one) (along P Q opening stays (before ++ event ∷ []) between later (rw (← one) at lawful) all.1 (stays before event between step all.0 so))
 
--- .. whatever they are
-pub always : (P : List Event → Type 0) (opening : Opening)
-    → ((before : List Event) (event : Event) → IsStep opening before event → P before → P (before ++ event ∷ []))
-    → (before between later : List Event) → IsLawful opening (before ++ between ++ later) → P before → P (before ++ between)
-always P opening stays before between later lawful so =
-    along P (λ event. ⊤) opening (λ before event step passed so. stays before event step so) before between later lawful (all-true between) so
+-- what holds of each event holds of each with those before it
+pub all_along : (Q : Event → Type 0) (before between : List Event) → All Q between → AllAlong (λ earlier event. Q event) before between
+unfolding AllAlong
+all_along Q before [] all = tt
+all_along Q before (event ∷ between) all = (All-head Q event between all, all_along Q (before ++ event ∷ []) between (All-tail Q event between all))
 
 -- what holds at the opening, and stays so at each event, holds after a lawful history
 pub throughout : (P : List Event → Type 0) (opening : Opening) → P []
     → ((before : List Event) (event : Event) → IsStep opening before event → P before → P (before ++ event ∷ []))
     → (history : List Event) → IsLawful opening history → P history
 throughout P opening first stays history lawful =
-    always P opening stays [] history [] (rw (append-nil history) lawful) first
+    along (λ before left. P before) (λ before event. ⊤) opening (λ before event left step passed so. stays before event step so) [] history []
+    (rw (append-nil history) lawful) (all_along (λ event. ⊤) [] history (λ k d within. tt)) first
+
+-- what is held at the opening
+pub first-held : (opening : Opening) → (first_core opening).held ≡ held_after opening []
+first-held opening = held-is opening (first_core opening) [] (first-shows opening)
+
+-- the updates of events, the first of which is known
+pub counted-cons : (event : Event) (later : List Event) → updates_in (event ∷ later) ≡ cond (is_update (deed_of event)) 1 0 + updates_in later
+counted-cons event later = sum_by-cons (λ (e : Event). cond (is_update (deed_of e)) 1 0) event later
 
 -- what is held there is sound, and its moment the effective one
 pub sound_at : (opening : Opening) (before later : List Event) → IsLawful opening (before ++ later)
@@ -231,3 +192,11 @@ beginning opening before later lawful = record {
       (All-take (λ (e : Event). SetsInRange e.command) (length before) (before ++ later) lawful.set);
   legal = (stands_at opening before later lawful).shows.legal;
 }
+
+-- at each place the command is taken and has its answer
+pub all_legal : (o : Opening) (ps : List (Place Event)) → map (λ (p : Place Event). refusal_by_rule o p.before p.event.command) ps
+    ≡ map (λ (p : Place Event). None) ps
+    → map (λ (p : Place Event). p.event.answer) ps ≡ map (λ (p : Place Event). decision o p.before p.event.command) ps → All (IsLegalAt o) ps
+all_legal o [] taken answered = All-nil (IsLegalAt o)
+all_legal o (p ∷ ps) taken answered = All-cons (IsLegalAt o) p ps (record { taken = cc; answered = cc })
+    (all_legal o ps (ap (drop 1) taken) (ap (drop 1) answered))

@@ -10,4 +10,3 @@ pub mod ProbabilityFacts
 pub mod SpacingFacts
 pub mod TextFacts
 pub mod RateFacts
-pub mod Examples

@@ -14,6 +14,7 @@ pub use Rattle.std.specs.Int.{int_min}
 pub use Rattle.std.specs.Prelude.{Err, Ok, Result, int_div, negsuc, not, pos, sum_by, ℤ, ⊤, ◌*ℤ◌, ◌+ℤ◌, ◌-ℤ◌, ◌||◌, ◌≤ℤ◌}
 pub use Rattle.pie_aqm.proofs.InRange.{in-range, threshold-holds}
 pub use Rattle.pie_aqm.proofs.Places.{filter_map-push, place_of, with_one}
+pub use Rattle.pie_aqm.proofs.Sounds.{Sound_call, Sound_opened, next-hold}
 pub use Rattle.pie_aqm.specs.Calls.{IsTaken, after_call}
 pub use Rattle.pie_aqm.specs.Held.{Held, IsSound}
 unfoldable pub use Rattle.pie_aqm.specs.History.{held_of}
@@ -21,6 +22,7 @@ pub use Rattle.pie_aqm.specs.Places.{Place, places}
 pub use Rattle.pie_aqm.specs.Steps.{anew, bytes_with, choice, chosen, is_calm, judged, now_at, offered}
 unfoldable pub use Rattle.pie_aqm.specs.Steps.{verdict}
 pub use Rattle.pie_book.proofs.CoreFacts.{answer-fits, at_place, departed-of-legal, held-is}
+unfoldable pub use Rattle.pie_book.proofs.Examples.{worked}
 pub use Rattle.pie_book.proofs.LegalFacts.{first-shows, first_core, next-core, next-legal}
 pub use Rattle.pie_book.specs.Decision.{arrival_of, call_of, departure_call}
 pub use Rattle.pie_book.specs.Decision.{IsLegal, IsLegalAt, answer_by, answer_to_departure, decision, has_bad_size, is_too_soon, refusal_by_rule}

@@ -31,37 +31,41 @@ bounded-mono (negsuc a) (pos b) le = omega (arith, ints)
 bounded-mono (pos a) (negsuc b) le = omega (arith, ints, le)
 bounded-mono (negsuc a) (negsuc b) le = omega (arith, ints)
 
-raw-mono : (params : RawParams) (old delay more : ℕ) → delay ≤ more → raw_step params delay old ≤ℤ raw_step params more old
+raw-mono : (params : RawParams) (old old' delay more : ℕ) → delay ≤ more → (pos delay -ℤ pos old) ≤ℤ (pos more -ℤ pos old')
+    → raw_step params delay old ≤ℤ raw_step params more old'
 unfolding raw_step
-raw-mono params old delay more le =
+raw-mono params old old' delay more le change =
     let a = mul-mono params.alpha (pos delay -ℤ pos params.target) (pos more -ℤ pos params.target) (omega (arith, ints)) in
-    let b = mul-mono params.beta (pos delay -ℤ pos old) (pos more -ℤ pos old) (omega (arith, ints)) in
+    let b = mul-mono params.beta (pos delay -ℤ pos old) (pos more -ℤ pos old') change in
     omega (arith, ints, a, b)
+
+-- a delay that stays at the target moves nothing
+raw-zero : (params : RawParams) → raw_step params params.target params.target ≡ pos 0
+unfolding raw_step
+raw-zero params = let none : pos params.target -ℤ pos params.target ≡ pos 0 = omega (arith, ints) in rw none (omega (arith, ints))
 
 pub divisor-some : (prob : ℕ) → 0 < tuning_divisor prob
 unfolding tuning_divisor
 divisor-some prob = grind (arith, nat_tests)
 
--- a tuned step is the quotient, or where it is capped the less of it and two hundredths
-pub tuned-by : (P : ℤ → Type 0) (step : Step) (prob : ℕ) (x : ℤ) → P (int_min (int_div x (pos (tuning_divisor prob))) (pos 20_000_000_000))
-    → P (int_div x (pos (tuning_divisor prob))) → P (tuned_step step prob x)
+-- tuned steps are the quotients, or where they are capped the less of each and two hundredths
+pub tuned-by : (P : ℤ → ℤ → Type 0) (step : Step) (prob : ℕ) (x y : ℤ)
+    → P (int_min (int_div x (pos (tuning_divisor prob))) (pos 20_000_000_000)) (int_min (int_div y (pos (tuning_divisor prob))) (pos 20_000_000_000))
+    → P (int_div x (pos (tuning_divisor prob))) (int_div y (pos (tuning_divisor prob))) → P (tuned_step step prob x) (tuned_step step prob y)
 unfolding tuned_step
-tuned-by P step prob x capped whole = by (is_capped step && nat_le (10 ^ 11) prob)
+tuned-by P step prob x y capped whole = by (is_capped step && nat_le (10 ^ 11) prob)
   where
-    by : (b : Bool) → P (if b then int_min (int_div x (pos (tuning_divisor prob))) (pos 20_000_000_000) else int_div x (pos (tuning_divisor prob)))
+    by : (b : Bool)
+        → P (if b then int_min (int_div x (pos (tuning_divisor prob))) (pos 20_000_000_000) else int_div x (pos (tuning_divisor prob)))
+        (if b then int_min (int_div y (pos (tuning_divisor prob))) (pos 20_000_000_000) else int_div y (pos (tuning_divisor prob)))
     by true = capped
     by false = whole
 
 tuned-mono : (step : Step) (prob : ℕ) (x y : ℤ) → x ≤ℤ y → tuned_step step prob x ≤ℤ tuned_step step prob y
-unfolding tuned_step
-tuned-mono step prob x y le = by (is_capped step && nat_le (10 ^ 11) prob)
-  where
-    by : (capped : Bool) → (if capped then int_min (int_div x (pos (tuning_divisor prob))) (pos 20_000_000_000) else int_div x (pos
-        (tuning_divisor prob)))
-        ≤ℤ (if capped then int_min (int_div y (pos (tuning_divisor prob))) (pos 20_000_000_000) else int_div y (pos (tuning_divisor prob)))
-    by true = min-mono (int_div x (pos (tuning_divisor prob))) (int_div y (pos (tuning_divisor prob))) (pos 20_000_000_000)
-        (div-mono-int x y (tuning_divisor prob) (divisor-some prob) le)
-    by false = div-mono-int x y (tuning_divisor prob) (divisor-some prob) le
+tuned-mono step prob x y le =
+    let quotients = div-mono-int x y (tuning_divisor prob) (divisor-some prob) le in
+    tuned-by (λ (z w : ℤ). z ≤ℤ w) step prob x y
+    (min-mono (int_div x (pos (tuning_divisor prob))) (int_div y (pos (tuning_divisor prob))) (pos 20_000_000_000) quotients) quotients
 
 -- a decay never gives more than what decays, once both are bounded
 decay-less : (x : ℤ) → bounded_of (int_div (x *ℤ pos 98) (pos 100)) ≤ bounded_of x
@@ -92,47 +96,29 @@ pub next_mono : (elements : Elements) (params : RawParams) (prob old delay more 
     → next elements params prob delay old ≤ next elements params prob more old
 unfolding next
 next_mono elements params prob old delay more le =
-    let t = tuned-mono elements.step prob (raw_step params delay old) (raw_step params more old) (raw-mono params old delay more le) in
+    let t = tuned-mono elements.step prob (raw_step params delay old) (raw_step params more old) (raw-mono params old old delay more le (omega (arith, ints))) in
     decayed-mono (decays elements.decay params delay old) (decays elements.decay params more old)
     (pos prob +ℤ tuned_step elements.step prob (raw_step params delay old)) (pos prob +ℤ tuned_step elements.step prob (raw_step params more old))
     (decays-below elements.decay params old delay more le) (omega (arith, ints, t))
 
 -- ---- up and down
 
-product-up : (g : ℕ) (z : ℤ) → pos 0 ≤ℤ z → pos 0 ≤ℤ (pos g *ℤ z)
-product-up g (pos a) le = omega (arith, ints)
-product-up g (negsuc a) le = absurd (omega (arith, ints, le))
+tuned-zero : (step : Step) (prob : ℕ) → tuned_step step prob (pos 0) ≡ pos 0
+tuned-zero step prob = tuned-by (λ (z w : ℤ). z ≡ pos 0) step prob (pos 0) (pos 0) (omega (arith, ints, clamps)) (omega (arith, ints))
 
-product-down : (g : ℕ) (z : ℤ) → z ≤ℤ pos 0 → (pos g *ℤ z) ≤ℤ pos 0
-product-down g z le = let m = mul-mono g z (pos 0) le in omega (arith, ints, m)
+tuned-up : (step : Step) (prob : ℕ) (params : RawParams) (delay old : ℕ) → params.target ≤ delay → old ≤ delay
+    → pos 0 ≤ℤ tuned_step step prob (raw_step params delay old)
+tuned-up step prob params delay old above risen =
+    let raw = raw-mono params params.target old params.target delay above (omega (arith, ints)) in
+    rw (raw-zero params, tuned-zero step prob) at
+    (tuned-mono step prob (raw_step params params.target params.target) (raw_step params delay old) raw)
 
-quotient-up : (z : ℤ) (d : ℕ) → pos 0 ≤ℤ z → pos 0 ≤ℤ int_div z (pos d)
-quotient-up (pos a) d le = omega (arith, ints)
-quotient-up (negsuc a) d le = absurd (omega (arith, ints, le))
-
-tuned-up : (step : Step) (prob : ℕ) (x : ℤ) → pos 0 ≤ℤ x → pos 0 ≤ℤ tuned_step step prob x
-tuned-up step prob x le =
-    let q = quotient-up x (tuning_divisor prob) le in
-    tuned-by (λ (z : ℤ). pos 0 ≤ℤ z) step prob x (omega (arith, ints, clamps, q)) q
-
-tuned-down : (step : Step) (prob : ℕ) (x : ℤ) → x ≤ℤ pos 0 → tuned_step step prob x ≤ℤ pos 0
-tuned-down step prob x le =
-    let q = int_div-below x (tuning_divisor prob) 0 le in
-    tuned-by (λ (z : ℤ). z ≤ℤ pos 0) step prob x (omega (arith, ints, clamps, q)) q
-
-raw-up : (params : RawParams) (delay old : ℕ) → params.target ≤ delay → old ≤ delay → pos 0 ≤ℤ raw_step params delay old
-unfolding raw_step
-raw-up params delay old above risen =
-    let a = product-up params.alpha (pos delay -ℤ pos params.target) (omega (arith, ints)) in
-    let b = product-up params.beta (pos delay -ℤ pos old) (omega (arith, ints)) in
-    omega (arith, ints, a, b)
-
-raw-down : (params : RawParams) (delay old : ℕ) → delay ≤ params.target → delay ≤ old → raw_step params delay old ≤ℤ pos 0
-unfolding raw_step
-raw-down params delay old below fallen =
-    let a = product-down params.alpha (pos delay -ℤ pos params.target) (omega (arith, ints)) in
-    let b = product-down params.beta (pos delay -ℤ pos old) (omega (arith, ints)) in
-    omega (arith, ints, a, b)
+tuned-down : (step : Step) (prob : ℕ) (params : RawParams) (delay old : ℕ) → delay ≤ params.target → delay ≤ old
+    → tuned_step step prob (raw_step params delay old) ≤ℤ pos 0
+tuned-down step prob params delay old below fallen =
+    let raw = raw-mono params old params.target delay params.target below (omega (arith, ints)) in
+    rw (raw-zero params, tuned-zero step prob) at
+    (tuned-mono step prob (raw_step params delay old) (raw_step params params.target params.target) raw)
 
 -- what decays or not is at most what doesn't
 pub decayed-less : (decays : Bool) (x : ℤ) → bounded_of (decayed decays x) ≤ bounded_of x
@@ -151,7 +137,7 @@ pub next_up : (elements : Elements) (params : RawParams) (prob delay old : ℕ) 
 unfolding next decayed
 next_up elements params prob delay old within some above risen =
     rw (none_decays elements.decay params delay old some above) (by (pos prob +ℤ tuned_step elements.step prob (raw_step params delay old))
-    (let t = tuned-up elements.step prob (raw_step params delay old) (raw-up params delay old above risen) in omega (arith, ints, t)))
+    (let t = tuned-up elements.step prob params delay old above risen in omega (arith, ints, t)))
   where
     by : (x : ℤ) → pos prob ≤ℤ x → prob ≤ bounded_of x
     by (pos a) le = let b : prob ≤ a = omega (arith, ints, le) in omega (arith, b, within)
@@ -161,7 +147,7 @@ pub next_down : (elements : Elements) (params : RawParams) (prob delay old : ℕ
     → next elements params prob delay old ≤ prob
 unfolding next
 next_down elements params prob delay old below fallen =
-    let t = tuned-down elements.step prob (raw_step params delay old) (raw-down params delay old below fallen) in
+    let t = tuned-down elements.step prob params delay old below fallen in
     let less = decayed-less (decays elements.decay params delay old) (pos prob +ℤ tuned_step elements.step prob (raw_step params delay old)) in
     let few = bounded_of-below (pos prob +ℤ tuned_step elements.step prob (raw_step params delay old)) prob (omega (arith, ints, t)) in
     omega (arith, less, few)
@@ -169,11 +155,9 @@ next_down elements params prob delay old below fallen =
 tuned-capped : (step : Step) (prob : ℕ) (x : ℤ) → is_capped step ≡ true → 10 ^ 11 ≤ prob → tuned_step step prob x ≤ℤ pos 20_000_000_000
 unfolding tuned_step
 tuned-capped step prob x capped large =
-    rw (capped, many) (let m = min-below (int_div x (pos (tuning_divisor prob))) in m)
+    let many : nat_le (10 ^ 11) prob ≡ true = grind (arith, nat_tests) in
+    rw (capped, many) (min-below (int_div x (pos (tuning_divisor prob))))
   where
-    many : nat_le (10 ^ 11) prob ≡ true
-    many = grind (arith, nat_tests)
-
     min-below : (z : ℤ) → int_min z (pos 20_000_000_000) ≤ℤ pos 20_000_000_000
     min-below z = omega (arith, ints, clamps)
 
@@ -204,6 +188,5 @@ pub next_decays : (elements : Elements) (params : RawParams) (prob delay old : �
     → next elements params prob delay old * 100 ≤ prob * 98
 unfolding next decayed
 next_decays elements params prob delay old is fallen =
-    let t = tuned-down elements.step prob (raw_step params delay old)
-    (raw-down params delay old (decays_low elements.decay params delay old is) fallen) in
+    let t = tuned-down elements.step prob params delay old (decays_low elements.decay params delay old is) fallen in
     rw is (decayed-share prob (pos prob +ℤ tuned_step elements.step prob (raw_step params delay old)) (omega (arith, ints, t)))

@@ -10,7 +10,7 @@ use Rattle.pie_guarantees.proofs.Names.{old_delay_after, probability_after}
 use Rattle.pie_book.specs.Types.{RawParams}
 use Rattle.pie_aqm.specs.Steps as Steps
 use Rattle.pie_guarantees.proofs.CallFacts.{after-arrival, asks_update, update-is}
-use Rattle.pie_guarantees.proofs.LawfulFacts.{IsStep, sound_at, step_at}
+use Rattle.pie_guarantees.proofs.LawfulFacts.{IsStep, along, counted-cons, sound_at, step_at}
 use Rattle.pie_guarantees.proofs.NextFacts.{decays_low, next_capped, next_decays, next_down, next_up}
 use Rattle.pie_guarantees.proofs.SteadyFacts.{after_both, stays_down}
 
@@ -18,75 +18,29 @@ pub elements-is : (opening : Opening) (history : List Event) → (held_after ope
 unfolding held_after held_of
 elements-is opening history = refl
 
-pub within_one : (opening : Opening) (history : List Event) → IsLawful opening history → probability_after opening history ≤ 10 ^ 12
-within_one opening history lawful = (sound_at opening history [] (rw (append-nil history) lawful)).0.prob
-
 -- ---- an update of an active controller
 
--- the command of an update
-record IsUpdate (command : Command) : Type 0 where
-  moment : ℕ
-  is : command ≡ Update moment
+updated-prob : (h : Held) (waiting : List Waiting) (packets : ℕ) (command : Command) → asks_update command ≡ true → h.active ≡ true
+    → (after_call h (call_of waiting packets command)).control.prob
+    ≡ next h.elements h.params h.control.prob (Steps.delay_in h (bytes_of waiting)) h.control.old_delay
+updated-prob h waiting packets (Update moment) asks on = rw on refl
+updated-prob h waiting packets _ asks on = cc
 
-update-of : (command : Command) → asks_update command ≡ true → IsUpdate command
-update-of (Update moment) e = record { moment = moment; is = refl }
-update-of _ e = cc
-
-updated-prob : (h : Held) (queued moment : ℕ) → h.active ≡ true
-    → (Steps.updated h queued moment).control.prob ≡ next h.elements h.params h.control.prob (Steps.delay_in h queued) h.control.old_delay
-updated-prob h queued moment on = rw on refl
-
-prob-next : (opening : Opening) (before : List Event) (event : Event) → IsStep opening before event → IsActiveUpdate opening before event
+pub prob-next : (opening : Opening) (before : List Event) (event : Event) → IsStep opening before event → IsActiveUpdate opening before event
     → probability_after opening (before ++ event ∷ [])
     ≡ next opening.choices.elements (params_after opening before) (probability_after opening before) (delay_after opening before)
     (old_delay_after opening before)
 prob-next opening before event step active =
     let h = held_after opening before in
-    let u = update-of event.command (sym (update-is event.command event.answer) ∙ active.update) in
     ap (λ (g : Held). g.control.prob) step.held
-    ∙ ap (λ (c : Command). (after_call h (call_of (waiting_after opening before) opening.limits.packets c)).control.prob) u.is
-    ∙ updated-prob h (bytes_of (waiting_after opening before)) u.moment active.active
+    ∙ updated-prob h (waiting_after opening before) opening.limits.packets event.command
+    (sym (update-is event.command event.answer) ∙ active.update) active.active
     ∙ ap (λ (e : Elements). next e h.params h.control.prob (delay_after opening before) h.control.old_delay) (elements-is opening before)
-
-module _ (opening : Opening) (before : List Event) (event : Event) (later : List Event) (lawful : IsLawful opening (before ++ event ∷ later)) where
-  step : IsStep opening before event
-  step = step_at opening before event later lawful
-
-  module _ (active : IsActiveUpdate opening before event) where
-    is : probability_after opening (before ++ event ∷ [])
-        ≡ next opening.choices.elements (params_after opening before) (probability_after opening before) (delay_after opening before)
-        (old_delay_after opening before)
-    is = prob-next opening before event (step_at opening before event later lawful) active
-
-    pub rises_above : (params_after opening before).target ≤ delay_after opening before
-        → old_delay_after opening before ≤ delay_after opening before
-        → probability_after opening before ≤ probability_after opening (before ++ event ∷ [])
-    rises_above above risen =
-        let sound = (step_at opening before event later lawful).sound in
-        let target = (in-range (params_after opening before) sound.params).target in
-        rw is (next_up _ _ _ _ _ sound.prob (let least = target.0 in omega arith) above risen)
-
-    pub falls_below : delay_after opening before ≤ (params_after opening before).target
-        → delay_after opening before ≤ old_delay_after opening before
-        → probability_after opening (before ++ event ∷ []) ≤ probability_after opening before
-    falls_below below fallen =
-        rw is (next_down _ _ _ _ _ below fallen)
-
-    pub capped_rise : is_capped opening.choices.elements.step ≡ true → 100_000_000_000 ≤ probability_after opening before
-        → probability_after opening (before ++ event ∷ []) ≤ probability_after opening before + 20_000_000_000
-    capped_rise capped large =
-        rw is (next_capped _ _ _ _ _ capped large)
-
-    pub decays_by_two : decays opening.choices.elements.decay (params_after opening before) (delay_after opening before)
-        (old_delay_after opening before) ≡ true → delay_after opening before ≤ old_delay_after opening before
-        → probability_after opening (before ++ event ∷ []) * 100 ≤ probability_after opening before * 98
-    decays_by_two low fallen =
-        rw is (next_decays _ _ _ _ _ low fallen)
 
 -- ---- any other event
 
 -- what a command does to the probability that is no update of an active controller: it stays, or starts anew
-stays-or-zero : (h : Held) (waiting : List Waiting) (packets : ℕ) (command : Command) (answer : Answer)
+pub stays-or-zero : (h : Held) (waiting : List Waiting) (packets : ℕ) (command : Command) (answer : Answer)
     → (is_update (deed command answer) ≡ false) ⊎ (h.active ≡ false)
     → (after_call h (call_of waiting packets command)).control.prob ≤ h.control.prob
 stays-or-zero h waiting packets (Arrive moment packet word) answer other =
@@ -96,14 +50,6 @@ stays-or-zero h (oldest ∷ others) packets (Depart moment) answer other = omega
 stays-or-zero h waiting packets (Update moment) answer (inl none) = cc
 stays-or-zero h waiting packets (Update moment) answer (inr off) = rw off (omega arith)
 stays-or-zero h waiting packets _ answer other = omega arith
-
-pub no_other_rise : (opening : Opening) (before : List Event) (event : Event) (later : List Event)
-    → IsLawful opening (before ++ event ∷ later) → (is_update (deed_of event) ≡ false) ⊎ (active_after opening before ≡ false)
-    → probability_after opening (before ++ event ∷ []) ≤ probability_after opening before
-no_other_rise opening before event later lawful other =
-    let step = step_at opening before event later lawful in
-    subst (λ (g : Held). g.control.prob ≤ probability_after opening before) (sym step.held)
-    (stays-or-zero (held_after opening before) (waiting_after opening before) opening.limits.packets event.command event.answer other)
 
 -- ---- one delay all along
 
@@ -124,13 +70,10 @@ same-next delay h [] packets (Depart moment) answer keeps unreset on now old = r
 same-next delay h (oldest ∷ others) packets (Depart moment) answer keeps unreset on now old = record { params = refl; prob = refl }
 same-next delay h waiting packets (Update moment) answer keeps unreset on now old = record {
   params = refl;
-  prob = updated-prob h (bytes_of waiting) moment on ∙ rw (now refl, old refl) refl;
+  prob = updated-prob h waiting packets (Update moment) refl on ∙ rw (now refl, old refl) refl;
 }
 same-next delay h waiting packets (Reset moment) answer keeps unreset on now old = cc
 same-next delay h waiting packets (SetParams moment params) answer keeps unreset on now old = absurd keeps
-
-counted-cons : (event : Event) (later : List Event) → updates_in (event ∷ later) ≡ cond (is_update (deed_of event)) 1 0 + updates_in later
-counted-cons event later = sum_by-cons (λ (e : Event). cond (is_update (deed_of e)) 1 0) event later
 
 one-update : (updates : Bool) (n : ℕ) (elements : Elements) (params : RawParams) (delay prob : ℕ)
     → after_updates n elements params delay (if updates then next elements params prob delay delay else prob)
@@ -147,30 +90,28 @@ pub steadily : (delay : ℕ) (opening : Opening) (before : List Event) (between 
     → IsLawful opening (before ++ between ++ later) → AllAlong (IsSteady delay opening) before between
     → probability_after opening (before ++ between)
     ≡ after_updates (updates_in between) opening.choices.elements (params_after opening before) delay (probability_after opening before)
-unfolding AllAlong after_updates
-steadily delay opening before [] later lawful steady = rw (append-nil before) refl
-steadily delay opening before (event ∷ between) later lawful steady =
-    let here = steady.0 in
-    let one : (before ++ event ∷ []) ++ between ≡ before ++ (event ∷ between) = append_assoc before (event ∷ []) between in
-    let step = step_at opening before event (between ++ later) (rw (append_assoc before (event ∷ between) later) at lawful) in
-    let rest = steadily delay opening (before ++ event ∷ []) between later (rw (← one) at lawful) steady.1 in
-    let h = held_after opening before in
-    let w = waiting_after opening before in
-    let moved : Next delay h.elements h (held_after opening (before ++ event ∷ [])) (is_update (deed_of event)) =
-    subst (λ (g : Held). Next delay h.elements h g (is_update (deed_of event))) (sym step.held)
-    (rw (update-is event.command event.answer) (same-next delay h w opening.limits.packets event.command event.answer here.keeps here.unreset
-    here.active (λ is. here.delay_now (update-is event.command event.answer ∙ is))
-    (λ is. here.delay_old (update-is event.command event.answer ∙ is)))) in
-    let s = opening.choices.elements in
-    let prob : probability_after opening (before ++ event ∷ [])
-    ≡ (if is_update (deed_of event) then next s h.params h.control.prob delay delay else h.control.prob) =
-    moved.prob ∙ ap (λ (e : Elements). if is_update (deed_of event) then next e h.params h.control.prob delay delay else h.control.prob)
-    (elements-is opening before) in
-    ap (probability_after opening) (sym one) ∙ rest
-    ∙ ap (λ (p : RawParams). after_updates (updates_in between) s p delay (probability_after opening (before ++ event ∷ []))) moved.params
-    ∙ ap (λ (n : ℕ). after_updates (updates_in between) s h.params delay n) prob
-    ∙ one-update (is_update (deed_of event)) (updates_in between) s h.params delay h.control.prob
-    ∙ ap (λ (n : ℕ). after_updates n s h.params delay h.control.prob) (sym (counted-cons event between))
+unfolding after_updates
+steadily delay opening before between later lawful steady =
+    sym (along Comes (IsSteady delay opening) opening stays before between later lawful steady refl)
+  where
+    -- what the updates to come make of the probability
+    Comes : List Event → List Event → Type 0
+    Comes earlier left =
+        after_updates (updates_in between) opening.choices.elements (params_after opening before) delay (probability_after opening before)
+        ≡ after_updates (updates_in left) opening.choices.elements (params_after opening earlier) delay (probability_after opening earlier)
+
+    stays : (earlier : List Event) (event : Event) (left : List Event) → IsStep opening earlier event → IsSteady delay opening earlier event
+        → Comes earlier (event ∷ left) → Comes (earlier ++ event ∷ []) left
+    stays earlier event left step here so =
+        let h = held_after opening earlier in
+        let moved : Next delay opening.choices.elements h (held_after opening (earlier ++ event ∷ [])) (is_update (deed_of event)) =
+        subst (λ (e : Elements). Next delay e h (held_after opening (earlier ++ event ∷ [])) (is_update (deed_of event))) (elements-is opening earlier)
+        (subst (λ (g : Held). Next delay h.elements h g (is_update (deed_of event))) (sym step.held)
+        (rw (update-is event.command event.answer) (same-next delay h (waiting_after opening earlier) opening.limits.packets event.command event.answer
+        here.keeps here.unreset here.active (λ is. here.delay_now (update-is event.command event.answer ∙ is))
+        (λ is. here.delay_old (update-is event.command event.answer ∙ is))))) in
+        rw (moved.params, moved.prob, one-update (is_update (deed_of event)) (updates_in left) opening.choices.elements h.params delay h.control.prob,
+        ← counted-cons event left) so
 
 fades-more : (x y p a b : ℕ) → x * a ≤ y * b → y * 100 ≤ p * 98 → x * (a * 100) ≤ p * (b * 98)
 fades-more x y p a b rest one =
@@ -178,7 +119,7 @@ fades-more x y p a b rest one =
     let second : y * 100 * b ≤ p * 98 * b = mul-le (y * 100) b (p * 98) b one (omega arith) in
     grind arith
 
-faded-after : (n : ℕ) (elements : Elements) (params : RawParams) (delay prob : ℕ) → decays elements.decay params delay delay ≡ true
+pub faded-after : (n : ℕ) (elements : Elements) (params : RawParams) (delay prob : ℕ) → decays elements.decay params delay delay ≡ true
     → after_updates n elements params delay prob * 100 ^ n ≤ prob * 98 ^ n
 unfolding after_updates
 faded-after zero elements params delay prob is = omega arith
@@ -188,14 +129,6 @@ faded-after (suc n) elements params delay prob is =
     rw (pow-suc 100 n, pow-suc 98 n)
     (fades-more (after_updates n elements params delay (next elements params prob delay delay)) (next elements params prob delay delay) prob
     (100 ^ n) (98 ^ n) rest one)
-
-pub fades_away : (delay : ℕ) (opening : Opening) (before : List Event) (between : List Event) (later : List Event)
-    → IsLawful opening (before ++ between ++ later) → AllAlong (IsSteady delay opening) before between
-    → decays opening.choices.elements.decay (params_after opening before) delay delay ≡ true
-    → probability_after opening (before ++ between) * 100 ^ updates_in between ≤ probability_after opening before * 98 ^ updates_in between
-fades_away delay opening before between later lawful steady is =
-    rw (steadily delay opening before between later lawful steady)
-    (faded-after (updates_in between) opening.choices.elements (params_after opening before) delay (probability_after opening before) is)
 
 -- a hundred and fourteen times 98 hundredths are less than a tenth
 hundred-fourteen : 98 ^ 114 * 10 ≤ 100 ^ 114
@@ -219,29 +152,3 @@ a_tenth_is_left n elements params delay prob is many =
         let one : p * (a * 10) ≤ p * b = mul-le p (a * 10) p b (omega arith) tenth in
         let both : x * 10 * b ≤ p * b = grind (arith, one, faded) in
         le_of_mul-le-mul_right both some
-
--- ---- with the defaults
-
-pub tenth_after : after_updates 162 usual default_profile 30_000_000 0 ≡ 100_178_833_003
-unfolding after_updates next raw_step tuned_step tuning_divisor decayed
-tenth_after = refl
-
-pub tenth_not_before : after_updates 161 usual default_profile 30_000_000 0 ≡ 99_241_333_003
-unfolding after_updates next raw_step tuned_step tuning_divisor decayed
-tenth_not_before = refl
-
-pub faded_after : after_updates 87 usual default_profile 0 1_000_000_000_000 ≡ 96_421_179_148
-unfolding after_updates next raw_step tuned_step tuning_divisor decayed
-faded_after = refl
-
-pub not_yet_faded : after_updates 86 usual default_profile 0 1_000_000_000_000 ≡ 100_263_958_315
-unfolding after_updates next raw_step tuned_step tuning_divisor decayed
-not_yet_faded = refl
-
-pub below_a_tenth : next usual default_profile 99_999_999_999 1_000_000_000 0 ≡ 786_562_499_999
-unfolding next raw_step tuned_step tuning_divisor decayed
-below_a_tenth = refl
-
-pub from_a_tenth : next usual default_profile 100_000_000_000 1_000_000_000 0 ≡ 120_000_000_000
-unfolding next raw_step tuned_step tuning_divisor decayed
-from_a_tenth = refl

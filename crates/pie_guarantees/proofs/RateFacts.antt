@@ -6,11 +6,8 @@ use Rattle.pie_rate.specs.Average.{average, average_of, averaged}
 use Rattle.pie_guarantees.specs.Rates.{IsBetween, samples_after}
 use Rattle.pie_guarantees.proofs.LawfulFacts.{sound_at}
 
-apart : (n t u : ℕ) → n * (t + u) ≡ n * t + n * u
-apart n t u = grind arith
-
 parts : (n t u : ℕ) → t + u ≡ 65536 → n * 65536 ≡ n * t + n * u
-parts n t u whole = ap (λ (k : ℕ). n * k) (sym whole) ∙ apart n t u
+parts n t u whole = let both : n * (t + u) ≡ n * t + n * u = grind arith in rw whole at both
 
 -- one more sample
 weighted : (t u least most sample before : ℕ) → t + u ≡ 65536 → IsBetween least most sample → IsBetween least most before
@@ -36,26 +33,12 @@ between-later t least most small first (sample ∷ later) so all =
     (weighted t (65536 - t) least most sample first whole here so)
     (All-tail (IsBetween least most) sample later all)
 
-between-all : (t least most : ℕ) (times : List ℕ) → t ≤ 65536 → 0 < length times → All (IsBetween least most) times
+pub between-all : (t least most : ℕ) (times : List ℕ) → t ≤ 65536 → 0 < length times → All (IsBetween least most) times
     → IsBetween least most (average_of t times)
 between-all t least most [] small some all = absurd (omega arith)
 between-all t least most (first ∷ later) small some all =
     between-later t least most small first later (All-head (IsBetween least most) first later all) (All-tail (IsBetween least most) first later all)
 
-pub between_samples : (least : ℕ) (most : ℕ) (opening : Opening) (history : List Event) → IsLawful opening history
-    → 0 < length (samples_after opening history) → All (IsBetween least most) (samples_after opening history)
-    → IsBetween least most (average_after opening history)
-unfolding held_after held_of average
-between_samples least most opening history lawful some all =
-    let sound = (sound_at opening history [] (rw (append-nil history) lawful)).0 in
-    let small = (threshold-holds (params_after opening history) sound.params).1 in
-    between-all (params_after opening history).dq_threshold least most (samples_after opening history) small some all
-
-none-sampled : (t : ℕ) (times : List ℕ) → length times ≡ 0 → average_of t times ≡ 0
+pub none-sampled : (t : ℕ) (times : List ℕ) → length times ≡ 0 → average_of t times ≡ 0
 none-sampled t [] none = refl
 none-sampled t (first ∷ later) none = absurd (omega arith)
-
-pub no_sample : (opening : Opening) (history : List Event) → IsLawful opening history → length (samples_after opening history) ≡ 0
-    → average_after opening history ≡ 0
-unfolding held_after held_of average
-no_sample opening history lawful none = none-sampled (params_after opening history).dq_threshold (samples_after opening history) none

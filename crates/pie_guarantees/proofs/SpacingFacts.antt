@@ -12,7 +12,7 @@ use Rattle.pie_book.specs.Shown.{arriving_size}
 use Rattle.pie_guarantees.specs.Spacing.{CountsAtLeast, CountsAtMost, GoesOn, considered_in, counted_at, had_room, was_considered}
 use Rattle.pie_aqm.specs.Steps as Steps
 use Rattle.pie_book.specs.Estimates as Book
-use Rattle.pie_guarantees.proofs.LawfulFacts.{IsStep, sound_at, step_at}
+use Rattle.pie_guarantees.proofs.LawfulFacts.{IsStep, along, sound_at, step_at}
 use Rattle.pie_guarantees.proofs.ProbabilityFacts.{elements-is}
 use Rattle.pie_guarantees.proofs.CallFacts.{after-arrival, after-verdict}
 use Rattle.pie_guarantees.proofs.EarlyFacts.{early_arrival}
@@ -93,36 +93,24 @@ grows-at opening before event step =
     subst (λ (g : Held). g.accu ≤ Book.accu_after opening before + (if was_considered opening before event then counted_at opening before event
     else 0)) (sym step.held) (rw (q-is opening before event) at more)
 
--- what holds with a count before some events, and stays so with one more at each considered packet, holds with their number
-counting : (P : ℕ → List Event → Type 0) (Q : List Event → Event → Type 0) (opening : Opening)
-    → ((n : ℕ) (before : List Event) (event : Event) → IsStep opening before event → Q before event → P n before
-    → P (n + (if was_considered opening before event then 1 else 0)) (before ++ event ∷ []))
-    → (n : ℕ) (before between later : List Event) → IsLawful opening (before ++ between ++ later) → AllAlong Q before between → P n before
-    → P (n + considered_in opening before between) (before ++ between)
-unfolding AllAlong considered_in
-counting P Q opening stays n before [] later lawful all old = let none : n + 0 ≡ n = omega arith in rw (append-nil before, none) old
-counting P Q opening stays n before (event ∷ between) later lawful all old =
-    let one : (before ++ event ∷ []) ++ between ≡ before ++ (event ∷ between) = append_assoc before (event ∷ []) between in
-    let step = step_at opening before event (between ++ later) (rw (append_assoc before (event ∷ between) later) at lawful) in
-    let rest = counting P Q opening stays (n + (if was_considered opening before event then 1 else 0)) (before ++ event ∷ []) between later
-    (rw (← one) at lawful) all.1 (stays n before event step all.0 old) in
-    let sum : (n + (if was_considered opening before event then 1 else 0)) + considered_in opening (before ++ event ∷ []) between
-    ≡ n + ((if was_considered opening before event then 1 else 0) + considered_in opening (before ++ event ∷ []) between) = omega arith in
-    rw (← one, ← sum) rest
-
-more-at-most : (b : Bool) (n most accu q next : ℕ) → accu ≤ n * most → next ≤ accu + (if b then q else 0) → (b ≡ true → q ≤ most)
-    → next ≤ (n + (if b then 1 else 0)) * most
-more-at-most true n most accu q next old less few = let small = few refl in grind arith
-more-at-most false n most accu q next old less few = let none : n + 0 ≡ n = omega arith in rw none (omega arith)
+-- what is left of a bound where a packet is considered, or none
+more-at-most : (b : Bool) (n most accu q next total : ℕ) → accu + ((if b then 1 else 0) + n) * most ≤ total → next ≤ accu + (if b then q else 0)
+    → (b ≡ true → q ≤ most) → next + n * most ≤ total
+more-at-most true n most accu q next total old less few = let small = few refl in grind arith
+more-at-most false n most accu q next total old less few = grind arith
 
 far : (most : ℕ) (opening : Opening) (before between later : List Event) → IsLawful opening (before ++ between ++ later)
     → Book.accu_after opening before ≡ 0 → AllAlong (CountsAtMost most opening) before between
-    → Book.accu_after opening (before ++ between) ≤ (0 + considered_in opening before between) * most
+    → Book.accu_after opening (before ++ between) ≤ considered_in opening before between * most
+unfolding considered_in
 far most opening before between later lawful none few =
-    counting (λ (n : ℕ) (history : List Event). Book.accu_after opening history ≤ n * most) (CountsAtMost most opening) opening
-    (λ n before event step few old. more-at-most (was_considered opening before event) n most (Book.accu_after opening before)
-    (counted_at opening before event) (Book.accu_after opening (before ++ event ∷ [])) old (grows-at opening before event step) few)
-    0 before between later lawful few (omega (arith, none))
+    let all = along (λ earlier left. Book.accu_after opening earlier + considered_in opening earlier left * most
+    ≤ considered_in opening before between * most) (CountsAtMost most opening) opening
+    (λ earlier event left step few old. more-at-most (was_considered opening earlier event) (considered_in opening (earlier ++ event ∷ []) left) most
+    (Book.accu_after opening earlier) (counted_at opening earlier event) (Book.accu_after opening (earlier ++ event ∷ []))
+    (considered_in opening before between * most) old (grows-at opening earlier event step) few)
+    before between later lawful few (omega (arith, none)) in
+    omega (arith, all)
 
 picked-sum : (prob sum word : ℕ) → is_picked Derandomized prob sum word ≡ true → 850_000_000_000 ≤ sum
 unfolding is_picked
@@ -144,7 +132,7 @@ far_apart most opening before between event later lawful spaced none few last ea
     ap (λ (c : Command). q-of h (arriving_size c)) (sym it.is) ∙ q-is opening (before ++ between) event in
     let sum = picked-sum (q-of h it.packet.size) (h.accu + q-of h it.packet.size) it.word
     (subst (λ (p : Picking). is_picked p (q-of h it.packet.size) (h.accu + q-of h it.packet.size) it.word ≡ true) picking it.chosen.by_sum) in
-    together n most h.accu (q-of h it.packet.size) sum (subst (λ (k : ℕ). h.accu ≤ k * most) (let zero : 0 + n ≡ n = omega arith in zero) grown)
+    together n most h.accu (q-of h it.packet.size) sum grown
     (subst (λ (k : ℕ). k ≤ most) (sym q) last)
   where
     together : (n most accu q : ℕ) → 850_000_000_000 ≤ accu + q → accu ≤ n * most → q ≤ most → 850_000_000_000 ≤ (n + 1) * most
@@ -219,10 +207,10 @@ keeps-at least opening before event step spaced some large on =
     (kept (record { unpicked = on.unpicked; no_bytes = on.no_bytes; no_packets = on.no_packets; unreset = on.unreset })
     (λ con. subst (λ (q : ℕ). least ≤ q) (sym (q-is opening before event)) (large con)))
 
-more-at-least : (b : Bool) (n least accu next : ℕ) → n * least ≤ accu → accu + (if b then least else 0) ≤ next
-    → (n + (if b then 1 else 0)) * least ≤ next
-more-at-least true n least accu next old more = grind arith
-more-at-least false n least accu next old more = let none : n + 0 ≡ n = omega arith in rw none (omega arith)
+more-at-least : (b : Bool) (n least accu next total : ℕ) → total ≤ accu + ((if b then 1 else 0) + n) * least
+    → accu + (if b then least else 0) ≤ next → total ≤ next + n * least
+more-at-least true n least accu next total old more = grind arith
+more-at-least false n least accu next total old more = grind arith
 
 -- two properties that each event has
 both : (P Q : List Event → Event → Type 0) (before between : List Event) → AllAlong P before between → AllAlong Q before between
@@ -235,13 +223,14 @@ pub not_too_far : (least : ℕ) (opening : Opening) (before : List Event) (betwe
     → IsLawful opening (before ++ between ++ later) → opening.choices.elements.picking ≡ Derandomized → 0 < least
     → AllAlong (CountsAtLeast least opening) before between → AllAlong (GoesOn opening) before between
     → considered_in opening before between * least < 8_500_000_000_000
+unfolding considered_in
 not_too_far least opening before between later lawful spaced some large on =
-    let grown = counting (λ (n : ℕ) (history : List Event). n * least ≤ Book.accu_after opening history)
+    let all = along (λ earlier left. considered_in opening before between * least
+    ≤ Book.accu_after opening earlier + considered_in opening earlier left * least)
     (λ earlier event. CountsAtLeast least opening earlier event × GoesOn opening earlier event) opening
-    (λ n earlier event step here old. more-at-least (was_considered opening earlier event) n least (Book.accu_after opening earlier)
-    (Book.accu_after opening (earlier ++ event ∷ [])) old (keeps-at least opening earlier event step spaced some here.0 here.1))
-    0 before between later lawful (both (CountsAtLeast least opening) (GoesOn opening) before between large on) (omega arith) in
+    (λ earlier event left step here old. more-at-least (was_considered opening earlier event) (considered_in opening (earlier ++ event ∷ []) left)
+    least (Book.accu_after opening earlier) (Book.accu_after opening (earlier ++ event ∷ [])) (considered_in opening before between * least) old
+    (keeps-at least opening earlier event step spaced some here.0 here.1))
+    before between later lawful (both (CountsAtLeast least opening) (GoesOn opening) before between large on) (omega arith) in
     let sound = (sound_at opening (before ++ between) later lawful).0.accu in
-    let zero : 0 + considered_in opening before between ≡ considered_in opening before between = omega arith in
-    let grown' : considered_in opening before between * least ≤ Book.accu_after opening (before ++ between) = rw zero at grown in
-    omega (arith, grown', sound)
+    omega (arith, all, sound)

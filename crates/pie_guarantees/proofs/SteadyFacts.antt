@@ -3,7 +3,7 @@ use Rattle.pie_guarantees.proofs.Names.{◌≡◌, ◌≤◌, ◌<◌, ◌+◌, 
 use Rattle.pie_guarantees.proofs.Names.{subst, min, ℤ, pos, negsuc, ◌+ℤ◌, ◌-ℤ◌, ◌*ℤ◌, ◌≤ℤ◌, int_div, nat_le, int_min, nat_tests}
 use Rattle.pie_guarantees.proofs.Names.{clamps, ints, le-div, mul-le, div-mul-le_self, lt-mul-div-succ, bounded_of, default_profile, Elements, Step}
 use Rattle.pie_guarantees.proofs.Names.{decayed, decays, next, raw_step, tuned_step, tuning_divisor, bounded_of-below, after_updates}
-use Rattle.pie_guarantees.proofs.Names.{least_rise, untuned_fall, untuned_rise, updates_from, updates_to_a_tenth}
+use Rattle.pie_guarantees.proofs.Names.{next-hold, least_rise, untuned_fall, untuned_rise, updates_from, updates_to_a_tenth}
 use Rattle.pie_params.specs.declared.raw.RawParams.{RawParams}
 use Rattle.pie_guarantees.proofs.NextFacts.{decayed-less, divisor-some, next_down, next_up, none_decays, tuned-by}
 
@@ -20,21 +20,12 @@ divisor-falls low high le = grind (arith, nat_tests)
 
 -- ---- one update
 
-distance : (x y : ℕ) → y ≤ x → pos x -ℤ pos y ≡ pos (x - y)
-distance x y le = omega (arith, ints)
-
-none-between : (x : ℕ) → pos x -ℤ pos x ≡ pos 0
-none-between x = omega (arith, ints)
-
 raw-above : (params : RawParams) (delay : ℕ) → params.target ≤ delay → raw_step params delay delay ≡ pos (untuned_rise params delay)
 unfolding raw_step
 raw-above params delay above =
-    let d = distance delay params.target above in
-    let n = none-between delay in
-    rw (d, n) (omega (arith, ints))
-
-below-distance : (x y : ℕ) → x ≤ y → pos x -ℤ pos y ≡ pos 0 -ℤ pos (y - x)
-below-distance x y le = omega (arith, ints)
+    let far : pos delay -ℤ pos params.target ≡ pos (delay - params.target) = omega (arith, ints) in
+    let none : pos delay -ℤ pos delay ≡ pos 0 = omega (arith, ints) in
+    rw (far, none) (omega (arith, ints))
 
 zero-less : (n : ℕ) → pos 0 -ℤ pos (suc n) ≡ negsuc n
 zero-less n = omega (arith, ints)
@@ -46,61 +37,33 @@ product-below a (suc n) = rw (zero-less n) (omega (arith, ints))
 raw-below : (params : RawParams) (delay : ℕ) → delay ≤ params.target → raw_step params delay delay ≡ pos 0 -ℤ pos (untuned_fall params delay)
 unfolding raw_step
 raw-below params delay below =
-    let d = below-distance delay params.target below in
-    let n = none-between delay in
-    let p = product-below params.alpha (params.target - delay) in
-    rw (d, n, p) (omega (arith, ints))
+    let far : pos delay -ℤ pos params.target ≡ pos 0 -ℤ pos (params.target - delay) = omega (arith, ints) in
+    let none : pos delay -ℤ pos delay ≡ pos 0 = omega (arith, ints) in
+    rw (far, none, product-below params.alpha (params.target - delay)) (omega (arith, ints))
 
 -- toward zero
 quotient-below : (n d : ℕ) → int_div (pos 0 -ℤ pos n) (pos d) ≡ pos 0 -ℤ pos (n / d)
 quotient-below zero d = omega (arith, ints)
 quotient-below (suc n) d = rw (zero-less n) (omega (arith, ints))
 
-sum-below : (prob fall : ℕ) → fall ≤ prob → pos prob +ℤ (pos 0 -ℤ pos fall) ≡ pos (prob - fall)
-sum-below prob fall le = omega (arith, ints)
-
-bounded-fall : (prob fall : ℕ) → 0 < bounded_of (pos prob +ℤ (pos 0 -ℤ pos fall)) → bounded_of (pos prob +ℤ (pos 0 -ℤ pos fall)) + fall ≤ prob
-bounded-fall prob fall some = by (nat_le fall prob) refl
-  where
-    by : (b : Bool) → nat_le fall prob ≡ b → bounded_of (pos prob +ℤ (pos 0 -ℤ pos fall)) + fall ≤ prob
-    by true e =
-        let le : fall ≤ prob = grind (arith, nat_tests) in
-        rw (sum-below prob fall le) (omega arith)
-    by false e =
-        let less : prob < fall = grind (arith, nat_tests) in
-        let zero = bounded_of-below (pos prob +ℤ (pos 0 -ℤ pos fall)) 0 (omega (arith, ints)) in
-        absurd (omega (arith, zero, some))
-
-fall-bounded : (prob fall : ℕ) → prob ≤ 10 ^ 12 → prob ≤ bounded_of (pos prob +ℤ (pos 0 -ℤ pos fall)) + fall
-fall-bounded prob fall within = by (nat_le fall prob) refl
-  where
-    by : (b : Bool) → nat_le fall prob ≡ b → prob ≤ bounded_of (pos prob +ℤ (pos 0 -ℤ pos fall)) + fall
-    by true e =
-        let le : fall ≤ prob = grind (arith, nat_tests) in
-        rw (sum-below prob fall le) (omega arith)
-    by false e =
-        let less : prob < fall = grind (arith, nat_tests) in omega arith
+fallen : (z : ℤ) (prob fall : ℕ) → z ≡ pos prob +ℤ (pos 0 -ℤ pos fall) → bounded_of z ≡ min (10 ^ 12) (prob - fall)
+fallen (pos a) prob fall e = omega (arith, ints, e)
+fallen (negsuc a) prob fall e = omega (arith, ints, e)
 
 tuned-below : (step : Step) (prob n : ℕ) → tuned_step step prob (pos 0 -ℤ pos n) ≡ pos 0 -ℤ pos (n / tuning_divisor prob)
 tuned-below step prob n =
     let q = quotient-below n (tuning_divisor prob) in
-    tuned-by (λ (z : ℤ). z ≡ pos 0 -ℤ pos (n / tuning_divisor prob)) step prob (pos 0 -ℤ pos n) (rw q (omega (arith, ints, clamps))) q
+    tuned-by (λ (z w : ℤ). z ≡ pos 0 -ℤ pos (n / tuning_divisor prob)) step prob (pos 0 -ℤ pos n) (pos 0) (rw q (omega (arith, ints, clamps))) q
 
 least-tuned : (step : Step) (params : RawParams) (delay prob : ℕ)
     → pos (least_rise params delay prob) ≤ℤ tuned_step step prob (pos (untuned_rise params delay))
 least-tuned step params delay prob =
-    tuned-by (λ (z : ℤ). pos (least_rise params delay prob) ≤ℤ z) step prob (pos (untuned_rise params delay))
-    (by (untuned_rise params delay / tuning_divisor prob)) (least (untuned_rise params delay / tuning_divisor prob))
-  where
-    by : (q : ℕ) → pos (min q 20_000_000_000) ≤ℤ int_min (pos q) (pos 20_000_000_000)
-    by q = omega (arith, ints, clamps)
-
-    least : (q : ℕ) → pos (min q 20_000_000_000) ≤ℤ pos q
-    least q = omega (arith, ints, clamps)
+    tuned-by (λ (z w : ℤ). pos (least_rise params delay prob) ≤ℤ z) step prob (pos (untuned_rise params delay)) (pos 0)
+    (omega (arith, ints, clamps)) (omega (arith, ints, clamps))
 
 tuned-most : (step : Step) (prob n : ℕ) → tuned_step step prob (pos n) ≤ℤ pos (n / tuning_divisor prob)
 tuned-most step prob n =
-    tuned-by (λ (z : ℤ). z ≤ℤ pos (n / tuning_divisor prob)) step prob (pos n) (omega (arith, ints, clamps)) (omega (arith, ints))
+    tuned-by (λ (z w : ℤ). z ≤ℤ pos (n / tuning_divisor prob)) step prob (pos n) (pos 0) (omega (arith, ints, clamps)) (omega (arith, ints))
 
 -- a sum that is at least this is as a probability
 least-bounded : (prob rise : ℕ) (x : ℤ) → pos rise ≤ℤ x → min (10 ^ 12) (prob + rise) ≤ bounded_of (pos prob +ℤ x)
@@ -137,20 +100,18 @@ one-fall elements params prob delay below some =
     let less : next elements params prob delay delay ≤ bounded_of (pos prob +ℤ (pos 0 -ℤ pos fall)) =
     subst (λ (z : ℤ). next elements params prob delay delay ≤ bounded_of (pos prob +ℤ z)) (fallen-step elements params prob delay below)
     (decayed-less (decays elements.decay params delay delay) (pos prob +ℤ tuned_step elements.step prob (raw_step params delay delay))) in
-    let fallen = bounded-fall prob fall (omega (arith, less, some)) in
-    omega (arith, less, fallen)
+    let is = fallen (pos prob +ℤ (pos 0 -ℤ pos fall)) prob fall refl in
+    omega (arith, less, is, some)
 
 one-fall-most : (elements : Elements) (params : RawParams) (prob delay : ℕ) → prob ≤ 10 ^ 12 → decays elements.decay params delay delay ≡ false
     → delay ≤ params.target → prob ≤ next elements params prob delay delay + untuned_fall params delay / tuning_divisor prob
 unfolding next decayed
 one-fall-most elements params prob delay within still below =
-    rw (still, fallen-step elements params prob delay below) (fall-bounded prob (untuned_fall params delay / tuning_divisor prob) within)
+    rw (still, fallen-step elements params prob delay below)
+    (let is = fallen (pos prob +ℤ (pos 0 -ℤ pos (untuned_fall params delay / tuning_divisor prob))) prob
+    (untuned_fall params delay / tuning_divisor prob) refl in omega (arith, is, within))
 
 -- ---- several updates
-
-within-one : (z : ℤ) → bounded_of z ≤ 10 ^ 12
-within-one (pos a) = omega arith
-within-one (negsuc a) = omega arith
 
 -- a divisor that falls leaves more
 div-more : (n d e : ℕ) → 0 < e → e ≤ d → n / d ≤ n / e
@@ -179,9 +140,7 @@ module _ (elements : Elements) (params : RawParams) (delay : ℕ) where
   after n prob = after_updates n elements params delay prob
 
   once-within : (prob : ℕ) → once prob ≤ 10 ^ 12
-  unfolding next
-  once-within prob =
-      within-one (decayed (decays elements.decay params delay delay) (pos prob +ℤ tuned_step elements.step prob (raw_step params delay delay)))
+  once-within prob = next-hold elements params prob delay delay
 
   after-within : (n prob : ℕ) → prob ≤ 10 ^ 12 → after n prob ≤ 10 ^ 12
   unfolding after_updates
@@ -298,7 +257,3 @@ module _ (elements : Elements) (params : RawParams) (delay : ℕ) where
         (after-within (updates_to_a_tenth params delay) prob within)).0 in
         let both = after_both (updates_to_a_tenth params delay) (n - updates_to_a_tenth params delay) prob in
         subst (λ (k : ℕ). 10 ^ 11 ≤ after k prob) split (rw both (omega (arith, there, stays)))
-
-pub twice_the_target : updates_to_a_tenth default_profile 30_000_000 ≡ 164
-unfolding tuning_divisor
-twice_the_target = refl

@@ -8,8 +8,6 @@ ghost use Rattle.pie_guarantees.specs.Lawful.{IsLawful};
 ghost use Rattle.pie_guarantees.specs.Verdicts.{IsEarly};
 
 /// The burst allowance is whole at the opening, after a reset, and where an arrival turns the controller on (RFC 8033, sections 4.4 and 5.3).
-///
-/// It does nothing: its contract is the law.
 pub fn allowances_begin_whole()
     ensures opening { (opening : Opening) → IsLawful opening [] → IsWhole opening [] }
     ensures reset { (opening : Opening) (before : List Event) (event : Event) (later : List Event) (moment : ℕ)
@@ -26,8 +24,6 @@ pub fn allowances_begin_whole()
 ///
 /// Parameters may change between: then the least allowance and the longest and shortest distances of all count (`apart` for the time). What is left
 /// is no more than `max_burst` where parameters never changed (`allowed`).
-///
-/// It does nothing: its contract is the law.
 pub fn bursts_are_let_in_so_long()
     ensures updates { (burst : ℕ) (least : ℕ) (most : ℕ) (opening : Opening) (before : List Event) (between : List Event) (event : Event)
         (later : List Event) → IsLawful opening (before ++ between ++ event ∷ later) → burst ≤ burst_left opening before

@@ -13,8 +13,6 @@ use pie_audit::clean_is_legal;
 
 /// All laws here hold of the events that a text tells which an audit finds `Clean`, from the opening that it tells, whatever wrote it (this
 /// project's own). `audit` of pie_audit is proved to answer what is found.
-///
-/// It does nothing: its contract is the law.
 pub fn clean_histories_are_lawful()
     ensures { (text : List ℕ) (opening : Opening) (lines : List Line) (events : ℕ) → TellsHistory text opening lines
         → text_finding (records_of text) ≡ Ok (Clean events) → IsLawful opening (events_of lines) }

@@ -11,9 +11,7 @@ ghost use Rattle.pie_guarantees.specs.Lawful.{IsLawful};
 
 /// Every packet that was handed in was queued, marked, dropped early, or dropped for want of room, exactly once (`once`); those that departed,
 /// and then those that wait, are exactly those that were queued or marked, in the order in which they arrived, unchanged but for CE where one was
-/// marked (`order`).
-///
-/// It does nothing: its contract is the law (this project's own).
+/// marked (`order`; both are this project's own).
 pub fn every_packet_is_accounted_for()
     ensures once { (opening : Opening) (history : List Event) → IsLawful opening history
         → packets_handed_in history ≡ count_of is_queued history + count_of is_marked history + count_of is_dropped_early history
@@ -25,8 +23,6 @@ pub fn every_packet_is_accounted_for()
 /// No more packets wait than the ring holds (`packets`). A packet that is queued or marked fits under `limit_bytes` with all that wait
 /// (`bytes_queued`, RFC 8033, Appendix A). So no more bytes ever wait than the greatest `limit_bytes` that was ever in force (`bytes`); new
 /// parameters may lower it below the bytes that wait already.
-///
-/// It does nothing: its contract is the law.
 pub fn queues_stay_within_their_limits()
     ensures packets { (opening : Opening) (history : List Event) → IsLawful opening history
         → length (waiting_after opening history) ≤ opening.limits.packets }
@@ -39,9 +35,7 @@ pub fn queues_stay_within_their_limits()
 
 /// Where as many packets depart as wait at some moment, they are those, in their order (`first_in_first_out`). So a packet that is queued, and
 /// departs with the last of the events between, has waited for at most `limit_bytes` over the rate at which the link carried packets in that
-/// time, in which at least this one waited (`waits`): 262144 bytes at 10 Mbit/s are 210 milliseconds.
-///
-/// It does nothing: its contract is the law (this project's own).
+/// time, in which at least this one waited (`waits`; both are this project's own): 262144 bytes at 10 Mbit/s are 210 milliseconds.
 pub fn waits_are_bounded()
     ensures first_in_first_out { (opening : Opening) (before : List Event) (between : List Event) (later : List Event)
         → IsLawful opening (before ++ between ++ later) → length (packets_departed between) ≡ length (waiting_after opening before)

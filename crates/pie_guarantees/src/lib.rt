@@ -1,6 +1,7 @@
 //! What follows from the rules: guarantees that hold of every history that an audit finds clean, whatever made it.
 //!
-//! Each law is a function that does nothing: its contract is the law. The definitions that the contracts cite stand in `specs/`.
+//! Each law, and each worked example, is a function that does nothing: its contract is the law, or the example, which computes. The
+//! definitions that the contracts cite stand in `specs/`.
 #![tactic(auto)]
 
 pub mod bursts;

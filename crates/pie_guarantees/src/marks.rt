@@ -5,16 +5,12 @@ ghost use Rattle.pie_guarantees.specs.Lawful.{IsLawful};
 ghost use Rattle.pie_guarantees.specs.Verdicts.{MarksOnlyCapable, OnlyMarks, SparesCapable};
 
 /// A packet whose endpoints understand a mark is never dropped early while the probability is below `mark_ecnth` (RFC 8033, section 5.1).
-///
-/// It does nothing: its contract is the law.
 pub fn capable_packets_are_spared()
     ensures { (opening : Opening) (before : List Event) (event : Event) (later : List Event) → IsLawful opening (before ++ event ∷ later)
         → OnlyMarks opening before → SparesCapable event }
 {}
 
 /// A packet whose endpoints don't understand a mark is never marked (RFC 3168, section 5).
-///
-/// It does nothing: its contract is the law.
 pub fn only_capable_packets_are_marked()
     ensures { (opening : Opening) (before : List Event) (event : Event) (later : List Event) → IsLawful opening (before ++ event ∷ later)
         → MarksOnlyCapable event }

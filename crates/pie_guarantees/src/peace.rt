@@ -7,16 +7,12 @@ ghost use Rattle.pie_guarantees.specs.Lawful.{IsLawful};
 ghost use Rattle.pie_guarantees.specs.Verdicts.{is_early};
 
 /// While burst allowance is left no packet is marked or dropped early (RFC 8033, section 4.4).
-///
-/// It does nothing: its contract is the law.
 pub fn bursts_are_let_in()
     ensures { (opening : Opening) (before : List Event) (event : Event) (later : List Event) → IsLawful opening (before ++ event ∷ later)
         → 0 < (parts_after opening before).burst → is_early event.answer ≡ false }
 {}
 
 /// While at most two packets of the mean size wait, by their bytes, none is marked or dropped early (RFC 8033, section 4.1).
-///
-/// It does nothing: its contract is the law.
 pub fn short_queues_are_left_alone()
     ensures { (opening : Opening) (before : List Event) (event : Event) (later : List Event) → IsLawful opening (before ++ event ∷ later)
         → bytes_after opening before ≤ 2 * (params_after opening before).mean_pkt → is_early event.answer ≡ false }
@@ -24,8 +20,6 @@ pub fn short_queues_are_left_alone()
 
 /// While the last update's delay is below half the target, and the probability below 20 per cent, no packet is marked or dropped early
 /// (RFC 8033, section 4.1).
-///
-/// It does nothing: its contract is the law.
 pub fn low_delay_is_left_alone()
     ensures { (opening : Opening) (before : List Event) (event : Event) (later : List Event) → IsLawful opening (before ++ event ∷ later)
         → 2 * (parts_after opening before).old_delay < (params_after opening before).target
@@ -33,8 +27,6 @@ pub fn low_delay_is_left_alone()
 {}
 
 /// While the controller is inactive no packet is marked or dropped early (RFC 8033, section 5.3; profile two alone is ever inactive).
-///
-/// It does nothing: its contract is the law.
 pub fn inactive_controllers_let_all_in()
     ensures { (opening : Opening) (before : List Event) (event : Event) (later : List Event) → IsLawful opening (before ++ event ∷ later)
         → active_after opening before ≡ false → is_early event.answer ≡ false }

@@ -16,8 +16,6 @@ ghost use Rattle.pie_guarantees.specs.Probability.{untuned_fall, untuned_rise, u
 /// target and not fallen doesn't lower it (`rises`); one that finds it at or below the target and not risen doesn't raise it (`falls`). From 10 per
 /// cent on a rise is at most 2 points, where rises are capped (`capped`); and an update that finds delays at which the probability decays, and none
 /// that rises, leaves at most 98 hundredths (`decays`). No other event raises it (`nothing_else_raises`).
-///
-/// It does nothing: its contract is the law.
 pub fn the_probability_follows_the_delay()
     ensures bounded { (opening : Opening) (history : List Event) → IsLawful opening history → probability_after opening history ≤ 10 ^ 12 }
     ensures rises { (opening : Opening) (before : List Event) (event : Event) (later : List Event) → IsLawful opening (before ++ event ∷ later)
@@ -45,8 +43,6 @@ pub fn the_probability_follows_the_delay()
 /// A higher delay never gives a lower next probability, all else the same (`delay`). A higher probability before can give a lower one
 /// after, where rises are capped: at a delay of one second, after none, 10 per cent becomes 12, and a hair less than 10 becomes 78.7 (`below`,
 /// `from_a_tenth`).
-///
-/// It does nothing: its contract is the law.
 pub fn what_gives_a_higher_probability()
     ensures delay { (elements : Elements) (params : RawParams) (prob : ℕ) (old : ℕ) (delay : ℕ) (more : ℕ) → delay ≤ more
         → next elements params prob delay old ≤ next elements params prob more old }
@@ -57,8 +53,6 @@ pub fn what_gives_a_higher_probability()
 /// While each update finds the same delay the probability is that after so many updates of one delay (`steady`). With the defaults, from 0 at
 /// twice the target it is at least 10 per cent after 162 updates, 2.43 seconds (`tenth_at_last`, `not_before`). Where it decays it falls by 2 per
 /// cent an update at least (`fades`); with no delay from 1 to a tenth in 87 updates, 1.3 seconds (`faded`, `not_yet_faded`).
-///
-/// It does nothing: its contract is the law.
 pub fn how_fast_the_probability_changes()
     ensures steady { (delay : ℕ) (opening : Opening) (before : List Event) (between : List Event) (later : List Event)
         → IsLawful opening (before ++ between ++ later) → AllAlong (IsSteady delay opening) before between
@@ -80,8 +74,6 @@ pub fn how_fast_the_probability_changes()
 /// so (`falls`, and where it does not decay `falls_no_faster`). So it is at 10 per cent after the updates that each row of the table takes, one after
 /// the other (`to_a_tenth`): with the defaults at twice the target after 164 (`at_twice_the_target`), where the exact number is 162. Where it decays
 /// 114 updates leave at most a tenth (`fades_to_a_tenth`).
-///
-/// It does nothing: its contract is the law.
 pub fn steady_delays_move_the_probability()
     ensures rises { (elements : Elements) (params : RawParams) (delay : ℕ) → 0 < params.target → params.target ≤ delay → (n : ℕ) (prob : ℕ)
         → prob ≤ 10 ^ 12 → min (10 ^ 12) (prob + n * least_rise params delay prob) ≤ after_updates n elements params delay prob }

@@ -7,8 +7,6 @@ ghost use Rattle.pie_guarantees.specs.Rates.{IsBetween, samples_after};
 
 /// The estimated time in which `dq_threshold` bytes depart lies between the shortest and the longest sample since the estimate was cleared,
 /// where there is a sample (`between`, RFC 8033, section 5.2); with none it is 0 (`unmeasured`), and then the delay counts as 0.
-///
-/// It does nothing: its contract is the law.
 pub fn the_rate_lies_between_its_samples()
     ensures between { (least : ℕ) (most : ℕ) (opening : Opening) (history : List Event) → IsLawful opening history
         → 0 < length (samples_after opening history) → All (IsBetween least most) (samples_after opening history)

@@ -8,8 +8,6 @@ ghost use Rattle.pie_guarantees.specs.Spacing.{CountsAtLeast, CountsAtMost, Goes
 ghost use Rattle.pie_guarantees.specs.Verdicts.{IsEarly};
 
 /// A packet that is marked or dropped early leaves an accumulated probability of 0 (RFC 8033, section 5.4).
-///
-/// It does nothing: its contract is the law.
 pub fn picks_start_anew()
     ensures { (opening : Opening) (before : List Event) (event : Event) (later : List Event) → IsLawful opening (before ++ event ∷ later)
         → IsEarly event → accu_after opening (before ++ event ∷ []) ≡ 0 }
@@ -18,8 +16,6 @@ pub fn picks_start_anew()
 /// Where probabilities accumulate and the probability counts as at most `most` for each considered packet: from one picked packet to the next there
 /// are so many considered packets, the next included, that these times `most` are at least 0.85 (RFC 8033, section 5.4). Other starts of the
 /// accumulated probability between make them more. At 1 per cent no more than one of 85 is picked.
-///
-/// It does nothing: its contract is the law.
 pub fn picks_are_far_apart()
     ensures { (most : ℕ) (opening : Opening) (before : List Event) (between : List Event) (event : Event) (later : List Event)
         → IsLawful opening (before ++ between ++ event ∷ later) → opening.choices.elements.picking ≡ Derandomized
@@ -31,8 +27,6 @@ pub fn picks_are_far_apart()
 /// Where probabilities accumulate and the probability counts as at least `least` for each considered packet, above 0: as long as none is
 /// picked, and nothing else starts the accumulated probability anew, there are so few considered packets that these times `least` are below 8.5
 /// (RFC 8033, section 5.4). So at 1 per cent at least one of 850 in a row is picked.
-///
-/// It does nothing: its contract is the law.
 pub fn picks_are_not_too_far_apart()
     ensures { (least : ℕ) (opening : Opening) (before : List Event) (between : List Event) (later : List Event)
         → IsLawful opening (before ++ between ++ later) → opening.choices.elements.picking ≡ Derandomized → 0 < least

@@ -18,8 +18,6 @@ use pie_lock::{LockOpening, LockRule, Place};
 /// All laws here hold of the one history of a link, whenever its lock is free and whatever its callers do: its opening is one that a link accepts,
 /// and the parameters that its callers set are in their ranges, as those of every call are. So each sender has these guarantees whatever the
 /// others do: none makes another's packet wait longer, or be dropped or marked at another time, than a law allows (this project's own).
-///
-/// It does nothing: its contract is the law.
 pub fn links_are_lawful()
     ensures { let rule = ⟦<LockRule as TableRule<Option<KeptBook>, Place<LinkEntry, LinkOpening>, LockOpening<KeptBook>>>⟧.holds in
         (link : LinkView) → KeepsOneHistory rule link → (opening : Opening) → link.origin ≡ Some opening

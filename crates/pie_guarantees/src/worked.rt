@@ -8,8 +8,6 @@ ghost use Rattle.pie_guarantees.specs.Examples.{burst_begins, burst_goes_on, bur
 ghost use Rattle.pie_guarantees.specs.Verdicts.{IsEarly};
 
 /// More bytes can wait than `limit_bytes` allows: 1000 wait when new parameters lower it to 500.
-///
-/// It does nothing: its contract is the example, which computes.
 pub fn limits_may_be_lowered_below_the_queue()
     ensures legal { IsLegal lowered_opening lowered }
     ensures waiting { bytes_after lowered_opening lowered ≡ 1000 }
@@ -19,8 +17,6 @@ pub fn limits_may_be_lowered_below_the_queue()
 /// A burst that begins just before an update meets its first early drop no later than the law of bursts says, but for a nanosecond: with updates 100
 /// apart and an allowance of 200, its first packet comes at 99, and the first early drop at 200. With the defaults' ten updates that is 135
 /// milliseconds, and not 150.
-///
-/// It does nothing: its contract is the example, which computes.
 pub fn bursts_may_meet_an_early_drop_so_soon()
     ensures legal { IsLegal burst_opening (burst_begins ++ burst_goes_on ++ first_drop ∷ []) }
     ensures whole { IsWhole burst_opening burst_begins }

@@ -1,9 +1,22 @@
-use Rattle.pie_guarantees.proofs.BurstFacts.{whole_at_opening, whole_at_reset, whole_turned_on}
+use Rattle.pie_guarantees.proofs.Names.{◌≡◌, ◌∙◌, refl, subst, sym, ap, Command, Held, after_call, call_of, held_after, waiting_after}
+use Rattle.pie_guarantees.proofs.BurstFacts.{wakes-whole}
+use Rattle.pie_guarantees.proofs.LawfulFacts.{first-held, step_at}
 use Rattle.pie_guarantees.proofs.bursts.allowances_begin_whole.Goals as goal
+
+-- the allowance is whole
+abbrev Whole : Held → Type 0
+Whole h = h.control.burst ≡ h.params.max_burst
 
 pub returns : goal.returns
 returns c = record {
-  opening = whole_at_opening;
-  reset = whole_at_reset;
-  turned_on = whole_turned_on;
+  opening = λ opening lawful. subst Whole (first-held opening) refl;
+  reset = λ opening before event later moment lawful is.
+      let step = step_at opening before event later lawful in
+      subst Whole (sym (step.held ∙ ap (λ (c : Command). after_call (held_after opening before)
+      (call_of (waiting_after opening before) opening.limits.packets c)) is)) refl;
+  turned_on = λ opening before event later lawful off on.
+      let step = step_at opening before event later lawful in
+      subst Whole (sym step.held)
+      (wakes-whole (held_after opening before) (waiting_after opening before) opening.limits.packets event.command off
+      (sym (ap (λ (g : Held). g.active) step.held) ∙ on));
 }

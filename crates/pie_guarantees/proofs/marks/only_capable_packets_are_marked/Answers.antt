@@ -1,5 +1,11 @@
-use Rattle.pie_guarantees.proofs.EarlyFacts.{capable_alone}
+use Rattle.pie_guarantees.proofs.Names.{ap, sym, ◌∙◌, Answer, held_after, is_early}
+use Rattle.pie_guarantees.proofs.EarlyFacts.{arrival-chosen, fate-marked}
+use Rattle.pie_guarantees.proofs.LawfulFacts.{step_at}
 use Rattle.pie_guarantees.proofs.marks.only_capable_packets_are_marked.Goals as goal
 
 pub returns : goal.returns
-returns c = capable_alone
+returns c = λ opening before event later lawful packet arrival other marked.
+    let h = held_after opening before in
+    let is = arrival-chosen opening before event packet (step_at opening before event later lawful) arrival
+    (ap (λ (x : Answer). is_early x) marked) in
+    fate-marked h.params h.control.prob packet.ecn other (sym is ∙ marked)

@@ -1,12 +1,16 @@
-use Rattle.pie_guarantees.proofs.ProbabilityFacts.{faded_after, fades_away, not_yet_faded, steadily, tenth_after, tenth_not_before}
+use Rattle.pie_guarantees.proofs.Names.{refl, after_updates, decayed, next, params_after, probability_after, raw_step, tuned_step, tuning_divisor}
+use Rattle.pie_guarantees.proofs.Names.{updates_in}
+use Rattle.pie_guarantees.proofs.ProbabilityFacts.{faded-after, steadily}
 use Rattle.pie_guarantees.proofs.probability.how_fast_the_probability_changes.Goals as goal
 
 pub returns : goal.returns
+unfolding after_updates next raw_step tuned_step tuning_divisor decayed
 returns c = record {
   steady = steadily;
-  tenth_at_last = tenth_after;
-  not_before = tenth_not_before;
-  fades = fades_away;
-  faded = faded_after;
-  not_yet_faded = not_yet_faded;
+  tenth_at_last = refl;
+  not_before = refl;
+  fades = λ delay opening before between later lawful steady is. rw (steadily delay opening before between later lawful steady)
+      (faded-after (updates_in between) opening.choices.elements (params_after opening before) delay (probability_after opening before) is);
+  faded = refl;
+  not_yet_faded = refl;
 }

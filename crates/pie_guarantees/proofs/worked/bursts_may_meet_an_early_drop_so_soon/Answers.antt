@@ -1,12 +1,14 @@
-use Rattle.std.proofs.Common.{refl}
-use Rattle.pie_guarantees.proofs.Examples.{burst_began, burst_dropped, burst_legal, burst_whole}
+use Rattle.pie_guarantees.proofs.Names.{◌++◌, ◌∷◌, [], refl, places, worked}
+use Rattle.pie_guarantees.specs.Examples.{burst_begins, burst_goes_on, burst_opening, first_drop}
+use Rattle.pie_guarantees.proofs.LawfulFacts.{all_legal}
 use Rattle.pie_guarantees.proofs.worked.bursts_may_meet_an_early_drop_so_soon.Goals as goal
 
 pub returns : goal.returns
+unfolding worked
 returns c = record {
-  legal = burst_legal;
-  whole = burst_whole;
-  began = burst_began;
-  dropped = burst_dropped;
+  legal = all_legal burst_opening (places (burst_begins ++ burst_goes_on ++ first_drop ∷ [])) refl refl;
+  whole = refl;
+  began = refl;
+  dropped = refl;
   early = refl;
 }

@@ -1,9 +1,12 @@
-use Rattle.pie_guarantees.proofs.Examples.{lowered_legal, lowered_limit, lowered_waits}
+use Rattle.pie_guarantees.proofs.Names.{refl, places, worked}
+use Rattle.pie_guarantees.specs.Examples.{lowered, lowered_opening}
+use Rattle.pie_guarantees.proofs.LawfulFacts.{all_legal}
 use Rattle.pie_guarantees.proofs.worked.limits_may_be_lowered_below_the_queue.Goals as goal
 
 pub returns : goal.returns
+unfolding worked
 returns c = record {
-  legal = lowered_legal;
-  waiting = lowered_waits;
-  limit = lowered_limit;
+  legal = all_legal lowered_opening (places lowered) refl refl;
+  waiting = refl;
+  limit = refl;
 }

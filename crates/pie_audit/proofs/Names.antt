@@ -13,28 +13,27 @@ pub use Rattle.std.specs.Option.{option_or}
 pub use Rattle.std.specs.Prelude.{if◌then◌else◌, ◌||◌}
 pub use Rattle.pie_audit.specs.{All, Answer, Appends, AreLegal, AuditorView, Audits, Beginning, BeginsAt, BeginsBy, BegunBy, CanBeMade, Ce, Clean}
 pub use Rattle.pie_audit.specs.{Coming, Command, CoreView, Depart, Differs, Done, DroppedBytes, DroppedEarly, DroppedPackets, Ecn, Ect0, Ect1, Empty}
-pub use Rattle.pie_audit.specs.{Enqueued, Err, Event, EventFits, FaultedBy, FindsAfter, FindsBy, FindsEither, FindsWhole, Follows, FollowsFrom}
-pub use Rattle.pie_audit.specs.{GoesOn, Going, HasField, HeardOn, IfErr, IfOk, IfSome, IsFirstWrong, IsFound, IsLegal, IsLegalAt, IsToldBy, IsWrite}
-pub use Rattle.pie_audit.specs.{IsWrong, Left, Line, LinePlace, LinesAt, LinesRead, LinesView, Made, Marked, None, NotEct, Note, Ok, OnOk, Opening}
-pub use Rattle.pie_audit.specs.{Option, Packet, ParamsFit, Result, Row, Setter, Shows, Some, Standing, TakesRow, TellsHistory, TellsPart, TellsSetter}
-pub use Rattle.pie_audit.specs.{TextToldBy, Three, ToldBy, TraceFault, Unmakeable, Updated, active_after, after_line, codes, coming_after, coming_by}
-pub use Rattle.pie_audit.specs.{coming_from, counted_with, decision, differs, differs_at, event_in, event_row, fault_after, fault_by, fields_of}
-pub use Rattle.pie_audit.specs.{filter_map, find, finding_after, finding_by, is_active_after, is_device, is_resumed, is_same_answer, is_same_ecn}
-pub use Rattle.pie_audit.specs.{is_same_packet, is_some, judged, lines_after, min, nat_lt, next_number, number_of, opening_refusal, option_map}
-pub use Rattle.pie_audit.specs.{part_rows, records_of, refusal_by_rule, sets_after, sets_probability, setter_at, setter_by, setter_told, setter_with}
-pub use Rattle.pie_audit.specs.{start_after, text_finding, written_rows, ⊤}
+pub use Rattle.pie_audit.specs.{Enqueued, Err, Event, EventFits, FaultedBy, FindsAfter, FindsBy, FindsEither, Follows, FollowsFrom, GoesOn, Going}
+pub use Rattle.pie_audit.specs.{HasField, HeardOn, IfErr, IfOk, IfSome, IsFirstWrong, IsFound, IsLegal, IsLegalAt, IsToldBy, IsWrite, IsWrong, Left}
+pub use Rattle.pie_audit.specs.{Line, LinePlace, LinesAt, LinesRead, LinesView, Made, Marked, None, NotEct, Note, Ok, OnOk, Opening, Option, Packet}
+pub use Rattle.pie_audit.specs.{ParamsFit, Result, Row, Setter, Shows, Some, Standing, TakesRow, TellsHistory, TellsPart, TellsSetter, TextToldBy}
+pub use Rattle.pie_audit.specs.{Three, ToldBy, TraceFault, Unmakeable, Updated, active_after, after_line, codes, coming_after, coming_by, coming_from}
+pub use Rattle.pie_audit.specs.{counted_with, decision, differs, differs_at, event_in, event_row, fault_after, fault_by, fields_of, filter_map, find}
+pub use Rattle.pie_audit.specs.{finding_after, finding_by, is_active_after, is_device, is_resumed, is_same_answer, is_same_ecn, is_same_packet}
+pub use Rattle.pie_audit.specs.{is_some, judged, lines_after, min, nat_lt, next_number, number_of, opening_refusal, option_map, part_rows, records_of}
+pub use Rattle.pie_audit.specs.{refusal_by_rule, sets_after, sets_probability, setter_at, setter_by, setter_told, setter_with, start_after}
+pub use Rattle.pie_audit.specs.{text_finding, written_rows, ⊤}
 pub use Rattle.pie_audit.specs.declared.auditor.Finding.{Finding}
 pub use Rattle.pie_audit.specs.Start.{Start}
 unfoldable pub use Rattle.pie_audit.specs.{TellEach, agrees, event_count, events_of, excerpt_fault, excerpt_lines, finding, first_difference}
 unfoldable pub use Rattle.pie_audit.specs.{history_opening, line_places, opening_of, resumed_of, rows_text, setter_after, version_of, waiting_after}
 pub use Rattle.pie_aqm.specs.Places.{Place, after}
 unfoldable pub use Rattle.pie_aqm.specs.Places.{places}
-pub use Rattle.pie_book.specs.Decision.{has_bad_size, is_too_soon, refusal_with}
+pub use Rattle.pie_book.specs.Decision.{refusal_with}
 pub use Rattle.pie_book.specs.Estimates.{due_after}
 unfoldable pub use Rattle.pie_book.specs.History.{effective_moment}
 unfoldable pub use Rattle.pie_book.specs.Registers.{registers_after}
 pub use Rattle.pie_book.specs.Run.{refused_or}
-pub use Rattle.pie_event.specs.Deed.{handed_in}
 pub use Rattle.pie_event.specs.Setter.{setter_from}
 pub use Rattle.pie_event.specs.declared.opening.Limits.{Limits}
 pub use Rattle.pie_event.specs.declared.opening.Mode.TheVariants.{Bounded}

@@ -20,7 +20,7 @@ pub use Rattle.pie_event.specs.declared.command.Answer.{Answer}
 pub use Rattle.pie_event.specs.declared.command.Answer.TheVariants.{Done, DroppedBytes, DroppedEarly, DroppedPackets, Empty, Enqueued, Left, Marked}
 pub use Rattle.pie_event.specs.declared.command.Answer.TheVariants.{Updated}
 pub use Rattle.pie_event.specs.declared.command.Command.{Command}
-pub use Rattle.pie_event.specs.declared.command.Command.TheVariants.{Arrive, Depart, Reset, SetParams, Update}
+pub use Rattle.pie_event.specs.declared.command.Command.TheVariants.{Arrive, Depart, Reset, Update}
 pub use Rattle.pie_event.specs.declared.command.Event.{Event}
 pub use Rattle.pie_event.specs.declared.opening.Opening.{Opening}
 pub use Rattle.pie_event.specs.declared.refusal.OpenRefusal.TheVariants.{Memory}
@@ -46,5 +46,5 @@ pub use Rattle.pie_record.specs.Write.{event_row, written_rows}
 pub use Rattle.pie_record.specs.declared.fault.TraceFault.{TraceFault}
 pub use Rattle.pie_record.specs.declared.history_reader.Course.TheVariants.{Faulted, Going}
 pub use Rattle.pie_record.specs.declared.history_record.Line.{Line}
-pub use Rattle.pie_record.specs.declared.history_record.Line.TheVariants.{Clock, Made, Note, Unmakeable}
+pub use Rattle.pie_record.specs.declared.history_record.Line.TheVariants.{Made, Note, Unmakeable}
 pub use Rattle.pie_record.specs.declared.version.Version.TheVariants.{Three}

@@ -210,27 +210,15 @@ rows-told version held most opening number progress rows few opens =
     )) number progress rows
 
 -- how many there are
-before-few : (version : Version) (most : ℕ) (opening : Opening) (number : ℕ) (rows : List Row) → number ≤ most + 1
-    → number + length (before_fault version most number rows) ≤ most + 1
-before-few version most opening number rows =
-    each-good version most opening (λ number progress rows requests. number ≤ most + 1 → number + length rows ≤ most + 1)
-    (λ number progress within. omega (arith, within))
-    (λ number progress row rows request requests here reads later within. let more = later (omega (arith, here)) in omega (arith, more))
-    number start rows
-
-rows-few : (version : Version) (number : ℕ) (rows : List Row) (given : List Reply) → length (history_rows version number rows given) ≤ length rows
-unfolding history_rows
-rows-few version number [] given = omega arith
-rows-few version number (row ∷ rows) [] = omega arith
-rows-few version number (row ∷ rows) (reply ∷ given) = let more = rows-few version (number + 1) rows given in omega arith
-
 pub few-left : (version : Version) (most : ℕ) (opening : Opening) (number : ℕ) (progress : Progress) (rows : List Row) → number ≤ most + 1
     → number + length (rows_left version most opening number progress rows) ≤ most + 1
-few-left version most opening number progress rows within =
-    let good = before_fault version most number rows in
-    let fewer = rows-few version number good (replies opening progress (requests_of version good)) in
-    let few = before-few version most opening number rows within in
-    omega (arith, few, fewer)
+unfolding replies history_rows
+few-left version most opening number progress rows =
+    each-good version most opening (λ number progress rows requests. number ≤ most + 1
+    → number + length (history_rows version number rows (replies opening progress requests)) ≤ most + 1)
+    (λ number progress within. omega (arith, within))
+    (λ number progress row rows request requests here reads later within. let more = later (omega (arith, here)) in omega (arith, more))
+    number progress rows
 
 -- ---- a text that was written
 

@@ -1,7 +1,6 @@
 ghost use Rattle.std.specs.Prelude.{◌≡◌, max, true};
+ghost use Rattle.pie_c.specs.{held_by, held_in, is_sound, state_of, with_arrival, with_rate, with_registers};
 ghost use Rattle.pie_control.specs.Parts.{parts_of};
-ghost use Rattle.pie_aqm.specs.Held.{held_by};
-ghost use Rattle.pie_c.specs.State.{held_in, is_sound, state_of, with_arrival, with_rate, with_registers};
 
 use pie_abi::PieParams;
 use pie_aqm::RawController;

@@ -1,11 +1,10 @@
 -- The record at a place of an excerpt's text.
-use Rattle.std.proofs.Common.{◌≡◌, ◌≤◌, ◌<◌, ◌+◌, ◌-◌, ℕ, zero, suc, List, [], ◌∷◌, ◌++◌, length, map, Some, None, get_or, slice_get, arith, refl, ap}
-use Rattle.std.proofs.Common.{sym, ◌∙◌, add-one}
+use Rattle.pie_link_c.proofs.Names.{◌≡◌, ◌≤◌, ◌<◌, ◌+◌, ◌-◌, ℕ, zero, suc, List, [], ◌∷◌, ◌++◌, length, map, get_or, arith, refl, ap, sym, ◌∙◌}
+use Rattle.pie_link_c.proofs.Names.{add-one, Option, Event}
+use Rattle.std.proofs.Common.{Some, None, slice_get}
 use Rattle.std.proofs.lemmas.Option.{slice_get_past, slice_get_read, slice_get-map}
 use Rattle.std.specs.Option.{option_map, option_map_or}
-use Rattle.std.specs.declared.option.Option.{Option}
 use Rattle.pie_queue.specs.declared.packet.Waiting.{Waiting}
-use Rattle.pie_event.specs.declared.command.Event.{Event}
 use Rattle.pie_book.specs.Excerpt.{ExcerptView}
 use Rattle.pie_record.specs.Text.{Row, text_of}
 use Rattle.pie_record.specs.Write.{event_row}

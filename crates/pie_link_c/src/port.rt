@@ -48,8 +48,7 @@ impl Model for Port {
 impl Port {
     ghost use Rattle.pie_lock.specs.Promises.{first_pass, without_highest, highest_alone, IsBeside, IsBothOf};
     ghost use Rattle.pie_kept.specs.Entries.{number_of};
-    ghost use Rattle.pie_abi.specs.Params.{are_in_range, raw_of};
-    ghost use Rattle.pie_event.specs.declared.command.Command.TheVariants.{SetParams};
+    ghost use Rattle.pie_abi.specs.Params.{are_in_range};
     ghost use Rattle.pie_link.specs.Commands.{TriesToAnswer};
     ghost use Rattle.pie_link.specs.Headline.{KeepsOneHistory};
     ghost use Rattle.pie_link.specs.Views.{StaysOne};

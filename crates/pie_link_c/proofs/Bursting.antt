@@ -1,15 +1,10 @@
 -- One event more of a burst is told.
+use Rattle.pie_link_c.specs.{Command, Reply, AnswersWithin, WasBusy, Asked, IsAnswered, Took, WasNotTried, asks, told_event, told_events}
 use Rattle.pie_link_c.proofs.Names.{◌≡◌, ◌+◌, ◌<◌, ℕ, List, [], ◌∷◌, ◌++◌, refl, ap, sym, ◌∙◌, subst, length, map, arith, get_or, drop_more}
 use Rattle.pie_link_c.proofs.Names.{CallerView, LinkView, StaysOne, PieEvent}
 use Rattle.std.proofs.Common.{Bool, Option, drop, length-append, length-drop}
 use Rattle.std.proofs.Math.ListN.{set}
 use Rattle.std.proofs.lemmas.List.{drop-set-lt, length-map}
-use Rattle.pie_event.specs.declared.command.Command.{Command}
-use Rattle.pie_kept.specs.Bursts.{Reply}
-use Rattle.pie_link.specs.Bursts.{AnswersWithin}
-use Rattle.pie_link.specs.Views.{WasBusy}
-use Rattle.pie_link_c.specs.declared.asked.Asked.{Asked}
-use Rattle.pie_link_c.specs.Bursts.{IsAnswered, Took, WasNotTried, asks, told_event, told_events}
 
 -- what is asked from a place on: its event's command, and those after it
 pub is_at : (asked : Asked) (es : List PieEvent) (i : ℕ) (d : PieEvent) (command : Command) → i < length es → command ≡ asks asked (get_or es i d)

@@ -1,4 +1,6 @@
 -- The machine values of a handle of any type, and what it owns where it is closed and where it is open. Assumes `Logic`.
+use Rattle.pie_link_c.specs.{Global}
+use Rattle.pie_link_c.specs.Owned.{owns_if}
 use Rattle.pie_link_c.proofs.Names.{◌≡◌, ℕ, List, [], ◌∷◌, ◌++◌, refl, subst, Ura, bare, Val, vstruct, of_list, fsep, never, fst∗, ent, Logic, sem}
 use Rattle.pie_link_c.proofs.Names.{Item, Goal, Seq, Step, step, ‵, ◌$◌, move, drop, fsplit, fjoin, fpick, fpack, feq_i, feq_l, use1, RattleType}
 use Rattle.pie_link_c.proofs.Names.{Valss, RawPtr, lone, Ptr, block_ptr, null_ptr, ptr_val, in_a_block, nothing, layout, within, handle_tells, Good}
@@ -11,10 +13,8 @@ use types.Kit.{given, learn}
 use contract.Monad.{fact_use}
 use denote.RawPtr.{lies_at, Testable}
 use denote.Struct.Struct.{Shape, Struct}
-use Rattle.std.specs.declared.alloc.Global.{Global}
 use Rattle.std.specs.declared.option.Option.TheVariants.{None, Some}
 use Rattle.std.proofs.GlobalToken.{dealloc_token-Testable}
-use Rattle.pie_link_c.specs.Owned.{owns_if}
 use Rattle.std.specs.contracts.alloc.Global as heap
 use Rattle.std.proofs.alloc.Global.TheLaws as heap_laws
 use Rattle.pie_link_c.proofs.Values.{both, al}

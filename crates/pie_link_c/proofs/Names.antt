@@ -1,4 +1,7 @@
 -- What the files of this folder take from below, in one place.
+pub use Rattle.pie_link_c.specs.{PieEvent, PieParams, Event, CallerView, LinkView, StaysOne, params_after, params_in, struct_of}
+pub use Rattle.pie_link_c.specs.Owned.{owns_port_if}
+pub use Rattle.pie_link_c.specs.Owned.{owns_text_if}
 pub use Rattle.std.proofs.Common.{List, [], add-one, ap, arith, get_or, length, lit<, map, min, refl, slice_set, subst, suc, sym, take, zero, ℕ, ◌++◌}
 pub use Rattle.std.proofs.Common.{◌+◌, ◌-◌, ◌<◌, ◌∙◌, ◌∷◌, ◌≡◌, ◌≤◌}
 pub use Rattle.std.proofs.lemmas.List.{drop_more}
@@ -14,12 +17,6 @@ pub use Rattle.core.proofs.atomic.Steps.{Ptr-Good, fm}
 pub use Rattle.core.proofs.cell.Inside.{Good}
 pub use Rattle.core.proofs.option.Made.{Some-of, none_of}
 pub use Rattle.core.specs.declared.option.Option.TheVariants.{None, Some}
-pub use Rattle.pie_abi.specs.declared.event.PieEvent.{PieEvent}
-pub use Rattle.pie_abi.specs.declared.params.PieParams.{PieParams}
-pub use Rattle.pie_event.specs.declared.command.Event.{Event}
-pub use Rattle.pie_link.specs.Views.{CallerView, LinkView, StaysOne}
-pub use Rattle.pie_link_c.specs.Folds.{params_after, params_in, struct_of}
-pub use Rattle.pie_link_c.specs.Owned.{owns_port_if, owns_text_if}
 pub use Rattle.pie_link_c.specs.contracts.handle.PiePort.{struct, the_row as Handle}
 pub use Rattle.pie_link_c.specs.contracts.port.Port.{the_row as R}
 pub use base.Fml.{flft, fsep, ftrue}
@@ -45,7 +42,7 @@ pub use mir.Val.{Val, has_ty, of_list, vcons, vnil, vptr, vstruct}
 pub use prog.Wp.{WpFn}
 pub use seplogic.Ra.Ura.{Ura}
 pub use types.ByLocal.{alloc_all, env, free_all, get, get_in, look_at, pass_all, sets, sets_last}
-pub use types.Kit.{!, Goal, Item, Seq, Step, at_ret, await, by, drop, feq_i, feq_l, fjoin, fpack, fpick, fsplit, join, keep, later, move, pick, qed}
+pub use types.Kit.{ !, Goal, Item, Seq, Step, at_ret, await, by, drop, feq_i, feq_l, fjoin, fpack, fpick, fsplit, join, keep, later, move, pick, qed}
 pub use types.Kit.{raw, rewrite, some, split, split3, step, suffices, use0, use1, ‵, ◌$◌, ◌∵◌, ◌⊛◌}
 pub use types.Logic.{Logic, sem}
 pub use types.Match.{live}

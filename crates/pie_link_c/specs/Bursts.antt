@@ -1,13 +1,7 @@
 -- What the bursts at a port promise: several events of its caller, one after another, in one turn.
 use Rattle.std.specs.Prelude.{ℕ, ◌≡◌, ◌==◌, ◌⊎◌, Bool, true, false, List, [], ◌∷◌, map, length, Option, Some, None, Ok, Err, if◌then◌else◌}
-use Rattle.pie_event.specs.declared.command.Command.{Command}
+use Rattle.pie_link_c.specs.Names.{Command, Reply, AnswersWithin, CallerView, StaysOne, WasBusy, PieEvent, Asked, Update}
 use Rattle.pie_event.specs.declared.command.Command.TheVariants as command
-use Rattle.pie_kept.specs.Bursts.{Reply}
-use Rattle.pie_link.specs.Bursts.{AnswersWithin}
-use Rattle.pie_link.specs.Views.{CallerView, StaysOne, WasBusy}
-use Rattle.pie_abi.specs.declared.event.PieEvent.{PieEvent}
-use Rattle.pie_link_c.specs.declared.asked.Asked.{Asked}
-use Rattle.pie_link_c.specs.declared.asked.Asked.TheVariants.{Update}
 use Rattle.pie_link_c.specs.Calls.{AtPort}
 use Rattle.pie_link_c.specs.Codes.{refusal_number}
 use Rattle.pie_link_c.specs.Events.{answered_event, command_in, has_bad_ecn, numbered_event, packet_in, under}

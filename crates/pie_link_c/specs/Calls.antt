@@ -1,23 +1,8 @@
 -- What the calls at a port promise. A port is, as contracts see it, the caller that it has, where it is open.
 use Rattle.std.specs.Prelude.{ℕ, ◌≡◌, ◌≢◌, ◌==◌, ◌+◌, ◌⊎◌, ◌↔◌, Bool, true, false, Option, Some, None, Result, Ok, Err, if◌then◌else◌}
-use Rattle.pie_lock.specs.Promises.{first_pass, without_highest, highest_alone, IsBeside, IsBothOf}
-use Rattle.pie_event.specs.declared.command.Answer.{Answer}
-use Rattle.pie_event.specs.declared.command.Command.{Command}
-use Rattle.pie_event.specs.declared.command.Command.TheVariants.{SetParams}
-use Rattle.pie_event.specs.declared.refusal.Refusal.{Refusal}
-use Rattle.pie_kept.specs.Entries.{number_of}
-use Rattle.pie_kept.specs.declared.told.Told.{Told}
-use Rattle.pie_link.specs.Commands.{TriesToAnswer}
-use Rattle.pie_link.specs.Views.{CallerView, LinkView, StaysOne}
-use Rattle.pie_link.specs.declared.told.Tried.{Tried}
-use Rattle.pie_link.specs.declared.told.Tried.TheVariants.{Busy, Refused}
-use Rattle.pie_abi.specs.declared.event.PieEvent.{PieEvent}
-use Rattle.pie_abi.specs.declared.opening.PieOpening.{PieOpening}
-use Rattle.pie_abi.specs.declared.params.PieParams.{PieParams}
-use Rattle.pie_abi.specs.Events.{bare_event}
-use Rattle.pie_abi.specs.Opening.{opening_in, opening_refusal}
-use Rattle.pie_abi.specs.Params.{are_in_range, raw_of}
-use Rattle.pie_link_c.specs.declared.asked.Asked.{Asked}
+use Rattle.pie_link_c.specs.Names.{first_pass, without_highest, highest_alone, IsBeside, IsBothOf, Answer, Command, SetParams, Refusal, number_of}
+use Rattle.pie_link_c.specs.Names.{Told, TriesToAnswer, CallerView, LinkView, StaysOne, Tried, Busy, Refused, PieEvent, PieOpening, PieParams}
+use Rattle.pie_link_c.specs.Names.{bare_event, opening_in, opening_refusal, are_in_range, raw_of, Asked}
 use Rattle.pie_link_c.specs.Codes.{answer_number, code_of, refusal_number}
 use Rattle.pie_link_c.specs.Events.{command_in, filled, has_bad_ecn, numbered_event, under}
 

@@ -1,15 +1,9 @@
 -- What a reading at a port promises, and how registers and statistics lie in a caller's struct.
 use Rattle.std.specs.Prelude.{ℕ, ◌≡◌, ◌+◌, ◌-◌, ◌^◌, Bool, true, false, List, Option, Result, Ok, Err, min}
-use Rattle.pie_event.specs.declared.command.Event.{Event}
-use Rattle.pie_event.specs.declared.opening.Opening.{Opening}
-use Rattle.pie_event.specs.declared.refusal.Refusal.{Refusal}
+use Rattle.pie_link_c.specs.Names.{Event, Opening, Refusal, Told, CallerView, StaysOne, Tried, params_of}
 use Rattle.pie_event.specs.declared.registers.Registers.{Registers}
 use Rattle.pie_event.specs.declared.stats.Stats.{Stats}
-use Rattle.pie_kept.specs.declared.told.Told.{Told}
 use Rattle.pie_link.specs.Readings.{TriesToRead}
-use Rattle.pie_link.specs.Views.{CallerView, StaysOne}
-use Rattle.pie_link.specs.declared.told.Tried.{Tried}
-use Rattle.pie_abi.specs.Params.{params_of}
 use Rattle.pie_abi.specs.Stats.{stats_of}
 use Rattle.pie_link_c.specs.Calls.{AtPort}
 use Rattle.pie_link_c.specs.declared.readings.PieRegisters.{PieRegisters}

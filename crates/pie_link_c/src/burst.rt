@@ -1,11 +1,7 @@
 //! Bursts of events that lie where the caller has them: each is read and written in its place.
 ghost use Rattle.std.specs.Prelude.{◌≡◌, ◌<◌, Bool, drop, length, map, slice_index_or, slice_set};
-ghost use Rattle.pie_kept.specs.Bursts.{Reply, always, has_left_or_updated};
-ghost use Rattle.pie_abi.specs.declared.event.PieEvent.{PieEvent};
-ghost use Rattle.pie_link_c.specs.declared.asked.Asked.{Asked};
-ghost use Rattle.pie_link_c.specs.declared.asked.Asked.TheVariants.{Arrive, Depart};
-ghost use Rattle.pie_link_c.specs.Bursts.{asks, asks_unless, riding, told_event};
-ghost use Rattle.pie_link_c.specs.Events.{has_bad_ecn};
+ghost use Rattle.pie_link_c.specs.{Reply, always, has_left_or_updated, PieEvent, Asked, Arrive, Depart, asks, asks_unless, riding, told_event};
+ghost use Rattle.pie_link_c.specs.{has_bad_ecn};
 
 use crate::asked::Asked;
 use crate::code::of_refusal;
@@ -163,7 +159,7 @@ fn tell_at(events: &mut [PieEvent], place: usize, asked: Asked, caller: u16, rep
 }
 
 impl<K: Kind> Burst for Asking<'_, K> {
-    ghost use Rattle.pie_link_c.specs.Bursts.{Took};
+    ghost use Rattle.pie_link_c.specs.{Took};
 
     ghost commands = { λ b place. map (asks K.asked) (drop place b.events.now) };
 

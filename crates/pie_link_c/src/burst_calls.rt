@@ -1,8 +1,6 @@
 //! Several events in one turn. No call waits, and none takes memory.
 ghost use Rattle.std.specs.Prelude.{◌≡◌, ℕ, None};
-ghost use Rattle.pie_kept.specs.Bursts.{always, has_left_or_updated};
-ghost use Rattle.pie_link_c.specs.declared.asked.Asked.TheVariants.{Arrive, Depart};
-ghost use Rattle.pie_link_c.specs.Bursts.{IsTriedAll, TriesAll, budget_of};
+ghost use Rattle.pie_link_c.specs.{always, has_left_or_updated, Arrive, Depart, IsTriedAll, TriesAll, budget_of};
 
 use crate::burst::{Arrivals, Asking, Departures, Kind};
 use crate::code::{BUSY, CLOSED};

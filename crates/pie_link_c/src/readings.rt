@@ -1,8 +1,9 @@
 //! Readings: what the book behind a port holds, as a struct of the caller's.
 ghost use Rattle.std.specs.Prelude.{◌≡◌};
+ghost use Rattle.pie_link_c.specs.{TriesToReadInto, registers_of, totals_of};
 ghost use Rattle.pie_book.specs.Registers.{registers_after};
 ghost use Rattle.pie_book.specs.Statistics.{stats_after};
-ghost use Rattle.pie_link_c.specs.Readings.{IsReadInto, TriesToReadInto, read_code, read_into, registers_of, totals_of};
+ghost use Rattle.pie_link_c.specs.Readings.{IsReadInto};
 
 use crate::code::{BUSY, CLOSED};
 use crate::handle::PiePort;

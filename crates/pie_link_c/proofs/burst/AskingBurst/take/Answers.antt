@@ -1,8 +1,6 @@
-use Rattle.std.proofs.Common.{◌≡◌, subst}
 use Rattle.std.specs.Prelude.{slice_index_or, slice_set}
-use Rattle.pie_link_c.specs.declared.asked.Asked.{Asked}
-use Rattle.pie_link_c.specs.Bursts.{told_event}
-use Rattle.pie_link_c.specs.Folds.{blank}
+use Rattle.pie_link_c.specs.{Asked, told_event, blank}
+use Rattle.std.proofs.Common.{◌≡◌, subst}
 use Rattle.pie_link_c.proofs.Bursting.{is_place, later_stay, took}
 use Rattle.pie_link_c.proofs.burst.AskingBurst.take.Goals as goal
 

@@ -1,6 +1,6 @@
 -- `of` takes the box apart.
 use Rattle.pie_link_c.proofs.Names.{◌≡◌, List, [], ◌∷◌, ◌++◌, refl, sym, ap, ◌∙◌, subst, a_type, dcons, dnil, bare, Val, vptr, vstruct, of_list}
-use Rattle.pie_link_c.proofs.Names.{inst_fn, SProp, ent, emp, never, id⊢, fst∗, ftrue, fsep, flft, WpFn, sem, ‵, raw, ◌⊛◌, some, later, ◌$◌, ◌∵◌, !}
+use Rattle.pie_link_c.proofs.Names.{inst_fn, SProp, ent, emp, never, id⊢, fst∗, ftrue, fsep, flft, WpFn, sem, ‵, raw, ◌⊛◌, some, later, ◌$◌, ◌∵◌, ! }
 use Rattle.pie_link_c.proofs.Names.{qed, by, move, keep, drop, split, split3, join, fsplit, fjoin, fpick, pick, suffices, use0, use1, await, rewrite}
 use Rattle.pie_link_c.proofs.Names.{feq_l, stop, fld, of_opd, no_more, and_then, returns, enter, alloc_all, pass_all, free_all, look_at, get, get_in}
 use Rattle.pie_link_c.proofs.Names.{sets, agg, sub, whole, fact, fact_i, tables, no, RattleType, owns, types_at, plain, RawPtr, Ptr, block_ptr}

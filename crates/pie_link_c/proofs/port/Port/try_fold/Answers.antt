@@ -1,7 +1,6 @@
+use Rattle.pie_link_c.specs.{TriesToFoldInto, fold_code, written_events}
 use Rattle.pie_link_c.proofs.Names.{◌≡◌, ◌≤◌, ◌-◌, ℕ, List, [], length, min, sym, ap, ◌∙◌, subst, Event, CallerView, LinkView, StaysOne, params_after}
 use Rattle.std.proofs.Common.{vec_capacity, vec_len}
-use Rattle.pie_link.specs.Folds.{TriesToFoldInto}
-use Rattle.pie_link_c.specs.Folds.{fold_code, written_events}
 use Rattle.pie_link_c.proofs.Written.{up_to_64}
 use Rattle.pie_link_c.proofs.port.Port.try_fold.Goals as goal
 

@@ -1,4 +1,5 @@
 -- The definitions on worked rows: each theorem computes.
+use Rattle.pie_c.specs.{state_refusal, default_opening}
 use Rattle.pie_c.proofs.Names.{◌≡◌, ◌^◌, true, false, refl, PieParams, PieState, usual, Half, Stamp, Random, Uncapped, Scaled, One, accu_left}
 use Rattle.pie_c.proofs.Names.{arrived, capped, departed, opened, verdict, arrival_of, arrival_refusal, packet_refusal, waited_refusal}
 use Rattle.pie_c.proofs.Names.{departure_refusal, moment_refusal, reset_refusal, update_refusal, opening_refusal, raw_of, PieOpening, choices_of}
@@ -6,8 +7,6 @@ use Rattle.pie_c.proofs.Names.{elements_of, are_in_range, is_choice_sound, held_
 use Rattle.pie_c.proofs.Names.{state_of, with_arrival, with_rate}
 use Rattle.std.proofs.Common.{◌+◌, ◌-◌}
 use Rattle.pie_early.specs.Decision.{is_considered, is_picked}
-use Rattle.pie_c.specs.Calls.{state_refusal}
-use Rattle.pie_c.specs.Opening.{default_opening}
 
 -- the default parameters, and a controller that is opened with them at 0
 abbrev defaults : PieParams

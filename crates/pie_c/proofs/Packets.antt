@@ -1,4 +1,7 @@
 -- What the calls for each packet leave of a sound state is what the controller then holds.
+use Rattle.std.specs.Prelude.{IsTrue, None}
+use Rattle.pie_c.specs.{Arrive, Call, Change, IsTaken, Pass, Restart, after_call, shown_by, ControllerEvent, Opened, Shows, Arrives, Departs, Leaves}
+use Rattle.pie_c.specs.{Makes, Passes, Steps, kept_if_refused, params_refusal, KeepsSound, LooksBack}
 use Rattle.pie_c.proofs.Names.{reset_refusal, ◌≡◌, ℕ, ◌≤◌, ◌<◌, ◌^◌, ◌==◌, ◌&&◌, min, if◌then◌else◌, nat_lt, Bool, true, false, List, [], ◌∷◌, Some}
 use Rattle.pie_c.proofs.Names.{◌++◌, arith, refl, sym, ap, ◌∙◌, eqb-true, nat_tests, ArrivingPacket, Verdict, Depart, RawParams, first_bad, One, Two}
 use Rattle.pie_c.proofs.Names.{Held, accu_left, arrived, capped, count_kept_open, departed, is_unmeasured, cause, opened, passed, verdict, with_count}
@@ -7,14 +10,8 @@ use Rattle.pie_c.proofs.Names.{packet_refusal, unless_refused, PieOpening, Openi
 use Rattle.pie_c.proofs.Names.{params_of, raw_of, choices_of, elements_of, last_moment, profile_number, profile_of, held_in, is_sound, state_of}
 use Rattle.pie_c.proofs.Names.{takes_stamps, are_in_range, with_arrival, with_departure, with_rate, with_registers}
 use Rattle.std.proofs.Common.{◌||◌, not, max, Ok}
-use Rattle.pie_aqm.specs.Calls.{Arrive, Call, Change, IsTaken, Pass, Restart, after_call, shown_by}
-use Rattle.pie_aqm.specs.Events.{ControllerEvent, Opened}
 use Rattle.pie_params.specs.Range.{is_dq_threshold}
-use Rattle.std.specs.Prelude.{IsTrue, None}
-use Rattle.pie_aqm.specs.History.{Shows}
 use Rattle.pie_aqm.specs.Steps.{anew, bytes_with, changed, judged, reset, turns_on}
-use Rattle.pie_c.specs.Calls.{Arrives, Departs, Leaves, Makes, Passes, Steps, kept_if_refused, params_refusal}
-use Rattle.pie_c.specs.Laws.{KeepsSound, LooksBack}
 use Rattle.pie_c.proofs.Choices.{choices-back}
 use Rattle.pie_c.proofs.Sound.{held-sound, held-state, kept-by, params-from, parts-of, profile-back, state-held, state-sound}
 

@@ -1,13 +1,12 @@
 -- A state says what a controller holds, and is sound where that is.
+use Rattle.pie_c.specs.{Begun, count_of, cycle_in, flag, flag_of, is_cycle_sound, start_of}
 use Rattle.pie_c.proofs.Names.{RawParams, params_of, ◌≡◌, ◌<◌, ◌≤◌, ◌^◌, ◌==◌, ◌&&◌, nat_lt, nat_le, if◌then◌else◌, Bool, true, false, Some, None}
 use Rattle.pie_c.proofs.Names.{arith, refl, sym, ap, ◌∙◌, nat_tests, first_bad, One, Two, Held, IsSound, PieParams, PieState, raw_of, are_in_range}
 use Rattle.pie_c.proofs.Names.{held_in, is_activity_sound, is_control_sound, is_rate_sound, is_sound, last_moment, profile_number, profile_of}
 use Rattle.pie_c.proofs.Names.{is_choice_sound, state_of}
 use Rattle.std.proofs.Common.{Option, is_none, option_map}
-use Rattle.pie_rate.specs.Estimate.{Begun}
 use Rattle.pie_event.specs.declared.profile.Profile.{Profile}
 use Rattle.pie_aqm.specs.Held.{IsWithin}
-use Rattle.pie_c.specs.State.{count_of, cycle_in, flag, flag_of, is_cycle_sound, start_of}
 use Rattle.pie_c.proofs.Choices.{choices-back, elements-back, few-choices}
 
 -- ---- what a state says of what is held is what is held

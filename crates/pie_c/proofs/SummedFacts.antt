@@ -1,28 +1,14 @@
 -- What the calls that sum up add to a period.
+use Rattle.std.specs.Prelude.{Option, if◌then◌else◌}
+use Rattle.pie_c.specs.{Cause, Enqueued, answer_of, Clock, Explained, LivePeriod, Met, Holds, IsSet, Meets, clock_of, noted_of, updated_by, Adds}
+use Rattle.pie_c.specs.{Tells, met_by, cause_after, held_after, wait_of, deed_of, Setter, explanation, moment_of, with_after}
 use Rattle.pie_c.proofs.Names.{◌≡◌, ◌≤◌, min, ◌==◌, arith, ℕ, Bool, true, false, nat_le, List, [], ◌∷◌, ◌++◌, refl, sym, ap, ◌∙◌, subst, nat_tests}
 use Rattle.pie_c.proofs.Names.{Event, Verdict, verdict_number, PieState, arrival_refusal, if_taken, moment_refusal, unless_refused, update_refusal}
 use Rattle.pie_c.proofs.Names.{held_in, takes_stamps, with_departure, with_rate, Held, waiting_after, Opening}
-use Rattle.std.specs.Prelude.{Option, if◌then◌else◌}
-use Rattle.pie_event.specs.declared.cause.Cause.{Cause}
-use Rattle.pie_event.specs.declared.verdict.Verdict.TheVariants.{Enqueued}
-use Rattle.pie_event.specs.Verdict.{answer_of}
-use Rattle.pie_record.specs.declared.clock.Clock.{Clock}
-use Rattle.pie_explain.specs.declared.explanation.Explained.{Explained}
-use Rattle.pie_summary.specs.declared.live.LivePeriod.{LivePeriod}
-use Rattle.pie_summary.specs.declared.noted.Met.{Met}
 use Rattle.pie_summary.specs.declared.noted.Noted.{Noted}
-use Rattle.pie_summary.specs.Live.{Holds, IsSet, Meets, clock_of, noted_of}
 use Rattle.pie_summary.specs.Sums.{answer_place, size_by, size_in}
-use Rattle.pie_c.specs.Calls.{updated_by}
-use Rattle.pie_c.specs.Summed.{Adds, Tells, met_by}
 use Rattle.std.specs.Bool.{Decides}
-use Rattle.pie_book.specs.Decision.{cause_after}
-use Rattle.pie_book.specs.Estimates.{held_after}
 use Rattle.pie_book.specs.Registers.{registers_after}
-use Rattle.pie_book.specs.Statistics.{wait_of}
-use Rattle.pie_event.specs.Deed.{deed_of}
-use Rattle.pie_event.specs.declared.setter.Setter.{Setter}
-use Rattle.pie_explain.specs.Explanation.{explanation, moment_of, with_after}
 
 -- a departure leaves what it met, but for what it changes
 pub unmoved : (before after : PieState) (refusal : ℕ) (held : Held) → after ≡ if_taken refusal before (with_departure before held)

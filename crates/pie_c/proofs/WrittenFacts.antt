@@ -1,19 +1,11 @@
 -- What is written of packets that wait and of events is their records.
+use Rattle.std.specs.Prelude.{All, map, nat_le}
+use Rattle.pie_c.specs.{flat_map, NotEct, Waiting, rows_text, text_of, event_row, written_rows, queued_row, part_rows, PieEvent, PieStats, Kept}
+use Rattle.pie_c.specs.{event_of, opening_text, stands_for, written_text, CanWait, ecn_number, is_standing, queued_text, resume_of, resume_text}
+use Rattle.pie_c.specs.{set_by_of, standing_in, waiting_text}
 use Rattle.pie_c.proofs.Names.{◌≡◌, ℕ, suc, ◌==◌, ◌++◌, List, [], ◌∷◌, true, false, Some, None, refl, arith, nat_tests, Ecn, Event, waiting_after}
 use Rattle.pie_c.proofs.Names.{PieOpening, PieState, is_bad_size, opening_in, opening_of, opening_refusal, last_moment, is_sound}
-use Rattle.std.specs.Prelude.{All, map, nat_le}
-use Rattle.std.specs.List.{flat_map}
 use Rattle.std.proofs.lemmas.Grind.{flat_map-append}
-use Rattle.pie_queue.specs.declared.ecn.Ecn.TheVariants.{NotEct}
-use Rattle.pie_queue.specs.declared.packet.Waiting.{Waiting}
-use Rattle.pie_record.specs.Text.{rows_text, text_of}
-use Rattle.pie_record.specs.Write.{event_row, written_rows}
-use Rattle.pie_excerpt.specs.Rows.{queued_row}
-use Rattle.pie_excerpt.specs.Written.{part_rows}
-use Rattle.pie_abi.specs.declared.event.PieEvent.{PieEvent}
-use Rattle.pie_abi.specs.declared.stats.PieStats.{PieStats}
-use Rattle.pie_c.specs.Events.{Kept, event_of, opening_text, stands_for, written_text}
-use Rattle.pie_c.specs.Resuming.{CanWait, ecn_number, is_standing, queued_text, resume_of, resume_text, set_by_of, standing_in, waiting_text}
 
 -- lost events stand for none
 lost-none : (e : PieEvent) → (e.kind == 6) ≡ true → event_of e ≡ None

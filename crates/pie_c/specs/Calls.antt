@@ -1,17 +1,9 @@
 -- Why each call is refused, and what it answers. What a call leaves is what the controller makes of what was held.
 use Rattle.std.specs.Prelude.{ℕ, ◌≡◌, ◌^◌, ◌==◌, ◌&&◌, true, max, nat_lt, not, List, [], ◌∷◌, ◌++◌, if◌then◌else◌}
+use Rattle.pie_c.specs.Names.{Arrive, Call, Depart, Pass, after_call, shown_by, ControllerEvent, Opened, Held, Shows, arrived, capped, delay_answered}
+use Rattle.pie_c.specs.Names.{departed, due, is_too_soon, updated, verdict, PieParams, ecn_at, is_bad_size, verdict_number, PieState, PieUpdated}
+use Rattle.pie_c.specs.Names.{last_moment, are_in_range}
 use Rattle.pie_aqm.specs.declared.verdict.ArrivingPacket.{ArrivingPacket}
-use Rattle.pie_aqm.specs.Calls.{Arrive, Call, Depart, Pass, after_call, shown_by}
-use Rattle.pie_aqm.specs.Events.{ControllerEvent, Opened}
-use Rattle.pie_aqm.specs.Held.{Held}
-use Rattle.pie_aqm.specs.History.{Shows}
-use Rattle.pie_aqm.specs.Steps.{arrived, capped, delay_answered, departed, due, is_too_soon, updated, verdict}
-use Rattle.pie_abi.specs.declared.params.PieParams.{PieParams}
-use Rattle.pie_abi.specs.Packets.{ecn_at, is_bad_size, verdict_number}
-use Rattle.pie_c.specs.declared.state.PieState.{PieState}
-use Rattle.pie_c.specs.declared.updated.PieUpdated.{PieUpdated}
-use Rattle.pie_abi.specs.Choices.{last_moment}
-use Rattle.pie_abi.specs.Params.{are_in_range}
 use Rattle.pie_c.specs.State.{held_in, is_sound, state_of, takes_stamps, with_arrival, with_departure}
 
 -- the answer of a call that is refused by a number, where that isn't 0, and else this one

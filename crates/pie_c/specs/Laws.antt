@@ -1,9 +1,6 @@
 -- What pie_aqm's laws say of each call, whoever holds what its controller holds.
 use Rattle.std.specs.Prelude.{◌≤◌, List, [], ◌∷◌, ◌++◌}
-use Rattle.pie_aqm.specs.Calls.{Call, IsTaken, after_call, shown_by}
-use Rattle.pie_aqm.specs.Events.{ControllerEvent, Opened}
-use Rattle.pie_aqm.specs.Held.{Held, IsSound}
-use Rattle.pie_aqm.specs.History.{Shows}
+use Rattle.pie_c.specs.Names.{Call, IsTaken, after_call, shown_by, ControllerEvent, Opened, Held, IsSound, Shows}
 
 -- what is held stays sound
 abbrev pub KeepsSound : Type 0

@@ -1,12 +1,6 @@
 -- What a controller holds that an opening opens, and the default opening.
 use Rattle.std.specs.Prelude.{ℕ, ◌^◌}
-use Rattle.pie_params.specs.Profile.{profile_for}
-use Rattle.pie_aqm.specs.Events.{Opened}
-use Rattle.pie_aqm.specs.Held.{Held}
-use Rattle.pie_aqm.specs.Steps.{opened}
-use Rattle.pie_abi.specs.declared.opening.PieOpening.{PieOpening}
-use Rattle.pie_abi.specs.Choices.{elements_of, profile_of}
-use Rattle.pie_abi.specs.Params.{params_of, raw_of}
+use Rattle.pie_c.specs.Names.{profile_for, Opened, Held, opened, PieOpening, elements_of, profile_of, params_of, raw_of}
 
 -- the default opening for a link of this rate
 abbrev pub default_opening : ℕ → PieOpening

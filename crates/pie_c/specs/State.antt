@@ -1,12 +1,9 @@
 -- What a state says that a controller holds, and which states are sound.
 use Rattle.std.specs.Prelude.{ℕ, ◌^◌, ◌%◌, Bool, not, ◌&&◌, ◌==◌, nat_lt, nat_le, Option, Some, None, if◌then◌else◌}
-use Rattle.pie_rate.specs.Estimate.{Begun}
+use Rattle.pie_c.specs.Names.{Begun, Held, choices_of, elements_of, last_moment, profile_number, profile_of, are_in_range, params_of, raw_of}
+use Rattle.pie_c.specs.Names.{PieState}
 use Rattle.pie_rate.specs.declared.raw.RawCycle.{RawCycle}
-use Rattle.pie_aqm.specs.Held.{Held}
 use Rattle.pie_aqm.specs.declared.raw.RawController.{RawController}
-use Rattle.pie_abi.specs.Choices.{choices_of, elements_of, last_moment, profile_number, profile_of}
-use Rattle.pie_abi.specs.Params.{are_in_range, params_of, raw_of}
-use Rattle.pie_c.specs.declared.state.PieState.{PieState}
 
 -- the cycle of the departure rate that is begun, where the flag says so
 abbrev pub cycle_in : ℕ → ℕ → ℕ → Option RawCycle
@@ -44,7 +41,7 @@ controller_in s = record {
 }
 
 unfoldable pub held_in : PieState → Held
-held_in s = held_by (controller_in s)
+held_in s = controller_in s
 
 -- the state that says this
 unfoldable pub state_of : Held → PieState

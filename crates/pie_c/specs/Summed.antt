@@ -1,20 +1,10 @@
 -- What the calls that sum up add to a period: their event, as it is explained.
 use Rattle.std.specs.Prelude.{ℕ, ◌≡◌, ◌==◌, ◌||◌, Bool, nat_lt, List, [], ◌∷◌, ◌++◌, Option, Some, if◌then◌else◌}
-use Rattle.pie_event.specs.declared.cause.Cause.{Cause}
-use Rattle.pie_event.specs.declared.command.Event.{Event}
-use Rattle.pie_record.specs.declared.clock.Clock.{Clock}
-use Rattle.pie_explain.specs.declared.explanation.Explained.{Explained}
-use Rattle.pie_summary.specs.declared.live.LivePeriod.{LivePeriod}
-use Rattle.pie_summary.specs.declared.noted.Met.{Met}
-use Rattle.pie_summary.specs.Live.{Holds, IsSet, Meets, clock_of}
-use Rattle.pie_aqm.specs.Steps.{cause, verdict}
-use Rattle.pie_abi.specs.Choices.{last_moment}
-use Rattle.pie_abi.specs.Packets.{ecn_at}
-use Rattle.pie_abi.specs.declared.event.PieEvent.{PieEvent}
+use Rattle.pie_c.specs.Names.{Cause, Event, Clock, Explained, LivePeriod, Met, Holds, IsSet, Meets, clock_of, cause, verdict, last_moment, ecn_at}
+use Rattle.pie_c.specs.Names.{PieEvent, PieState}
 use Rattle.pie_c.specs.Calls.{arrival_of, arrival_refusal}
 use Rattle.pie_c.specs.Events.{arrival_with}
 use Rattle.pie_c.specs.State.{held_in}
-use Rattle.pie_c.specs.declared.state.PieState.{PieState}
 
 -- what an event met that left this state, where the controller was active before it or not, with this target and this last update
 abbrev pub met_by : Bool → ℕ → ℕ → PieState → Met

@@ -2,15 +2,12 @@
 //! is checked. The others refuse a state that isn't sound. Each refuses what it is handed out of its range, lets the controller
 //! make its step, and writes back what that changed.
 ghost use Rattle.std.specs.Prelude.{◌≡◌, ◌<◌, ◌+◌, ◌-◌, ◌^◌, ◌≤◌, ℕ, if◌then◌else◌, max, min, true};
-ghost use Rattle.pie_aqm.specs.Calls.{Change, Depart, Restart, Update};
-ghost use Rattle.pie_aqm.specs.Steps.{arrived, capped, cause, departed, verdict};
+ghost use Rattle.pie_c.specs.{Change, Depart, Restart, arrived, capped, cause, departed, verdict, raw_of, elements_of, held_in, is_sound};
+ghost use Rattle.pie_c.specs.{takes_stamps, with_departure, with_rate, KeepsSound, LooksBack, Arrives, Departs, Makes, Passes, Steps, Takes};
+ghost use Rattle.pie_c.specs.{arrival_of, arrival_refusal, departure_refusal, moment_refusal, params_refusal, reset_refusal, state_refusal};
+ghost use Rattle.pie_c.specs.{update_refusal, updated_by, waited_refusal};
+ghost use Rattle.pie_aqm.specs.Calls.{Update};
 ghost use Rattle.pie_event.specs.CauseName.{name_of, place_of_cause};
-ghost use Rattle.pie_abi.specs.Params.{raw_of};
-ghost use Rattle.pie_abi.specs.Choices.{elements_of};
-ghost use Rattle.pie_c.specs.State.{held_in, is_sound, takes_stamps, with_departure, with_rate};
-ghost use Rattle.pie_c.specs.Laws.{KeepsSound, LooksBack};
-ghost use Rattle.pie_c.specs.Calls.{Arrives, Departs, Makes, Passes, Steps, Takes, arrival_of, arrival_refusal, departure_refusal, moment_refusal};
-ghost use Rattle.pie_c.specs.Calls.{params_refusal, reset_refusal, state_refusal, update_refusal, updated_by, waited_refusal};
 
 use crate::checked::{is_sound, raw, raw_with, takes_stamps, usual_but_delay};
 use crate::state::PieState;
@@ -136,6 +133,7 @@ fn arrive_apart(
 
 /// Takes in a packet that left the queue, with `left` bytes after it (RFC 8033, section 5.2). An inactive controller takes in the
 /// moment alone. Where delays come from time stamps it is refused: `pie_depart_waited` says when the packet arrived.
+#[tactic(auto, using(crate::proofs::Packets::departs_by_rate))]
 #[unsafe(no_mangle)]
 pub extern "C" fn pie_depart(state: &mut PieState, size: u32, left: u64, moment: u64) -> u32
     ensures answer { result ≡ departure_refusal state.old size left moment }
@@ -218,6 +216,7 @@ fn depart(state: &mut PieState, size: u32, left: u64, moment: u64) -> u32
 /// Takes in a packet that left the queue, with `left` bytes after it, and that arrived then: the state's own moment, as it was right after
 /// its `pie_arrive` (RFC 8033, section 4.3). Where delays come from the departure rate it is `pie_depart`.
 #[inline(always)]
+#[tactic(auto, using(crate::proofs::Packets::departs))]
 #[unsafe(no_mangle)]
 pub extern "C" fn pie_depart_waited(
     state: &mut PieState,

@@ -1,27 +1,11 @@
 //! What the calls that write records write one after another is a text that the readers' laws speak of.
 ghost use Rattle.std.specs.Prelude.{◌≡◌, ◌++◌, ◌∷◌, [], ℕ, All, List, Option, Some, map, true};
-ghost use Rattle.std.specs.List.{flat_map};
-ghost use Rattle.pie_event.specs.declared.command.Event.{Event};
-ghost use Rattle.pie_book.specs.Decision.{cause_after};
-ghost use Rattle.pie_book.specs.Estimates.{held_after};
+ghost use Rattle.pie_c.specs.Names.{Opening};
+ghost use Rattle.pie_c.specs.{flat_map, Event, cause_after, held_after, wait_of, deed_of, Setter, explanation, moment_of, with_after, Clock};
+ghost use Rattle.pie_c.specs.{rows_text, event_row, written_rows, part_rows, PieOpening, PieStats, PieState, Kept, opening_text, stands_for};
+ghost use Rattle.pie_c.specs.{written_text, opening_in, opening_of, opening_refusal, CanWait, is_standing, resume_of, resume_text, set_by_of};
+ghost use Rattle.pie_c.specs.{standing_in, waiting_text, held_in, is_sound, Tells};
 ghost use Rattle.pie_book.specs.History.{waiting_after};
-ghost use Rattle.pie_book.specs.Statistics.{wait_of};
-ghost use Rattle.pie_event.specs.Deed.{deed_of};
-ghost use Rattle.pie_event.specs.declared.opening.Opening.{Opening};
-ghost use Rattle.pie_event.specs.declared.setter.Setter.{Setter};
-ghost use Rattle.pie_explain.specs.Explanation.{explanation, moment_of, with_after};
-ghost use Rattle.pie_record.specs.declared.clock.Clock.{Clock};
-ghost use Rattle.pie_record.specs.Text.{rows_text};
-ghost use Rattle.pie_record.specs.Write.{event_row, written_rows};
-ghost use Rattle.pie_excerpt.specs.Written.{part_rows};
-ghost use Rattle.pie_abi.specs.declared.opening.PieOpening.{PieOpening};
-ghost use Rattle.pie_abi.specs.declared.stats.PieStats.{PieStats};
-ghost use Rattle.pie_c.specs.declared.state.PieState.{PieState};
-ghost use Rattle.pie_c.specs.Events.{Kept, opening_text, stands_for, written_text};
-ghost use Rattle.pie_abi.specs.Opening.{opening_in, opening_of, opening_refusal};
-ghost use Rattle.pie_c.specs.Resuming.{CanWait, is_standing, resume_of, resume_text, set_by_of, standing_in, waiting_text};
-ghost use Rattle.pie_c.specs.State.{held_in, is_sound};
-ghost use Rattle.pie_c.specs.Summed.{Tells};
 
 /// What `pie_write_opening` writes, and then `pie_write_event` or `pie_write_params` of each event, one after another, are the records of that
 /// opening and of these events (`whole`). What `pie_write_resume` writes, then `pie_write_queued` of each packet that waits, oldest first, and

@@ -1,8 +1,6 @@
 //! The calls on parameters.
 ghost use Rattle.std.specs.Prelude.{◌≡◌};
-ghost use Rattle.pie_params.specs.Profile.{default_profile, profile_for};
-ghost use Rattle.pie_params.specs.Range.{first_bad};
-ghost use Rattle.pie_abi.specs.Params.{bad_number, raw_of};
+ghost use Rattle.pie_c.specs.{default_profile, profile_for, first_bad, bad_number, raw_of};
 
 use pie_abi::PieParams;
 use pie_abi::params::number;

@@ -1,11 +1,6 @@
 //! A period that is summed up as it goes: its opening, the time of day, and its record.
 ghost use Rattle.std.specs.Prelude.{◌≡◌, ◌==◌, [], List, if◌then◌else◌};
-ghost use Rattle.pie_c.specs.Calls.{moment_refusal};
-ghost use Rattle.pie_abi.specs.Writing.{after_writing, count_written};
-ghost use Rattle.pie_c.specs.Summed.{every_refusal};
-ghost use Rattle.pie_explain.specs.declared.explanation.Explained.{Explained};
-ghost use Rattle.pie_summary.specs.declared.live.LivePeriod.{LivePeriod};
-ghost use Rattle.pie_summary.specs.Live.{Holds, form_in, length_of};
+ghost use Rattle.pie_c.specs.{moment_refusal, after_writing, count_written, every_refusal, Explained, LivePeriod, Holds, form_in, length_of};
 ghost use Rattle.pie_summary.specs.Period.{last_events};
 ghost use Rattle.pie_summary.specs.Summary.{header, said_of};
 

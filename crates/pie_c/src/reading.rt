@@ -3,7 +3,7 @@
 //! Letters may be of any case; the number may have a point and at most 18 decimals, and comes to at most `2^60 - 1`. Refused are a text
 //! that tells none, one that comes to no whole number, and one that is too great; the number then stays as it was.
 ghost use Rattle.std.specs.Prelude.{◌≡◌};
-ghost use Rattle.pie_c.specs.Reading.{fault_number, read_code, read_or_kept};
+ghost use Rattle.pie_c.specs.{fault_number, read_code, read_or_kept};
 ghost use Rattle.pie_units.specs.declared.unit.Quantity.TheVariants.{Packets, Rate, Size, Time};
 ghost use Rattle.pie_units.specs.Written.{value_of};
 

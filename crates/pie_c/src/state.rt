@@ -1,5 +1,5 @@
 ghost use Rattle.std.specs.Prelude.{◌≡◌, max, true};
-ghost use Rattle.pie_c.specs.State.{held_in, is_sound, state_of, with_arrival, with_rate, with_registers};
+ghost use Rattle.pie_c.specs.{held_in, is_sound, state_of, with_arrival, with_rate, with_registers};
 
 use pie_abi::PieParams;
 use pie_aqm::RawController;

@@ -1,6 +1,5 @@
 ghost use Rattle.std.specs.Prelude.{◌≡◌};
-ghost use Rattle.pie_aqm.specs.Held.{IsSound};
-ghost use Rattle.pie_c.specs.Calls.{nothing_updated, updated_with};
+ghost use Rattle.pie_c.specs.{IsSound, nothing_updated, updated_with};
 
 use pie_aqm::RawController;
 

@@ -1,15 +1,10 @@
 -- One event more of a burst is told.
-use Rattle.std.proofs.Common.{◌≡◌, ◌+◌, ◌<◌, ℕ, zero, suc, Bool, Option, List, [], ◌∷◌, ◌++◌, refl, ap, sym, ◌∙◌, subst, length, drop, map, add-one}
-use Rattle.std.proofs.Common.{arith, get_or, length-append, length-drop}
+use Rattle.pie_link_c.specs.{Command, Reply, AnswersWithin, WasBusy, Asked, IsAnswered, Took, WasNotTried, asks, told_event, told_events}
+use Rattle.pie_link_c.proofs.Names.{◌≡◌, ◌+◌, ◌<◌, ℕ, List, [], ◌∷◌, ◌++◌, refl, ap, sym, ◌∙◌, subst, length, map, arith, get_or, drop_more}
+use Rattle.pie_link_c.proofs.Names.{CallerView, LinkView, StaysOne, PieEvent}
+use Rattle.std.proofs.Common.{Bool, Option, drop, length-append, length-drop}
 use Rattle.std.proofs.Math.ListN.{set}
-use Rattle.std.proofs.lemmas.List.{drop_more, length-map}
-use Rattle.pie_event.specs.declared.command.Command.{Command}
-use Rattle.pie_kept.specs.Bursts.{Reply}
-use Rattle.pie_link.specs.Bursts.{AnswersWithin}
-use Rattle.pie_link.specs.Views.{CallerView, LinkView, StaysOne, WasBusy}
-use Rattle.pie_abi.specs.declared.event.PieEvent.{PieEvent}
-use Rattle.pie_link_c.specs.declared.asked.Asked.{Asked}
-use Rattle.pie_link_c.specs.Bursts.{IsAnswered, Took, WasNotTried, asks, told_event, told_events}
+use Rattle.std.proofs.lemmas.List.{drop-set-lt, length-map}
 
 -- what is asked from a place on: its event's command, and those after it
 pub is_at : (asked : Asked) (es : List PieEvent) (i : ℕ) (d : PieEvent) (command : Command) → i < length es → command ≡ asks asked (get_or es i d)
@@ -38,23 +33,6 @@ length-told asked caller [] rs = refl
 length-told asked caller (e ∷ es) [] = refl
 length-told asked caller (e ∷ es) (r ∷ rs) = omega (arith, length-told asked caller es rs)
 
--- an event of zeros, for where there is none
-abbrev pub zeros : PieEvent
-zeros = record {
-  moment = 0;
-  tag = 0;
-  word = 0;
-  delay = 0;
-  prob = 0;
-  burst = 0;
-  size = 0;
-  answer = 0;
-  caller = 0;
-  kind = 0;
-  ecn = 0;
-  reserved = 0;
-}
-
 -- a burst took one reply more: the event at its place was told it
 pub took : (asked : Asked) (caller number : ℕ) (events now next : List PieEvent) (place done : ℕ) (replies : List Reply) (reply : Reply)
     (d : PieEvent)
@@ -81,17 +59,10 @@ took asked caller number events now next place done replies reply d before at so
     }
 
 -- the events after a place stay
-pub drop-set : (l : List PieEvent) (i : ℕ) (e : PieEvent) → drop (suc i) (set l i e) ≡ drop (suc i) l
-drop-set [] i e = refl
-drop-set (x ∷ l) zero e = refl
-drop-set (x ∷ l) (suc i) e = drop-set l i e
-
 pub later_stay : (asked : Asked) (l now : List PieEvent) (i : ℕ) (e : PieEvent) → now ≡ set l i e
     → map (asks asked) (drop (i + 1) now) ≡ map (asks asked) (drop (i + 1) l)
 later_stay asked l now i e is =
-    ap (λ (k : List PieEvent). map (asks asked) (drop (i + 1) k)) is
-    ∙ (ap (λ (n : ℕ). map (asks asked) (drop n (set l i e))) (add-one i)
-    ∙ (ap (map (asks asked)) (drop-set l i e) ∙ ap (λ (n : ℕ). map (asks asked) (drop n l)) (sym (add-one i))))
+    ap (λ (k : List PieEvent). map (asks asked) (drop (i + 1) k)) is ∙ ap (map (asks asked)) (drop-set-lt (i + 1) l i e (omega arith))
 
 -- a burst begins
 pub begun : (asked : Asked) (caller : ℕ) (events : List PieEvent) (done : ℕ) → done ≡ 0 → Took asked caller caller events events done []

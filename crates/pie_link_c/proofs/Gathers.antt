@@ -1,8 +1,7 @@
 -- A port that takes back the number that it gave away is as it was.
-use Rattle.std.proofs.Common.{◌≡◌, ◌<◌, arith, ⊎_elim, subst}
-use Rattle.pie_kept.specs.Entries.{number_of}
-use Rattle.pie_link.specs.Views.{CallerView}
-use Rattle.pie_lock.specs.Promises.{without_highest, highest_alone, IsBothOf}
+use Rattle.pie_link_c.specs.{number_of, without_highest, highest_alone, IsBothOf}
+use Rattle.pie_link_c.proofs.Names.{◌≡◌, ◌<◌, arith, subst, CallerView}
+use Rattle.std.proofs.Common.{⊎_elim}
 
 again : (p r : CallerView) → p.first < p.limit → IsBothOf number_of (without_highest p) (highest_alone p) r → r ≡ p
 again p r some both =

@@ -1,33 +1,22 @@
 -- The machine values of a handle of any type, and what it owns where it is closed and where it is open. Assumes `Logic`.
-use Rattle.std.proofs.Common.{◌≡◌, ℕ, List, [], ◌∷◌, ◌++◌, refl, subst}
-use seplogic.Ra.Ura.{Ura}
-use mir.Raw.{raw as bare}
-use mir.Val.{Val, vstruct, of_list}
+use Rattle.pie_link_c.specs.{Global}
+use Rattle.pie_link_c.specs.Owned.{owns_if}
+use Rattle.pie_link_c.proofs.Names.{◌≡◌, ℕ, List, [], ◌∷◌, ◌++◌, refl, subst, Ura, bare, Val, vstruct, of_list, fsep, never, fst∗, ent, Logic, sem}
+use Rattle.pie_link_c.proofs.Names.{Item, Goal, Seq, Step, step, ‵, ◌$◌, move, drop, fsplit, fjoin, fpick, fpack, feq_i, feq_l, use1, RattleType}
+use Rattle.pie_link_c.proofs.Names.{Valss, RawPtr, lone, Ptr, block_ptr, null_ptr, ptr_val, in_a_block, nothing, layout, within, handle_tells, Good}
+use Rattle.pie_link_c.proofs.Names.{ghosts, Option, box_owns}
 use mir.Syntax.{Sym}
-use base.Fml.{Fml, fsep}
+use base.Fml.{Fml}
 use base.Fraction.{full_share}
-use base.Logic.{never, fst∗, snd∗, ent, via, guard, guard_i}
-use types.Logic.{Logic, sem}
-use types.Kit.{Item, Goal, Seq, Step, step, given, learn, ‵, ◌$◌, move, drop, fsplit, fjoin, fpick, fpack, feq_i, feq_l, use1}
-use denote.RattleType.{RattleType, Valss}
-use denote.Builtin.{RawPtr}
-use denote.Memory.{lone}
+use base.Logic.{snd∗, via, guard, guard_i}
+use types.Kit.{given, learn}
 use contract.Monad.{fact_use}
-use denote.RawPtr.{lies_at, Ptr, block_ptr, null_ptr, ptr_val, in_a_block, Testable}
-use denote.Steps.{nothing}
-use denote.Param.{layout}
-use denote.Struct.Struct.{Shape, Struct, within}
-use Rattle.core.proofs.alloc.Calls.{handle_tells}
-use Rattle.core.proofs.cell.Inside.{Good}
+use denote.RawPtr.{lies_at, Testable}
+use denote.Struct.Struct.{Shape, Struct}
+use Rattle.std.specs.declared.option.Option.TheVariants.{None, Some}
+use Rattle.std.proofs.GlobalToken.{dealloc_token-Testable}
 use Rattle.std.specs.contracts.alloc.Global as heap
 use Rattle.std.proofs.alloc.Global.TheLaws as heap_laws
-use Rattle.std.specs.contracts.impls.GlobalAllocator.TheImpl.{ghosts}
-use Rattle.std.specs.declared.alloc.Global.{Global}
-use Rattle.std.specs.declared.option.Option.{Option}
-use Rattle.std.specs.declared.option.Option.TheVariants.{None, Some}
-use Rattle.std_alloc.specs.Box.Ownership.{box_owns}
-use Rattle.std.proofs.GlobalToken.{dealloc_token-Testable}
-use Rattle.pie_link_c.specs.Owned.{owns_if}
 use Rattle.pie_link_c.proofs.Values.{both, al}
 
 abbrev pub Z : RattleType

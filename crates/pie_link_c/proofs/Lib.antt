@@ -1,3 +1,4 @@
+mod Names
 pub mod Values
 pub mod Handles
 pub mod Gathers

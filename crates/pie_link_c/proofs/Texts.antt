@@ -1,16 +1,13 @@
 -- The record at a place of an excerpt's text.
-use Rattle.std.proofs.Common.{◌≡◌, ◌≤◌, ◌<◌, ◌+◌, ◌-◌, ℕ, zero, suc, List, [], ◌∷◌, ◌++◌, length, map, Some, None, get_or, slice_get, arith, refl, ap}
-use Rattle.std.proofs.Common.{sym, ◌∙◌, add-one}
+use Rattle.pie_link_c.specs.{option_map_or, ExcerptView, text_of, event_row, record_text}
+use Rattle.pie_link_c.proofs.Names.{◌≡◌, ◌≤◌, ◌<◌, ◌+◌, ◌-◌, ℕ, zero, suc, List, [], ◌∷◌, ◌++◌, length, map, get_or, arith, refl, ap, sym, ◌∙◌}
+use Rattle.pie_link_c.proofs.Names.{add-one, Option, Event}
+use Rattle.std.proofs.Common.{Some, None, slice_get}
 use Rattle.std.proofs.lemmas.Option.{slice_get_past, slice_get_read, slice_get-map}
-use Rattle.std.specs.Option.{option_map, option_map_or}
-use Rattle.std.specs.declared.option.Option.{Option}
+use Rattle.std.specs.Option.{option_map}
 use Rattle.pie_queue.specs.declared.packet.Waiting.{Waiting}
-use Rattle.pie_event.specs.declared.command.Event.{Event}
-use Rattle.pie_book.specs.Excerpt.{ExcerptView}
-use Rattle.pie_record.specs.Text.{Row, text_of}
-use Rattle.pie_record.specs.Write.{event_row}
+use Rattle.pie_record.specs.Text.{Row}
 use Rattle.pie_excerpt.specs.Rows.{queued_row}
-use Rattle.pie_link_c.specs.Excerpts.{record_text}
 
 -- ---- of two lists of records, one behind the other
 

@@ -1,28 +1,16 @@
 -- The machine values of a `Loose`. Assumes `Logic`.
-use Rattle.std.proofs.Common.{◌≡◌, ℕ, List, [], ◌∷◌, ◌++◌, refl, subst}
+use Rattle.pie_link_c.proofs.Names.{◌≡◌, ℕ, List, [], ◌∷◌, ◌++◌, refl, subst, Ura, dnil, bare, Val, vptr, vstruct, vcons, vnil, of_list, has_ty}
+use Rattle.pie_link_c.proofs.Names.{never, fst∗, Logic, sem, Item, Goal, Seq, Step, step, ‵, ◌$◌, move, drop, fsplit, fjoin, fpick, fpack, feq_i}
+use Rattle.pie_link_c.proofs.Names.{feq_l, RattleType, Valss, RawPtr, lone, Ptr, block_ptr, null_ptr, ptr_val, in_a_block, nothing, layout, within}
+use Rattle.pie_link_c.proofs.Names.{handle_tells, Good, box_owns, and_tt}
 use mathlib.Core.Bool.{true, ◌&&◌}
 use lib.Dec.{T}
-use seplogic.Ra.Ura.{Ura}
-use mir.Syntax.{impl, tnil, dnil}
-use mir.Raw.{raw as bare}
-use mir.Val.{Val, vptr, vstruct, vcons, vnil, of_list, has_ty, WT}
-use base.Logic.{never, fst∗}
-use types.Logic.{Logic, sem}
-use types.Kit.{Item, Goal, Seq, Step, step, ‵, ◌$◌, move, drop, fsplit, fjoin, fpick, fpack, feq_i, feq_l}
-use denote.RattleType.{RattleType, Valss}
-use denote.Builtin.{RawPtr}
-use denote.Memory.{lone}
-use denote.RawPtr.{Ptr, block_ptr, null_ptr, ptr_val, in_a_block}
-use denote.Steps.{nothing}
-use denote.Param.{layout}
+use mir.Syntax.{impl, tnil}
+use mir.Val.{WT}
 use denote.Param.Laws.{Laws}
-use denote.Struct.Struct.{within}
 use denote.Struct.Owning.{shape}
 use Rattle.core.specs.declared.alloc.Allocator.{Ghosts}
-use Rattle.core.proofs.alloc.Calls.{Al, handle_tells}
-use Rattle.core.proofs.cell.Inside.{Good}
-use Rattle.std_alloc.specs.Box.Ownership.{box_owns}
-use Rattle.std_alloc.proofs.ResultValues.{and_tt}
+use Rattle.core.proofs.alloc.Calls.{Al}
 use Rattle.pie_link_c.specs.contracts.loose.Loose as loose
 
 abbrev pub both : Val → Val → Val

@@ -1,13 +1,8 @@
 -- What the bursts at a port promise: several events of its caller, one after another, in one turn.
 use Rattle.std.specs.Prelude.{ℕ, ◌≡◌, ◌==◌, ◌⊎◌, Bool, true, false, List, [], ◌∷◌, map, length, Option, Some, None, Ok, Err, if◌then◌else◌}
-use Rattle.pie_event.specs.declared.command.Command.{Command}
+use Rattle.pie_link_c.specs.Names.{Command, Reply, AnswersWithin, CallerView, StaysOne, WasBusy, PieEvent, Asked, Update}
 use Rattle.pie_event.specs.declared.command.Command.TheVariants as command
-use Rattle.pie_kept.specs.Bursts.{Reply}
-use Rattle.pie_link.specs.Bursts.{AnswersWithin}
-use Rattle.pie_link.specs.Views.{CallerView, StaysOne, WasBusy}
-use Rattle.pie_abi.specs.declared.event.PieEvent.{PieEvent}
-use Rattle.pie_link_c.specs.declared.asked.Asked.{Asked}
-use Rattle.pie_link_c.specs.declared.asked.Asked.TheVariants.{Update}
+use Rattle.pie_link_c.specs.Calls.{AtPort}
 use Rattle.pie_link_c.specs.Codes.{refusal_number}
 use Rattle.pie_link_c.specs.Events.{answered_event, command_in, has_bad_ecn, numbered_event, packet_in, under}
 
@@ -75,11 +70,9 @@ abbrev pub IsTriedAll : Asked → Option ℕ → (Reply → Bool) → CallerView
 IsTriedAll asked budget goes_on before events count code written after =
     IsAnswered asked budget goes_on before events count code written after ⊎ WasNotTried before events count code written after
 
--- a closed port is told so, and the events stay
-unfoldable pub TriesAll : Asked → Option ℕ → (Reply → Bool) → Option CallerView → List PieEvent → ℕ → ℕ → List PieEvent → Option CallerView → Type 0
-TriesAll asked budget goes_on None events count code written after = (code ≡ 122) × (written ≡ events) × (count ≡ 0) × (after ≡ None)
-TriesAll asked budget goes_on (Some before) events count code written after =
-    (now : CallerView) × (after ≡ Some now) × IsTriedAll asked budget goes_on before events count code written now
+abbrev pub TriesAll : Asked → Option ℕ → (Reply → Bool) → Option CallerView → List PieEvent → ℕ → ℕ → List PieEvent → Option CallerView → Type 0
+TriesAll asked budget goes_on port events count code written after =
+    AtPort port code after ((written ≡ events) × (count ≡ 0)) (λ before now. IsTriedAll asked budget goes_on before events count code written now)
 
 -- the budget that a number of bytes says: the greatest is none
 abbrev pub budget_of : ℕ → Option ℕ

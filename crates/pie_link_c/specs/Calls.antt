@@ -1,22 +1,8 @@
 -- What the calls at a port promise. A port is, as contracts see it, the caller that it has, where it is open.
 use Rattle.std.specs.Prelude.{ℕ, ◌≡◌, ◌≢◌, ◌==◌, ◌+◌, ◌⊎◌, ◌↔◌, Bool, true, false, Option, Some, None, Result, Ok, Err, if◌then◌else◌}
-use Rattle.pie_lock.specs.Promises.{first_pass, without_highest, highest_alone, IsBeside, IsBothOf}
-use Rattle.pie_event.specs.declared.command.Answer.{Answer}
-use Rattle.pie_event.specs.declared.command.Command.TheVariants.{SetParams}
-use Rattle.pie_event.specs.declared.refusal.Refusal.{Refusal}
-use Rattle.pie_kept.specs.Entries.{number_of}
-use Rattle.pie_kept.specs.declared.told.Told.{Told}
-use Rattle.pie_link.specs.Commands.{TriesToAnswer}
-use Rattle.pie_link.specs.Views.{CallerView, LinkView, StaysOne}
-use Rattle.pie_link.specs.declared.told.Tried.{Tried}
-use Rattle.pie_link.specs.declared.told.Tried.TheVariants.{Busy, Refused}
-use Rattle.pie_abi.specs.declared.event.PieEvent.{PieEvent}
-use Rattle.pie_abi.specs.declared.opening.PieOpening.{PieOpening}
-use Rattle.pie_abi.specs.declared.params.PieParams.{PieParams}
-use Rattle.pie_abi.specs.Events.{bare_event}
-use Rattle.pie_abi.specs.Opening.{opening_in, opening_refusal}
-use Rattle.pie_abi.specs.Params.{are_in_range, raw_of}
-use Rattle.pie_link_c.specs.declared.asked.Asked.{Asked}
+use Rattle.pie_link_c.specs.Names.{first_pass, without_highest, highest_alone, IsBeside, IsBothOf, Answer, Command, SetParams, Refusal, number_of}
+use Rattle.pie_link_c.specs.Names.{Told, TriesToAnswer, CallerView, LinkView, StaysOne, Tried, Busy, Refused, PieEvent, PieOpening, PieParams}
+use Rattle.pie_link_c.specs.Names.{bare_event, opening_in, opening_refusal, are_in_range, raw_of, Asked}
 use Rattle.pie_link_c.specs.Codes.{answer_number, code_of, refusal_number}
 use Rattle.pie_link_c.specs.Events.{command_in, filled, has_bad_ecn, numbered_event, under}
 
@@ -41,25 +27,29 @@ pub record IsOpened (IsKept : LinkView → Type 0) (o : PieOpening) (callers : �
 
 -- ---- a call for one event
 
--- what an open port's caller was answered, or that the link was busy; and the code and the event that tell it
-pub record IsTried (asked : Asked) (before : CallerView) (e : PieEvent) (code : ℕ) (written : PieEvent) (after : CallerView) : Type 0 where
+-- what a call at a port comes to: a closed one is told so, and all stays; of an open one it is this of its caller before and after
+unfoldable pub AtPort : Option CallerView → ℕ → Option CallerView → Type 0 → (CallerView → CallerView → Type 0) → Type 0
+AtPort None code after stays comes = (code ≡ 122) × stays × (after ≡ None)
+AtPort (Some before) code after stays comes = (now : CallerView) × (after ≡ Some now) × comes before now
+
+-- what an open port's caller was answered this command, or that the link was busy; and the code and the event that tell it
+pub record IsTried (command : Command) (fills : Result (Told Answer) (Tried Refusal) → PieEvent) (before : CallerView) (code : ℕ) (written : PieEvent)
+    (after : CallerView) : Type 0 where
   pub reply : Result (Told Answer) (Tried Refusal)
-  pub tried : TriesToAnswer before.lock before (command_in asked e) reply after
+  pub tried : TriesToAnswer before.lock before command reply after
   pub stays : StaysOne before after
   pub told : code ≡ code_of reply
-  pub filled : written ≡ filled asked before.first e reply
+  pub filled : written ≡ fills reply
 
--- the same, but an ECN field above 3 is refused before
+-- what the event asks; but an ECN field above 3 is refused before
 abbrev pub IsTriedUnless : Bool → Asked → CallerView → PieEvent → ℕ → PieEvent → CallerView → Type 0
 IsTriedUnless true asked before e code written after =
     (code ≡ 111) × (written ≡ under before.first (numbered_event asked e 111)) × (after ≡ before)
-IsTriedUnless false asked before e code written after = IsTried asked before e code written after
+IsTriedUnless false asked before e code written after = IsTried (command_in asked e) (filled asked before.first e) before code written after
 
--- a closed port is told so, and the event stays
-unfoldable pub Tries : Asked → Option CallerView → PieEvent → ℕ → PieEvent → Option CallerView → Type 0
-Tries asked None e code written after = (code ≡ 122) × (written ≡ e) × (after ≡ None)
-Tries asked (Some before) e code written after =
-    (now : CallerView) × (after ≡ Some now) × IsTriedUnless (has_bad_ecn asked e) asked before e code written now
+abbrev pub Tries : Asked → Option CallerView → PieEvent → ℕ → PieEvent → Option CallerView → Type 0
+Tries asked port e code written after =
+    AtPort port code after (written ≡ e) (λ before now. IsTriedUnless (has_bad_ecn asked e) asked before e code written now)
 
 -- ---- new parameters
 
@@ -69,23 +59,14 @@ set_event caller e (Ok told) = under caller (bare_event 5 e (answer_number told.
 set_event caller e (Err Busy) = e
 set_event caller e (Err (Refused why)) = under caller (bare_event 5 e (refusal_number why))
 
--- what the caller of an open port was answered, or that the link was busy; and the code and the event that tell it
-pub record IsSet (params : PieParams) (before : CallerView) (e : PieEvent) (code : ℕ) (written : PieEvent) (after : CallerView) : Type 0 where
-  pub reply : Result (Told Answer) (Tried Refusal)
-  pub tried : TriesToAnswer before.lock before (SetParams e.moment (raw_of params)) reply after
-  pub stays : StaysOne before after
-  pub told : code ≡ code_of reply
-  pub filled : written ≡ set_event before.first e reply
-
 -- parameters out of their ranges are refused before
 abbrev pub IsSetUnless : Bool → PieParams → CallerView → PieEvent → ℕ → PieEvent → CallerView → Type 0
 IsSetUnless false params before e code written after = (code ≡ 107) × (written ≡ under before.first (bare_event 5 e 107)) × (after ≡ before)
-IsSetUnless true params before e code written after = IsSet params before e code written after
+IsSetUnless true params before e code written after = IsTried (SetParams e.moment (raw_of params)) (set_event before.first e) before code written after
 
-unfoldable pub TriesToSet : PieParams → Option CallerView → PieEvent → ℕ → PieEvent → Option CallerView → Type 0
-TriesToSet params None e code written after = (code ≡ 122) × (written ≡ e) × (after ≡ None)
-TriesToSet params (Some before) e code written after =
-    (now : CallerView) × (after ≡ Some now) × IsSetUnless (are_in_range params) params before e code written now
+abbrev pub TriesToSet : PieParams → Option CallerView → PieEvent → ℕ → PieEvent → Option CallerView → Type 0
+TriesToSet params port e code written after =
+    AtPort port code after (written ≡ e) (λ before now. IsSetUnless (are_in_range params) params before e code written now)
 
 -- ---- ports
 

@@ -1,13 +1,8 @@
 -- What a call at a port answers.
 use Rattle.std.specs.Prelude.{ℕ, Result, Ok, Err}
-use Rattle.pie_event.specs.declared.command.Answer.{Answer}
-use Rattle.pie_event.specs.declared.command.Answer.TheVariants.{Enqueued, Marked, DroppedEarly, DroppedBytes, DroppedPackets, Empty, Left, Updated}
-use Rattle.pie_event.specs.declared.command.Answer.TheVariants.{Done}
-use Rattle.pie_event.specs.declared.refusal.Refusal.{Refusal}
+use Rattle.pie_link_c.specs.Names.{Answer, Enqueued, Marked, DroppedEarly, DroppedBytes, DroppedPackets, Empty, Left, Updated, Done, Refusal, Told}
+use Rattle.pie_link_c.specs.Names.{Tried, Busy, Refused}
 use Rattle.pie_event.specs.declared.refusal.Refusal.TheVariants.{Moment, Size, TooSoon, Exhausted, HistoryFull}
-use Rattle.pie_kept.specs.declared.told.Told.{Told}
-use Rattle.pie_link.specs.declared.told.Tried.{Tried}
-use Rattle.pie_link.specs.declared.told.Tried.TheVariants.{Busy, Refused}
 
 -- the number of an answer
 abbrev pub answer_number : Answer → ℕ

@@ -1,3 +1,4 @@
+pub mod Names
 pub mod Codes
 pub mod Events
 pub mod Calls
@@ -6,3 +7,11 @@ pub mod Readings
 pub mod Excerpts
 pub mod Owned
 pub mod Bursts
+unfoldable pub use Names.*
+unfoldable pub use Codes.*
+unfoldable pub use Events.*
+unfoldable pub use Calls.*
+unfoldable pub use Folds.*
+unfoldable pub use Readings.*
+unfoldable pub use Excerpts.*
+unfoldable pub use Bursts.*

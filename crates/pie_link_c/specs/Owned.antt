@@ -1,12 +1,12 @@
 -- What the handle that C holds owns: nothing where it is closed, and else what a box of its port, or of its excerpt, owns.
+use Rattle.std.specs.Prelude.{Option, Some, None}
+use Rattle.pie_link_c.specs.Names.{Global}
 use base.Fml.{Fml, feq}
 use base.Stored.{Coded}
 use denote.RattleType.{RattleType}
 use denote.RawPtr.{Ptr, null_ptr}
-use Rattle.std.specs.Prelude.{Option, Some, None}
 use Rattle.std.specs.Coded.{coded_option}
 use Rattle.std.specs.Box.Ownership.{box_owns}
-use Rattle.std.specs.declared.alloc.Global.{Global}
 use Rattle.std.specs.contracts.impls.GlobalAllocator.TheImpl.{ghosts}
 use Rattle.pie_link_c.specs.contracts.port.Port as port
 use Rattle.pie_link_c.specs.contracts.excerpt_text.ExcerptText as text

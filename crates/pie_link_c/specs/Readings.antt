@@ -1,16 +1,11 @@
 -- What a reading at a port promises, and how registers and statistics lie in a caller's struct.
-use Rattle.std.specs.Prelude.{ℕ, ◌≡◌, ◌+◌, ◌-◌, ◌^◌, Bool, true, false, List, Option, Some, None, Result, Ok, Err, min}
-use Rattle.pie_event.specs.declared.command.Event.{Event}
-use Rattle.pie_event.specs.declared.opening.Opening.{Opening}
-use Rattle.pie_event.specs.declared.refusal.Refusal.{Refusal}
+use Rattle.std.specs.Prelude.{ℕ, ◌≡◌, ◌+◌, ◌-◌, ◌^◌, Bool, true, false, List, Option, Result, Ok, Err, min}
+use Rattle.pie_link_c.specs.Names.{Event, Opening, Refusal, Told, CallerView, StaysOne, Tried, params_of}
 use Rattle.pie_event.specs.declared.registers.Registers.{Registers}
 use Rattle.pie_event.specs.declared.stats.Stats.{Stats}
-use Rattle.pie_kept.specs.declared.told.Told.{Told}
 use Rattle.pie_link.specs.Readings.{TriesToRead}
-use Rattle.pie_link.specs.Views.{CallerView, StaysOne}
-use Rattle.pie_link.specs.declared.told.Tried.{Tried}
-use Rattle.pie_abi.specs.Params.{params_of}
 use Rattle.pie_abi.specs.Stats.{stats_of}
+use Rattle.pie_link_c.specs.Calls.{AtPort}
 use Rattle.pie_link_c.specs.declared.readings.PieRegisters.{PieRegisters}
 use Rattle.pie_link_c.specs.declared.readings.PieTotals.{PieTotals}
 
@@ -63,7 +58,5 @@ module _ {A B : Type 0} (value_after : Opening → List Event → A) (struct_of 
     pub told : code ≡ read_code reply
     pub filled : written ≡ read_into struct_of held reply
 
-  -- a closed port is told so, and the struct stays
-  unfoldable pub TriesToReadInto : Option CallerView → B → ℕ → B → Option CallerView → Type 0
-  TriesToReadInto None held code written after = (code ≡ 122) × (written ≡ held) × (after ≡ None)
-  TriesToReadInto (Some before) held code written after = (now : CallerView) × (after ≡ Some now) × IsReadInto before held code written now
+  abbrev pub TriesToReadInto : Option CallerView → B → ℕ → B → Option CallerView → Type 0
+  TriesToReadInto port held code written after = AtPort port code after (written ≡ held) (λ before now. IsReadInto before held code written now)

@@ -1,10 +1,7 @@
 //! Bursts of events that lie where the caller has them: each is read and written in its place.
-ghost use Rattle.std.specs.Prelude.{◌≡◌, ◌<◌, drop, length, map, slice_index_or, slice_set};
-ghost use Rattle.pie_kept.specs.Bursts.{always, has_left_or_updated};
-ghost use Rattle.pie_abi.specs.declared.event.PieEvent.{PieEvent};
-ghost use Rattle.pie_link_c.specs.declared.asked.Asked.TheVariants.{Arrive, Depart};
-ghost use Rattle.pie_link_c.specs.Bursts.{asks, asks_unless, riding, told_event, told_events};
-ghost use Rattle.pie_link_c.specs.Events.{has_bad_ecn};
+ghost use Rattle.std.specs.Prelude.{◌≡◌, ◌<◌, Bool, drop, length, map, slice_index_or, slice_set};
+ghost use Rattle.pie_link_c.specs.{Reply, always, has_left_or_updated, PieEvent, Asked, Arrive, Depart, asks, asks_unless, riding, told_event};
+ghost use Rattle.pie_link_c.specs.{has_bad_ecn};
 
 use crate::asked::Asked;
 use crate::code::of_refusal;
@@ -17,27 +14,75 @@ use pie_abi::packet::ecn;
 use pie_event::{Answer, Command, Refusal};
 use pie_kept::{Burst, Reply};
 use pie_queue::{Ecn, Packet};
+use std::marker::PhantomData;
 
-/// Packets that arrive, and updates among them.
-#[derive(Drop)]
-pub(crate) struct Arriving<'a> {
-    /// Their events.
-    pub(crate) events: &'a mut [PieEvent],
-    /// How many have been asked.
-    pub(crate) done: usize,
-    /// The number under which they stand.
-    pub(crate) caller: u16,
+/// A kind of burst: what its events ask, but for the updates among them, and after which replies it goes on. Each is compiled for its own.
+pub(crate) trait Kind {
+    ghost asked: { Asked };
+
+    ghost goes_on: { Reply → Bool };
+
+    /// What its events ask.
+    fn asks() -> Asked
+        ensures { result ≡ asked };
+
+    /// Whether it goes on after this reply.
+    fn is_to_go_on(reply: &Reply) -> bool
+        ensures { result ≡ goes_on reply.now };
 }
 
-/// Departures, and updates among them.
+/// Packets arrive.
+pub(crate) struct Arrivals;
+
+impl Kind for Arrivals {
+    ghost asked = { Arrive };
+
+    ghost goes_on = { always };
+
+    #[inline(always)]
+    fn asks() -> Asked {
+        Asked::Arrive
+    }
+
+    #[inline(always)]
+    fn is_to_go_on(_: &Reply) -> bool {
+        true
+    }
+}
+
+/// Packets depart.
+pub(crate) struct Departures;
+
+impl Kind for Departures {
+    ghost asked = { Depart };
+
+    ghost goes_on = { has_left_or_updated };
+
+    #[inline(always)]
+    fn asks() -> Asked {
+        Asked::Depart
+    }
+
+    // A packet left, an update was made, or it came too soon.
+    #[inline(always)]
+    fn is_to_go_on(reply: &Reply) -> bool {
+        match reply {
+            Ok(told) => matches!(told.answer, Answer::Left(_) | Answer::Updated { .. }),
+            Err(why) => matches!(why, Refusal::TooSoon { .. }),
+        }
+    }
+}
+
+/// A burst of events of one kind, and updates among them.
 #[derive(Drop)]
-pub(crate) struct Departing<'a> {
-    /// Their events.
+pub(crate) struct Asking<'a, K> {
+    /// The events.
     pub(crate) events: &'a mut [PieEvent],
     /// How many have been asked.
     pub(crate) done: usize,
     /// The number under which they stand.
     pub(crate) caller: u16,
+    pub(crate) kind: PhantomData<K>,
 }
 
 // What an event of a burst asks.
@@ -113,26 +158,15 @@ fn tell_at(events: &mut [PieEvent], place: usize, asked: Asked, caller: u16, rep
     tell(&mut events[place], asked, caller, reply);
 }
 
-// Whether a burst of departures goes on: a packet left, an update was made, or it came too soon.
-#[inline(always)]
-fn has_left_or_updated(reply: &Reply) -> bool
-    ensures { result ≡ has_left_or_updated reply.now }
-{
-    match reply {
-        Ok(told) => matches!(told.answer, Answer::Left(_) | Answer::Updated { .. }),
-        Err(why) => matches!(why, Refusal::TooSoon { .. }),
-    }
-}
+impl<K: Kind> Burst for Asking<'_, K> {
+    ghost use Rattle.pie_link_c.specs.{Took};
 
-impl Burst for Arriving<'_> {
-    ghost use Rattle.pie_link_c.specs.Bursts.{Took};
+    ghost commands = { λ b place. map (asks K.asked) (drop place b.events.now) };
 
-    ghost commands = { λ b place. map (asks Arrive) (drop place b.events.now) };
-
-    ghost goes_on = { λ b. always };
+    ghost goes_on = { λ b. K.goes_on };
 
     ghost shows = { λ first b replies. (b.events.ghost_name ≡ first.events.ghost_name)
-        × Took Arrive first.caller b.caller first.events.now b.events.now b.done replies };
+        × Took K.asked first.caller b.caller first.events.now b.events.now b.done replies };
 
     ghost room = { λ b. b.events.ghost_name };
 
@@ -146,46 +180,13 @@ impl Burst for Arriving<'_> {
     #[inline(always)]
     fn command(&self, place: usize) -> Command {
         let events = &*self.events;
-        command_of(Asked::Arrive, &events[place])
+        command_of(K::asks(), &events[place])
     }
 
     #[inline(always)]
     fn take(&mut self, place: usize, reply: Reply) -> bool {
-        tell_at(self.events, place, Asked::Arrive, self.caller, &reply);
+        tell_at(self.events, place, K::asks(), self.caller, &reply);
         self.done = place + 1;
-        true
-    }
-}
-
-impl Burst for Departing<'_> {
-    ghost use Rattle.pie_link_c.specs.Bursts.{Took};
-
-    ghost commands = { λ b place. map (asks Depart) (drop place b.events.now) };
-
-    ghost goes_on = { λ b. has_left_or_updated };
-
-    ghost shows = { λ first b replies. (b.events.ghost_name ≡ first.events.ghost_name)
-        × Took Depart first.caller b.caller first.events.now b.events.now b.done replies };
-
-    ghost room = { λ b. b.events.ghost_name };
-
-    ghost has_room = { λ b place. b.done ≡ place };
-
-    #[inline(always)]
-    fn count(&self) -> usize {
-        self.events.len()
-    }
-
-    #[inline(always)]
-    fn command(&self, place: usize) -> Command {
-        let events = &*self.events;
-        command_of(Asked::Depart, &events[place])
-    }
-
-    #[inline(always)]
-    fn take(&mut self, place: usize, reply: Reply) -> bool {
-        tell_at(self.events, place, Asked::Depart, self.caller, &reply);
-        self.done = place + 1;
-        has_left_or_updated(&reply)
+        K::is_to_go_on(&reply)
     }
 }

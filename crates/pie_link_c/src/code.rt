@@ -1,6 +1,6 @@
 //! What a call at a port answers, beside the codes of pie_abi.
 ghost use Rattle.std.specs.Prelude.{◌≡◌};
-ghost use Rattle.pie_link_c.specs.Codes.{answer_number, code_of, refusal_number};
+ghost use Rattle.pie_link_c.specs.{answer_number, code_of, refusal_number};
 
 use pie_abi::code::{
     BAD_MOMENT, BAD_SIZE, DONE, EARLY, MARK, NONE, OVER_BYTES, OVER_PACKETS, TOO_SOON,

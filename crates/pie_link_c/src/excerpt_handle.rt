@@ -1,6 +1,6 @@
 //! An excerpt as C holds it.
 ghost use Rattle.std.specs.Prelude.{◌≡◌, Option, Some, None, MatchOption};
-ghost use Rattle.pie_link_c.specs.Excerpts.{TextView};
+ghost use Rattle.pie_link_c.specs.{TextView};
 ghost use Rattle.pie_link_c.specs.Owned.{maybe_text, owns_text_if};
 
 use crate::excerpt_text::ExcerptText;

@@ -1,6 +1,6 @@
 //! A port as C holds it.
 ghost use Rattle.std.specs.Prelude.{◌≡◌, Option, Some, None, MatchOption};
-ghost use Rattle.pie_link.specs.Views.{CallerView};
+ghost use Rattle.pie_link_c.specs.{CallerView};
 ghost use Rattle.pie_link_c.specs.Owned.{maybe_port, owns_port_if};
 
 use crate::loose::Loose;

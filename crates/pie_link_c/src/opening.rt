@@ -1,7 +1,6 @@
 //! Opening a link.
 ghost use Rattle.std.specs.Prelude.{◌≡◌, ◌≢◌, IfOk, IfErr, OnOk, None};
-ghost use Rattle.pie_link.specs.Headline.{KeepsOneHistory};
-ghost use Rattle.pie_link_c.specs.Calls.{IsOpened, open_refusal};
+ghost use Rattle.pie_link_c.specs.{KeepsOneHistory, IsOpened, open_refusal};
 
 use crate::code::{NO_CALLERS, NO_MEMORY, OPEN};
 use crate::handle::PiePort;

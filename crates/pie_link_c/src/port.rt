@@ -1,7 +1,6 @@
 //! What an open port has: a caller of a link, and a share of the link.
 ghost use Rattle.std.specs.Prelude.{◌≡◌, ◌≢◌, ◌==◌, ◌+◌, ◌↔◌, IfOk, IfErr, IfSome, IsOk, IsTrue, OnOk, OnErr, Some, false, if◌then◌else◌};
-ghost use Rattle.std.specs.Arc.{arc_value};
-ghost use Rattle.pie_link_c.specs.Events.{has_bad_ecn};
+ghost use Rattle.pie_link_c.specs.{arc_value, has_bad_ecn};
 
 use crate::asked::Asked;
 use crate::code::{NO_MEMORY, ONE_NUMBER};
@@ -35,8 +34,7 @@ pub struct Port {
 
 impl Model for Port {
     ghost use Rattle.std.specs.Prelude.{◌≡◌, ◌≤◌, vec_capacity};
-    ghost use Rattle.std.specs.Arc.{arc_value};
-    ghost use Rattle.pie_link.specs.Views.{CallerView};
+    ghost use Rattle.pie_link_c.specs.{arc_value, CallerView};
 
     ghost Value = { CallerView };
 
@@ -46,16 +44,8 @@ impl Model for Port {
 }
 
 impl Port {
-    ghost use Rattle.pie_lock.specs.Promises.{first_pass, without_highest, highest_alone, IsBeside, IsBothOf};
-    ghost use Rattle.pie_kept.specs.Entries.{number_of};
-    ghost use Rattle.pie_abi.specs.Params.{are_in_range, raw_of};
-    ghost use Rattle.pie_event.specs.declared.command.Command.TheVariants.{SetParams};
-    ghost use Rattle.pie_link.specs.Commands.{TriesToAnswer};
-    ghost use Rattle.pie_link.specs.Headline.{KeepsOneHistory};
-    ghost use Rattle.pie_link.specs.Views.{StaysOne};
-    ghost use Rattle.pie_link_c.specs.Calls.{IsSetUnless, IsTriedUnless};
-    ghost use Rattle.pie_link_c.specs.Folds.{IsFolded};
-    ghost use Rattle.pie_link_c.specs.Events.{command_in, has_bad_ecn};
+    ghost use Rattle.pie_link_c.specs.{first_pass, without_highest, highest_alone, IsBeside, IsBothOf, number_of, are_in_range, TriesToAnswer};
+    ghost use Rattle.pie_link_c.specs.{KeepsOneHistory, StaysOne, IsSetUnless, IsTriedUnless, IsFolded, command_in, has_bad_ecn};
 
     /// The port with all numbers of a new link, or nothing for want of memory or of callers.
     pub(crate) fn of_opening(alloc: Global, opening: Opening, callers: u16) -> Option<Port>

@@ -1,8 +1,9 @@
 //! Readings: what the book behind a port holds, as a struct of the caller's.
 ghost use Rattle.std.specs.Prelude.{◌≡◌};
+ghost use Rattle.pie_link_c.specs.{TriesToReadInto, registers_of, totals_of};
 ghost use Rattle.pie_book.specs.Registers.{registers_after};
 ghost use Rattle.pie_book.specs.Statistics.{stats_after};
-ghost use Rattle.pie_link_c.specs.Readings.{IsReadInto, TriesToReadInto, read_code, read_into, registers_of, totals_of};
+ghost use Rattle.pie_link_c.specs.Readings.{IsReadInto};
 
 use crate::code::{BUSY, CLOSED};
 use crate::handle::PiePort;
@@ -81,58 +82,40 @@ fn registers(told: &Told<Registers>) -> PieRegisters
     }
 }
 
-// Writes the registers that were read, and answers the code.
-fn write_registers(reply: &Result<Told<Registers>, Tried<Refusal>>, out: &mut PieRegisters) -> u32
-    ensures code { result ≡ read_code reply.now }
-    ensures out { out.new ≡ read_into registers_of out.old reply.now }
-{
-    match reply {
-        Ok(told) => {
-            *out = registers(told);
-            DONE
-        }
-        Err(_) => BUSY,
-    }
-}
-
-// Writes the statistics that were read, and answers the code.
-fn write_totals(reply: &Result<Told<Stats>, Tried<Refusal>>, out: &mut PieTotals) -> u32
-    ensures code { result ≡ read_code reply.now }
-    ensures out { out.new ≡ read_into totals_of out.old reply.now }
-{
-    match reply {
-        Ok(told) => {
-            *out = PieTotals {
-                count: told.number,
-                stats: PieStats::of(&told.answer),
-            };
-            DONE
-        }
-        Err(_) => BUSY,
-    }
-}
-
 impl Port {
     /// Reads the registers.
     fn try_registers(&mut self, out: &mut PieRegisters) -> u32
         ensures { IsReadInto registers_after registers_of self.old out.old result out.new self.new }
     {
-        let reply = self.link.try_registers(&mut self.caller);
-        write_registers(&reply, out)
+        match self.link.try_registers(&mut self.caller) {
+            Ok(told) => {
+                *out = registers(&told);
+                DONE
+            }
+            Err(_) => BUSY,
+        }
     }
 
     /// Reads the statistics.
     fn try_stats(&mut self, out: &mut PieTotals) -> u32
         ensures { IsReadInto stats_after totals_of self.old out.old result out.new self.new }
     {
-        let reply = self.link.try_stats(&mut self.caller);
-        write_totals(&reply, out)
+        match self.link.try_stats(&mut self.caller) {
+            Ok(told) => {
+                *out = PieTotals {
+                    count: told.number,
+                    stats: PieStats::of(&told.answer),
+                };
+                DONE
+            }
+            Err(_) => BUSY,
+        }
     }
 }
 
 /// What the controller and its queue hold after all events.
 #[unsafe(no_mangle)]
-#[tactic(auto, unfolding(crate::specs::Readings::TriesToReadInto))]
+#[tactic(auto, unfolding(crate::specs::Calls::AtPort))]
 pub extern "C" fn pie_link_try_registers(
     alloc: Global,
     port: &mut PiePort,
@@ -150,7 +133,7 @@ pub extern "C" fn pie_link_try_registers(
 
 /// The statistics of all events.
 #[unsafe(no_mangle)]
-#[tactic(auto, unfolding(crate::specs::Readings::TriesToReadInto))]
+#[tactic(auto, unfolding(crate::specs::Calls::AtPort))]
 pub extern "C" fn pie_link_try_stats(
     alloc: Global,
     port: &mut PiePort,

@@ -1,6 +1,6 @@
 //! One port of a link becomes two, two become one, and a port is closed.
 ghost use Rattle.std.specs.Prelude.{◌≡◌, None};
-ghost use Rattle.pie_link_c.specs.Calls.{AreOfOneLink, Gathers, Shares, close_code};
+ghost use Rattle.pie_link_c.specs.{AreOfOneLink, Gathers, Shares, close_code};
 
 use crate::code::{APART, CLOSED, OPEN};
 use crate::handle::PiePort;

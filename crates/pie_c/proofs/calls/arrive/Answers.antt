@@ -1,6 +1,6 @@
+use Rattle.pie_c.specs.{Arrive}
 use Rattle.pie_c.proofs.Names.{◌≡◌, ◌==◌, ◌∙◌, ap, arith, nat_tests, Ecn, ArrivingPacket, arrived, verdict, PieState, verdict_number, arrival_of}
 use Rattle.pie_c.proofs.Names.{arrival_refusal, held_in, with_arrival}
-use Rattle.pie_aqm.specs.Calls.{Arrive}
 use Rattle.pie_c.proofs.Packets.{arrived-state, handed, kept-later, makes, moment-later, place-later, verdict-later}
 use Rattle.pie_c.proofs.calls.arrive.Goals as goal
 use Rattle.pie_c.proofs.calls.arrive.Goals.{After-of_verdict}

@@ -1,6 +1,6 @@
+use Rattle.pie_c.specs.{params_refusal}
 use Rattle.pie_c.proofs.Names.{◌∙◌, ap, rules, raw_of, Held, with_rate}
 use Rattle.pie_aqm.specs.Steps.{changed}
-use Rattle.pie_c.specs.Calls.{params_refusal}
 use Rattle.pie_c.proofs.Packets.{changes}
 use Rattle.pie_c.proofs.calls.pie_set_params.Goals as goal
 

@@ -1,8 +1,7 @@
+use Rattle.pie_c.specs.{delay_answered, updated_with}
 use Rattle.pie_c.proofs.Names.{◌≡◌, ℕ, ◌∙◌, true, ap, arith, rules, subst, sym, Held, IsSound, updated, update_refusal, held_in, is_sound}
 use Rattle.pie_c.proofs.Names.{state_of}
 use Rattle.pie_aqm.specs.Calls.{Update}
-use Rattle.pie_aqm.specs.Steps.{delay_answered}
-use Rattle.pie_c.specs.Calls.{updated_with}
 use Rattle.pie_c.proofs.Packets.{makes}
 use Rattle.pie_c.proofs.Sound.{held-sound}
 use Rattle.pie_c.proofs.calls.pie_update.Goals as goal

@@ -1,39 +1,18 @@
 -- `into_loose` compares the pointer with null, and moves it.
-use Rattle.std.proofs.Common.{◌≡◌, List, [], ◌∷◌, ◌++◌, refl, sym, subst, lit<}
-use mir.Val.{Val, vptr, vcons, vnil, has_ty}
-use base.Logic.{SProp, ent, id⊢, emp}
-use base.Fml.{ftrue, fsep}
-use prog.Wp.{WpFn}
-use types.Kit.{‵, raw, ◌⊛◌, at_ret, ◌$◌, ◌∵◌, !, qed, by, keep, drop, split, fsplit, fjoin, suffices, use0, use1}
-use types.Run.{stop, fld, lit, of_opd, bin, no_more, and_then, first, branches, exec, returns, enter}
-use types.ByLocal.{alloc_all, pass_all, free_all, look_at, get, get_in, sets, sets_last, env}
-use types.Part.{agg, sub, whole}
-use types.Match.{live}
-use contract.Monad.{fact, fact_i}
-use contract.Running.{tables}
-use denote.Exit.{yes}
-use denote.RattleType.{RattleType}
-use denote.Signature.{type_at, plain}
-use denote.RawPtr.{Ptr, block_ptr, null_ptr, ptr_val, tests_null}
-use denote.Steps.{nothing}
-use denote.Param.{layout}
-use denote.Triple.Walked.{Stays, stay_dropped, walk_of, Goes-dropped}
-use Rattle.core.specs.declared.option.Option.TheVariants.{None, Some}
-use Rattle.core.proofs.alloc.Shapes.{after}
-use Rattle.core.proofs.atomic.Steps.{Ptr-Good}
-use Rattle.core.proofs.cell.Inside.{Good}
-use Rattle.core.proofs.option.Made.{Some-of, none_of}
-use Rattle.std.proofs.alloc.Global.TheLaws as heap_laws
-use Rattle.std.specs.contracts.impls.GlobalAllocator.TheImpl.{ghosts}
-use Rattle.std_alloc.proofs.ResultValues.{and_tt}
-use Rattle.std.proofs.raw_atomic.Walks.{proved_at, leaves}
-use Rattle.pie_link_c.proofs.Values.{both, Loose, loose_good, loose_in}
+use Rattle.pie_link_c.proofs.Names.{◌≡◌, List, [], ◌∷◌, ◌++◌, refl, sym, subst, lit<, Val, vptr, vcons, vnil, has_ty, SProp, ent, id⊢, emp, ftrue}
+use Rattle.pie_link_c.proofs.Names.{fsep, WpFn, ‵, raw, ◌⊛◌, at_ret, ◌$◌, ◌∵◌, !, qed, by, keep, drop, split, fsplit, fjoin, suffices, use0, use1}
+use Rattle.pie_link_c.proofs.Names.{stop, fld, lit, of_opd, bin, no_more, and_then, first, branches, exec, returns, enter, alloc_all, pass_all}
+use Rattle.pie_link_c.proofs.Names.{free_all, look_at, get, get_in, sets, sets_last, env, agg, sub, whole, live, fact, fact_i, tables, yes}
+use Rattle.pie_link_c.proofs.Names.{RattleType, type_at, plain, Ptr, block_ptr, null_ptr, ptr_val, tests_null, nothing, layout, Stays, stay_dropped}
+use Rattle.pie_link_c.proofs.Names.{walk_of, Goes-dropped, None, Some, after, Ptr-Good, Good, Some-of, none_of, ghosts, and_tt, proved_at, leaves}
+use Rattle.pie_link_c.proofs.Names.{owns_text_if}
 use Rattle.pie_link_c.specs.contracts.excerpt_text.ExcerptText.{the_row as R}
 use Rattle.pie_link_c.specs.contracts.excerpt_handle.PieExcerpt.{the_row as Handle, struct}
-use Rattle.pie_link_c.specs.Owned.{owns_text_if}
-use Rattle.pie_link_c.proofs.Handles.{Z, handle_out, closed_or_open}
 use Rattle.pie_link_c.specs.contracts.excerpt_handle.PieExcerpt.into_loose.{ended, clauses}
 use Rattle.pie_link_c.specs.contracts.excerpt_handle.PieExcerpt.into_loose.Key.{name as #self}
+use Rattle.std.proofs.alloc.Global.TheLaws as heap_laws
+use Rattle.pie_link_c.proofs.Values.{both, Loose, loose_good, loose_in}
+use Rattle.pie_link_c.proofs.Handles.{Z, handle_out, closed_or_open}
 use Rattle.pie_link_c.proofs.excerpt_handle.PieExcerpt.into_loose.Statement.{statement}
 use Rattle.pie_link_c.proofs.excerpt_handle.PieExcerpt.into_loose.Code as code
 

@@ -1,35 +1,16 @@
 -- `none` makes a handle whose pointer is null, which owns nothing.
-use Rattle.std.proofs.Common.{◌≡◌, List, [], ◌∷◌, ◌++◌, refl, sym, subst}
-use mir.Val.{Val, has_ty}
-use base.Logic.{SProp, ent, id⊢, emp}
-use base.Fml.{ftrue, fsep}
-use prog.Wp.{WpFn}
-use types.Kit.{‵, raw, ◌⊛◌, ◌$◌, ◌∵◌, !, qed, by, keep, drop, split, fsplit, fjoin, feq_i, suffices, use0}
-use types.Run.{lit, no_more, and_then, returns, enter}
-use types.ByLocal.{alloc_all, pass_all, free_all, look_at, get, sets}
-use types.Part.{agg}
-use contract.Monad.{fact, fact_i}
-use contract.Running.{tables}
-use denote.Exit.{yes}
-use denote.Signature.{plain}
-use denote.RawPtr.{Ptr, null_ptr, ptr_val}
-use denote.Steps.{nothing}
-use denote.Param.{layout}
-use denote.Triple.Walked.{Stays, stay_dropped, walk_of, Goes-dropped}
-use Rattle.core.specs.declared.option.Option.TheVariants.{None}
-use Rattle.core.proofs.atomic.Steps.{Ptr-Good}
-use Rattle.std.proofs.alloc.Global.TheLaws as heap_laws
-use Rattle.std.specs.contracts.impls.GlobalAllocator.TheImpl.{ghosts}
-use Rattle.std_alloc.proofs.ResultValues.{and_tt}
-use Rattle.std.proofs.raw_atomic.Walks.{proved_at, leaves}
-use Rattle.pie_link_c.proofs.Values.{both, al}
+use Rattle.pie_link_c.proofs.Names.{◌≡◌, List, [], ◌∷◌, ◌++◌, refl, sym, subst, Val, has_ty, SProp, ent, id⊢, emp, ftrue, fsep, WpFn, ‵, raw, ◌⊛◌}
+use Rattle.pie_link_c.proofs.Names.{◌$◌, ◌∵◌, !, qed, by, keep, drop, split, fsplit, fjoin, feq_i, suffices, use0, lit, no_more, and_then, returns}
+use Rattle.pie_link_c.proofs.Names.{enter, alloc_all, pass_all, free_all, look_at, get, sets, agg, fact, fact_i, tables, yes, plain, Ptr, null_ptr}
+use Rattle.pie_link_c.proofs.Names.{ptr_val, nothing, layout, Stays, stay_dropped, walk_of, Goes-dropped, None, Ptr-Good, ghosts, and_tt, proved_at}
+use Rattle.pie_link_c.proofs.Names.{leaves, owns_text_if, handle_tells}
 use Rattle.pie_link_c.specs.contracts.excerpt_text.ExcerptText.{the_row as R}
 use Rattle.pie_link_c.specs.contracts.excerpt_handle.PieExcerpt.{the_row as Handle, struct}
-use Rattle.pie_link_c.specs.Owned.{owns_text_if}
-use Rattle.pie_link_c.proofs.Handles.{Z, handle_in}
-use Rattle.core.proofs.alloc.Calls.{handle_tells}
 use Rattle.pie_link_c.specs.contracts.excerpt_handle.PieExcerpt.none.{ended, clauses}
 use Rattle.pie_link_c.specs.contracts.excerpt_handle.PieExcerpt.none.Key.{name as #self}
+use Rattle.std.proofs.alloc.Global.TheLaws as heap_laws
+use Rattle.pie_link_c.proofs.Values.{both, al}
+use Rattle.pie_link_c.proofs.Handles.{Z, handle_in}
 use Rattle.pie_link_c.proofs.excerpt_handle.PieExcerpt.none.Statement.{statement}
 use Rattle.pie_link_c.proofs.excerpt_handle.PieExcerpt.none.Code as code
 

@@ -1,32 +1,14 @@
 -- `of_loose` moves two fields, and what they own goes with them.
-use Rattle.std.proofs.Common.{◌≡◌, List, [], ◌∷◌, ◌++◌, refl, sym, subst}
-use mir.Val.{Val, vptr}
-use base.Logic.{SProp, ent, id⊢, emp}
-use base.Fml.{ftrue, fsep}
-use prog.Wp.{WpFn}
-use types.Kit.{‵, raw, ◌⊛◌, ◌$◌, ◌∵◌, !, qed, by, keep, drop, split, fsplit, fjoin, suffices, use0}
-use types.Run.{stop, fld, of_opd, no_more, and_then, returns, enter}
-use types.ByLocal.{alloc_all, pass_all, free_all, look_at, get, get_in, sets}
-use types.Part.{agg, sub, whole}
-use contract.Monad.{fact, fact_i}
-use contract.Running.{tables}
-use denote.Exit.{yes}
-use denote.RattleType.{RattleType}
-use denote.Signature.{plain}
-use denote.RawPtr.{block_ptr}
-use denote.Steps.{nothing}
-use denote.Triple.Walked.{Stays, stay_dropped, walk_of, Goes-dropped}
-use Rattle.core.specs.declared.option.Option.TheVariants.{Some}
-use Rattle.std.proofs.alloc.Global.TheLaws as heap_laws
-use Rattle.std.specs.contracts.impls.GlobalAllocator.TheImpl.{ghosts}
-use Rattle.std.proofs.raw_atomic.Walks.{proved_at, leaves}
-use Rattle.pie_link_c.proofs.Values.{both, Loose, loose_good, loose_out}
-use Rattle.pie_link_c.specs.contracts.port.Port.{the_row as R}
-use Rattle.pie_link_c.specs.contracts.handle.PiePort.{the_row as Handle, struct}
-use Rattle.pie_link_c.specs.Owned.{owns_port_if}
-use Rattle.pie_link_c.proofs.Handles.{Z, handle_in}
+use Rattle.pie_link_c.proofs.Names.{◌≡◌, List, [], ◌∷◌, ◌++◌, refl, sym, subst, Val, vptr, SProp, ent, id⊢, emp, ftrue, fsep, WpFn, ‵, raw, ◌⊛◌, ◌$◌}
+use Rattle.pie_link_c.proofs.Names.{◌∵◌, !, qed, by, keep, drop, split, fsplit, fjoin, suffices, use0, stop, fld, of_opd, no_more, and_then, returns}
+use Rattle.pie_link_c.proofs.Names.{enter, alloc_all, pass_all, free_all, look_at, get, get_in, sets, agg, sub, whole, fact, fact_i, tables, yes}
+use Rattle.pie_link_c.proofs.Names.{RattleType, plain, block_ptr, nothing, Stays, stay_dropped, walk_of, Goes-dropped, Some, ghosts, proved_at}
+use Rattle.pie_link_c.proofs.Names.{leaves, R, Handle, struct, owns_port_if}
 use Rattle.pie_link_c.specs.contracts.handle.PiePort.of_loose.{ended, clauses}
 use Rattle.pie_link_c.specs.contracts.handle.PiePort.of_loose.Key.{name as #self}
+use Rattle.std.proofs.alloc.Global.TheLaws as heap_laws
+use Rattle.pie_link_c.proofs.Values.{both, Loose, loose_good, loose_out}
+use Rattle.pie_link_c.proofs.Handles.{Z, handle_in}
 use Rattle.pie_link_c.proofs.handle.PiePort.of_loose.Statement.{statement}
 use Rattle.pie_link_c.proofs.handle.PiePort.of_loose.Code as code
 

@@ -1,4 +1,4 @@
-use Rattle.std.proofs.Common.{◌≡◌, ◌∙◌}
+use Rattle.pie_link_c.proofs.Names.{◌≡◌, ◌∙◌}
 use Rattle.pie_link_c.proofs.Gathers.{taken_back}
 use Rattle.pie_link_c.proofs.port.Port.share.Goals as goal
 

@@ -1,8 +1,6 @@
-use Rattle.std.proofs.Common.{◌≡◌, ◌≤◌, ◌-◌, ℕ, List, [], length, min, vec_capacity, vec_len, sym, ap, ◌∙◌, subst}
-use Rattle.pie_event.specs.declared.command.Event.{Event}
-use Rattle.pie_link.specs.Folds.{TriesToFoldInto}
-use Rattle.pie_link.specs.Views.{CallerView, LinkView, StaysOne}
-use Rattle.pie_link_c.specs.Folds.{fold_code, params_after, written_events}
+use Rattle.pie_link_c.specs.{TriesToFoldInto, fold_code, written_events}
+use Rattle.pie_link_c.proofs.Names.{◌≡◌, ◌≤◌, ◌-◌, ℕ, List, [], length, min, sym, ap, ◌∙◌, subst, Event, CallerView, LinkView, StaysOne, params_after}
+use Rattle.std.proofs.Common.{vec_capacity, vec_len}
 use Rattle.pie_link_c.proofs.Written.{up_to_64}
 use Rattle.pie_link_c.proofs.port.Port.try_fold.Goals as goal
 

@@ -1,0 +1,53 @@
+-- What definitions, code and proofs of this crate take from below, in one place.
+pub use Rattle.std.specs.List.{flat_map}
+pub use Rattle.pie_abi.specs.Choices.{last_moment, profile_number, profile_of}
+unfoldable pub use Rattle.pie_abi.specs.Choices.{choices_of, elements_of}
+pub use Rattle.pie_abi.specs.Events.{arrived_event, bare_event, left_event}
+pub use Rattle.pie_abi.specs.Opening.{opening_in, opening_of}
+unfoldable pub use Rattle.pie_abi.specs.Opening.{opening_refusal}
+pub use Rattle.pie_abi.specs.Packets.{ecn_at, ecn_from, is_bad_size, verdict_number}
+pub use Rattle.pie_abi.specs.Params.{bad_number, params_of, raw_of}
+unfoldable pub use Rattle.pie_abi.specs.Params.{are_in_range}
+pub use Rattle.pie_abi.specs.Writing.{after_writing, count_written}
+pub use Rattle.pie_abi.specs.declared.event.PieEvent.{PieEvent}
+pub use Rattle.pie_abi.specs.declared.opening.PieOpening.{PieOpening}
+pub use Rattle.pie_abi.specs.declared.params.PieParams.{PieParams}
+pub use Rattle.pie_abi.specs.declared.stats.PieStats.{PieStats}
+pub use Rattle.pie_aqm.specs.Calls.{Arrive, Call, Change, Depart, IsTaken, Pass, Restart, after_call, shown_by}
+pub use Rattle.pie_aqm.specs.Events.{ControllerEvent, Opened}
+pub use Rattle.pie_aqm.specs.Held.{Held, IsSound}
+unfoldable pub use Rattle.pie_aqm.specs.History.{Shows}
+pub use Rattle.pie_aqm.specs.Steps.{arrived, capped, delay_answered, departed, due, is_too_soon, opened, updated}
+unfoldable pub use Rattle.pie_aqm.specs.Steps.{cause, verdict}
+pub use Rattle.pie_book.specs.Decision.{cause_after}
+unfoldable pub use Rattle.pie_book.specs.Estimates.{held_after}
+pub use Rattle.pie_book.specs.Statistics.{wait_of}
+pub use Rattle.pie_c.specs.declared.state.PieState.{PieState}
+pub use Rattle.pie_c.specs.declared.updated.PieUpdated.{PieUpdated}
+pub use Rattle.pie_event.specs.Deed.{deed_of}
+pub use Rattle.pie_event.specs.Verdict.{answer_of}
+pub use Rattle.pie_event.specs.declared.cause.Cause.{Cause}
+pub use Rattle.pie_event.specs.declared.command.Answer.TheVariants.{Done, Empty, Left, Updated}
+pub use Rattle.pie_event.specs.declared.command.Event.{Event}
+pub use Rattle.pie_event.specs.declared.opening.Opening.{Opening}
+pub use Rattle.pie_event.specs.declared.setter.Setter.{Setter}
+pub use Rattle.pie_event.specs.declared.verdict.Verdict.TheVariants.{DroppedBytes, DroppedEarly, DroppedPackets, Enqueued, Marked}
+unfoldable pub use Rattle.pie_excerpt.specs.Rows.{queued_row, resume_row}
+pub use Rattle.pie_excerpt.specs.Written.{part_rows, resume_with}
+pub use Rattle.pie_explain.specs.Explanation.{moment_of, with_after}
+unfoldable pub use Rattle.pie_explain.specs.Explanation.{explanation}
+pub use Rattle.pie_explain.specs.declared.explanation.Explained.{Explained}
+pub use Rattle.pie_params.specs.Profile.{default_profile, profile_for}
+pub use Rattle.pie_params.specs.Range.{first_bad}
+pub use Rattle.pie_queue.specs.declared.ecn.Ecn.{Ecn}
+pub use Rattle.pie_queue.specs.declared.ecn.Ecn.TheVariants.{Ce, Ect0, Ect1, NotEct}
+pub use Rattle.pie_queue.specs.declared.packet.Waiting.{Waiting}
+pub use Rattle.pie_rate.specs.Estimate.{Begun}
+pub use Rattle.pie_record.specs.Text.{text_of}
+unfoldable pub use Rattle.pie_record.specs.Text.{rows_text}
+pub use Rattle.pie_record.specs.Write.{event_row, written_rows}
+unfoldable pub use Rattle.pie_record.specs.Write.{opening_row}
+pub use Rattle.pie_record.specs.declared.clock.Clock.{Clock}
+pub use Rattle.pie_summary.specs.Live.{Holds, IsSet, Meets, clock_of, form_in, length_of, noted_of}
+pub use Rattle.pie_summary.specs.declared.live.LivePeriod.{LivePeriod}
+pub use Rattle.pie_summary.specs.declared.noted.Met.{Met}

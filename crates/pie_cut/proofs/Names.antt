@@ -4,6 +4,8 @@ pub use Rattle.std.proofs.Common.{rules, subst, suc, sym, take, true, zero, ℕ,
 pub use Rattle.std.proofs.KnownBytes.{Appends-nil, Appends-trans}
 pub use Rattle.std.proofs.lemmas.Bool.Decides.{nat_tests}
 pub use Rattle.std.proofs.lemmas.List.{append-nil, length-map}
+pub use Rattle.std.proofs.lemmas.Option.{IfSome_then, same_Some}
+pub use Rattle.std.proofs.lemmas.Result.{on_ok_weaker}
 pub use Rattle.std.proofs.lemmas.List.Concat.{flat_map-append}
 pub use Rattle.std.proofs.lemmas.List.Elements.{All-append, All-cons, All-head, All-nil, All-tail, filter-append, filter_map-append}
 pub use Rattle.std.proofs.lemmas.List.Folds.{find-append}
@@ -11,7 +13,7 @@ pub use Rattle.std.specs.List.{filter, filter_map, find}
 pub use Rattle.std.specs.Option.{option_or}
 pub use Rattle.std.specs.Prelude.{max, nat_le, nat_lt, not, slice_get, ⊤, ◌&&◌, ◌||◌}
 pub use Rattle.pie_cut.specs.{All, Appends, AreSegments, AuditorView, Audits, BeginningsTell, BeginsAt, BeginsWith, BegunBy, Clean, Clock, Coming}
-pub use Rattle.pie_cut.specs.{CoreView, Differs, EndView, Err, Event, EventFits, Finding, FindsEither, GoesOn, IfSome, IsBefore, IsCut, IsFound}
+pub use Rattle.pie_cut.specs.{CoreView, Differs, EndView, Err, Event, EventFits, Finding, FindsEither, GoesOn, IfSome, IsCut, IsFound}
 pub use Rattle.pie_cut.specs.{IsInSegments, IsLegal, IsText, IsWritten, JoinsBy, Limits, Line, LinePlace, Made, None, Note, Ok, OnOk, Opening, Option}
 pub use Rattle.pie_cut.specs.{Result, Row, Segments, Setter, Shows, Some, Standing, Start, TraceFault, Unmakeable, Waiting, WaitingFits}
 pub use Rattle.pie_cut.specs.{answered, answered_since, append_known, are_in_range, change_event, chosen_at, chosen_by, clock_row, coming_by}
@@ -24,7 +26,8 @@ unfoldable pub use Rattle.pie_cut.specs.{chosen, event_count, events_of, excerpt
 unfoldable pub use Rattle.pie_cut.specs.{line_places, resume_row, rows_text}
 unfoldable pub use Rattle.csv.specs.Reading.{records_from, strip_bom}
 pub use Rattle.pie_aqm.specs.Held.{Held, held_by}
-pub use Rattle.pie_audit.proofs.FindingFacts.{line_places-push, place_of}
+pub use Rattle.pie_audit.proofs.FindingFacts.{difference_here, first_difference-push, line_places-push, place_of}
+pub use Rattle.pie_audit.proofs.LegalFacts.{legal-clean, legal-of-clean}
 pub use Rattle.pie_audit.proofs.SetterFacts.{event_count-append, event_count-push, few-events, made-count, none-before, none_of}
 pub use Rattle.pie_audit.proofs.Written.{all-made, made-events}
 pub use Rattle.pie_audit.specs.Begun.{FaultedBy, WholeBegun}
@@ -45,7 +48,8 @@ unfoldable pub use Rattle.pie_excerpt.specs.Beginning.{resumed_of}
 pub use Rattle.pie_excerpt.specs.Fits.{ResumeFits}
 pub use Rattle.pie_excerpt.specs.declared.resume.Resume.{Resume}
 pub use Rattle.pie_params.specs.Range.{first_bad}
-pub use Rattle.pie_record.proofs.Laws.{LineFits, event_count-cons, lines_from-failed, lines_from-line, lines_from-none, records_left-written}
+pub use Rattle.pie_record.proofs.Laws.{LineFits, event_count-cons, latest_clock-none, latest_clock-push, line-again, lines-fit, lines_from-failed}
+pub use Rattle.pie_record.proofs.Laws.{lines_from-line, lines_from-none, records_left-written, told-field, told-read}
 pub use Rattle.pie_record.specs.HistoryLines.{after_opening, clock_told, history_version, is_event, lines_from}
 unfoldable pub use Rattle.pie_record.specs.ReadBack.{TellEach}
 pub use Rattle.pie_record.specs.Text.{HasField}

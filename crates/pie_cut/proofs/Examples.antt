@@ -6,10 +6,8 @@ use Rattle.pie_units.specs.declared.when.When.{When}
 use Rattle.pie_units.specs.declared.when.When.TheVariants.{Moment, Unix}
 use Rattle.pie_cut.specs.declared.span.Met.{Met}
 use Rattle.pie_cut.specs.declared.span.Span.{Span}
-use Rattle.pie_cut.specs.Excerpt.{number_told}
 use Rattle.pie_cut.specs.Segment.{segment}
 use Rattle.pie_cut.specs.Span.{is_past, is_reached}
-use Rattle.pie_event.specs.declared.setter.Setter.TheVariants as setter
 use Rattle.pie_book.specs.Core.{CoreView}
 use Rattle.pie_cut.specs.declared.joined.Joint.TheVariants.{Follows, Gap, Unlike}
 use Rattle.pie_cut.specs.Joined.{EndView, JoinsBy}
@@ -56,10 +54,6 @@ wanted-times = (refl, refl, refl, refl, refl, refl, refl, refl, refl, refl, refl
 segments : (segment 100 50 0 ≡ numbers 101 150) × (segment 100 50 1 ≡ numbers 151 200)
     × (segment 0 10000000000000000000 1 ≡ numbers 10000000000000000001 18446744073709551615)
 segments = (refl, refl, refl)
-
--- what set the probability, as a number
-setters : (number_told setter.Opening ≡ Some 0) × (number_told (setter.Event 97) ≡ Some 97) × (number_told setter.Untold ≡ None)
-setters = (refl, refl, refl)
 
 -- ---- joints
 

@@ -1,15 +1,8 @@
 mod Names
 mod PlaceFacts
-mod MeetFacts
-mod WholeFacts
 mod TextFacts
 mod PartFacts
-mod CutFacts
-mod ChainFacts
 mod SegmentFacts
-mod LastFacts
 mod Examples
 mod JoinedFacts
-mod CutText
-mod ShownOnce
 mod ChainText

@@ -3,6 +3,9 @@
 use pie_record::TraceFault;
 use thiserror::Error;
 
+/// Whether rows were written, or why not.
+pub(crate) type Written = Result<(), TraceFault>;
+
 /// Why no excerpt was written, or none to its end (this project's own).
 #[derive(Clone, Copy, Debug, PartialEq, Eq, Error)]
 pub enum CutFault {

@@ -1,8 +1,8 @@
 -- How explaining a history ends, and what it has written.
-use Rattle.pie_explain.proofs.Names.{◌≡◌, ℕ, List, ◌++◌, length, Bool, true, false, refl, sym, ap, ◌∙◌, append_assoc, Option, Some, None, Result, Ok}
-use Rattle.pie_explain.proofs.Names.{Err, OnOk, ◌&&◌, nat_le, nat_lt, if◌then◌else◌, Appends, append_known, Opening, TraceFault, Line, Finding}
-use Rattle.pie_explain.proofs.Names.{event_count, first_difference, Explained, Selection, Explains, answered, is_whole, Grows, Start, explanations_since}
-use Rattle.std.proofs.Common.{◌==◌, subst}
+use Rattle.pie_explain.proofs.Names.{◌≡◌, ℕ, List, ◌++◌, length, Bool, true, false, refl, ◌∙◌, Option, Some, None, Result, Ok, Err, ◌&&◌, nat_le}
+use Rattle.pie_explain.proofs.Names.{nat_lt, if◌then◌else◌, Appends, append_known, Opening, TraceFault, Line, Finding, Explained, Selection}
+use Rattle.pie_explain.proofs.Names.{Explains, answered, is_whole, Grows, Start, explanations_since}
+use Rattle.std.proofs.Common.{◌==◌}
 use Rattle.pie_audit.specs.declared.auditor.Finding.TheVariants.{Clean, Differs}
 use Rattle.pie_audit.specs.declared.following.Follower.{Follower}
 use Rattle.pie_audit.specs.Text.{judged}

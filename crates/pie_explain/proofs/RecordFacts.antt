@@ -2,8 +2,7 @@
 use Rattle.std.proofs.Common.{◌≡◌, ℕ, List, [], ◌∷◌, ◌++◌, refl, sym, ap, ◌∙◌, append_assoc, codes}
 use Rattle.std.specs.Prelude.{Result, Ok, Err, OnOk}
 use Rattle.pie_explain.specs.declared.explanation.Explained.{Explained}
-use Rattle.pie_explain.specs.Record.{active_field, line_of, most_fields, onto}
-use Rattle.pie_explain.specs.Record.{record_of}
+use Rattle.pie_explain.specs.Record.{active_field, line_of, most_fields, onto, record_of}
 
 -- fields before the last, which stands at the end of the line
 line-onto : (fields : List (List ℕ)) (last : List ℕ) → line_of (fields ++ last ∷ []) ≡ onto fields (last ++ codes "\n")

@@ -9,7 +9,3 @@ pub padded : (width n : ℕ) → padded_integral (format_spec 32 0 4 width 18446
 unfolding padded_integral char_count
 padded width n =
     let same : width - length (decimal n) - 0 - 0 ≡ width - length (decimal n) = omega arith in rw (same, append-nil (decimal n)) refl
-
--- equal numbers pass the test whether they are
-pub equal-passes : (a b : ℕ) → a ≡ b → (a == b) ≡ true
-equal-passes a b e = grind (arith, nat_tests)

@@ -9,6 +9,7 @@ ghost use Rattle.pie_audit.specs.Text.{judged};
 /// probability before it, gives exactly the
 /// explanations that the whole history gives after those of these events (`rest`). One that doesn't tell it gives the same, but for what set
 /// the probability as long as no event of the text did (`untold`). It does nothing: its contract is the law.
+#[tactic(auto, using(crate::proofs::LineFacts::since_opening, crate::proofs::LineFacts::rest_said, crate::proofs::LineFacts::as_untold))]
 pub fn excerpts_are_explained_as_the_whole()
     ensures whole { (opening : Opening) (choice : Selection) (lines : List Line)
         → explanations_since from_opening opening choice lines ≡ explanations opening choice lines }

@@ -14,6 +14,7 @@ impl Display for Millis {
 
     ghost output = { λ time. Some (millis time.0) };
 
+    #[tactic(auto, using(crate::proofs::WordFacts::padded), unfolding(crate::specs::Words::millis))]
     fn fmt<W: fmt::Write>(&self, f: &mut fmt::Formatter<W>) -> fmt::Result {
         let (whole, rest) = (self.0 / 1_000_000, self.0 % 1_000_000);
         let exact = self.0;
@@ -60,6 +61,7 @@ impl Display for PerCent {
 
     ghost output = { λ part. Some (per_cent part.0) };
 
+    #[tactic(auto, using(crate::proofs::WordFacts::padded), unfolding(crate::specs::Words::per_cent))]
     fn fmt<W: fmt::Write>(&self, f: &mut fmt::Formatter<W>) -> fmt::Result {
         let whole = self.0 / 10_000_000_000;
         let rest = self.0 % 10_000_000_000 / 1_000_000;
@@ -78,6 +80,7 @@ impl Display for Word {
 
     ghost output = { λ word. Some (word_text word.0) };
 
+    #[tactic(auto, using(crate::proofs::WordFacts::padded), unfolding(crate::specs::Words::word_text))]
     fn fmt<W: fmt::Write>(&self, f: &mut fmt::Formatter<W>) -> fmt::Result {
         let exact = self.0;
         let parts = (u128::from(exact) * 1_000_000) >> 64;
@@ -101,6 +104,7 @@ impl Display for Share {
 
     ghost output = { λ part. Some (share part.count part.all) };
 
+    #[tactic(auto, using(crate::proofs::WordFacts::padded), unfolding(crate::specs::Words::share))]
     fn fmt<W: fmt::Write>(&self, f: &mut fmt::Formatter<W>) -> fmt::Result {
         let parts = u128::from(self.count) * 1_000_000 / u128::from(self.all.max(1));
         let (whole, rest) = (parts / 10_000, parts % 10_000);

@@ -42,57 +42,44 @@ module _ (burst least most start last : ℕ) where
   -- after a call that is no update
   carried : (n : ℕ) (h g : Held) (moment : ℕ) → Holds n h → g.control.last ≡ h.control.last → g.moment ≡ max h.moment moment
       → Allows burst least most g.params → burst ≤ g.control.burst + n * most → Holds n g
-  carried n h g moment old same now allows whole =
-      let apart = old.apart in
-      let since = old.since in
-      let later = old.later in
-      let sound = old.sound in
-      record {
-        allows = allows;
-        whole = whole;
-        apart = rw same apart;
-        since = rw same since;
-        later = omega (arith, now, later);
-        sound = omega (arith, now, same, sound);
-      }
+  carried n h g moment old same now allows whole = record {
+    allows = allows;
+    whole = whole;
+    apart = rw same old.apart;
+    since = rw same old.since;
+    later = omega arith;
+    sound = omega arith;
+  }
 
   -- an update that isn't too soon takes one `t_update` at most
   updated-holds : (n : ℕ) (h : Held) (queued moment : ℕ) → Holds n h → h.control.last + h.params.t_update ≤ max h.moment moment
       → Holds (n + 1) (Steps.updated h queued moment)
   updated-holds n h queued moment old due =
-      let allows = old.allows in
-      let whole = old.whole in
-      let apart = old.apart in
-      let since = old.since in
-      let later = old.later in
-      let near = allows.apart in
-      let far = allows.together in
-      let allowance = allows.allowance in
       let first = one-more n most in
       let second = one-more n least in
       let is = last-updated h queued (max h.moment moment) in
       let left = burst-updated (λ (b : ℕ). burst ≤ b + (n * most + most)) h queued (max h.moment moment) (omega arith) (omega arith)
       (omega arith) in
       record {
-        allows = allows;
-        whole = omega (arith, first, left);
-        apart = omega (arith, second, is, apart, since, later, near, due);
-        since = omega (arith, second, is, since, near, due);
-        later = omega (arith, later);
-        sound = omega (arith, is);
+        allows = old.allows;
+        whole = omega arith;
+        apart = omega arith;
+        since = omega arith;
+        later = omega arith;
+        sound = omega arith;
       }
 
   call-holds : (n : ℕ) (h : Held) (waiting : List Waiting) (packets : ℕ) (command : Command) → Holds n h → SetsAllow burst least most command
       → is_too_soon h.moment (Steps.due h) command ≡ false → Holds (counted_with command n) (after_call h (call_of waiting packets command))
   call-holds n h waiting packets (Arrive moment packet word) old set due =
       after-arrival (Holds n) h (arrival_of waiting packets packet word) moment (carried n h _ moment old refl refl old.allows old.whole)
-      (λ on. carried n h _ moment old refl refl old.allows (let allowance = old.allows.allowance in omega arith))
+      (λ on. carried n h _ moment old refl refl old.allows (omega arith))
   call-holds n h [] packets (Depart moment) old set due = carried n h _ moment old refl refl old.allows old.whole
   call-holds n h (oldest ∷ others) packets (Depart moment) old set due = carried n h _ moment old refl refl old.allows old.whole
   call-holds n h waiting packets (Update moment) old set due =
       updated-holds n h (bytes_of waiting) moment old (ltb-false (max h.moment moment) (h.control.last + h.params.t_update) due)
   call-holds n h waiting packets (Reset moment) old set due =
-      carried n h _ moment old refl refl old.allows (let allowance = old.allows.allowance in omega arith)
+      carried n h _ moment old refl refl old.allows (omega arith)
   call-holds n h waiting packets (SetParams moment params) old set due = carried n h _ moment old refl refl set old.whole
 
 -- ---- along a lawful history
@@ -118,10 +105,9 @@ module _ (burst least most : ℕ) (opening : Opening) (before between : List Eve
       subst (λ (m : ℕ). is_too_soon m (Steps.due h) event.command ≡ false) (sym step.same_moment) step.free.in_time in
       let count = counted-cons event left in
       let one = counted-with event.command event.answer old.n in
-      let was = old.counted in
       record {
         n = counted_with event.command old.n;
-        counted = omega (arith, count, one, was);
+        counted = omega arith;
         moment = step.next_moment;
         holds = subst (Holds burst least most (effective_moment opening before) (held_after opening before).control.last
             (counted_with event.command old.n)) (sym step.held)
@@ -135,19 +121,17 @@ module _ (burst least most : ℕ) (opening : Opening) (before between : List Eve
       × ((held_after opening (before ++ between)).moment ≡ effective_moment opening (before ++ between))
   since-between later lawful left allow =
       let it = sound_at opening before (between ++ later) (rw (append_assoc before between later) at lawful) in
-      let last = it.0.last in
-      let moment = it.1 in
       let first : Since before between = record {
         n = 0;
         counted = omega arith;
-        moment = moment;
+        moment = it.1;
         holds = record {
           allows = allow.force;
-          whole = omega (arith, left);
+          whole = omega arith;
           apart = omega arith;
           since = omega arith;
-          later = omega (arith, moment);
-          sound = last;
+          later = omega (arith, it.1);
+          sound = it.0.last;
         };
       } in
       let s = along Since (λ earlier event. SetsAllow burst least most event.command) opening since-next before between later lawful

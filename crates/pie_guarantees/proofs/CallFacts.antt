@@ -1,7 +1,7 @@
 -- What a call leaves, way by way: what each way leaves so is so after the call.
 use Rattle.pie_guarantees.proofs.Names.{◌≡◌, ◌+◌, ◌-◌, ◌&&◌, ◌||◌, ◌==◌, ℕ, Bool, true, false, refl, if◌then◌else◌, nat_lt, not, Enqueue}
 use Rattle.pie_guarantees.proofs.Names.{is_considered, is_picked, joined, counted, picked_choice, deed, is_update, Held, anew, bytes_with}
-use Rattle.pie_guarantees.proofs.Names.{chosen, judged}
+use Rattle.pie_guarantees.proofs.Names.{arith, chosen, judged, nat_tests}
 use Rattle.pie_guarantees.proofs.Names.{is_calm, offered, ArrivingPacket, Verdict, Command, Arrive, Depart, Update, Answer, Enqueued}
 use Rattle.pie_event.specs.declared.verdict.Verdict.TheVariants as verdict
 use Rattle.pie_aqm.specs.Steps as Steps
@@ -71,12 +71,7 @@ burst-updated P h queued now whole less same = by h.active
     by false = same
 
 pub last-updated : (h : Held) (queued now : ℕ) → (Steps.control_after h queued now).last ≡ now
-last-updated h queued now = by h.active
-  where
-    by : (active : Bool) → (if active then Steps.control_updated h.elements h.params h.control (Steps.delay_in h queued) now
-        else record h.control { last = now }).last ≡ now
-    by true = refl
-    by false = refl
+last-updated h queued now = grind (arith, nat_tests)
 
 -- ---- which commands are updates
 

@@ -196,14 +196,8 @@ below-next : (most : ℕ) (opening : Opening) (before : List Event) (event : Eve
 below-next most opening before event step set old = record {
   limit = subst (λ (h : Held). h.params.limit_bytes ≤ most) (sym step.held)
       (limit-next most (held_after opening before) (waiting_after opening before) opening.limits.packets event.command old.limit set);
-  bytes = by (bounded-at opening before event step).or;
+  bytes = let or = (bounded-at opening before event step).or in grind arith;
 }
-  where
-    by : (bytes_after opening (before ++ event ∷ []) ≤ bytes_after opening before)
-        ⊎ (bytes_after opening (before ++ event ∷ []) ≤ (held_after opening before).params.limit_bytes)
-        → bytes_after opening (before ++ event ∷ []) ≤ most
-    by (inl fewer) = let was = old.bytes in omega (arith, fewer, was)
-    by (inr room) = let low = old.limit in omega (arith, room, low)
 
 pub bytes_below : (most : ℕ) (opening : Opening) (history : List Event) → IsLawful opening history → opening.params.limit_bytes ≤ most
     → All (λ event. SetsLimit most event.command) history → bytes_after opening history ≤ most

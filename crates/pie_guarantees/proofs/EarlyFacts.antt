@@ -86,12 +86,7 @@ module _ (opening : Opening) (before : List Event) (event : Event) (later : List
 
   pub at_low_delay : 2 * (held_after opening before).control.old_delay < (held_after opening before).params.target
       → (held_after opening before).control.prob < 200_000_000_000 → is_early event.answer ≡ false
-  at_low_delay low small = unless event.answer (λ e. by (picked e).high)
-    where
-      by : ((held_after opening before).params.target ≤ 2 * (held_after opening before).control.old_delay)
-          ⊎ (200_000_000_000 ≤ (held_after opening before).control.prob) → ⊥
-      by (inl high) = omega (arith, low, high)
-      by (inr large) = omega (arith, small, large)
+  at_low_delay low small = unless event.answer (λ e. let high = (picked e).high in grind arith)
 
 -- ---- marks and drops of a packet
 

@@ -8,7 +8,7 @@ use Rattle.pie_guarantees.proofs.Names.{Refusal, arrival_of, call_of, departure_
 use Rattle.pie_guarantees.proofs.Names.{refusal_by_rule, due_after, held_after, effective_moment, waiting_after, after_command}
 use Rattle.pie_guarantees.proofs.Names.{answer_in, call_in, waiting_next, at_place, departed-of-legal, held-is, first-shows, first_core, next-core}
 use Rattle.pie_guarantees.proofs.Names.{next-legal, AllAlong, IsLawful, SetsInRange, nat_tests, map, drop, All-cons, All-nil, Place, decision}
-use Rattle.pie_guarantees.proofs.Names.{Sound_call, Sound_opened, ◌+◌, cond, is_update, sum_by-cons, updates_in}
+use Rattle.pie_guarantees.proofs.Names.{Answer, answer_by, Sound_call, Sound_opened, ◌+◌, cond, is_update, sum_by-cons, updates_in}
 use Rattle.std.proofs.Math.Seq.{drop-append_seam, take-append_seam}
 use Rattle.std.proofs.lemmas.List.Elements.{All-drop, All-take}
 use Rattle.pie_book.specs.Core.{CoreView, Shows, closed}
@@ -87,6 +87,13 @@ pub record IsStep (opening : Opening) (before : List Event) (event : Event) : Ty
       ≡ waiting_next (waiting_after opening before) (effective_moment opening (before ++ event ∷ [])) (deed_of event)
   pub same_moment : (held_after opening before).moment ≡ effective_moment opening before
   pub next_moment : (held_after opening (before ++ event ∷ [])).moment ≡ effective_moment opening (before ++ event ∷ [])
+
+-- what is so of the answer to a command, and of what is held after it, is so at the step
+pub at-step : (opening : Opening) (before : List Event) (event : Event) → IsStep opening before event → (P : Answer → Held → Type 0)
+    → P (answer_by (held_after opening before) (waiting_after opening before) opening.limits.packets event.command)
+    (after_call (held_after opening before) (call_of (waiting_after opening before) opening.limits.packets event.command))
+    → P event.answer (held_after opening (before ++ event ∷ []))
+at-step opening before event step P so = rw (step.held, step.here.answered) so
 
 step-of : (opening : Opening) (before : List Event) (event : Event) → Stands opening before → IsLegalAt opening (place_of before event)
     → SetsInRange event.command → IsStep opening before event

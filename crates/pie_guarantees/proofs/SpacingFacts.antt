@@ -12,7 +12,7 @@ use Rattle.pie_book.specs.Shown.{arriving_size}
 use Rattle.pie_guarantees.specs.Spacing.{CountsAtLeast, CountsAtMost, GoesOn, considered_in, counted_at, had_room, was_considered}
 use Rattle.pie_aqm.specs.Steps as Steps
 use Rattle.pie_book.specs.Estimates as Book
-use Rattle.pie_guarantees.proofs.LawfulFacts.{IsStep, along, sound_at, step_at}
+use Rattle.pie_guarantees.proofs.LawfulFacts.{IsStep, along, at-step, sound_at, step_at}
 use Rattle.pie_guarantees.proofs.ProbabilityFacts.{elements-is}
 use Rattle.pie_guarantees.proofs.CallFacts.{after-arrival, after-verdict}
 use Rattle.pie_guarantees.proofs.EarlyFacts.{early_arrival}
@@ -85,13 +85,9 @@ grows-at : (opening : Opening) (before : List Event) (event : Event) → IsStep 
 grows-at opening before event step =
     let h = held_after opening before in
     let w = waiting_after opening before in
-    let more = subst (λ (answer : Answer). (after_call (held_after opening before) (call_of (waiting_after opening before) opening.limits.packets
-    event.command)).accu ≤ Book.accu_after opening before
-    + (if considers (held_after opening before) (bytes_of (waiting_after opening before)) event.command answer
-    then q-of (held_after opening before) (arriving_size event.command) else 0))
-    (sym step.here.answered) (grows h w opening.limits.packets event.command) in
-    subst (λ (g : Held). g.accu ≤ Book.accu_after opening before + (if was_considered opening before event then counted_at opening before event
-    else 0)) (sym step.held) (rw (q-is opening before event) at more)
+    rw (q-is opening before event) at (at-step opening before event step (λ (answer : Answer) (g : Held). g.accu ≤ h.accu
+    + (if considers h (bytes_of w) event.command answer then q-of h (arriving_size event.command) else 0))
+    (grows h w opening.limits.packets event.command))
 
 -- what is left of a bound where a packet is considered, or none
 more-at-most : (b : Bool) (n most accu q next total : ℕ) → accu + ((if b then 1 else 0) + n) * most ≤ total → next ≤ accu + (if b then q else 0)
@@ -195,17 +191,12 @@ keeps-at least opening before event step spaced some large on =
     let h = held_after opening before in
     let w = waiting_after opening before in
     let picking : h.elements.picking ≡ Derandomized = ap (λ (e : Elements). e.picking) (elements-is opening before) ∙ spaced in
-    let kept = subst (λ (answer : Answer). Keeps event.command answer
-    → (considers (held_after opening before) (bytes_of (waiting_after opening before)) event.command answer ≡ true
-    → least ≤ q-of (held_after opening before) (arriving_size event.command))
-    → Book.accu_after opening before + (if considers (held_after opening before) (bytes_of (waiting_after opening before)) event.command answer
-    then least else 0)
-    ≤ (after_call (held_after opening before) (call_of (waiting_after opening before) opening.limits.packets event.command)).accu)
-    (sym step.here.answered) (λ on' large'. keeps h least w opening.limits.packets event.command picking on' some large'
-    (λ off. ap (λ (g : Held). g.active) (sym step.held) ∙ on.no_start off)) in
-    subst (λ (g : Held). Book.accu_after opening before + (if was_considered opening before event then least else 0) ≤ g.accu) (sym step.held)
-    (kept (record { unpicked = on.unpicked; no_bytes = on.no_bytes; no_packets = on.no_packets; unreset = on.unreset })
-    (λ con. subst (λ (q : ℕ). least ≤ q) (sym (q-is opening before event)) (large con)))
+    at-step opening before event step (λ (answer : Answer) (g : Held). Keeps event.command answer
+    → (considers h (bytes_of w) event.command answer ≡ true → least ≤ q-of h (arriving_size event.command)) → (h.active ≡ false → g.active ≡ false)
+    → h.accu + (if considers h (bytes_of w) event.command answer then least else 0) ≤ g.accu)
+    (λ on large off. keeps h least w opening.limits.packets event.command picking on some large off)
+    (record { unpicked = on.unpicked; no_bytes = on.no_bytes; no_packets = on.no_packets; unreset = on.unreset })
+    (λ con. rw (q-is opening before event) (large con)) on.no_start
 
 more-at-least : (b : Bool) (n least accu next total : ℕ) → total ≤ accu + ((if b then 1 else 0) + n) * least
     → accu + (if b then least else 0) ≤ next → total ≤ next + n * least

@@ -4,19 +4,5 @@ use Rattle.pie_guarantees.proofs.threads.links_are_lawful.Goals as goal
 pub returns : goal.returns
 unfolding KeepsOneHistory
 returns c = λ link keeps opening origin accepted in_range key key_is lock ruled free.
-    let there = keeps opening origin key key_is lock ruled free in (
-      there.0,
-      there.1,
-      (
-        there.2.0,
-        (
-          there.2.1,
-          λ set. record {
-            opens = accepted;
-            params = in_range;
-            set = set;
-            legal = there.2.1.legal;
-          },
-        ),
-      ),
-    )
+    let there = keeps opening origin key key_is lock ruled free in
+    (there.0, there.1, there.2.0, there.2.1, λ set. record { opens = accepted; params = in_range; set = set; legal = there.2.1.legal })

@@ -3,9 +3,7 @@ use Rattle.std.specs.Prelude.{◌+◌, ◌∷◌, ◌++◌, if◌then◌else◌}
 use Rattle.pie_explain.specs.Names.{ℕ, Bool, true, false, List, [], Option, Some, None, option_map, filter_map, Opening, Line, Made, event_count}
 use Rattle.pie_explain.specs.Names.{latest_clock, events_of, first_difference, Explained, Explanation, Selection, Setter, picks, explanation, moment_of}
 use Rattle.pie_explain.specs.Names.{with_after, setter_after, setter_by, setter_told, nat_lt, Start}
-use Rattle.pie_record.specs.declared.history_record.Line.TheVariants.{Unmakeable, Note}
 use Rattle.pie_audit.specs.Finding.{LinePlace, line_places}
-use Rattle.pie_record.specs.declared.history_record.Line.TheVariants as line
 
 -- an explanation where this holds
 abbrev pub told_if : Bool → Explanation → Option Explanation
@@ -17,9 +15,7 @@ abbrev pub told_after : Opening → Selection → List Line → Setter → Line 
 told_after opening choice lines set_by (Made event) =
     told_if (picks choice (event_count lines + 1) (moment_of opening (events_of lines) event) (latest_clock lines) event)
     (explanation opening (events_of lines) (event_count lines + 1) event set_by (latest_clock lines))
-told_after opening choice lines set_by (Unmakeable change) = None
-told_after opening choice lines set_by Note = None
-told_after opening choice lines set_by (line.Clock clock) = None
+told_after opening choice lines set_by _ = None
 
 -- nothing from an event on that differs
 abbrev pub told_unless : Option ℕ → Option Explanation → Option Explanation

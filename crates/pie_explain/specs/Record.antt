@@ -1,5 +1,5 @@
 -- The CSV record of an explanation.
-use Rattle.std.specs.Prelude.{ℕ, Bool, true, false, List, [], ◌∷◌, ◌++◌, Option, Some, None, codes}
+use Rattle.std.specs.Prelude.{ℕ, Bool, true, false, List, [], ◌∷◌, ◌++◌, Option, Some, None, codes, option_map}
 use Rattle.std.specs.Fmt.{decimal}
 use Rattle.pie_queue.specs.declared.packet.Packet.{Packet}
 use Rattle.pie_event.specs.declared.cause.Cause.{Cause}
@@ -49,16 +49,7 @@ cause_word (Some cause) = word_of_cause (name_of cause)
 
 -- ---- the record
 
--- the tag and the size of the packet that an event is about, empty where there is none
-abbrev pub tag_field : Option Packet → List ℕ
-tag_field None = []
-tag_field (Some packet) = decimal packet.tag
-
-abbrev pub size_field : Option Packet → List ℕ
-size_field None = []
-size_field (Some packet) = decimal packet.size
-
--- the ECN field of that packet, as in a history
+-- the ECN field of the packet that an event is about, as in a history, empty where there is none
 abbrev pub ecn_field : Option Packet → List ℕ
 ecn_field None = []
 ecn_field (Some packet) = ecn_word packet.ecn
@@ -71,10 +62,7 @@ number_field (Some n) = decimal n
 -- the random word of an arrival
 abbrev pub word_of : Command → Option ℕ
 word_of (Arrive moment packet word) = Some word
-word_of (Depart moment) = None
-word_of (Update moment) = None
-word_of (Reset moment) = None
-word_of (SetParams moment params) = None
+word_of _ = None
 
 -- how long the packet had waited that left
 abbrev pub wait_where : Answer → ℕ → Option ℕ
@@ -95,8 +83,9 @@ abbrev pub head_fields : Explanation → List (List ℕ)
 head_fields told =
     decimal told.number ∷ kind_word told.event.command ∷ decimal told.event.caller ∷ moment_fields (handed_in told.event.command) told.moment
 
+-- the tag and the size of that packet
 abbrev pub packet_fields : Option Packet → List (List ℕ)
-packet_fields packet = tag_field packet ∷ size_field packet ∷ []
+packet_fields packet = number_field (option_map (λ p. p.tag) packet) ∷ number_field (option_map (λ p. p.size) packet) ∷ []
 
 -- what a controller holds: what mostly changes from one event to the next, how much waits and how long, and what often stays as it is
 abbrev pub moving_fields : ℕ → ℕ → ℕ → List (List ℕ)

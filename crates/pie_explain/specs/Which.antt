@@ -1,5 +1,6 @@
 -- Which events are explained.
 use Rattle.std.specs.Prelude.{ℕ, ◌==◌, Bool, true, false, Option, Some, None}
+use Rattle.std.specs.Option.{option_map_or}
 use Rattle.pie_queue.specs.declared.packet.Packet.{Packet}
 use Rattle.pie_event.specs.declared.command.Command.{Command}
 use Rattle.pie_event.specs.declared.command.Command.TheVariants.{Arrive}
@@ -24,14 +25,9 @@ packet_in _ answer = packet_left answer
 abbrev pub packet_of : Event → Option Packet
 packet_of event = packet_in event.command event.answer
 
--- a packet has this tag
-abbrev pub is_tagged : ℕ → Option Packet → Bool
-is_tagged tag None = false
-is_tagged tag (Some packet) = packet.tag == tag
-
 -- an event is about a packet with this tag
 abbrev pub has_tag : ℕ → Event → Bool
-has_tag tag event = is_tagged tag (packet_of event)
+has_tag tag event = option_map_or (λ (p : Packet). p.tag == tag) (packet_of event) false
 
 -- an answer says that a packet was dropped
 abbrev pub is_lost : Answer → Bool

@@ -79,10 +79,6 @@ packet_words number packet =
     joined (codes "event " ∷ decimal number ∷ codes ": packet " ∷ decimal packet.tag ∷ codes ", " ∷ decimal packet.size ∷ codes " bytes, "
     ∷ ecn_name packet.ecn ∷ codes ": " ∷ [])
 
-unfoldable pub departure_words : ℕ → Answer → ℕ → List ℕ
-departure_words number (Left packet) waited = joined (packet_words number packet ∷ codes "left\n  it had waited " ∷ millis waited ∷ codes "\n" ∷ [])
-departure_words number _ waited = joined (codes "event " ∷ decimal number ∷ codes ": no packet was there to leave\n" ∷ [])
-
 -- an update while the controller is active takes a delay and makes a probability; while it is turned off it does neither
 unfoldable pub update_words : ℕ → Bool → Answer → List ℕ
 update_words number false answer =
@@ -96,7 +92,9 @@ update_words number true _ = joined (codes "event " ∷ decimal number ∷ codes
 
 unfoldable pub deed_words : ℕ → Bool → Command → Answer → ℕ → List ℕ
 deed_words number active (Arrive moment packet word) answer waited = joined (packet_words number packet ∷ verdict_text answer ∷ codes "\n" ∷ [])
-deed_words number active (Depart moment) answer waited = departure_words number answer waited
+deed_words number active (Depart moment) (Left packet) waited =
+    joined (packet_words number packet ∷ codes "left\n  it had waited " ∷ millis waited ∷ codes "\n" ∷ [])
+deed_words number active (Depart moment) _ waited = joined (codes "event " ∷ decimal number ∷ codes ": no packet was there to leave\n" ∷ [])
 deed_words number active (Update moment) answer waited = update_words number active answer
 deed_words number active (Reset moment) answer waited = joined (codes "event " ∷ decimal number ∷ codes ": a reset\n" ∷ [])
 deed_words number active (SetParams moment params) answer waited = joined (codes "event " ∷ decimal number ∷ codes ": new parameters\n" ∷ [])

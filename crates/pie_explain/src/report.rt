@@ -9,7 +9,7 @@ ghost use Rattle.pie_explain.specs.Words.{words_by};
 use crate::explanation::Explained;
 use crate::form::Form;
 use crate::record::{NAMES, RecordWriter};
-use crate::text::push_text;
+use crate::text::{Written, push_text};
 use pie_page::Page;
 use pie_record::Clock;
 use std::alloc::AllocError;
@@ -51,7 +51,7 @@ pub trait Report: Drop {
 }
 
 /// Writes these names and the end of their line.
-fn push_names(page: &mut Page, names: &str, end: &str) -> Result<(), AllocError>
+fn push_names(page: &mut Page, names: &str, end: &str) -> Written
     ensures { OnOk result (page.new ≡ page.old ++ (names.now ++ end.now)) }
 {
     page.push(names.as_bytes())?;
@@ -89,12 +89,7 @@ pub fn push_words(page: &mut Page, clock: Option<Clock>, told: &Explained) -> Re
 
 /// Writes an explanation onto the page.
 #[tactic(auto, unfolding(crate::specs::Output::said_of))]
-fn push_said(
-    page: &mut Page,
-    records: &mut RecordWriter,
-    form: Form,
-    told: &Explained,
-) -> Result<(), AllocError>
+fn push_said(page: &mut Page, records: &mut RecordWriter, form: Form, told: &Explained) -> Written
     ensures { OnOk result (page.new ≡ page.old ++ said_of form told.now) }
 {
     match form {
@@ -122,16 +117,11 @@ impl Report for Form {
         Ok(RecordWriter::new())
     }
 
-    fn tell(
-        &self,
-        state: &mut RecordWriter,
-        told: &Explained,
-        page: &mut Page,
-    ) -> Result<(), AllocError> {
+    fn tell(&self, state: &mut RecordWriter, told: &Explained, page: &mut Page) -> Written {
         push_said(page, state, *self, told)
     }
 
-    fn end(&self, state: &RecordWriter, page: &mut Page) -> Result<(), AllocError> {
+    fn end(&self, state: &RecordWriter, page: &mut Page) -> Written {
         Ok(())
     }
 }

@@ -2,7 +2,7 @@
 ghost use Rattle.std.specs.Prelude.{◌≡◌, ◌++◌, ◌∷◌, [], OnOk, codes, string_bytes, true};
 ghost use Rattle.std.specs.Fmt.{decimal};
 ghost use Rattle.pie_event.specs.declared.command.Answer.TheVariants.{Updated};
-ghost use Rattle.pie_explain.specs.Words.{before_words, cause_words, compared_words, considered_words, counted_name, deed_words, departure_words};
+ghost use Rattle.pie_explain.specs.Words.{before_words, cause_words, compared_words, considered_words, counted_name, deed_words};
 ghost use Rattle.pie_explain.specs.Words.{ecn_name, joined, last_words, lasting_words, never_words, packet_words, picked_words, reason_words};
 ghost use Rattle.pie_explain.specs.Words.{scaled_words, setter_words, sum_words, turned_words, update_words, verdict_text, words_by};
 
@@ -14,8 +14,8 @@ use pie_queue::{Ecn, Packet};
 use pie_record::Clock;
 use std::alloc::AllocError;
 
-/// Whether the words were written: they are, unless there is no memory.
-type Written = Result<(), AllocError>;
+/// Whether something was written: it is, unless there is no memory.
+pub(crate) type Written = Result<(), AllocError>;
 
 /// An ECN field as RFC 3168 names it.
 fn ecn_name(ecn: Ecn) -> &'static str
@@ -60,21 +60,6 @@ fn push_event(page: &mut String, number: u64, rest: &str) -> Written
     write!(page, "event {number}{rest}")
 }
 
-/// The first lines of a departure.
-#[tactic(auto, unfolding(crate::specs::Words::departure_words))]
-fn push_departure(page: &mut String, number: u64, answer: Answer, waited: u64) -> Written
-    ensures { OnOk result (string_bytes page.new ≡ string_bytes page.old ++ departure_words number answer waited) }
-{
-    match answer {
-        Answer::Left(packet) => {
-            let waited = Millis(waited);
-            push_packet(page, number, packet)?;
-            write!(page, "left\n  it had waited {waited}\n")
-        }
-        _ => push_event(page, number, ": no packet was there to leave\n"),
-    }
-}
-
 /// The first lines of an update.
 #[tactic(auto, unfolding(crate::specs::Words::update_words))]
 fn push_update(page: &mut String, number: u64, active: bool, answer: Answer) -> Written
@@ -112,7 +97,14 @@ fn push_deed(page: &mut String, told: &Explanation) -> Written
             let verdict = verdict_text(answer);
             write!(page, "{verdict}\n")
         }
-        Command::Depart { .. } => push_departure(page, number, answer, told.waited),
+        Command::Depart { .. } => match answer {
+            Answer::Left(packet) => {
+                let waited = Millis(told.waited);
+                push_packet(page, number, packet)?;
+                write!(page, "left\n  it had waited {waited}\n")
+            }
+            _ => push_event(page, number, ": no packet was there to leave\n"),
+        },
         Command::Update { .. } => push_update(page, number, told.before.active, answer),
         Command::Reset { .. } => push_event(page, number, ": a reset\n"),
         Command::SetParams { .. } => push_event(page, number, ": new parameters\n"),

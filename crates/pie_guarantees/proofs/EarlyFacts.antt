@@ -18,9 +18,9 @@ pub record IsPicked (h : Held) (bytes : ℕ) : Type 0 where
   pub long : 2 * h.params.mean_pkt < bytes
   pub high : (h.params.target ≤ 2 * h.control.old_delay) ⊎ (200_000_000_000 ≤ h.control.prob)
 
-picked-of : (h : Held) (bytes : ℕ) → h.active ≡ true → is_considered h.params h.control bytes ≡ true → IsPicked h bytes
+considered-facts : (h : Held) (bytes : ℕ) → h.active ≡ true → is_considered h.params h.control bytes ≡ true → IsPicked h bytes
 unfolding is_considered
-picked-of h bytes on e =
+considered-facts h bytes on e =
     record { active = on; no_burst = grind (arith, nat_tests); long = grind (arith, nat_tests); high = grind (arith, nat_tests) }
 
 pub record IsChosen (h : Held) (a : ArrivingPacket) : Type 0 where
@@ -33,7 +33,7 @@ chosen-of : (h : Held) (a : ArrivingPacket) → is_early (answer_of (verdict h a
 chosen-of h a e =
     after-verdict h a (λ (v : Verdict) (left : ℕ). verdict h a ≡ v → is_early (answer_of v) ≡ true → IsChosen h a) (λ v e. cc) (λ v e. cc)
     (λ off v e. cc)
-    (λ on considered picked v e. record { picked = picked-of h a.queued on considered; by_sum = picked; verdict = v })
+    (λ on considered picked v e. record { picked = considered-facts h a.queued on considered; by_sum = picked; verdict = v })
     (λ on none v e. cc) (λ on some v e. cc) refl e
 
 -- the arrival that was marked or dropped early

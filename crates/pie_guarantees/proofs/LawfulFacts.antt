@@ -13,7 +13,6 @@ use Rattle.std.proofs.Math.Seq.{drop-append_seam, take-append_seam}
 use Rattle.std.proofs.lemmas.List.Elements.{All-drop, All-take}
 use Rattle.pie_book.specs.Core.{CoreView, Shows, closed}
 use Rattle.pie_book.proofs.HistoryFacts.{effective_moment-push, waiting_after-push}
-use Rattle.pie_book.proofs.RangeFacts.{has-room, waiting_next-room}
 use Rattle.pie_event.specs.Opening as Opens
 use Rattle.pie_aqm.specs.Steps as Steps
 
@@ -37,7 +36,6 @@ pub record Stands (opening : Opening) (history : List Event) : Type 0 where
   pub core : CoreView
   pub shows : Shows opening core history
   pub sound : IsSound core.held
-  pub room : length core.waiting ≤ opening.limits.packets
 
 start-moment : (opening : Opening) → Opens.opening_refusal opening.limits opening.moment ≡ None → opening.moment < 2 ^ 60
 start-moment opening good = let within : opening.moment ≤ Opens.last_moment = grind (arith, good) in omega (arith, within)
@@ -47,7 +45,6 @@ stands-first opening good params = record {
   core = first_core opening;
   shows = first-shows opening;
   sound = Sound_opened opening.choices.profile opening.choices.elements opening.params opening.moment params (start-moment opening good);
-  room = omega arith;
 }
 
 -- ---- one more event
@@ -66,14 +63,10 @@ stands-next : (opening : Opening) (before : List Event) (event : Event) → Stan
 stands-next opening before event old here fit =
     let core = old.core in
     let handed = (is_free opening before event.command here.taken).moment in
-    let within : length core.waiting ≤ core.packets = omega (arith, old.room, old.shows.packets) in
     record {
       core = closed (after_command core event.command);
       shows = next-core opening core before event old.shows old.sound.params (next-legal opening core before event old.shows here);
       sound = Sound_call core.held old.sound (call_in core event.command) (call-taken core event.command handed fit);
-      room = let next = waiting_next-room core.waiting (now_at core.held (handed_in event.command)) (deed event.command
-          (answer_in core event.command)) core.packets within (has-room core event.command within) in
-          omega (arith, next, old.shows.packets);
     }
 
 -- an event of a lawful history: what the events before it leave, and what it makes of that

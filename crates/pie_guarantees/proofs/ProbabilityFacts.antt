@@ -152,3 +152,11 @@ a_tenth_is_left n elements params delay prob is many =
         let one : p * (a * 10) ≤ p * b = mul-le p (a * 10) p b (omega arith) tenth in
         let both : x * 10 * b ≤ p * b = grind (arith, one, faded) in
         le_of_mul-le-mul_right both some
+
+-- with the defaults, from 0 at twice the target, and from 1 with no delay
+pub exactly : (after_updates 162 usual default_profile 30_000_000 0 ≡ 100_178_833_003)
+    × (after_updates 161 usual default_profile 30_000_000 0 ≡ 99_241_333_003)
+    × (after_updates 87 usual default_profile 0 1_000_000_000_000 ≡ 96_421_179_148)
+    × (after_updates 86 usual default_profile 0 1_000_000_000_000 ≡ 100_263_958_315)
+unfolding after_updates next raw_step tuned_step tuning_divisor decayed
+exactly = (refl, refl, refl, refl)

@@ -94,7 +94,8 @@ pub fate-early : (params : RawParams) (prob : ℕ) (ecn : Ecn) → prob < params
     → answer_of (chosen (picked_choice params prob ecn)) ≡ DroppedEarly → ⊥
 fate-early params prob ecn below capable dropped = grind (arith, nat_tests)
 
-pub fate-marked : (params : RawParams) (prob : ℕ) (ecn : Ecn) → is_capable ecn ≡ false → answer_of (chosen (picked_choice params prob ecn)) ≡ Marked → ⊥
+pub fate-marked : (params : RawParams) (prob : ℕ) (ecn : Ecn) → is_capable ecn ≡ false
+    → answer_of (chosen (picked_choice params prob ecn)) ≡ Marked → ⊥
 fate-marked params prob ecn other marked = grind (arith, nat_tests)
 
 pub arrival-chosen : (opening : Opening) (before : List Event) (event : Event) (packet : Packet) → IsStep opening before event

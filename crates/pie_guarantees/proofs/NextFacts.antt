@@ -96,7 +96,8 @@ pub next_mono : (elements : Elements) (params : RawParams) (prob old delay more 
     → next elements params prob delay old ≤ next elements params prob more old
 unfolding next
 next_mono elements params prob old delay more le =
-    let t = tuned-mono elements.step prob (raw_step params delay old) (raw_step params more old) (raw-mono params old old delay more le (omega (arith, ints))) in
+    let t = tuned-mono elements.step prob (raw_step params delay old) (raw_step params more old)
+    (raw-mono params old old delay more le (omega (arith, ints))) in
     decayed-mono (decays elements.decay params delay old) (decays elements.decay params more old)
     (pos prob +ℤ tuned_step elements.step prob (raw_step params delay old)) (pos prob +ℤ tuned_step elements.step prob (raw_step params more old))
     (decays-below elements.decay params old delay more le) (omega (arith, ints, t))

@@ -105,10 +105,11 @@ steadily delay opening before between later lawful steady =
     stays earlier event left step here so =
         let h = held_after opening earlier in
         let moved : Next delay opening.choices.elements h (held_after opening (earlier ++ event ∷ [])) (is_update (deed_of event)) =
-        subst (λ (e : Elements). Next delay e h (held_after opening (earlier ++ event ∷ [])) (is_update (deed_of event))) (elements-is opening earlier)
+        subst (λ (e : Elements). Next delay e h (held_after opening (earlier ++ event ∷ [])) (is_update (deed_of event)))
+        (elements-is opening earlier)
         (subst (λ (g : Held). Next delay h.elements h g (is_update (deed_of event))) (sym step.held)
-        (rw (update-is event.command event.answer) (same-next delay h (waiting_after opening earlier) opening.limits.packets event.command event.answer
-        here.keeps here.unreset here.active (λ is. here.delay_now (update-is event.command event.answer ∙ is))
+        (rw (update-is event.command event.answer) (same-next delay h (waiting_after opening earlier) opening.limits.packets event.command
+        event.answer here.keeps here.unreset here.active (λ is. here.delay_now (update-is event.command event.answer ∙ is))
         (λ is. here.delay_old (update-is event.command event.answer ∙ is))))) in
         rw (moved.params, moved.prob, one-update (is_update (deed_of event)) (updates_in left) opening.choices.elements h.params delay h.control.prob,
         ← counted-cons event left) so

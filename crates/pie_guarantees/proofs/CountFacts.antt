@@ -1,12 +1,12 @@
 -- What becomes of every packet.
 use Rattle.pie_guarantees.proofs.Names.{◌≡◌, ◌≤◌, ◌+◌, ◌*◌, ◌==◌, ◌^◌, ℕ, List, [], ◌∷◌, ◌++◌, map, Bool, true, false, refl, sym, ap, ◌∙◌, cond, ◌⊎◌}
-use Rattle.pie_guarantees.proofs.Names.{inl, inr, if◌then◌else◌, nat_lt, length, arith, subst, All, Some, None, Option, sum_by, ltb-false, append-nil}
+use Rattle.pie_guarantees.proofs.Names.{inl, inr, length, arith, subst, All, Some, Option, sum_by, append-nil}
 use Rattle.pie_guarantees.proofs.Names.{append_assoc, length-map, map-append, filter_map-append, sum_by_push, sum_by-cons, bytes_of, Deed, deed}
-use Rattle.pie_guarantees.proofs.Names.{deed_of, departure, fits, with_ce, answer_of, Choice, after_call, Held, filter_map-push, with_one, Packet}
-use Rattle.pie_guarantees.proofs.Names.{Waiting, Verdict, Command, Arrive, Depart, SetParams, Answer, Enqueued, Marked, DroppedEarly}
-use Rattle.pie_guarantees.proofs.Names.{DroppedBytes, DroppedPackets, Empty, Left, Event, Opening, arrival_of, call_of, answer_by, held_after}
+use Rattle.pie_guarantees.proofs.Names.{deed_of, departure, with_ce, answer_of, after_call, Held, filter_map-push, with_one, Packet}
+use Rattle.pie_guarantees.proofs.Names.{Waiting, Verdict, Command, Arrive, Depart, SetParams, Answer}
+use Rattle.pie_guarantees.proofs.Names.{Event, Opening, arrival_of, call_of, answer_by, held_after}
 use Rattle.pie_guarantees.proofs.Names.{params_after, bytes_after, effective_moment, waiting_after, count_of, is_dropped_bytes, is_dropped_early}
-use Rattle.pie_guarantees.proofs.Names.{is_dropped_packets, is_marked, is_queued, answer-fits, held-is, waiting_next, first-shows, first_core}
+use Rattle.pie_guarantees.proofs.Names.{is_dropped_packets, is_marked, is_queued, waiting_next, first-shows}
 use Rattle.pie_guarantees.proofs.Names.{ArrivingPacket, IsLawful, arrival_deed, eqb-false, nat_tests}
 use Rattle.std.proofs.Common.{take}
 use Rattle.std.proofs.Math.Seq.{take-append_seam}
@@ -104,8 +104,12 @@ ordered-next : (opening : Opening) (before : List Event) (event : Event) → IsS
     → Ordered opening (before ++ event ∷ [])
 unfolding packets_departed packets_queued
 ordered-next opening before event step old =
-    rw (filter_map-push (λ (e : Event). departure (deed_of e)) before event, filter_map-push (λ (e : Event). packet_queued (deed_of e)) before event,
-    step.waiting, deed-is opening before event step)
+    rw (
+      filter_map-push (λ (e : Event). departure (deed_of e)) before event,
+      filter_map-push (λ (e : Event). packet_queued (deed_of e)) before event,
+      step.waiting,
+      deed-is opening before event step,
+    )
     (in-order (held_after opening before) (waiting_after opening before) opening.limits.packets event.command
     (effective_moment opening (before ++ event ∷ [])) (packets_departed before) (packets_queued before) old)
 

@@ -1,12 +1,11 @@
 -- What is known of a packet that was marked or dropped early.
-use Rattle.pie_guarantees.proofs.Names.{◌≡◌, ◌≤◌, ◌<◌, ◌+◌, ◌*◌, ◌&&◌, ◌⊎◌, inl, inr, ℕ, List, [], ◌∷◌, ◌++◌, Bool, true, false, refl, sym, ap, ◌∙◌}
-use Rattle.pie_guarantees.proofs.Names.{if◌then◌else◌, nat_lt, arith, nat_tests, is_capable, bytes_of, Mark, Drop, counted}
+use Rattle.pie_guarantees.proofs.Names.{◌≡◌, ◌≤◌, ◌<◌, ◌+◌, ◌*◌, ◌⊎◌, ℕ, List, [], ◌∷◌, ◌++◌, Bool, true, false, refl, sym, ap, ◌∙◌}
+use Rattle.pie_guarantees.proofs.Names.{arith, nat_tests, is_capable, bytes_of, counted}
 use Rattle.pie_guarantees.proofs.Names.{is_considered, is_picked, picked_choice, Held, chosen, offered, verdict, Verdict, answer_of, Packet, Waiting}
 use Rattle.pie_guarantees.proofs.Names.{ArrivingPacket, Arrive, Depart, Answer, DroppedEarly, Marked, Command, Event, Opening}
 use Rattle.pie_guarantees.proofs.Names.{arrival_of, answer_by, held_after, waiting_after, IsLawful, IsArrivalOf}
-use Rattle.pie_guarantees.proofs.Names.{MarksOnlyCapable, OnlyMarks, SparesCapable, is_early}
+use Rattle.pie_guarantees.proofs.Names.{is_early}
 use Rattle.pie_queue.specs.declared.ecn.Ecn.{Ecn}
-use Rattle.pie_control.specs.Parts.{Parts}
 use Rattle.pie_book.specs.Types.{RawParams}
 use Rattle.pie_guarantees.proofs.CallFacts.{after-verdict}
 use Rattle.pie_guarantees.proofs.LawfulFacts.{IsStep, step_at}

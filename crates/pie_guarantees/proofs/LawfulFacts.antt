@@ -1,12 +1,12 @@
 -- At each place of a lawful history a core stands that shows the events before it, and each event makes of what it holds what its call does.
-use Rattle.pie_guarantees.proofs.Names.{◌≡◌, ◌≤◌, ◌<◌, ◌+◌, ◌==◌, ℕ, List, [], ◌∷◌, ◌++◌, Bool, false, refl, sym, subst, ap, ◌∙◌, arith, ⊤}
-use Rattle.pie_guarantees.proofs.Names.{if◌then◌else◌, All, None, Some, nat_lt, length, ◌^◌, eqb-false, ltb-false, append-nil}
-use Rattle.pie_guarantees.proofs.Names.{append_assoc, All-head, All-tail, first_bad, bytes_of, arrival_deed, deed, deed_of}
-use Rattle.pie_guarantees.proofs.Names.{departure_deed, handed_in, answer_of, Choice, Enqueue, Mark, IsTaken, after_call, Held, IsSound, places}
-use Rattle.pie_guarantees.proofs.Names.{chosen, now_at, place_of, Packet, Waiting, Command, Arrive, Depart, Update, Reset, SetParams, Event, Opening}
-use Rattle.pie_guarantees.proofs.Names.{Refusal, arrival_of, call_of, departure_call, IsLegalAt, answer_to_departure, has_bad_size, is_too_soon}
+use Rattle.pie_guarantees.proofs.Names.{◌≡◌, ◌≤◌, ◌<◌, ◌+◌, ℕ, List, [], ◌∷◌, ◌++◌, false, sym, subst, ap, ◌∙◌, arith, ⊤}
+use Rattle.pie_guarantees.proofs.Names.{All, None, length, ◌^◌, append-nil}
+use Rattle.pie_guarantees.proofs.Names.{append_assoc, All-head, All-tail, first_bad, deed_of}
+use Rattle.pie_guarantees.proofs.Names.{handed_in, IsTaken, after_call, Held, IsSound, places}
+use Rattle.pie_guarantees.proofs.Names.{place_of, Waiting, Command, Depart, SetParams, Event, Opening}
+use Rattle.pie_guarantees.proofs.Names.{call_of, departure_call, IsLegalAt, has_bad_size, is_too_soon}
 use Rattle.pie_guarantees.proofs.Names.{refusal_by_rule, due_after, held_after, effective_moment, waiting_after, after_command}
-use Rattle.pie_guarantees.proofs.Names.{answer_in, call_in, waiting_next, at_place, departed-of-legal, held-is, first-shows, first_core, next-core}
+use Rattle.pie_guarantees.proofs.Names.{call_in, waiting_next, at_place, departed-of-legal, held-is, first-shows, first_core, next-core}
 use Rattle.pie_guarantees.proofs.Names.{next-legal, AllAlong, IsLawful, SetsInRange, nat_tests, map, drop, All-cons, All-nil, Place, decision}
 use Rattle.pie_guarantees.proofs.Names.{Answer, answer_by, Sound_call, Sound_opened, ◌+◌, cond, is_update, sum_by-cons, updates_in}
 use Rattle.std.proofs.Math.Seq.{drop-append_seam, take-append_seam}
@@ -14,7 +14,6 @@ use Rattle.std.proofs.lemmas.List.Elements.{All-drop, All-take}
 use Rattle.pie_book.specs.Core.{CoreView, Shows, closed}
 use Rattle.pie_book.proofs.HistoryFacts.{effective_moment-push, waiting_after-push}
 use Rattle.pie_event.specs.Opening as Opens
-use Rattle.pie_aqm.specs.Steps as Steps
 
 -- ---- which commands are taken
 

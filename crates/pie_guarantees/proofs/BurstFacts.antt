@@ -1,10 +1,10 @@
 -- How the burst allowance goes down from update to update, and how far updates are apart.
-use Rattle.pie_guarantees.proofs.Names.{◌≡◌, ◌≤◌, ◌+◌, ◌*◌, ◌&&◌, ℕ, List, [], ◌∷◌, ◌++◌, true, false, refl, sym, ap, ◌∙◌, cond}
-use Rattle.pie_guarantees.proofs.Names.{arith, subst, max, All, append_assoc, sum_by_push, sum_by-append, ltb-false}
-use Rattle.pie_guarantees.proofs.Names.{bytes_of, deed, deed_of, is_update, after_call, Held, IsSound, is_calm, Waiting}
+use Rattle.pie_guarantees.proofs.Names.{◌≡◌, ◌≤◌, ◌+◌, ◌*◌, ◌&&◌, ℕ, List, [], ◌∷◌, ◌++◌, true, false, refl, sym, ◌∙◌, cond}
+use Rattle.pie_guarantees.proofs.Names.{arith, subst, max, All, append_assoc, ltb-false}
+use Rattle.pie_guarantees.proofs.Names.{bytes_of, deed, is_update, after_call, Held, is_calm, Waiting}
 use Rattle.pie_guarantees.proofs.Names.{Command, Arrive, Depart, Update, Reset, SetParams, Answer, Event, Opening, arrival_of}
-use Rattle.pie_guarantees.proofs.Names.{call_of, is_too_soon, active_after, held_after, params_after, parts_after, effective_moment}
-use Rattle.pie_guarantees.proofs.Names.{waiting_after, held-is, first-shows, first_core, AllAllow, Allows, IsAllowed, IsWhole, KeepsParams, SetsAllow}
+use Rattle.pie_guarantees.proofs.Names.{call_of, is_too_soon, held_after, params_after, parts_after, effective_moment}
+use Rattle.pie_guarantees.proofs.Names.{waiting_after, AllAllow, Allows, IsAllowed, KeepsParams, SetsAllow}
 use Rattle.pie_guarantees.proofs.Names.{burst_left, updates_in, IsLawful, IsEarly}
 use Rattle.pie_aqm.specs.Steps as Steps
 use Rattle.pie_guarantees.proofs.LawfulFacts.{IsStep, all_along, along, counted-cons, first-held, sound_at, step_at}

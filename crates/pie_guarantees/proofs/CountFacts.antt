@@ -1,16 +1,16 @@
 -- What becomes of every packet.
 use Rattle.pie_guarantees.proofs.Names.{◌≡◌, ◌≤◌, ◌+◌, ◌*◌, ◌==◌, ◌^◌, ℕ, List, [], ◌∷◌, ◌++◌, map, Bool, true, false, refl, sym, ap, ◌∙◌, cond, ◌⊎◌}
-use Rattle.pie_guarantees.proofs.Names.{inl, inr, if◌then◌else◌, nat_lt, length, arith, subst, All, Some, None, Option, sum_by, ltb-false, append-nil}
+use Rattle.pie_guarantees.proofs.Names.{inl, inr, length, arith, subst, All, Some, Option, sum_by, append-nil}
 use Rattle.pie_guarantees.proofs.Names.{append_assoc, length-map, map-append, filter_map-append, sum_by_push, sum_by-cons, bytes_of, Deed, deed}
-use Rattle.pie_guarantees.proofs.Names.{deed_of, departure, fits, with_ce, answer_of, Choice, after_call, Held, filter_map-push, with_one, Packet}
-use Rattle.pie_guarantees.proofs.Names.{Waiting, Verdict, Command, Arrive, Depart, SetParams, Answer, Enqueued, Marked, DroppedEarly}
-use Rattle.pie_guarantees.proofs.Names.{DroppedBytes, DroppedPackets, Empty, Left, Event, Opening, arrival_of, call_of, answer_by, held_after}
+use Rattle.pie_guarantees.proofs.Names.{deed_of, departure, with_ce, answer_of, after_call, Held, filter_map-push, with_one, Packet}
+use Rattle.pie_guarantees.proofs.Names.{Waiting, Verdict, Command, Arrive, Depart, SetParams, Answer}
+use Rattle.pie_guarantees.proofs.Names.{Event, Opening, arrival_of, call_of, answer_by, held_after}
 use Rattle.pie_guarantees.proofs.Names.{params_after, bytes_after, effective_moment, waiting_after, count_of, is_dropped_bytes, is_dropped_early}
-use Rattle.pie_guarantees.proofs.Names.{is_dropped_packets, is_marked, is_queued, answer-fits, held-is, waiting_next, first-shows, first_core}
-use Rattle.pie_guarantees.proofs.Names.{ArrivingPacket, IsLawful, arrival_deed, nat_tests}
+use Rattle.pie_guarantees.proofs.Names.{is_dropped_packets, is_marked, is_queued, waiting_next, first-shows}
+use Rattle.pie_guarantees.proofs.Names.{ArrivingPacket, IsLawful, arrival_deed, eqb-false, nat_tests}
 use Rattle.std.proofs.Common.{take}
 use Rattle.std.proofs.Math.Seq.{take-append_seam}
-use Rattle.std.proofs.lemmas.List.{append_cancel_left}
+use Rattle.std.proofs.lemmas.List.{append_cancel_left, length_push}
 use Rattle.std.proofs.lemmas.List.Recursion.{is_sum_by}
 use Rattle.pie_guarantees.specs.Counts.{Carries, SetsLimit, bytes_departed, hands_in, packet_queued, packets_departed, packets_handed_in}
 use Rattle.pie_guarantees.specs.Counts.{packets_queued, packets_waiting, time_of}
@@ -18,7 +18,7 @@ use Rattle.pie_event.specs.declared.verdict.Verdict.TheVariants as verdict
 use Rattle.pie_event.specs.Verdict as Verdicts
 use Rattle.pie_aqm.specs.Steps as Steps
 use Rattle.pie_guarantees.proofs.CallFacts.{after-arrival}
-use Rattle.pie_guarantees.proofs.LawfulFacts.{IsStep, all_along, along, beginning, first-held, stands_at, step_at, throughout}
+use Rattle.pie_guarantees.proofs.LawfulFacts.{IsStep, all_along, along, beginning, first-held, step_at, throughout}
 
 -- ---- counts
 
@@ -104,10 +104,18 @@ ordered-next : (opening : Opening) (before : List Event) (event : Event) → IsS
     → Ordered opening (before ++ event ∷ [])
 unfolding packets_departed packets_queued
 ordered-next opening before event step old =
-    rw (filter_map-push (λ (e : Event). departure (deed_of e)) before event, filter_map-push (λ (e : Event). packet_queued (deed_of e)) before event,
-    step.waiting, deed-is opening before event step)
+    rw (
+      filter_map-push (λ (e : Event). departure (deed_of e)) before event,
+      filter_map-push (λ (e : Event). packet_queued (deed_of e)) before event,
+      step.waiting,
+      deed-is opening before event step,
+    )
     (in-order (held_after opening before) (waiting_after opening before) opening.limits.packets event.command
     (effective_moment opening (before ++ event ∷ [])) (packets_departed before) (packets_queued before) old)
+
+-- at the opening nothing waits
+none-waits : (opening : Opening) → waiting_after opening [] ≡ []
+none-waits opening = sym (first-shows opening).waiting
 
 ordered-first : (opening : Opening) → waiting_after opening [] ≡ [] → Ordered opening []
 unfolding packets_departed packets_queued
@@ -115,61 +123,66 @@ ordered-first opening none = rw none refl
 
 pub in_order : (opening : Opening) (history : List Event) → IsLawful opening history → Ordered opening history
 in_order opening history lawful =
-    throughout (Ordered opening) opening (ordered-first opening (sym (first-shows opening).waiting)) (ordered-next opening) history lawful
+    throughout (Ordered opening) opening (ordered-first opening (none-waits opening)) (ordered-next opening) history lawful
 
 -- ---- limits
 
-pub in_the_ring : (opening : Opening) (history : List Event) → IsLawful opening history → length
-    (waiting_after opening history) ≤ opening.limits.packets
-in_the_ring opening history lawful =
-    let it = stands_at opening history [] (rw (append-nil history) lawful) in
-    subst (λ (w : List Waiting). length w ≤ opening.limits.packets) it.shows.waiting it.room
-
--- the bytes that wait after a command: fewer or as many, or a packet more that the limit has room for
-record Bounded (limit before after : ℕ) (queued : Option Packet) : Type 0 where
-  or : (after ≤ before) ⊎ (after ≤ limit)
-  queue : (packet : Packet) → queued ≡ Some packet → after ≤ limit
-
--- a packet is queued only where the limit has room for it
-room-of : (h : Held) (a : ArrivingPacket) → Verdicts.is_queued (Steps.verdict h a) ≡ true → a.queued + a.size ≤ h.params.limit_bytes
+-- a packet is queued only where the ring and the limit have room for it
+room-of : (h : Held) (a : ArrivingPacket) → Verdicts.is_queued (Steps.verdict h a) ≡ true
+    → (a.is_full ≡ false) × (a.queued + a.size ≤ h.params.limit_bytes)
 unfolding Steps.verdict
-room-of h a queued = grind (arith, nat_tests)
+room-of h a queued = (grind (arith, nat_tests), grind (arith, nat_tests))
+
+-- the packets that wait after a command: fewer or as many, or one more that ring and limit have room for
+record Bounded (limit packets : ℕ) (before after : List Waiting) (queued : Option Packet) : Type 0 where
+  ring : length before ≤ packets → length after ≤ packets
+  or : (bytes_of after ≤ bytes_of before) ⊎ (bytes_of after ≤ limit)
+  queue : (packet : Packet) → queued ≡ Some packet → bytes_of after ≤ limit
 
 bounded : (h : Held) (waiting : List Waiting) (packets : ℕ) (command : Command) (now : ℕ)
-    → Bounded h.params.limit_bytes (bytes_of waiting)
-    (bytes_of (waiting_next waiting now (deed command (answer_by h waiting packets command))))
+    → Bounded h.params.limit_bytes packets waiting (waiting_next waiting now (deed command (answer_by h waiting packets command)))
     (packet_queued (deed command (answer_by h waiting packets command)))
 bounded h waiting packets (Arrive moment packet word) now =
     by (Steps.verdict h (arrival_of waiting packets packet word)) (room-of h (arrival_of waiting packets packet word))
   where
-    more : (new : Waiting) → new.packet.size ≡ packet.size → bytes_of waiting + packet.size ≤ h.params.limit_bytes
-        → Bounded h.params.limit_bytes (bytes_of waiting) (bytes_of (waiting ++ new ∷ [])) (Some new.packet)
+    more : (new : Waiting) → new.packet.size ≡ packet.size
+        → ((length waiting == packets) ≡ false) × (bytes_of waiting + packet.size ≤ h.params.limit_bytes)
+        → Bounded h.params.limit_bytes packets waiting (waiting ++ new ∷ []) (Some new.packet)
     more new size room =
         let one : bytes_of (waiting ++ new ∷ []) ≡ bytes_of waiting + new.packet.size = sum_by_push (λ (w : Waiting). w.packet.size) waiting new in
-        record { or = inr (omega (arith, one, size, room)); queue = λ packet is. omega (arith, one, size, room) }
+        let longer = length_push waiting new in
+        record {
+          ring = λ within. omega (arith, longer, within, eqb-false (length waiting) packets room.0);
+          or = inr (omega (arith, one, size, room.1));
+          queue = λ packet is. omega (arith, one, size, room.1);
+        }
 
-    by : (v : Verdict) → (Verdicts.is_queued v ≡ true → bytes_of waiting + packet.size ≤ h.params.limit_bytes)
-        → Bounded h.params.limit_bytes (bytes_of waiting) (bytes_of (waiting_next waiting now (deed (Arrive moment packet word) (answer_of v))))
+    by : (v : Verdict) → (Verdicts.is_queued v ≡ true
+        → ((length waiting == packets) ≡ false) × (bytes_of waiting + packet.size ≤ h.params.limit_bytes))
+        → Bounded h.params.limit_bytes packets waiting (waiting_next waiting now (deed (Arrive moment packet word) (answer_of v)))
         (packet_queued (deed (Arrive moment packet word) (answer_of v)))
     by verdict.Enqueued room = more (record { packet = packet; since = now }) refl (room refl)
     by verdict.Marked room = more (record { packet = with_ce packet; since = now }) refl (room refl)
-    by _ room = record { or = inl (omega arith); queue = λ packet is. cc }
-bounded h [] packets (Depart moment) now = record { or = inl (omega arith); queue = λ packet is. cc }
+    by _ room = record { ring = λ within. within; or = inl (omega arith); queue = λ packet is. cc }
 bounded h (oldest ∷ others) packets (Depart moment) now =
-    record {
-      or = inl (let first = sum_by-cons (λ (entry : Waiting). entry.packet.size) oldest others in omega
-          (arith, first));
-      queue = λ packet is. cc;
-    }
-bounded h waiting packets _ now = record { or = inl (omega arith); queue = λ packet is. cc }
+    let first = sum_by-cons (λ (entry : Waiting). entry.packet.size) oldest others in
+    record { ring = λ within. omega arith; or = inl (omega (arith, first)); queue = λ packet is. cc }
+bounded h [] packets (Depart moment) now = record { ring = λ within. within; or = inl (omega arith); queue = λ packet is. cc }
+bounded h waiting packets _ now = record { ring = λ within. within; or = inl (omega arith); queue = λ packet is. cc }
 
 bounded-at : (opening : Opening) (before : List Event) (event : Event) → IsStep opening before event
-    → Bounded (held_after opening before).params.limit_bytes (bytes_after opening before) (bytes_after opening (before ++ event ∷ []))
-    (packet_queued (deed_of event))
+    → Bounded (held_after opening before).params.limit_bytes opening.limits.packets (waiting_after opening before)
+    (waiting_after opening (before ++ event ∷ [])) (packet_queued (deed_of event))
 bounded-at opening before event step =
     rw (step.waiting, deed-is opening before event step)
     (bounded (held_after opening before) (waiting_after opening before) opening.limits.packets event.command
     (effective_moment opening (before ++ event ∷ [])))
+
+pub in_the_ring : (opening : Opening) (history : List Event) → IsLawful opening history
+    → length (waiting_after opening history) ≤ opening.limits.packets
+in_the_ring opening =
+    throughout (λ history. length (waiting_after opening history) ≤ opening.limits.packets) opening (rw none-waits (omega arith))
+    (λ before event step within. (bounded-at opening before event step).ring within)
 
 pub room_for_bytes : (opening : Opening) (before : List Event) (event : Event) (later : List Event) (packet : Packet)
     → IsLawful opening (before ++ event ∷ later) → packet_queued (deed_of event) ≡ Some packet
@@ -202,12 +215,11 @@ below-next most opening before event step set old = record {
 pub bytes_below : (most : ℕ) (opening : Opening) (history : List Event) → IsLawful opening history → opening.params.limit_bytes ≤ most
     → All (λ event. SetsLimit most event.command) history → bytes_after opening history ≤ most
 bytes_below most opening history lawful low set =
-    let none : waiting_after opening [] ≡ [] = sym (first-shows opening).waiting in
     (along (λ before left. Below most opening before) (λ before event. SetsLimit most event.command) opening
     (λ before event left step set old. below-next most opening before event step set old) [] history []
     (rw (append-nil history) lawful) (all_along (λ (event : Event). SetsLimit most event.command) [] history set) (record {
       limit = subst (λ (g : Held). g.params.limit_bytes ≤ most) (first-held opening) low;
-      bytes = rw none (omega arith);
+      bytes = rw none-waits (omega arith);
     })).bytes
 
 -- ---- waits

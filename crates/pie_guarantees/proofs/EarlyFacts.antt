@@ -1,12 +1,11 @@
 -- What is known of a packet that was marked or dropped early.
-use Rattle.pie_guarantees.proofs.Names.{◌≡◌, ◌≤◌, ◌<◌, ◌+◌, ◌*◌, ◌&&◌, ◌⊎◌, inl, inr, ℕ, List, [], ◌∷◌, ◌++◌, Bool, true, false, refl, sym, ap, ◌∙◌}
-use Rattle.pie_guarantees.proofs.Names.{if◌then◌else◌, nat_lt, arith, nat_tests, is_capable, bytes_of, Mark, Drop, counted}
+use Rattle.pie_guarantees.proofs.Names.{◌≡◌, ◌≤◌, ◌<◌, ◌+◌, ◌*◌, ◌⊎◌, ℕ, List, [], ◌∷◌, ◌++◌, Bool, true, false, refl, sym, ap, ◌∙◌}
+use Rattle.pie_guarantees.proofs.Names.{arith, nat_tests, is_capable, bytes_of, counted}
 use Rattle.pie_guarantees.proofs.Names.{is_considered, is_picked, picked_choice, Held, chosen, offered, verdict, Verdict, answer_of, Packet, Waiting}
 use Rattle.pie_guarantees.proofs.Names.{ArrivingPacket, Arrive, Depart, Answer, DroppedEarly, Marked, Command, Event, Opening}
 use Rattle.pie_guarantees.proofs.Names.{arrival_of, answer_by, held_after, waiting_after, IsLawful, IsArrivalOf}
-use Rattle.pie_guarantees.proofs.Names.{MarksOnlyCapable, OnlyMarks, SparesCapable, is_early}
+use Rattle.pie_guarantees.proofs.Names.{is_early}
 use Rattle.pie_queue.specs.declared.ecn.Ecn.{Ecn}
-use Rattle.pie_control.specs.Parts.{Parts}
 use Rattle.pie_book.specs.Types.{RawParams}
 use Rattle.pie_guarantees.proofs.CallFacts.{after-verdict}
 use Rattle.pie_guarantees.proofs.LawfulFacts.{IsStep, step_at}
@@ -18,9 +17,9 @@ pub record IsPicked (h : Held) (bytes : ℕ) : Type 0 where
   pub long : 2 * h.params.mean_pkt < bytes
   pub high : (h.params.target ≤ 2 * h.control.old_delay) ⊎ (200_000_000_000 ≤ h.control.prob)
 
-picked-of : (h : Held) (bytes : ℕ) → h.active ≡ true → is_considered h.params h.control bytes ≡ true → IsPicked h bytes
+considered-facts : (h : Held) (bytes : ℕ) → h.active ≡ true → is_considered h.params h.control bytes ≡ true → IsPicked h bytes
 unfolding is_considered
-picked-of h bytes on e =
+considered-facts h bytes on e =
     record { active = on; no_burst = grind (arith, nat_tests); long = grind (arith, nat_tests); high = grind (arith, nat_tests) }
 
 pub record IsChosen (h : Held) (a : ArrivingPacket) : Type 0 where
@@ -33,7 +32,7 @@ chosen-of : (h : Held) (a : ArrivingPacket) → is_early (answer_of (verdict h a
 chosen-of h a e =
     after-verdict h a (λ (v : Verdict) (left : ℕ). verdict h a ≡ v → is_early (answer_of v) ≡ true → IsChosen h a) (λ v e. cc) (λ v e. cc)
     (λ off v e. cc)
-    (λ on considered picked v e. record { picked = picked-of h a.queued on considered; by_sum = picked; verdict = v })
+    (λ on considered picked v e. record { picked = considered-facts h a.queued on considered; by_sum = picked; verdict = v })
     (λ on none v e. cc) (λ on some v e. cc) refl e
 
 -- the arrival that was marked or dropped early
@@ -94,7 +93,8 @@ pub fate-early : (params : RawParams) (prob : ℕ) (ecn : Ecn) → prob < params
     → answer_of (chosen (picked_choice params prob ecn)) ≡ DroppedEarly → ⊥
 fate-early params prob ecn below capable dropped = grind (arith, nat_tests)
 
-pub fate-marked : (params : RawParams) (prob : ℕ) (ecn : Ecn) → is_capable ecn ≡ false → answer_of (chosen (picked_choice params prob ecn)) ≡ Marked → ⊥
+pub fate-marked : (params : RawParams) (prob : ℕ) (ecn : Ecn) → is_capable ecn ≡ false
+    → answer_of (chosen (picked_choice params prob ecn)) ≡ Marked → ⊥
 fate-marked params prob ecn other marked = grind (arith, nat_tests)
 
 pub arrival-chosen : (opening : Opening) (before : List Event) (event : Event) (packet : Packet) → IsStep opening before event

@@ -1,21 +1,19 @@
 -- At each place of a lawful history a core stands that shows the events before it, and each event makes of what it holds what its call does.
-use Rattle.pie_guarantees.proofs.Names.{◌≡◌, ◌≤◌, ◌<◌, ◌+◌, ◌==◌, ℕ, List, [], ◌∷◌, ◌++◌, Bool, false, refl, sym, subst, ap, ◌∙◌, arith, ⊤}
-use Rattle.pie_guarantees.proofs.Names.{if◌then◌else◌, All, None, Some, nat_lt, length, ◌^◌, eqb-false, ltb-false, append-nil}
-use Rattle.pie_guarantees.proofs.Names.{append_assoc, All-head, All-tail, first_bad, bytes_of, arrival_deed, deed, deed_of}
-use Rattle.pie_guarantees.proofs.Names.{departure_deed, handed_in, answer_of, Choice, Enqueue, Mark, IsTaken, after_call, Held, IsSound, places}
-use Rattle.pie_guarantees.proofs.Names.{chosen, now_at, place_of, Packet, Waiting, Command, Arrive, Depart, Update, Reset, SetParams, Event, Opening}
-use Rattle.pie_guarantees.proofs.Names.{Refusal, arrival_of, call_of, departure_call, IsLegalAt, answer_to_departure, has_bad_size, is_too_soon}
+use Rattle.pie_guarantees.proofs.Names.{◌≡◌, ◌≤◌, ◌<◌, ◌+◌, ℕ, List, [], ◌∷◌, ◌++◌, false, sym, subst, ap, ◌∙◌, arith, ⊤}
+use Rattle.pie_guarantees.proofs.Names.{All, None, length, ◌^◌, append-nil}
+use Rattle.pie_guarantees.proofs.Names.{append_assoc, All-head, All-tail, first_bad, deed_of}
+use Rattle.pie_guarantees.proofs.Names.{handed_in, IsTaken, after_call, Held, IsSound, places}
+use Rattle.pie_guarantees.proofs.Names.{place_of, Waiting, Command, Depart, SetParams, Event, Opening}
+use Rattle.pie_guarantees.proofs.Names.{call_of, departure_call, IsLegalAt, has_bad_size, is_too_soon}
 use Rattle.pie_guarantees.proofs.Names.{refusal_by_rule, due_after, held_after, effective_moment, waiting_after, after_command}
-use Rattle.pie_guarantees.proofs.Names.{answer_in, call_in, waiting_next, at_place, departed-of-legal, held-is, first-shows, first_core, next-core}
+use Rattle.pie_guarantees.proofs.Names.{call_in, waiting_next, at_place, departed-of-legal, held-is, first-shows, first_core, next-core}
 use Rattle.pie_guarantees.proofs.Names.{next-legal, AllAlong, IsLawful, SetsInRange, nat_tests, map, drop, All-cons, All-nil, Place, decision}
 use Rattle.pie_guarantees.proofs.Names.{Answer, answer_by, Sound_call, Sound_opened, ◌+◌, cond, is_update, sum_by-cons, updates_in}
 use Rattle.std.proofs.Math.Seq.{drop-append_seam, take-append_seam}
 use Rattle.std.proofs.lemmas.List.Elements.{All-drop, All-take}
 use Rattle.pie_book.specs.Core.{CoreView, Shows, closed}
 use Rattle.pie_book.proofs.CoreFacts.{effective_moment-push, waiting_after-push}
-use Rattle.pie_book.proofs.RangeFacts.{has-room, waiting_next-room}
 use Rattle.pie_event.specs.Opening as Opens
-use Rattle.pie_aqm.specs.Steps as Steps
 
 -- ---- which commands are taken
 
@@ -37,7 +35,6 @@ pub record Stands (opening : Opening) (history : List Event) : Type 0 where
   pub core : CoreView
   pub shows : Shows opening core history
   pub sound : IsSound core.held
-  pub room : length core.waiting ≤ opening.limits.packets
 
 start-moment : (opening : Opening) → Opens.opening_refusal opening.limits opening.moment ≡ None → opening.moment < 2 ^ 60
 start-moment opening good = let within : opening.moment ≤ Opens.last_moment = grind (arith, good) in omega (arith, within)
@@ -47,7 +44,6 @@ stands-first opening good params = record {
   core = first_core opening;
   shows = first-shows opening;
   sound = Sound_opened opening.choices.profile opening.choices.elements opening.params opening.moment params (start-moment opening good);
-  room = omega arith;
 }
 
 -- ---- one more event
@@ -66,14 +62,10 @@ stands-next : (opening : Opening) (before : List Event) (event : Event) → Stan
 stands-next opening before event old here fit =
     let core = old.core in
     let handed = (is_free opening before event.command here.taken).moment in
-    let within : length core.waiting ≤ core.packets = omega (arith, old.room, old.shows.packets) in
     record {
       core = closed (after_command core event.command);
       shows = next-core opening core before event old.shows old.sound.params (next-legal opening core before event old.shows here);
       sound = Sound_call core.held old.sound (call_in core event.command) (call-taken core event.command handed fit);
-      room = let next = waiting_next-room core.waiting (now_at core.held (handed_in event.command)) (deed event.command
-          (answer_in core event.command)) core.packets within (has-room core event.command within) in
-          omega (arith, next, old.shows.packets);
     }
 
 -- an event of a lawful history: what the events before it leave, and what it makes of that

@@ -2,7 +2,7 @@
 use Rattle.pie_guarantees.proofs.Names.{◌≡◌, ◌≤◌, ◌<◌, ◌+◌, ◌*◌, ◌/◌, ◌&&◌, ◌^◌, ℕ, suc, Bool, true, false, refl, arith, if◌then◌else◌}
 use Rattle.pie_guarantees.proofs.Names.{ℤ, pos, negsuc, ◌+ℤ◌, ◌-ℤ◌, ◌*ℤ◌, ◌≤ℤ◌, int_div, nat_le, int_min, nat_tests, clamps, ints, le-div, mul-le}
 use Rattle.pie_guarantees.proofs.Names.{div-mul-le_self, bounded_of, Elements, Step, is_capped, decayed, decays, next, raw_step, tuned_step}
-use Rattle.pie_guarantees.proofs.Names.{tuning_divisor, bounded_of-below, decay-below, int_div-below}
+use Rattle.pie_guarantees.proofs.Names.{tuning_divisor, bounded_of-below, decay-below}
 use Rattle.pie_params.specs.declared.raw.RawParams.{RawParams}
 use Rattle.pie_params.specs.declared.elements.Decay.{Decay}
 use Rattle.pie_params.specs.declared.elements.Decay.TheVariants.{Half, Zero}
@@ -96,7 +96,8 @@ pub next_mono : (elements : Elements) (params : RawParams) (prob old delay more 
     → next elements params prob delay old ≤ next elements params prob more old
 unfolding next
 next_mono elements params prob old delay more le =
-    let t = tuned-mono elements.step prob (raw_step params delay old) (raw_step params more old) (raw-mono params old old delay more le (omega (arith, ints))) in
+    let t = tuned-mono elements.step prob (raw_step params delay old) (raw_step params more old)
+    (raw-mono params old old delay more le (omega (arith, ints))) in
     decayed-mono (decays elements.decay params delay old) (decays elements.decay params more old)
     (pos prob +ℤ tuned_step elements.step prob (raw_step params delay old)) (pos prob +ℤ tuned_step elements.step prob (raw_step params more old))
     (decays-below elements.decay params old delay more le) (omega (arith, ints, t))

@@ -1,17 +1,17 @@
 -- How the probability follows the delay, at each event of a lawful history.
 use Rattle.pie_guarantees.proofs.Names.{◌≡◌, ◌≤◌, ◌<◌, ◌+◌, ◌*◌, ◌-◌, ◌^◌, ◌⊎◌, inl, inr, ℕ, zero, suc, List, [], ◌∷◌, ◌++◌, Bool, true, false, refl}
-use Rattle.pie_guarantees.proofs.Names.{sym, ap, ◌∙◌, cond, if◌then◌else◌, arith, subst, mul-le, le_of_mul-le-mul_right, pow-suc, append-nil}
-use Rattle.pie_guarantees.proofs.Names.{append_assoc, sum_by-cons, is_capped, usual, default_profile, Elements, bytes_of, decayed, decays, next}
+use Rattle.pie_guarantees.proofs.Names.{sym, ap, ◌∙◌, cond, if◌then◌else◌, arith, subst, mul-le, le_of_mul-le-mul_right, pow-suc}
+use Rattle.pie_guarantees.proofs.Names.{usual, default_profile, Elements, bytes_of, decayed, decays, next}
 use Rattle.pie_guarantees.proofs.Names.{raw_step, tuned_step, tuning_divisor, deed, deed_of, is_update, after_call, Held, held_of}
-use Rattle.pie_guarantees.proofs.Names.{in-range, Waiting, Command, Arrive, Depart, Update, Reset, SetParams, Answer}
-use Rattle.pie_guarantees.proofs.Names.{Event, Opening, arrival_of, call_of, active_after, delay_after, held_after, params_after}
+use Rattle.pie_guarantees.proofs.Names.{Waiting, Command, Arrive, Depart, Update, Reset, SetParams, Answer}
+use Rattle.pie_guarantees.proofs.Names.{Event, Opening, arrival_of, call_of, delay_after, held_after, params_after}
 use Rattle.pie_guarantees.proofs.Names.{waiting_after, is_reset, KeepsParams, updates_in, AllAlong, IsLawful, IsActiveUpdate, IsSteady, after_updates}
 use Rattle.pie_guarantees.proofs.Names.{old_delay_after, probability_after}
 use Rattle.pie_book.specs.Types.{RawParams}
 use Rattle.pie_aqm.specs.Steps as Steps
 use Rattle.pie_guarantees.proofs.CallFacts.{after-arrival, asks_update, update-is}
-use Rattle.pie_guarantees.proofs.LawfulFacts.{IsStep, along, counted-cons, sound_at, step_at}
-use Rattle.pie_guarantees.proofs.NextFacts.{decays_low, next_capped, next_decays, next_down, next_up}
+use Rattle.pie_guarantees.proofs.LawfulFacts.{IsStep, along, counted-cons}
+use Rattle.pie_guarantees.proofs.NextFacts.{decays_low, next_decays}
 use Rattle.pie_guarantees.proofs.SteadyFacts.{after_both, stays_down}
 
 pub elements-is : (opening : Opening) (history : List Event) → (held_after opening history).elements ≡ opening.choices.elements
@@ -105,13 +105,18 @@ steadily delay opening before between later lawful steady =
     stays earlier event left step here so =
         let h = held_after opening earlier in
         let moved : Next delay opening.choices.elements h (held_after opening (earlier ++ event ∷ [])) (is_update (deed_of event)) =
-        subst (λ (e : Elements). Next delay e h (held_after opening (earlier ++ event ∷ [])) (is_update (deed_of event))) (elements-is opening earlier)
+        subst (λ (e : Elements). Next delay e h (held_after opening (earlier ++ event ∷ [])) (is_update (deed_of event)))
+        (elements-is opening earlier)
         (subst (λ (g : Held). Next delay h.elements h g (is_update (deed_of event))) (sym step.held)
-        (rw (update-is event.command event.answer) (same-next delay h (waiting_after opening earlier) opening.limits.packets event.command event.answer
-        here.keeps here.unreset here.active (λ is. here.delay_now (update-is event.command event.answer ∙ is))
+        (rw (update-is event.command event.answer) (same-next delay h (waiting_after opening earlier) opening.limits.packets event.command
+        event.answer here.keeps here.unreset here.active (λ is. here.delay_now (update-is event.command event.answer ∙ is))
         (λ is. here.delay_old (update-is event.command event.answer ∙ is))))) in
-        rw (moved.params, moved.prob, one-update (is_update (deed_of event)) (updates_in left) opening.choices.elements h.params delay h.control.prob,
-        ← counted-cons event left) so
+        rw (
+          moved.params,
+          moved.prob,
+          one-update (is_update (deed_of event)) (updates_in left) opening.choices.elements h.params delay h.control.prob,
+          ← counted-cons event left,
+        ) so
 
 fades-more : (x y p a b : ℕ) → x * a ≤ y * b → y * 100 ≤ p * 98 → x * (a * 100) ≤ p * (b * 98)
 fades-more x y p a b rest one =
@@ -152,3 +157,11 @@ a_tenth_is_left n elements params delay prob is many =
         let one : p * (a * 10) ≤ p * b = mul-le p (a * 10) p b (omega arith) tenth in
         let both : x * 10 * b ≤ p * b = grind (arith, one, faded) in
         le_of_mul-le-mul_right both some
+
+-- with the defaults, from 0 at twice the target, and from 1 with no delay
+pub exactly : (after_updates 162 usual default_profile 30_000_000 0 ≡ 100_178_833_003)
+    × (after_updates 161 usual default_profile 30_000_000 0 ≡ 99_241_333_003)
+    × (after_updates 87 usual default_profile 0 1_000_000_000_000 ≡ 96_421_179_148)
+    × (after_updates 86 usual default_profile 0 1_000_000_000_000 ≡ 100_263_958_315)
+unfolding after_updates next raw_step tuned_step tuning_divisor decayed
+exactly = (refl, refl, refl, refl)

@@ -1,10 +1,8 @@
 -- A weighted average lies between what it is made of.
-use Rattle.pie_guarantees.proofs.Names.{◌≡◌, ◌≤◌, ◌<◌, ◌+◌, ◌*◌, ◌-◌, ◌/◌, ℕ, List, [], ◌∷◌, refl, sym, ap, ◌∙◌, arith, length, All, fold, append-nil}
-use Rattle.pie_guarantees.proofs.Names.{All-head, All-tail, le-div, mul-le, div-le_of_le-mul, held_of, threshold-holds, Event, Opening, average_after}
-use Rattle.pie_guarantees.proofs.Names.{held_after, params_after, IsLawful}
-use Rattle.pie_rate.specs.Average.{average, average_of, averaged}
-use Rattle.pie_guarantees.specs.Rates.{IsBetween, samples_after}
-use Rattle.pie_guarantees.proofs.LawfulFacts.{sound_at}
+use Rattle.pie_guarantees.proofs.Names.{◌≡◌, ◌≤◌, ◌<◌, ◌+◌, ◌*◌, ◌-◌, ◌/◌, ℕ, List, [], ◌∷◌, refl, arith, length, All, fold}
+use Rattle.pie_guarantees.proofs.Names.{All-head, All-tail, le-div, mul-le, div-le_of_le-mul}
+use Rattle.pie_rate.specs.Average.{average_of, averaged}
+use Rattle.pie_guarantees.specs.Rates.{IsBetween}
 
 parts : (n t u : ℕ) → t + u ≡ 65536 → n * 65536 ≡ n * t + n * u
 parts n t u whole = let both : n * (t + u) ≡ n * t + n * u = grind arith in rw whole at both

@@ -1,6 +1,6 @@
 -- How the accumulated probability grows, and where it starts anew.
 use Rattle.pie_guarantees.proofs.Names.{◌≡◌, ◌≤◌, ◌<◌, ◌+◌, ◌*◌, ◌&&◌, ℕ, List, [], ◌∷◌, ◌++◌, Bool, true, false, refl, sym, ap, ◌∙◌}
-use Rattle.pie_guarantees.proofs.Names.{if◌then◌else◌, nat_lt, arith, subst, not, nat_tests, append-nil, append_assoc, Elements}
+use Rattle.pie_guarantees.proofs.Names.{if◌then◌else◌, nat_lt, arith, subst, not, nat_tests, Elements}
 use Rattle.pie_guarantees.proofs.Names.{is_capable, bytes_of, Mark, Drop, counted_as, is_considered, is_picked, joined}
 use Rattle.pie_guarantees.proofs.Names.{deed, answer_of, after_call, Held, chosen, Waiting}
 use Rattle.pie_guarantees.proofs.Names.{ArrivingPacket, Verdict, Command, Arrive, Depart, Reset, Answer, Event, Opening, arrival_of}

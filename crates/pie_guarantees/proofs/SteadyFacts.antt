@@ -1,7 +1,7 @@
 -- How far updates at one delay move the probability, by the table of auto-tuning.
-use Rattle.pie_guarantees.proofs.Names.{◌≡◌, ◌≤◌, ◌<◌, ◌+◌, ◌*◌, ◌-◌, ◌/◌, ◌^◌, ℕ, zero, suc, Bool, true, false, refl, ap, ◌∙◌, arith}
-use Rattle.pie_guarantees.proofs.Names.{subst, min, ℤ, pos, negsuc, ◌+ℤ◌, ◌-ℤ◌, ◌*ℤ◌, ◌≤ℤ◌, int_div, nat_le, int_min, nat_tests}
-use Rattle.pie_guarantees.proofs.Names.{clamps, ints, le-div, mul-le, div-mul-le_self, lt-mul-div-succ, bounded_of, default_profile, Elements, Step}
+use Rattle.pie_guarantees.proofs.Names.{◌≡◌, ◌≤◌, ◌<◌, ◌+◌, ◌*◌, ◌-◌, ◌/◌, ◌^◌, ℕ, zero, suc, false, refl, ap, ◌∙◌, arith}
+use Rattle.pie_guarantees.proofs.Names.{subst, min, ℤ, pos, negsuc, ◌+ℤ◌, ◌-ℤ◌, ◌*ℤ◌, ◌≤ℤ◌, int_div, nat_tests}
+use Rattle.pie_guarantees.proofs.Names.{clamps, ints, le-div, mul-le, div-mul-le_self, lt-mul-div-succ, bounded_of, Elements, Step}
 use Rattle.pie_guarantees.proofs.Names.{decayed, decays, next, raw_step, tuned_step, tuning_divisor, bounded_of-below, after_updates}
 use Rattle.pie_guarantees.proofs.Names.{next-hold, least_rise, untuned_fall, untuned_rise, updates_from, updates_to_a_tenth}
 use Rattle.pie_params.specs.declared.raw.RawParams.{RawParams}

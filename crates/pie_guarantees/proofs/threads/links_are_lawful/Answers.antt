@@ -5,4 +5,4 @@ pub returns : goal.returns
 unfolding KeepsOneHistory
 returns c = λ link keeps opening origin accepted in_range key key_is lock ruled free.
     let there = keeps opening origin key key_is lock ruled free in
-    (there.0, there.1, there.2.0, there.2.1, λ set. record { opens = accepted; params = in_range; set = set; legal = there.2.1.legal })
+    (there.0, there.1, (there.2.0, (there.2.1, λ set. record { opens = accepted; params = in_range; set = set; legal = there.2.1.legal })))

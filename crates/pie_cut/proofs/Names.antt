@@ -25,11 +25,9 @@ unfoldable pub use Rattle.pie_cut.specs.{chosen, event_count, events_of, excerpt
 unfoldable pub use Rattle.pie_cut.specs.{rows_text}
 unfoldable pub use Rattle.csv.specs.Reading.{strip_bom}
 pub use Rattle.pie_aqm.specs.Held.{Held}
-pub use Rattle.pie_audit.proofs.LegalFacts.{difference_here, first_difference-push, line_places-push}
-pub use Rattle.pie_audit.proofs.LegalFacts.{legal-clean, legal-of-clean}
+pub use Rattle.pie_audit.proofs.LegalFacts.{all-made, difference_here, event_count-push, first_difference-push, legal-clean, legal-of-clean}
+pub use Rattle.pie_audit.proofs.LegalFacts.{line_places-push, made-events}
 pub use Rattle.pie_audit.proofs.AuditorFacts.{event_count-append, few-events, made-count, none-before, none_of}
-pub use Rattle.pie_audit.proofs.LegalFacts.{event_count-push}
-pub use Rattle.pie_audit.proofs.LegalFacts.{all-made, made-events}
 pub use Rattle.pie_audit.specs.Begun.{FaultedBy, WholeBegun}
 pub use Rattle.pie_audit.specs.Finding.{event_in}
 pub use Rattle.pie_audit.specs.Lines.{HeardOn}

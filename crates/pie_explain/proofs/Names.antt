@@ -12,7 +12,5 @@ pub use Rattle.pie_explain.specs.{told_after, told_at, told_if, told_unless, tol
 unfoldable pub use Rattle.pie_explain.specs.{explanation, explanations_since}
 pub use Rattle.pie_explain.specs.Names.{Selection, Explanation}
 pub use Rattle.pie_record.specs.declared.clock.Clock.{Clock}
-pub use Rattle.pie_audit.proofs.AuditorFacts.{event_count-append, few-events, is-since, made-count, none-before}
-pub use Rattle.pie_audit.proofs.LegalFacts.{event_count-push, line_places-push}
-pub use Rattle.pie_audit.proofs.AuditorFacts.{none_of}
-pub use Rattle.pie_audit.proofs.LegalFacts.{place_of}
+pub use Rattle.pie_audit.proofs.AuditorFacts.{event_count-append, few-events, is-since, made-count, none-before, none_of}
+pub use Rattle.pie_audit.proofs.LegalFacts.{event_count-push, line_places-push, place_of}

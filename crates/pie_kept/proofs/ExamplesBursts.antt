@@ -1,6 +1,6 @@
 -- Bursts that were worked out by hand.
-use Rattle.pie_kept.proofs.Names.{refl, held_after, waiting_after, Command, Arrive, Depart, Answer, Empty, Bounded, Opening, Entry, Made, Reply}
-use Rattle.pie_kept.proofs.Names.{entries_to, replies_to}
+use Rattle.pie_kept.proofs.Names.{refl, held_after, waiting_after, Command, Arrive, Answer, Empty, Bounded, None, Opening, Entry, Made, Reply}
+use Rattle.pie_kept.proofs.Names.{entries_within, replies_within}
 use Rattle.std.specs.Prelude.{ℕ, ◌≡◌, List, [], ◌∷◌, Ok, Err, ⊤}
 use Rattle.pie_params.specs.Profile.{default_profile}
 use Rattle.pie_params.specs.Elements.{usual}
@@ -15,13 +15,13 @@ use Rattle.pie_book.specs.History.{effective_moment, admitted, departed_count}
 use Rattle.pie_book.specs.Shown.{shown}
 use Rattle.pie_event.specs.declared.command.Answer.TheVariants.{DroppedBytes, Enqueued, Left}
 use Rattle.pie_event.specs.declared.refusal.Refusal.TheVariants.{HistoryFull, Size}
-use Rattle.pie_kept.specs.Bursts.{always, departures, has_left}
+use Rattle.pie_kept.specs.Bursts.{always, burst_within, departures, has_left}
 
 -- all that a burst of these computes with
 unfoldable worked : Type 0
 unfolding admitted places effective_moment greatest waiting_after departed_count held_after shown held_of now_of params_of active_of
     departures_shown updates_shown arrivals_shown departures_of waited_of waited_noted delay_noted control_of early_of is_active noted noted_after last_or
-    verdict replies_to entries_to
+    verdict burst_within
 worked = ⊤
 
 -- a bounded link with room for so many events, and for packets of 1000 bytes in all
@@ -47,17 +47,17 @@ abbrev three : List Command
 three = Arrive 1 (packet 7 1500) 0 ∷ Arrive 1 (packet 8 0) 0 ∷ Arrive 1 (packet 9 1001) 0 ∷ []
 
 -- the second is refused and adds nothing, and the third is handed in all the same
-replies_to_three : replies_to always (opened 8) 1 [] three ≡ told DroppedBytes 1 ∷ Err Size ∷ told DroppedBytes 2 ∷ []
+replies_to_three : replies_within None always (opened 8) 1 [] [] three ≡ told DroppedBytes 1 ∷ Err Size ∷ told DroppedBytes 2 ∷ []
 unfolding worked
 replies_to_three = refl
 
-entries_to_three : entries_to always (opened 8) 1 [] three
+entries_to_three : entries_within None always (opened 8) 1 [] [] three
     ≡ made (Arrive 1 (packet 7 1500) 0) DroppedBytes ∷ made (Arrive 1 (packet 9 1001) 0) DroppedBytes ∷ []
 unfolding worked
 entries_to_three = refl
 
 -- where the tail has room for one event the third finds it full
-replies_where_one_fits : replies_to always (opened 1) 1 [] three ≡ told DroppedBytes 1 ∷ Err Size ∷ Err HistoryFull ∷ []
+replies_where_one_fits : replies_within None always (opened 1) 1 [] [] three ≡ told DroppedBytes 1 ∷ Err Size ∷ Err HistoryFull ∷ []
 unfolding worked
 replies_where_one_fits = refl
 
@@ -66,22 +66,12 @@ abbrev two_wait : List Entry
 two_wait = made (Arrive 1 (packet 7 500) 0) Enqueued ∷ made (Arrive 1 (packet 9 64) 0) Enqueued ∷ []
 
 -- up to five departures: both packets leave, in order, and the third departure finds the queue empty and is the last
-replies_to_departures : replies_to has_left (opened 8) 1 two_wait (departures 5 2)
+replies_to_departures : replies_within None has_left (opened 8) 1 two_wait [] (departures 5 2)
     ≡ told (Left (packet 7 500)) 3 ∷ told (Left (packet 9 64)) 4 ∷ told Empty 5 ∷ []
 unfolding worked
 replies_to_departures = refl
 
-entries_to_departures : entries_to has_left (opened 8) 1 two_wait (departures 5 2)
-    ≡ made (Depart 2) (Left (packet 7 500)) ∷ made (Depart 2) (Left (packet 9 64)) ∷ made (Depart 2) Empty ∷ []
-unfolding worked
-entries_to_departures = refl
-
--- one departure is one, whatever waits
-replies_to_one_departure : replies_to has_left (opened 8) 1 two_wait (departures 1 2) ≡ told (Left (packet 7 500)) 3 ∷ []
-unfolding worked
-replies_to_one_departure = refl
-
 -- a refused departure is the last, and adds nothing
-replies_where_all_are_refused : replies_to has_left (opened 2) 1 two_wait (departures 5 2) ≡ Err HistoryFull ∷ []
+replies_where_all_are_refused : replies_within None has_left (opened 2) 1 two_wait [] (departures 5 2) ≡ Err HistoryFull ∷ []
 unfolding worked
 replies_where_all_are_refused = refl

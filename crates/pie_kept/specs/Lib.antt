@@ -1,4 +1,3 @@
-pub mod FoldCount
 pub mod Entries
 pub mod EntryLaws
 pub mod Kept

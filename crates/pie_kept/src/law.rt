@@ -1,5 +1,5 @@
 //! The laws of a link's entries, and of a burst's budget.
-ghost use Rattle.pie_kept.specs.BudgetLaws.{BurstsNeedNoBudget, BurstsStayWithin};
+ghost use Rattle.pie_kept.specs.BudgetLaws.{BurstsStayWithin};
 ghost use Rattle.pie_kept.specs.EntryLaws.{EntriesLookBack};
 
 /// Looking back over a history that went on: its events, and what its folds handed out, are those of its beginning, and then those of the
@@ -17,12 +17,4 @@ pub fn entries_look_back()
 #[tactic(auto, using(crate::proofs::Budgets::bursts_stay_within))]
 pub fn bursts_stay_within_their_bytes()
     ensures { BurstsStayWithin }
-{}
-
-/// A burst without a budget is answered as one that knows of none.
-///
-/// It does nothing: its contract is the law, for a caller that tells bursts without speaking of budgets.
-#[tactic(auto, using(crate::proofs::Unlimited::bursts_need_no_budget))]
-pub fn bursts_need_no_budget()
-    ensures { BurstsNeedNoBudget }
 {}

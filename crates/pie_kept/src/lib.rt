@@ -10,7 +10,7 @@
 //!   hands out as many as there are into a vector that has room, and is never refused.
 //! - `answer_all` makes a burst of such commands, one after another (`replies`, `made`, `kept`), for whatever is a `Burst`: `Arrivals` and
 //!   `Departures` push their replies to a vector. With a budget the packets that depart in it come to no more bytes than that
-//!   (`bursts_stay_within_their_bytes`), and without one nothing is said of bytes (`bursts_need_no_budget`).
+//!   (`bursts_stay_within_their_bytes`).
 //! - `registers` and `stats` are the look-back over its events, and an `excerpt` is its end, with what that stands on.
 //!
 //! A refusal changes nothing. There is no thread here and no lock: pie_link puts these turns under the ruled lock of pie_lock.
@@ -19,7 +19,6 @@
 pub mod arrival;
 pub mod burst;
 pub mod entry;
-mod fold_count;
 mod kept_book;
 mod kept_bursts;
 mod law;
@@ -30,6 +29,6 @@ pub use arrival::Arrival;
 pub use burst::{Burst, Replies, Reply};
 pub use entry::Entry;
 pub use kept_book::KeptBook;
-pub use law::{bursts_need_no_budget, bursts_stay_within_their_bytes, entries_look_back};
+pub use law::{bursts_stay_within_their_bytes, entries_look_back};
 pub use told::Told;
 pub use vectors::{Arrivals, Departures};

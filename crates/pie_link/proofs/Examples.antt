@@ -1,19 +1,15 @@
 -- The link's definitions at small values that were worked out by hand.
-use Rattle.std.specs.Prelude.{ℕ, ◌≡◌, List, [], ◌∷◌, Some, None}
+use Rattle.std.specs.Prelude.{ℕ, ◌≡◌, [], ◌∷◌, Some, None}
 use Rattle.std.proofs.Common.{refl}
 use Rattle.pie_lock.specs.declared.view.Shown.{Shown}
 use Rattle.pie_lock.specs.declared.view.Place.TheVariants.{Spent, Waits, Meets}
-use Rattle.pie_event.specs.declared.command.Command.TheVariants.{Depart}
-use Rattle.pie_event.specs.declared.command.Answer.TheVariants.{Empty}
-use Rattle.pie_event.specs.declared.command.Event.{Event}
 use Rattle.pie_event.specs.declared.opening.Limits.{Limits}
 use Rattle.pie_event.specs.declared.opening.Opening.{Opening}
 use Rattle.pie_event.specs.declared.refusal.OpenRefusal.TheVariants as of_book
 use Rattle.pie_kept.specs.declared.entry.Entry.{Entry}
-use Rattle.pie_kept.specs.declared.entry.Entry.TheVariants.{Made, Folded}
 use Rattle.pie_link.specs.declared.refusal.LinkRefusal.TheVariants.{Book, NoCallers}
 use Rattle.pie_link.specs.Opening.{link_refusal}
-use Rattle.pie_link.specs.Headline.{Informed, calls_of, callers_of}
+use Rattle.pie_link.specs.Headline.{Informed, callers_of}
 
 abbrev limits : ℕ → Limits
 limits packets = record { packets = packets; tail = 8; events = 100 }
@@ -30,20 +26,6 @@ no_callers = refl
 
 allowed : link_refusal (limits 4) 0 3 ≡ None
 allowed = refl
-
--- a departure that a caller asked for where no packet waited
-abbrev asked : ℕ → Event
-asked caller = record { caller = caller; command = Depart 1; answer = Empty }
-
--- callers 0 to 2 made five events in this order, and two folds between them, of one event and of two
-abbrev history : List Entry
-history = Made (asked 0) ∷ Made (asked 1) ∷ Folded 2 1 ∷ Made (asked 2) ∷ Made (asked 1) ∷ Folded 1 2 ∷ Made (asked 0) ∷ []
-
-abbrev one_and_two : Informed
-one_and_two = record { front = []; first = 1; limit = 3 }
-
-calls_of_one_and_two : calls_of one_and_two history ≡ Made (asked 1) ∷ Folded 2 1 ∷ Made (asked 2) ∷ Made (asked 1) ∷ Folded 1 2 ∷ []
-calls_of_one_and_two = refl
 
 abbrev pass : ℕ → Shown Entry Opening
 pass first = record { front = []; first = first; limit = first; numbers = 4; origin = None }

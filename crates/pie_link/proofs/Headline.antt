@@ -1,5 +1,5 @@
 -- The headline, from the rule of the lock.
-use Rattle.std.proofs.Common.{◌≡◌, ℕ, suc, List, [], ◌∷◌, ◌++◌, refl, subst, ⊎_elim, arith}
+use Rattle.std.proofs.Common.{◌≡◌, ℕ, suc, Option, List, [], ◌∷◌, ◌++◌, refl, subst, ⊎_elim, arith}
 use Rattle.std.specs.List.{All}
 use Rattle.std.proofs.lemmas.List.Elements.{All-nil, All-cons, All-append}
 use mathlib.Core.Option.{some}
@@ -45,11 +45,12 @@ LookBack = (opening : Opening) (core : CoreView) (history : List Event) → Show
     → registers_of core ≡ registers_after opening history
 
 -- what the rule says while the lock is free
-pub while_free : LookBack → (opening : Opening) (numbers : ℕ) (lock : LockState) (history : List Entry)
-    → Agreed number_of opening numbers history lock.views
-    → WhileFree number_of (λ (kept : KeptView). kept.book.opening) IsKept opening numbers history lock
+pub while_free : LookBack → (opening : Opening) (numbers : ℕ) (lock : LockState) (history : List Entry) (holder : Option ℕ) (owner : ℕ → ℕ)
+    → Agreed number_of opening numbers history holder owner lock.views
+    → WhileFree number_of (λ (kept : KeptView). kept.book.opening) IsKept opening numbers history holder lock
     → (book : BookView) × LiesIn lock book × ((h : List Entry) × IsOneHistory opening book (callers_of lock.views) h)
-while_free look_back opening numbers lock history agreed free =
+while_free look_back opening numbers lock history holder owner agreed free =
+    let follow = λ (seat : ℕ) (view : Place Entry Opening) (at : get_elem? lock.views seat ≡ some view). (agreed.seated seat view at).follows in
     let kept = free.2.0 in
     let book = kept.book in
     let opened : book.opening ≡ opening = free.2.2 in
@@ -63,8 +64,8 @@ while_free look_back opening numbers lock history agreed free =
           opened = opened;
           told = told;
           legal = subst (λ (o : Opening). IsLegal o (events_in history)) opened told.running.legal;
-          begins = at_all (Follows number_of opening numbers history) (BeginsWith history) (λ p f. f.shown) lock.views agreed.each_follows;
-          calls = at_all (Follows number_of opening numbers history) (HasCallsOf history) (λ p f. f.owned) lock.views agreed.each_follows;
+          begins = at_all (Follows number_of opening numbers history) (BeginsWith history) (λ p f. f.shown) lock.views follow;
+          calls = at_all (Follows number_of opening numbers history) (HasCallsOf history) (λ p f. f.owned) lock.views follow;
           ends = told.tail;
           tail = subst (λ (o : Opening). book.tail ≡ tail_in o history) opened tells.tail;
           nothing_lost = subst (λ (o : Opening). o.choices.mode ≡ Bounded → handed_out o history ++ book.tail ≡ events_in history) opened
@@ -87,5 +88,5 @@ unfolding KeepsOneHistory
 keeps_one_history look_back link opening from key is lock rule free =
     let history = rule.1.0 in
     subst (λ (o : Opening). (book : BookView) × LiesIn lock book × ((h : List Entry) × IsOneHistory o book (callers_of lock.views) h)) is.opened
-    (⊎_elim (while_free look_back key.state.value.book.opening key.numbers lock history rule.1.1) (λ held. absurd (omega (arith, held.0, free)))
-    rule.1.2)
+    (⊎_elim (while_free look_back key.state.value.book.opening key.numbers lock history rule.1.1 rule.1.2 rule.1.3)
+    (λ held. absurd (omega (arith, held.0, free))) rule.1.4)

@@ -1,3 +1,2 @@
-pub mod Unlimited
 pub mod Headline
 pub mod Examples

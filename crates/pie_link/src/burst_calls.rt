@@ -8,12 +8,12 @@ ghost use Rattle.pie_link.specs.Bursts.{AnswersAll, AnswersWithin, TriesToAnswer
 ghost use Rattle.pie_link.specs.Views.{StaysOne, WasBusy};
 ghost use Rattle.pie_link.specs.declared.told.Tried.TheVariants.{Busy};
 
-use crate::burst_turn;
 use crate::caller::Caller;
 use crate::link::Link;
 use crate::told::{NoRoom, Tried};
+use crate::turn;
 use core::mem::{replace, replace_with};
-use pie_kept::{Arrival, Arrivals, Burst, Departures, Replies, bursts_need_no_budget};
+use pie_kept::{Arrival, Arrivals, Burst, Departures, Replies};
 use std::sync::Wait;
 
 // Whether a vector has room for so many more.
@@ -38,7 +38,7 @@ impl Link {
         replace_with(
             &mut caller.pass,
             (self, rt, burst),
-            burst_turn::wait_and_answer_all,
+            turn::wait_and_answer_all,
         )
     }
 
@@ -69,7 +69,7 @@ impl Link {
         replace_with(
             &mut caller.pass,
             (self, budget, burst),
-            burst_turn::try_answer_all,
+            turn::try_answer_all,
         )
     }
 
@@ -98,7 +98,6 @@ impl Link {
         if !has_room(answers, arrivals.len()) {
             return Err(NoRoom);
         }
-        bursts_need_no_budget();
         let replies = replace(answers, Vec::new(self.alloc));
         let burst = Arrivals { arrivals, replies };
         *answers = self.answer_all(rt, caller, burst).replies;
@@ -129,7 +128,6 @@ impl Link {
         if !has_room(answers, arrivals.len()) {
             return Err(Tried::Refused(NoRoom));
         }
-        bursts_need_no_budget();
         let replies = replace(answers, Vec::new(self.alloc));
         let burst = Arrivals { arrivals, replies };
         match self.try_answer_all(caller, None, burst) {
@@ -171,7 +169,6 @@ impl Link {
         if !has_room(answers, most) {
             return Err(NoRoom);
         }
-        bursts_need_no_budget();
         let replies = replace(answers, Vec::new(self.alloc));
         let burst = Departures {
             moment,

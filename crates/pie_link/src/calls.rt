@@ -2,21 +2,24 @@
 //!
 //! Moments are nanoseconds from a start of the callers' choosing, at most `2^60 - 1`. Between calls of two callers it is
 //! the lock that decides which comes first.
-ghost use Rattle.std.specs.Prelude.{◌≡◌};
+ghost use Rattle.std.specs.Prelude.{◌≡◌, ◌+◌, ◌-◌, ◌≤◌, min, vec_capacity, vec_len};
 ghost use Rattle.pie_event.specs.declared.command.Command.TheVariants.{Arrive, Depart, Update, Reset, SetParams};
 ghost use Rattle.pie_book.specs.Registers.{registers_after};
 ghost use Rattle.pie_book.specs.Statistics.{stats_after};
 ghost use Rattle.pie_link.specs.Commands.{Answers, TriesToAnswer};
-ghost use Rattle.pie_link.specs.Folds.{Folds, TriesToFold};
+ghost use Rattle.pie_link.specs.Folds.{Folds, TriesToFold, TriesToFoldInto};
 ghost use Rattle.pie_link.specs.Readings.{Reads, TriesToRead};
 ghost use Rattle.pie_link.specs.Views.{StaysOne};
+ghost use Rattle.pie_link.specs.Excerpts.{FillsExcerpt, TriesToFillExcerpt};
 
 use crate::caller::Caller;
 use crate::link::Link;
 use crate::told::{Told, Tried};
 use crate::turn;
-use core::mem::replace_with;
-use pie_book::{Answer, Command, FoldRefusal, Recorded, Refusal, Registers, Stats};
+use core::mem::{replace, replace_with};
+use pie_book::{
+    Answer, Command, Excerpt, FoldRefusal, Recorded, Refusal, Registers, Stats, TooSmall,
+};
 use pie_params::Params;
 use pie_queue::Packet;
 use std::sync::Wait;
@@ -254,6 +257,36 @@ impl Link {
         replace_with(&mut caller.pass, (self, rt, n), turn::wait_and_fold)
     }
 
+    /// Hands out the oldest events of the book's tail, oldest first, behind others in a vector: up to `most`, as many as there is room for, and
+    /// none after one that sets parameters. The history stays as it was, and so do all later answers but `HistoryFull`. It never blocks and takes
+    /// no memory, and a tail with no events is no refusal: there are none then.
+    ///
+    /// # Errors
+    ///
+    /// `Busy` alone, where another caller has the book.
+    pub fn try_fold_into(
+        &self,
+        caller: &mut Caller,
+        most: usize,
+        events: &mut Vec<Recorded>,
+    ) -> Result<(), Tried<Refusal>>
+        requires own { caller.old.lock ≡ self.now }
+        ensures folded { TriesToFoldInto self.now caller.old (min most (vec_capacity events.old - vec_len events.old)) result events.old.items
+            events.new.items caller.new }
+        ensures within { vec_len events.new ≤ vec_len events.old + most }
+        ensures capacity { vec_capacity events.new ≡ vec_capacity events.old }
+        ensures stays { StaysOne caller.old caller.new }
+    {
+        let mine = replace(events, Vec::new(self.alloc));
+        let (mine, result) = replace_with(
+            &mut caller.pass,
+            (self, most, mine),
+            turn::try_fold_into,
+        );
+        *events = mine;
+        result
+    }
+
     /// What the book holds. It never blocks.
     ///
     /// # Errors
@@ -296,5 +329,49 @@ impl Link {
         ensures stays { StaysOne caller.old caller.new }
     {
         replace_with(&mut caller.pass, (self, rt), turn::wait_and_read)
+    }
+
+    /// Copies all events that the book keeps into an excerpt, with what they stand on: at least those of the tail. The book is held for no
+    /// longer than the copying takes, and the call takes no memory. The history stays as it was. It waits while another caller has the book.
+    ///
+    /// # Errors
+    ///
+    /// `TooSmall` exactly where the excerpt has less room than a book with the link's limits may need (`Excerpt::with_room`); it is as it
+    /// was then.
+    pub fn excerpt<R: Wait>(
+        &self,
+        rt: &R,
+        caller: &mut Caller,
+        excerpt: &mut Excerpt,
+    ) -> Result<(), TooSmall>
+        requires own { caller.old.lock ≡ self.now }
+        ensures filled { FillsExcerpt self.now caller.old result excerpt.old excerpt.new caller.new }
+        ensures stays { StaysOne caller.old caller.new }
+    {
+        let asked = (self, rt, excerpt.take(self.alloc));
+        let (mine, result) = replace_with(&mut caller.pass, asked, turn::wait_and_fill);
+        *excerpt = mine;
+        result
+    }
+
+    /// The same as `excerpt`, where no other caller has the book. It never blocks.
+    ///
+    /// # Errors
+    ///
+    /// `Busy` where another caller has the book; `Refused` with `TooSmall` exactly where the excerpt has less room than a book with the
+    /// link's limits may need. It is as it was then.
+    pub fn try_excerpt(
+        &self,
+        caller: &mut Caller,
+        excerpt: &mut Excerpt,
+    ) -> Result<(), Tried<TooSmall>>
+        requires own { caller.old.lock ≡ self.now }
+        ensures filled { TriesToFillExcerpt self.now caller.old result excerpt.old excerpt.new caller.new }
+        ensures stays { StaysOne caller.old caller.new }
+    {
+        let asked = (self, excerpt.take(self.alloc));
+        let (mine, result) = replace_with(&mut caller.pass, asked, turn::try_fill);
+        *excerpt = mine;
+        result
     }
 }

@@ -22,13 +22,8 @@
 #![tactic(auto)]
 
 mod burst_calls;
-mod burst_turn;
 pub mod caller;
 mod calls;
-mod excerpt_calls;
-mod excerpt_turn;
-mod fold_calls;
-mod fold_turn;
 pub mod link;
 pub mod refusal;
 pub mod told;

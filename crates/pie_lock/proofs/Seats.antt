@@ -1,9 +1,26 @@
--- The views of the seats against one history, as one of them changes or a new one comes.
-use Rattle.pie_lock.proofs.Names.{◌≡◌, ◌≢◌, ℕ, zero, suc, ◌<◌, ◌⊎◌, List, [], ◌∷◌, ◌++◌, length, set, refl, ap, sym, ◌∙◌, subst, inl, inr, ⊎_elim}
-use Rattle.pie_lock.proofs.Names.{All, some, some-injective, some-ne-none, get_elem?, at_set, set_else, Shown, Place, Holds, IsNumberAt, EachPass}
-use Rattle.pie_lock.proofs.Names.{Follows, Agreed}
-use Rattle.std.proofs.Common.{◌↔◌}
-use Rattle.atomic_table.proofs.Lists.{at_longer}
+-- The seats against one history: what a pass follows, as its numbers are cut, as the history grows, and as two passes become one.
+use Rattle.std.proofs.Common.{◌≡◌, ◌≢◌, ℕ, zero, suc, ◌<◌, ◌≤◌, ◌⊎◌, Bool, true, false, cond, Option, List, [], ◌∷◌, ◌++◌, length, get_or, min, max, set, refl}
+use Rattle.std.proofs.Common.{ap, sym, subst, ◌∙◌, inl, inr, ⊎_elim, arith, append_assoc}
+use Rattle.std.proofs.Math.Dec.{ltb}
+use Rattle.std.proofs.lemmas.Bool.{false_from_ne_true}
+use Rattle.std.proofs.lemmas.Bool.Decides.{nat_tests}
+use Rattle.std.proofs.lemmas.List.{append-nil}
+use Rattle.std.proofs.lemmas.List.Elements.{All-append}
+use Rattle.std.specs.List.{All}
+use Rattle.atomic_table.proofs.Lists.{at_set, set_else}
+use lib.ListN.{get_elem?}
+use mathlib.Core.Logic.{dite}
+use mathlib.Core.Option.{some, some-injective, some-ne-none}
+use native.Mathlib.Decide.{dec_le}
+use Rattle.pie_lock.specs.Own.{is_within}
+use Rattle.pie_lock.specs.Rule.{Agreed, EachPass, Follows, IsNumberAt, IsNumberOf, IsSeated}
+use Rattle.pie_lock.specs.Steps.{AreAdjacent, GoesOn, HasAll, longer, made_one, with_front, with_numbers}
+use Rattle.pie_lock.specs.declared.view.Place.{Place}
+use Rattle.pie_lock.specs.declared.view.Place.TheVariants.{Holds, Meets, Spent, Waits}
+use Rattle.pie_lock.specs.declared.view.Shown.{Shown}
+use Rattle.pie_lock.proofs.Owns.{NoneOwn, all_parts, between, goes_on, goes_on_itself, gone_on}
+
+-- ---- places of lists
 
 module _ {A : Type 0} where
   -- a place that has an element has the new one once it is set
@@ -12,73 +29,177 @@ module _ {A : Type 0} where
   set_at (x ∷ xs) zero a b e = refl
   set_at (x ∷ xs) (suc i) a b e = set_at xs i a b e
 
+  -- .. and another place keeps its own
+  pub set_beside : (l : List A) (i j : ℕ) (a b c : A) → get_elem? l i ≡ some b → get_elem? l j ≡ some c → (b ≡ c → ⊥) → get_elem? (set l i a) j ≡ some c
+  set_beside l i j a b c at there other =
+      set_else l i j a (λ is. other (some-injective b c (sym at ∙ (ap (get_elem? l) (sym is) ∙ there)))) ∙ there
+
   -- an element of a list one longer is one of the list, or the last
-  pub at_end : (l : List A) (a b : A) (j : ℕ) → get_elem? (l ++ a ∷ []) j ≡ some b → (get_elem? l j ≡ some b) ⊎ ((j ≡ length l) × (a ≡ b))
+  at_end : (l : List A) (a b : A) (j : ℕ) → get_elem? (l ++ a ∷ []) j ≡ some b → (get_elem? l j ≡ some b) ⊎ ((j ≡ length l) × (a ≡ b))
   at_end [] a b zero e = inr (refl, some-injective a b e)
   at_end [] a b (suc j) e = absurd (some-ne-none b (sym e))
   at_end (x ∷ xs) a b zero e = inl e
   at_end (x ∷ xs) a b (suc j) e = ⊎_elim inl (λ t. inr (ap suc t.0, t.1)) (at_end xs a b j e)
 
-module _ {E O : Type 0} where
-  -- the seat does not have the state
-  abbrev pub IsNoHolder : Place E O → Type 0
-  IsNoHolder v = (q : Shown E O) → v ≡ Holds q → ⊥
+-- ---- numbers of ranges
 
-  -- the same seats have the state
-  abbrev pub HoldAlike : List (Place E O) → List (Place E O) → Type 0
-  HoldAlike views next = (seat : ℕ) (q : Shown E O) → (get_elem? next seat ≡ some (Holds q)) ↔ (get_elem? views seat ≡ some (Holds q))
+-- a number between two adjacent ranges' ends is in one of them
+pub in_either : (a b c d n : ℕ) → (b ≡ c) ⊎ (d ≡ a) → a < b → c < d → min a c ≤ n → n < max b d → ((a ≤ n) × (n < b)) ⊎ ((c ≤ n) × (n < d))
+in_either a b c d n adjacent left right low high =
+    ⊎_elim
+    (λ e. dite (dec_le b n) (λ after. inr (omega arith, omega arith)) (λ before. inl (omega arith, omega arith)))
+    (λ e. dite (dec_le d n) (λ after. inl (omega arith, omega arith)) (λ before. inr (omega arith, omega arith)))
+    adjacent
 
-  pub alike_both : (views some_more all : List (Place E O)) → HoldAlike views some_more → HoldAlike some_more all → HoldAlike views all
-  alike_both views some_more all a b = λ seat q. ((λ e. (a seat q).0 ((b seat q).0 e)), (λ e. (b seat q).1 ((a seat q).1 e)))
+-- a number that is in neither is not between their ends
+in_neither : (a b c d n : ℕ) → (b ≡ c) ⊎ (d ≡ a) → a < b → c < d → is_within a b n ≡ false → is_within c d n ≡ false
+    → is_within (min a c) (max b d) n ≡ false
+in_neither a b c d n adjacent left right p q =
+    false_from_ne_true (is_within (min a c) (max b d) n) (λ t.
+    let low : min a c ≤ n = grind (arith, nat_tests) in
+    let high : n < max b d = grind (arith, nat_tests) in
+    ⊎_elim (λ u. let v = u.0 in let w = u.1 in grind (arith, nat_tests)) (λ u. let v = u.0 in let w = u.1 in grind (arith, nat_tests))
+    (in_either a b c d n adjacent left right low high))
 
-  pub alike_set : (views : List (Place E O)) (id : ℕ) (v w : Place E O) → get_elem? views id ≡ some v → IsNoHolder v → IsNoHolder w
-      → HoldAlike views (set views id w)
-  alike_set views id v w at old new = λ seat q. (
-    (λ e. ⊎_elim (λ t. absurd (new q t.1)) (λ t. t.1) (at_set views id seat w (Holds q) e)),
-    (λ e. set_else views id seat w (λ h. old q (some-injective v (Holds q) (sym at ∙ (ap (get_elem? views) (sym h) ∙ e)))) ∙ e),
-  )
+in_fewer : (a b first limit n : ℕ) → a ≤ first → limit ≤ b → is_within a b n ≡ false → is_within first limit n ≡ false
+in_fewer a b first limit n low high out = grind (arith, nat_tests)
 
-  pub alike_longer : (views : List (Place E O)) (w : Place E O) → IsNoHolder w → HoldAlike views (views ++ w ∷ [])
-  alike_longer views w new = λ seat q. (
-    (λ e. ⊎_elim (λ t. t) (λ t. absurd (new q t.1)) (at_end views w (Holds q) seat e)),
-    at_longer views (w ∷ []) seat (Holds q),
-  )
+is_other : (first limit k n : ℕ) → n ≡ k → ((first ≤ k) × (k < limit) → ⊥) → is_within first limit n ≡ false
+is_other first limit k n is not =
+    false_from_ne_true (is_within first limit n) (λ t.
+    not (let low : first ≤ n = grind (arith, nat_tests) in let high : n < limit = grind (arith, nat_tests) in (omega arith, omega arith)))
 
 module _ {E O : Type 0} (number : E → ℕ) (origin : O) (numbers : ℕ) where
-  -- a seat's view changes, and perhaps the history and whose the numbers are, so that each pass still follows it
-  pub agreed_by : (owner : ℕ → ℕ) (next : List E) (views : List (Place E O)) (id : ℕ) (w : Place E O)
-      → EachPass (Follows number origin numbers next) w → ((n : ℕ) → IsNumberAt w n → owner n ≡ id)
-      → ((j : ℕ) (u : Place E O) → j ≢ id → get_elem? views j ≡ some u
-      → EachPass (Follows number origin numbers next) u × ((n : ℕ) → IsNumberAt u n → owner n ≡ j))
-      → All (λ e. number e < numbers) next → Agreed number origin numbers next (set views id w)
-  agreed_by owner next views id w mine own others below = record {
-    each_follows = λ j u e. ⊎_elim (λ t. subst (EachPass (Follows number origin numbers next)) t.1 mine) (λ t. (others j u t.0 t.1).0)
-        (at_set views id j w u e);
-    owner = owner;
-    owned = λ j u n e nu. ⊎_elim (λ t. own n (subst (λ y. IsNumberAt y n) (sym t.1) nu) ∙ sym t.0) (λ t. (others j u t.0 t.1).1 n nu)
-        (at_set views id j w u e);
+  abbrev Fits : List E → Shown E O → Type 0
+  Fits history p = Follows number origin numbers history p
+
+  -- ---- one pass
+
+  -- a pass that knows of the lock what this one knows
+  follows : (history next : List E) (p q : Shown E O) → Fits history p → q.numbers ≡ p.numbers → q.origin ≡ p.origin
+      → GoesOn number q.first q.limit q.front next → q.first < q.limit → q.limit ≤ numbers → Fits next q
+  follows history next p q f same from on left low = record {
+    shown = on.0;
+    owned = on.1;
+    nonempty = left;
+    below = low;
+    of_all = same ∙ f.of_all;
+    of_origin = from ∙ f.of_origin;
+  }
+
+  -- a pass with some of the numbers
+  pub follows_fewer : (history : List E) (p : Shown E O) (first limit : ℕ) → Fits history p → p.first ≤ first → limit ≤ p.limit → first < limit
+      → Fits history (with_numbers p first limit)
+  follows_fewer history p first limit f low high some_left =
+      let on = gone_on number p.first p.limit p.front history (f.shown, f.owned) in
+      follows history history p (with_numbers p first limit) f refl refl
+      (goes_on number first limit p.front on.0 history on.1
+      (λ k d within. in_fewer p.first p.limit first limit (number (get_or on.0 k d)) low high (on.2 k d within))) some_left
+      (let b = f.below in omega arith)
+
+  -- a pass whose front is the whole history
+  pub follows_whole : (history : List E) (p : Shown E O) → Fits history p → (next : List E) → Fits next (with_front p next)
+  follows_whole history p f next =
+      follows history next p (with_front p next) f refl refl (goes_on_itself number p.first p.limit next) f.nonempty f.below
+
+  -- with all numbers it has been shown all
+  pub all_shown : (history : List E) (p : Shown E O) → Fits history p → All (λ e. number e < numbers) history → HasAll p → history ≡ p.front
+  all_shown history p f low all =
+      let on = gone_on number p.first p.limit p.front history (f.shown, f.owned) in
+      let rest_low = all_parts (λ e. number e < numbers) p.front on.0 (subst (All (λ e. number e < numbers)) (sym on.1) low) in
+      sym on.1 ∙ (ap (λ l. p.front ++ l) (nothing on.0 on.2 rest_low.1) ∙ append-nil p.front)
+    where
+      nothing : (rest : List E) → NoneOwn number p.first p.limit rest → All (λ e. number e < numbers) rest → rest ≡ []
+      nothing [] none below = refl
+      nothing (e ∷ rest) none below =
+          let out : is_within p.first p.limit (number e) ≡ false = none 0 e (omega arith) in
+          let less : number e < numbers = below 0 e (omega arith) in
+          let a = all.0 in let b = all.1 in let c = f.of_all in absurd (grind (arith, nat_tests))
+
+  -- the history grows by entries that are not of the pass
+  follows_longer : (history : List E) (k : ℕ) (p : Shown E O) (added : List E) → All (λ e. number e ≡ k) added → Fits history p
+      → (IsNumberOf p k → ⊥) → Fits (history ++ added) p
+  follows_longer history k p added is f not =
+      let on = gone_on number p.first p.limit p.front history (f.shown, f.owned) in
+      follows history (history ++ added) p p f refl refl
+      (goes_on number p.first p.limit p.front (on.0 ++ added) (history ++ added)
+      (sym (append_assoc p.front on.0 added) ∙ ap (λ l. l ++ added) on.1)
+      (All-append (λ e. is_within p.first p.limit (number e) ≡ false) on.0 added on.2
+      (λ i d within. is_other p.first p.limit k (number (get_or added i d)) (is i d within) not))) f.nonempty f.below
+
+  pub each_longer : (history : List E) (k : ℕ) (u : Place E O) (added : List E) → All (λ e. number e ≡ k) added
+      → EachPass (Follows number origin numbers history) u → (IsNumberAt u k → ⊥)
+      → EachPass (Follows number origin numbers (history ++ added)) u
+  each_longer history k Spent added is f not = tt
+  each_longer history k (Waits p) added is f not = follows_longer history k p added is f not
+  each_longer history k (Holds p) added is f not = follows_longer history k p added is f not
+  each_longer history k (Meets p q) added is f not =
+      (follows_longer history k p added is f.0 (λ h. not (inl h)), follows_longer history k q added is f.1 (λ h. not (inr h)))
+
+  pub below_longer : (history : List E) (k : ℕ) (added : List E) → All (λ e. number e ≡ k) added → k < numbers
+      → All (λ e. number e < numbers) history
+      → All (λ e. number e < numbers) (history ++ added)
+  below_longer history k added is low all =
+      All-append (λ e. number e < numbers) history added all (λ i d within. let mine = is i d within in omega arith)
+
+  -- ---- two passes
+
+  -- of two fronts the longer goes on from the shorter, and the history from the longer, under the numbers of both
+  longer_facts : (history : List E) (p q : Shown E O) → Fits history p → Fits history q → AreAdjacent p q → length p.front ≤ length q.front
+      → GoesOn number (min p.first q.first) (max p.limit q.limit) q.front history × GoesOn number p.first p.limit p.front q.front
+  longer_facts history p q f g adjacent less =
+      let a = gone_on number p.first p.limit p.front history (f.shown, f.owned) in
+      let b = gone_on number q.first q.limit q.front history (g.shown, g.owned) in
+      let m = between p.front a.0 q.front b.0 (a.1 ∙ sym b.1) less in
+      let out = all_parts (λ e. is_within p.first p.limit (number e) ≡ false) m.0 b.0 (subst (NoneOwn number p.first p.limit) m.2 a.2) in (
+        goes_on number (min p.first q.first) (max p.limit q.limit) q.front b.0 history b.1
+            (λ k d within. in_neither p.first p.limit q.first q.limit (number (get_or b.0 k d)) adjacent f.nonempty g.nonempty (out.1 k d within)
+            (b.2 k d within)),
+        goes_on number p.first p.limit p.front m.0 q.front m.1 out.0,
+      )
+
+  -- two passes with adjacent ranges become one, and each front goes on to the longer
+  pub follows_both : (history : List E) (p q : Shown E O) → Fits history p → Fits history q → AreAdjacent p q
+      → Fits history (made_one p q) × GoesOn number p.first p.limit p.front (longer p.front q.front)
+      × GoesOn number q.first q.limit q.front (longer p.front q.front)
+  follows_both history p q f g adjacent =
+      let on = by_length (ltb (length p.front) (length q.front)) refl in
+      let low = f.nonempty in let high = g.nonempty in let a = f.below in let b = g.below in
+      (follows history history p (made_one p q) f refl refl on.0 (omega arith) (omega arith), on.1, on.2)
+    where
+      by_length : (b : Bool) → ltb (length p.front) (length q.front) ≡ b
+          → GoesOn number (min p.first q.first) (max p.limit q.limit) (cond b q.front p.front) history
+          × GoesOn number p.first p.limit p.front (cond b q.front p.front) × GoesOn number q.first q.limit q.front (cond b q.front p.front)
+      by_length true is =
+          let l = longer_facts history p q f g adjacent (grind (arith, nat_tests)) in (l.0, l.1, goes_on_itself number q.first q.limit q.front)
+      by_length false is =
+          let l = longer_facts history q p g f (⊎_elim inr inl adjacent) (grind (arith, nat_tests)) in
+          let from : min q.first p.first ≡ min p.first q.first = omega arith in
+          let to : max q.limit p.limit ≡ max p.limit q.limit = omega arith in
+          (rw (from, to) at l.0, goes_on_itself number p.first p.limit p.front, l.1)
+
+  -- ---- all seats
+
+  -- one seat's view changes, and perhaps the history, who has the state, and whose the numbers are
+  pub agreed_set : (next : List E) (holder : Option ℕ) (owner : ℕ → ℕ) (views : List (Place E O)) (id : ℕ) (w : Place E O)
+      → IsSeated number origin numbers next holder owner id w
+      → ((j : ℕ) (u : Place E O) → j ≢ id → get_elem? views j ≡ some u → IsSeated number origin numbers next holder owner j u)
+      → All (λ e. number e < numbers) next → Agreed number origin numbers next holder owner (set views id w)
+  agreed_set next holder owner views id w mine others below = record {
+    seated = λ j u e. ⊎_elim
+        (λ t. subst (λ (v : Place E O). IsSeated number origin numbers next holder owner j v) t.1
+        (subst (λ (k : ℕ). IsSeated number origin numbers next holder owner k w) (sym t.0) mine))
+        (λ t. others j u t.0 t.1) (at_set views id j w u e);
     entries_below = below;
   }
 
-  -- .. where it has only numbers that it had
-  pub agreed_set : (history next : List E) (views : List (Place E O)) (id : ℕ) (v w : Place E O) → Agreed number origin numbers history views
-      → get_elem? views id ≡ some v → ((n : ℕ) → IsNumberAt w n → IsNumberAt v n) → EachPass (Follows number origin numbers next) w
-      → ((j : ℕ) (u : Place E O) → j ≢ id → get_elem? views j ≡ some u → EachPass (Follows number origin numbers next) u)
-      → All (λ e. number e < numbers) next → Agreed number origin numbers next (set views id w)
-  agreed_set history next views id v w agreed at fewer mine others below =
-      agreed_by agreed.owner next views id w mine (λ n nw. agreed.owned id v n at (fewer n nw))
-      (λ j u ne e. (others j u ne e, λ n nu. agreed.owned j u n e nu)) below
-
   -- a new seat comes
-  pub agreed_longer : (owner : ℕ → ℕ) (history : List E) (views : List (Place E O)) (w : Place E O) → Agreed number origin numbers history views
-      → EachPass (Follows number origin numbers history) w → ((n : ℕ) → IsNumberAt w n → owner n ≡ length views)
-      → ((j : ℕ) (u : Place E O) (n : ℕ) → get_elem? views j ≡ some u → IsNumberAt u n → owner n ≡ j)
-      → Agreed number origin numbers history (views ++ w ∷ [])
-  agreed_longer owner history views w agreed mine own others = record {
-    each_follows = λ j u e. ⊎_elim (λ t. agreed.each_follows j u t) (λ t. subst (EachPass (Follows number origin numbers history)) t.1 mine)
-        (at_end views w u j e);
-    owner = owner;
-    owned = λ j u n e nu. ⊎_elim (λ t. others j u n t nu) (λ t. own n (subst (λ y. IsNumberAt y n) (sym t.1) nu) ∙ sym t.0)
-        (at_end views w u j e);
+  pub agreed_longer : (history : List E) (holder : Option ℕ) (owner : ℕ → ℕ) (views : List (Place E O)) (w : Place E O)
+      → Agreed number origin numbers history holder owner views → IsSeated number origin numbers history holder owner (length views) w
+      → Agreed number origin numbers history holder owner (views ++ w ∷ [])
+  agreed_longer history holder owner views w agreed new = record {
+    seated = λ j u e. ⊎_elim (agreed.seated j u)
+        (λ t. subst (λ (v : Place E O). IsSeated number origin numbers history holder owner j v) t.1
+        (subst (λ (k : ℕ). IsSeated number origin numbers history holder owner k w) (sym t.0) new)) (at_end views w u j e);
     entries_below = agreed.entries_below;
   }

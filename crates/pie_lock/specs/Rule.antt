@@ -1,6 +1,6 @@
 -- The rule of the lock, in plain data.
 -- A history is a list of entries. Each pass has a front, the list that its holder has been shown, and a range of numbers.
-use Rattle.std.specs.Prelude.{◌≡◌, ℕ, ◌<◌, ◌≤◌, ◌⊎◌, List, [], Option, Some, length, slice_index, All}
+use Rattle.std.specs.Prelude.{◌≡◌, ℕ, ◌<◌, ◌≤◌, ◌⊎◌, List, [], Option, Some, None, length, slice_index, All}
 use mathlib.Core.List.{IsPrefix}
 use mathlib.Core.Option.{none, some}
 use lib.ListN.{get_elem?}
@@ -43,37 +43,37 @@ module _ {E O : Type 0} where
     pub of_all : p.numbers ≡ numbers
     pub of_origin : p.origin ≡ Some origin
 
-  -- the views of the seats against one history: each pass follows it, no number belongs to two seats, and each entry
+  -- what holds of a seat that knows this: each of its passes follows the history, it has its numbers alone, and, where it has the state, its front is
+  -- the history. `owner` says to which seat a number belongs, and `holder` which one has the state
+  pub record IsSeated (number : E → ℕ) (origin : O) (numbers : ℕ) (history : List E) (holder : Option ℕ) (owner : ℕ → ℕ) (seat : ℕ)
+      (view : Place E O) : Type 0 where
+    pub follows : EachPass (Follows number origin numbers history) view
+    pub owned : (n : ℕ) → IsNumberAt view n → owner n ≡ seat
+    pub holds : (p : Shown E O) → view ≡ Holds p → (holder ≡ Some seat) × (p.front ≡ history)
+
+  -- the views of the seats against one history: each pass follows it, no number belongs to two seats, no two have the state, and each entry
   -- stands under a number that the lock has
-  pub record Agreed (number : E → ℕ) (origin : O) (numbers : ℕ) (history : List E) (views : List (Place E O)) : Type 0 where
-    pub each_follows : (seat : ℕ) (view : Place E O) → get_elem? views seat ≡ some view → EachPass (Follows number origin numbers history) view
-    pub owner : ℕ → ℕ
-    pub owned : (seat : ℕ) (view : Place E O) (n : ℕ) → get_elem? views seat ≡ some view → IsNumberAt view n → owner n ≡ seat
+  pub record Agreed (number : E → ℕ) (origin : O) (numbers : ℕ) (history : List E) (holder : Option ℕ) (owner : ℕ → ℕ)
+      (views : List (Place E O)) : Type 0 where
+    pub seated : (seat : ℕ) (view : Place E O) → get_elem? views seat ≡ some view → IsSeated number origin numbers history holder owner seat view
     pub entries_below : All (λ e. number e < numbers) history
 
-  -- no seat has the state
-  abbrev pub NoneHolds : List (Place E O) → Type 0
-  NoneHolds views = (seat : ℕ) (p : Shown E O) → get_elem? views seat ≡ some (Holds p) → ⊥
-
-  -- one seat has the state, and its front is this history
-  abbrev pub OneHolds : List E → List (Place E O) → Type 0
-  OneHolds history views =
-      (holder : ℕ) × (p : Shown E O) × (get_elem? views holder ≡ some (Holds p)) × (p.front ≡ history)
-      × ((seat : ℕ) (q : Shown E O) → get_elem? views seat ≡ some (Holds q) → seat ≡ holder)
-
 module _ {S E O : Type 0} (number : E → ℕ) (origin_of : S → O) (tells : S → List E → Type 0) (origin : O) (numbers : ℕ) where
-  -- while the word is FREE: the state is in the slot, has the lock's origin and tells the history
-  abbrev pub WhileFree : List E → State (Option S) (Place E O) → Type 0
-  WhileFree history s =
-      (slice_index s.words 0 ≡ 0) × NoneHolds s.views
+  -- while the word is FREE: no seat has the state, which is in the slot, has the lock's origin and tells the history
+  abbrev pub WhileFree : List E → Option ℕ → State (Option S) (Place E O) → Type 0
+  WhileFree history holder s =
+      (slice_index s.words 0 ≡ 0) × (holder ≡ None)
       × ((stored : S) × (get_elem? s.homes 0 ≡ some (some (Some stored))) × (origin_of stored ≡ origin) × tells stored history)
 
-  -- while it is HELD: the slot is out to one seat, whose front is the history
-  abbrev pub WhileHeld : List E → State (Option S) (Place E O) → Type 0
-  WhileHeld history s = (slice_index s.words 0 ≡ 1) × OneHolds history s.views × (get_elem? s.homes 0 ≡ some none)
+  -- while it is HELD: the slot is out, and one seat has the state
+  abbrev pub WhileHeld : Option ℕ → State (Option S) (Place E O) → Type 0
+  WhileHeld holder s =
+      (slice_index s.words 0 ≡ 1) × ((seat : ℕ) × (p : Shown E O) × (holder ≡ Some seat) × (get_elem? s.views seat ≡ some (Holds p)))
+      × (get_elem? s.homes 0 ≡ some none)
 
   -- there is one history, which agrees with all live passes
   abbrev pub Ruled : State (Option S) (Place E O) → Type 0
   Ruled s =
       (length s.words ≡ 1)
-      × ((history : List E) × Agreed number origin numbers history s.views × (WhileFree history s ⊎ WhileHeld history s))
+      × ((history : List E) × (holder : Option ℕ) × (owner : ℕ → ℕ) × Agreed number origin numbers history holder owner s.views
+      × (WhileFree history holder s ⊎ WhileHeld holder s))

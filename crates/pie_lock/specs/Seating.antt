@@ -6,7 +6,7 @@ use Rattle.atomic_table.specs.declared.shared.Seat.{Seat}
 use Rattle.pie_lock.specs.declared.view.Shown.{Shown}
 use Rattle.pie_lock.specs.declared.view.Place.{Place}
 use Rattle.pie_lock.specs.declared.view.Place.TheVariants.{Waits, Holds}
-use Rattle.pie_lock.specs.Steps.{pass_at, made_one, longer, GoesOn}
+use Rattle.pie_lock.specs.Steps.{pass_at}
 use Rattle.pie_lock.specs.Views.{LockView, PassView, HeldView}
 
 module _ {E O : Type 0} where
@@ -50,11 +50,3 @@ pub record IsLeaving {S E O : Type 0} (number : E → ℕ) (origin_of : S → O)
 -- the seat has a pass, and no slot
 abbrev pub IsIdle : {S E O : Type 0} → Me (Option S) (Place E O) → Type 0
 IsIdle {S} {E} {O} me = ◌≡◌ {A = Me (Option S) (Place E O)} me (Waits (pass_at me.0), [])
-
--- one seat made of two: it has one pass of their two, and the longer front goes on where each of theirs ends
-abbrev pub IsMerged : {S E O : Type 0} → (E → ℕ) → Me (Option S) (Place E O) → Me (Option S) (Place E O) → Me (Option S) (Place E O) → Type 0
-IsMerged {S} {E} {O} number one other made =
-    let p = pass_at one.0 in let q = pass_at other.0 in
-    ((◌≡◌ {A = Me (Option S) (Place E O)} made (Waits (made_one p q), []))
-    × GoesOn number p.first p.limit p.front (longer p.front q.front)
-    × GoesOn number q.first q.limit q.front (longer p.front q.front))

@@ -96,10 +96,13 @@ module _ {S E O : Type 0} where
   freed added step before found after =
       after ≡ (Waits (with_front (pass_at before.0) ((pass_at before.0).front ++ added)), [])
 
-  -- the load after two seats were joined: of the two fronts the one goes on where the other ends, and the seat has one pass
-  abbrev pub merged : (E → ℕ) → Step (Option S) → Me (Option S) (Place E O) → ℕ → Me (Option S) (Place E O) → Type 0
-  merged number step before found after =
-      let p = pass_at before.0 in let q = other_at before.0 in
-      ((after ≡ (Waits (made_one p q), []))
+  -- a seat has one pass made of these two, and the longer front goes on where each of theirs ends
+  abbrev pub HasMerged : (E → ℕ) → Shown E O → Shown E O → Me (Option S) (Place E O) → Type 0
+  HasMerged number p q made =
+      (made ≡ (Waits (made_one p q), []))
       × GoesOn number p.first p.limit p.front (longer p.front q.front)
-      × GoesOn number q.first q.limit q.front (longer p.front q.front))
+      × GoesOn number q.first q.limit q.front (longer p.front q.front)
+
+  -- the load after two seats were joined
+  abbrev pub merged : (E → ℕ) → Step (Option S) → Me (Option S) (Place E O) → ℕ → Me (Option S) (Place E O) → Type 0
+  merged number step before found after = HasMerged number (pass_at before.0) (other_at before.0) after

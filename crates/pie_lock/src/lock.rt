@@ -75,9 +75,9 @@ impl<S: Kept> Model for RuledLock<S> {
 
 impl<S: Kept> RuledLock<S> {
     ghost use Rattle.pie_lock.specs.Views.{HoldsAll};
-    ghost use Rattle.pie_lock.specs.Steps.{GoesOn, HasAll, pass_at, with_front, AreAdjacent};
+    ghost use Rattle.pie_lock.specs.Steps.{GoesOn, HasMerged, pass_at, with_front, AreAdjacent};
     ghost use Rattle.pie_lock.specs.declared.view.Place.TheVariants.{Waits};
-    ghost use Rattle.pie_lock.specs.Seating.{IsIdle, IsLeaving, IsMerged};
+    ghost use Rattle.pie_lock.specs.Seating.{IsIdle, IsLeaving};
     ghost use Rattle.pie_lock.specs.Promises.{first_pass, HasTaken, pass_after, without_highest, highest_alone, IsBeside, IsBothOf};
 
     /// A lock over `state`, and a pass with the numbers `0..numbers`.
@@ -168,13 +168,12 @@ impl<S: Kept> RuledLock<S> {
 
     // Whether another pass is seen to have the state. A load shares the word with the processor of who has the state, from which an exchange that
     // is refused would take it away.
-    fn is_out(&self, seat: &mut Seat<Option<S>, Place<S::Entry, S::Origin>>) -> bool
-        requires table { seat.old.table_id ≡ self.now.id }
-        requires waiting { IsIdle seat.old.me }
-        ensures seat { (seat.new.table_id ≡ seat.old.table_id) × (seat.new.id ≡ seat.old.id) × (seat.new.me ≡ seat.old.me) }
-        ensures other { IsTrue result → HasAll (pass_at seat.old.me.0) → ⊥ }
+    fn is_out(&self, pass: &mut Pass<S>) -> bool
+        requires own { pass.old.lock ≡ self.now }
+        ensures same { pass.new ≡ pass.old }
+        ensures other { IsTrue result → HoldsAll pass.old → ⊥ }
     {
-        self.table.shared.load::<LookStep>(seat, WORD) != FREE
+        self.table.shared.load::<LookStep>(&mut pass.seat, WORD) != FREE
     }
 
     // Takes the state, unless another pass has it.
@@ -216,14 +215,8 @@ impl<S: Kept> RuledLock<S> {
         ensures alone { HoldsAll pass → IsOk result }
         ensures busy { IfErr result (λ back. back ≡ pass) }
     {
-        let Pass {
-            first,
-            limit,
-            mut seat,
-        } = pass;
-        let is_out = self.is_out(&mut seat);
-        let pass = Pass { first, limit, seat };
-        if is_out {
+        let mut pass = pass;
+        if self.is_out(&mut pass) {
             return Err(pass);
         }
         self.exchange(pass)
@@ -382,7 +375,7 @@ impl<S: Kept> RuledLock<S> {
         requires waiting { IsIdle seat.old.me × IsIdle other.me }
         requires beside { AreAdjacent (pass_at seat.old.me.0) (pass_at other.me.0) }
         ensures seat { (seat.new.table_id ≡ seat.old.table_id) × (seat.new.id ≡ seat.old.id) }
-        ensures merged { IsMerged S.number_of seat.old.me other.me seat.new.me }
+        ensures merged { HasMerged S.number_of (pass_at seat.old.me.0) (pass_at other.me.0) seat.new.me }
     {
         self.table.shared.join_seat::<JoinTwo>(seat, other);
         self.table.shared.load::<MergeStep>(seat, WORD);

@@ -9,9 +9,9 @@ use Rattle.pie_storm.proofs.Names.{opening_of, senders, EntriesLookBack, AddedBy
 use Rattle.std.proofs.lemmas.List.Elements.{All-drop, All-take, filter-append}
 use Rattle.std.proofs.lemmas.List.Filters.{length-filter_both}
 use Rattle.pie_event.specs.declared.refusal.Refusal.TheVariants.{TooSoon}
-use Rattle.pie_kept.specs.Bursts.{entries_by, entries_to, refused_or_told, replies_to, reply_in}
+use Rattle.pie_kept.specs.Bursts.{burst_within, entries_by, entries_within, refused_or_told, replies_within, reply_in}
 use Rattle.pie_kept.specs.Commands.{refusal_in}
-use Rattle.pie_link.specs.Bursts.{AnswersAll, IsBurst}
+use Rattle.pie_link.specs.Bursts.{AnswersAll, AnswersWithin, IsBurstWithin}
 use Rattle.pie_storm.proofs.Making.{CameBy, full_after, goes, never_soon, seen, stays, which}
 use Rattle.pie_storm.proofs.PlanCommands.{IsFairCall, all_fair}
 
@@ -29,117 +29,124 @@ arrives_in_time opening h a w e d is =
     (which (refusal_by_rule opening (events_in h) (arrive a))
     (is_refused_full opening.choices.mode (length (tail_in opening h) == opening.limits.tail)) w e)
 
-module _ (opening : Opening) (caller : ℕ) where
+module _ (opening : Opening) (caller : ℕ) (h : List Entry) where
   abbrev asked : List Arrival → List Call
   asked burst = map arriving burst
 
-  -- the entries of the arrivals of a burst after this history, and what they are answered
+  -- the entries of arrivals after this history, where their burst has made some, and what they are answered
   abbrev made_by : List Entry → List Arrival → List Entry
-  made_by h burst = entries_to always opening caller h (map arrive burst)
+  made_by made burst = entries_within None always opening caller h made (map arrive burst)
 
   abbrev answers_to : List Entry → List Arrival → List Reply
-  answers_to h burst = replies_to always opening caller h (map arrive burst)
+  answers_to made burst = replies_within None always opening caller h made (map arrive burst)
+
+  abbrev added : List Entry → Arrival → List Entry
+  added made a = entries_by caller (arrive a) (reply_in opening (h ++ made) (arrive a))
 
   -- no more of them than arrivals
   few_by : (command : Command) (reply : Reply) → length (entries_by caller command reply) ≤ 1
   few_by command (Ok told) = omega arith
   few_by command (Err why) = omega arith
 
-  few_made_by : (h : List Entry) (burst : List Arrival) → length (made_by h burst) ≤ length burst
-  unfolding entries_to
-  few_made_by h [] = omega arith
-  few_made_by h (a ∷ later) =
-      let reply = reply_in opening h (arrive a) in
-      let added = entries_by caller (arrive a) reply in
-      omega (arith, few_by (arrive a) reply, few_made_by (h ++ added) later, length-append added (made_by (h ++ added) later))
+  few_made_by : (made : List Entry) (burst : List Arrival) → length (made_by made burst) ≤ length burst
+  unfolding burst_within
+  few_made_by made [] = omega arith
+  few_made_by made (a ∷ later) = omega (
+    arith,
+    few_by (arrive a) (reply_in opening (h ++ made) (arrive a)),
+    few_made_by (made ++ added made a) later,
+    length-append (added made a) (made_by (made ++ added made a) later),
+  )
 
   -- where none was refused, the whole burst was made
-  taken_first : (h : List Entry) (a : Arrival) (later : List Arrival) (reply : Reply) → IsOk reply
-      → AreMade opening caller (h ++ entries_by caller (arrive a) reply) (asked later)
-      ((h ++ entries_by caller (arrive a) reply) ++ made_by (h ++ entries_by caller (arrive a) reply) later) 0
-      → AreMade opening caller h (Ask (arrive a) ∷ asked later)
-      (h ++ (entries_by caller (arrive a) reply ++ made_by (h ++ entries_by caller (arrive a) reply) later)) 0
-  taken_first h a later (Ok told) ok made =
-      let event = event_of caller (arrive a) told.answer in
-      let g = h ++ Made event ∷ [] in
+  taken_first : (made : List Entry) (a : Arrival) (later : List Arrival) (reply : Reply) (rest : List Entry) → IsOk reply
+      → AreMade opening caller (h ++ (made ++ entries_by caller (arrive a) reply)) (asked later)
+      (h ++ ((made ++ entries_by caller (arrive a) reply) ++ rest)) 0
+      → AreMade opening caller (h ++ made) (Ask (arrive a) ∷ asked later) (h ++ (made ++ (entries_by caller (arrive a) reply ++ rest))) 0
+  taken_first made a later (Ok told) rest ok are_made =
+      let entry = Made (event_of caller (arrive a) told.answer) in
       inl (
-        h,
-        Made event,
-        stays opening caller h,
+        h ++ made,
+        entry,
+        stays opening caller (h ++ made),
         (refl, refl),
-        subst (λ (k : List Entry). AreMade opening caller g (asked later) k 0) (append_assoc h (Made event ∷ []) (made_by g later)) made,
+        subst (λ (g : List Entry). AreMade opening caller g (asked later) (h ++ (made ++ (entry ∷ rest))) 0) (sym (append_assoc h made (entry ∷ [])))
+            (subst (λ (l : List Entry). AreMade opening caller (h ++ (made ++ entry ∷ [])) (asked later) (h ++ l) 0)
+            (append_assoc made (entry ∷ []) rest) are_made),
       )
-  taken_first h a later (Err why) ok made = absurd (cc ok)
+  taken_first made a later (Err why) rest ok are_made = absurd (cc ok)
 
-  all_taken : (h : List Entry) (burst : List Arrival) → All IsOk (answers_to h burst)
-      → AreMade opening caller h (asked burst) (h ++ made_by h burst) 0
-  unfolding entries_to replies_to
-  all_taken h [] all = (subst (λ (k : List Entry). HasNoMore caller h k) (sym (append-nil h)) (stays opening caller h), refl)
-  all_taken h (a ∷ later) all =
-      let reply = reply_in opening h (arrive a) in
-      let g = h ++ entries_by caller (arrive a) reply in
-      taken_first h a later reply (All-head IsOk reply (answers_to g later) all)
-      (all_taken g later (All-tail IsOk reply (answers_to g later) all))
+  all_taken : (made : List Entry) (burst : List Arrival) → All IsOk (answers_to made burst)
+      → AreMade opening caller (h ++ made) (asked burst) (h ++ (made ++ made_by made burst)) 0
+  unfolding burst_within
+  all_taken made [] all =
+      (subst (λ (l : List Entry). HasNoMore caller (h ++ made) (h ++ l)) (sym (append-nil made)) (stays opening caller (h ++ made)), refl)
+  all_taken made (a ∷ later) all =
+      let reply = reply_in opening (h ++ made) (arrive a) in
+      let more = made ++ added made a in
+      taken_first made a later reply (made_by more later) (All-head IsOk reply (answers_to more later) all)
+      (all_taken more later (All-tail IsOk reply (answers_to more later) all))
 
   -- where one was refused, the book was full, and there are fewer entries than arrivals
   abbrev WasFull : List Entry → List Entry → ℕ → Type 0
-  WasFull h added most = (min opening.limits.tail opening.limits.events ≤ length (events_in (h ++ added))) × (length added < most)
+  WasFull made more most = (min opening.limits.tail opening.limits.events ≤ length (events_in (h ++ (made ++ more)))) × (length more < most)
 
-  longer : (law : EntriesLookBack) (h added : List Entry) → length (events_in h) ≤ length (events_in (h ++ added))
-  longer law h added = omega (arith, ap (λ (l : List Event). length l) (law.events h added), length-append (events_in h) (events_in added))
-
-  full_first : (law : EntriesLookBack) (h : List Entry) (a : Arrival) (later : List Arrival) (reply : Reply) → reply_in opening h (arrive a) ≡ reply
-      → IsFair (arrive a) → (All IsOk (reply ∷ answers_to (h ++ entries_by caller (arrive a) reply) later) → ⊥)
-      → ((All IsOk (answers_to (h ++ entries_by caller (arrive a) reply) later) → ⊥)
-      → WasFull (h ++ entries_by caller (arrive a) reply) (made_by (h ++ entries_by caller (arrive a) reply) later) (length later))
-      → WasFull h (entries_by caller (arrive a) reply ++ made_by (h ++ entries_by caller (arrive a) reply) later) (length (a ∷ later))
-  full_first law h a later (Ok told) is fair not_all rest =
-      let g = h ++ Made (event_of caller (arrive a) told.answer) ∷ [] in
-      let r = rest (λ all. not_all (All-cons IsOk (Ok told) (answers_to g later) refl all)) in (
-        subst (λ (l : List Entry). min opening.limits.tail opening.limits.events ≤ length (events_in l))
-            (append_assoc h (Made (event_of caller (arrive a) told.answer) ∷ []) (made_by g later)) r.0,
+  full_first : (law : EntriesLookBack) (made : List Entry) (a : Arrival) (later : List Arrival) (reply : Reply) (replies : List Reply)
+      (rest : List Entry) → reply_in opening (h ++ made) (arrive a) ≡ reply → IsFair (arrive a) → (All IsOk (reply ∷ replies) → ⊥)
+      → length rest ≤ length later
+      → ((All IsOk replies → ⊥) → WasFull (made ++ entries_by caller (arrive a) reply) rest (length later))
+      → WasFull made (entries_by caller (arrive a) reply ++ rest) (length (a ∷ later))
+  full_first law made a later (Ok told) replies rest is fair not_all few so =
+      let entry = Made (event_of caller (arrive a) told.answer) in
+      let r = so (λ all. not_all (All-cons IsOk (Ok told) replies refl all)) in (
+        subst (λ (l : List Entry). min opening.limits.tail opening.limits.events ≤ length (events_in (h ++ l)))
+            (append_assoc made (entry ∷ []) rest) r.0,
         omega (arith, r.1),
       )
-  full_first law h a later (Err why) is fair not_all rest =
-      let refused = refused_why (refusal_in opening h (arrive a)) (record {
-        answer = decision opening (events_in h) (arrive a);
-        number = length (events_in h) + 1;
+  full_first law made a later (Err why) replies rest is fair not_all few so =
+      let g = h ++ made in
+      let refused = refused_why (refusal_in opening g (arrive a)) (record {
+        answer = decision opening (events_in g) (arrive a);
+        number = length (events_in g) + 1;
       }) why is in (
         omega (
           arith,
-          full_after opening h (arrive a) why fair refused (arrives_in_time opening h a why refused),
-          longer law h (made_by (h ++ []) later),
+          full_after opening g (arrive a) why fair refused (arrives_in_time opening g a why refused),
+          ap (λ (l : List Entry). length (events_in l)) (append_assoc h made rest),
+          ap (λ (l : List Event). length l) (law.events g rest),
+          length-append (events_in g) (events_in rest),
         ),
-        omega (arith, few_made_by (h ++ []) later),
+        omega (arith, few),
       )
 
-  was_full : (law : EntriesLookBack) (h : List Entry) (burst : List Arrival) → All IsFairCall (map arriving burst)
-      → (All IsOk (answers_to h burst) → ⊥) → WasFull h (made_by h burst) (length burst)
-  unfolding entries_to replies_to
-  was_full law h [] fair not_all = absurd (not_all (All-nil IsOk))
-  was_full law h (a ∷ later) fair not_all =
-      let reply = reply_in opening h (arrive a) in
-      let g = h ++ entries_by caller (arrive a) reply in
-      full_first law h a later reply refl (All-head IsFairCall (arriving a) (map arriving later) fair) not_all
-      (was_full law g later (All-tail IsFairCall (arriving a) (map arriving later) fair))
+  was_full : (law : EntriesLookBack) (made : List Entry) (burst : List Arrival) → All IsFairCall (map arriving burst)
+      → (All IsOk (answers_to made burst) → ⊥) → WasFull made (made_by made burst) (length burst)
+  unfolding burst_within
+  was_full law made [] fair not_all = absurd (not_all (All-nil IsOk))
+  was_full law made (a ∷ later) fair not_all =
+      let more = made ++ added made a in
+      full_first law made a later (reply_in opening (h ++ made) (arrive a)) (answers_to more later) (made_by more later) refl
+      (All-head IsFairCall (arriving a) (map arriving later) fair) not_all (few_made_by more later)
+      (was_full law more later (All-tail IsFairCall (arriving a) (map arriving later) fair))
 
   -- what comes of a burst after this history
-  burst_by : (law : EntriesLookBack) (h : List Entry) (burst : List Arrival) (passed : Option ℕ) → All IsFairCall (map arriving burst)
-      → AddedByAll (answers_to h burst) passed → CameBy opening caller h (asked burst) (h ++ made_by h burst) passed
+  burst_by : (law : EntriesLookBack) (burst : List Arrival) (passed : Option ℕ) → All IsFairCall (map arriving burst)
+      → AddedByAll (answers_to [] burst) passed → CameBy opening caller h (asked burst) (h ++ made_by [] burst) passed
   unfolding CameBy
-  burst_by law h burst passed fair (inl all) =
-      subst (λ (p : Option ℕ). CameBy opening caller h (asked burst) (h ++ made_by h burst) p) (sym all.1) (all_taken h burst all.0)
-  burst_by law h burst passed fair (inr not_all) =
-      let was = was_full law h burst fair not_all.0 in
+  burst_by law burst passed fair (inl all) =
+      subst (λ (p : Option ℕ). CameBy opening caller h (asked burst) (h ++ made_by [] burst) p) (sym all.1)
+      (subst (λ (g : List Entry). AreMade opening caller g (asked burst) (h ++ made_by [] burst) 0) (append-nil h) (all_taken [] burst all.0))
+  burst_by law burst passed fair (inr not_all) =
+      let was = was_full law [] burst fair not_all.0 in
       let mine = λ (e : Entry). is_within caller (caller + 1) (number_of e) in
-      subst (λ (p : Option ℕ). CameBy opening caller h (asked burst) (h ++ made_by h burst) p) (sym not_all.1) (record {
+      subst (λ (p : Option ℕ). CameBy opening caller h (asked burst) (h ++ made_by [] burst) p) (sym not_all.1) (record {
         full = was.0;
         fewer = omega (
           arith,
           was.1,
-          ap (λ (l : List Entry). length l) (filter-append mine h (made_by h burst)),
-          length-append (entries_of caller h) (entries_of caller (made_by h burst)),
-          length-filter_both mine (λ e. not (mine e)) (λ e. refl) (made_by h burst),
+          ap (λ (l : List Entry). length l) (filter-append mine h (made_by [] burst)),
+          length-append (entries_of caller h) (entries_of caller (made_by [] burst)),
+          length-filter_both mine (λ e. not (mine e)) (λ e. refl) (made_by [] burst),
           length-map burst arriving,
         );
       })
@@ -150,25 +157,25 @@ pub burst_next : (law : EntriesLookBack) (plan : Plan) (number k n : ℕ) (link 
     → map arriving burst ≡ take n (drop k (calls_of plan number)) → length burst ≡ n
     → AnswersAll always link before (map arrive burst) [] replies after
     → (passed : Option ℕ) → AddedByAll replies passed → MadeOrCut plan number (k + n) after.front earlier events passed
-unfolding AnswersAll
+unfolding AnswersWithin
 burst_next law plan number k n link link_for before after at earlier events had [] replies some sends there is long answers passed added =
     absurd (omega (arith, some, long))
 burst_next law plan number k n link link_for before after at earlier events had (a ∷ later) replies some sends there is long answers passed added =
     let b = answers (opening_of plan) link_for.opened in
     let burst = a ∷ later in
-    let answered : IsBurst always (opening_of plan) before (map arrive burst) [] replies after b.0 = b.1 in
+    let answered : IsBurstWithin None always (opening_of plan) before (map arrive burst) [] replies after b.0 = b.1 in
     let no_folder : number ≡ folder plan → ⊥ = λ folds. absurd (omega (arith, folds, sends)) in
     let fair = subst (All IsFairCall) (sym is)
     (All-take IsFairCall n (drop k (calls_of plan number)) (All-drop IsFairCall k (calls_of plan number) (all_fair plan link_for.sound number))) in
-    let front_is : after.front ≡ b.0 ++ entries_to always (opening_of plan) number b.0 (map arrive burst) =
+    let front_is : after.front ≡ b.0 ++ entries_within None always (opening_of plan) number b.0 [] (map arrive burst) =
     ap (λ (c : CallerView). c.front) answered.recorded
-    ∙ ap (λ (first : ℕ). b.0 ++ entries_to always (opening_of plan) first b.0 (map arrive burst)) at.first in
-    let replies_are : replies ≡ replies_to always (opening_of plan) number b.0 (map arrive burst) =
-    answered.answered ∙ ap (λ (first : ℕ). replies_to always (opening_of plan) first b.0 (map arrive burst)) at.first in
+    ∙ ap (λ (first : ℕ). b.0 ++ entries_within None always (opening_of plan) first b.0 [] (map arrive burst)) at.first in
+    let replies_are : replies ≡ replies_within None always (opening_of plan) number b.0 [] (map arrive burst) =
+    answered.answered ∙ ap (λ (first : ℕ). replies_within None always (opening_of plan) first b.0 [] (map arrive burst)) at.first in
     goes plan number k link link_for before after at earlier events had n (map arriving burst) b.0 events passed (length-map burst arriving ∙ long)
     (sym is) (seen link number before b.0 at answered.from.goes_on) (λ folds. absurd (no_folder folds)) (λ none. (no_folder, there))
     (subst (λ (h : List Entry). CameBy (opening_of plan) number b.0 (map arriving burst) h passed) (sym front_is)
-    (burst_by (opening_of plan) number law b.0 burst passed fair (subst (λ (l : List Reply). AddedByAll l passed) replies_are added)))
+    (burst_by (opening_of plan) number b.0 law burst passed fair (subst (λ (l : List Reply). AddedByAll l passed) replies_are added)))
 
 -- no arrival of a burst is passed over
 pub few_by_all : (replies : List Reply) (passed : Option ℕ) → AddedByAll replies passed → IfSome passed (λ n. n ≤ 1)

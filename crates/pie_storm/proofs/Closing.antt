@@ -1,6 +1,6 @@
 -- How a storm ends, from the book that was closed.
 use Rattle.pie_storm.proofs.Names.{◌≡◌, ◌+◌, ◌<◌, ◌++◌, arith, ℕ, List, [], Some, Ok, Err, Result, ap, sym, ◌∙◌, subst, All, Event}
-use Rattle.pie_storm.proofs.Names.{Bounded, Opening, IsLegal, events_in, handed_out, number_of, EntriesLookBack, Entry, LinkView, Plan}
+use Rattle.pie_storm.proofs.Names.{Bounded, Opening, IsLegal, events_in, handed_out, number_of, Entry, LinkView, Plan}
 use Rattle.pie_storm.proofs.Names.{Work, folder, opening_of, senders, CameOf, IsEndOf, IsFor, IsStorm, IsWell, IsWorkBelow}
 use Rattle.std.specs.Result.{IfOk}
 use Rattle.pie_lock.specs.Views.{HoldsAll}
@@ -13,7 +13,7 @@ use Rattle.pie_storm.specs.declared.ending.StormFault.{StormFault}
 use Rattle.pie_storm.proofs.Counting.{callers_of_plan, is_storm, other_made}
 use Rattle.pie_storm.proofs.Handing.{handed_alone}
 
-module _ (law : EntriesLookBack) (plan : Plan) (link : LinkView) (work : Work) (book : BookView) (link_for : IsFor plan link)
+module _ (plan : Plan) (link : LinkView) (work : Work) (book : BookView) (link_for : IsFor plan link)
     (numbers : link.numbers ≡ senders plan + 5) (worked : IsWorkBelow link plan (senders plan + 5) work)
     (opened : work.caller.lock.origin ≡ Some book.opening) (told : HoldsAll work.caller → TellsEntries book work.caller.front)
     (numbered : HoldsAll work.caller → All (λ (e : Entry). number_of e < work.caller.lock.numbers) work.caller.front) where
@@ -39,7 +39,7 @@ module _ (law : EntriesLookBack) (plan : Plan) (link : LinkView) (work : Work) (
   -- so its front is what the plan asks for
   storm_of : IsWell work.folding → IsStorm plan (events_in work.caller.front) work.too_soon work.passed
   storm_of fine =
-      is_storm law plan work.caller.front link_for.sound all_below (all_came fine) work.too_soon work.passed (worked.updates fine (omega arith))
+      is_storm plan work.caller.front link_for.sound all_below (all_came fine) work.too_soon work.passed (worked.updates fine (omega arith))
       (worked.folds fine (omega arith)).0
 
   -- what the folds handed out, and then the tail, are all events
@@ -48,7 +48,7 @@ module _ (law : EntriesLookBack) (plan : Plan) (link : LinkView) (work : Work) (
       let front = work.caller.front in
       let bounded : book.opening.choices.mode ≡ Bounded = ap (λ (o : Opening). o.choices.mode) opened_so in
       let all : work.folding.events.items ≡ handed_out book.opening front = (worked.folds fine (omega arith)).1
-      ∙ (handed_alone (opening_of plan) (folder plan) [] front (other_made law plan front link_for.sound all_below (all_came fine))
+      ∙ (handed_alone (opening_of plan) (folder plan) [] front (other_made plan front link_for.sound all_below (all_came fine))
       ∙ ap (λ (o : Opening). handed_out o front) (sym opened_so)) in
       ap (λ (es : List Event). es ++ book.tail) all ∙ (told holds_all).nothing_lost bounded
 

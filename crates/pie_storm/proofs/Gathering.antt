@@ -1,10 +1,10 @@
 -- What is known of all workers of a storm together.
 use Rattle.pie_storm.proofs.Names.{◌≡◌, ℕ, ◌+◌, ◌<◌, List, [], length, length-append, events_in, refl, ap, sym, ◌∙◌, subst, inl, inr, ⊎_elim, arith, dite, ℕ_discrete}
-use Rattle.pie_storm.proofs.Names.{is_within, GoesOn, within, Event, number_of, EntriesLookBack, Entry, CallerView, LinkView, Plan}
+use Rattle.pie_storm.proofs.Names.{false, get_or, is_within, nat_tests, GoesOn, Event, number_of, EntriesLookBack, Entry, CallerView, LinkView, Plan}
 use Rattle.pie_storm.proofs.Names.{Work, calls_of, folder, opening_of, updater, CameOf, HasNoMore, IsWell}
 use Rattle.pie_storm.proofs.Names.{IsWorkBelow, WereHanded}
 use Rattle.pie_lock.specs.Promises.{IsBothOf}
-use Rattle.pie_lock.proofs.Owns.{same_either, within_high}
+use Rattle.pie_lock.proofs.Owns.{goes_on, gone_on}
 use Rattle.pie_storm.specs.declared.worker.Folding.{Folding}
 use Rattle.pie_storm.specs.Storms.{Begins, IsWorkOf}
 use Rattle.pie_storm.proofs.Handing.{handed_same}
@@ -27,14 +27,15 @@ came_on law plan caller h k passed on (inr cut) = inr (record {
   fewer = omega (arith, cut.fewer, ap (λ (l : List Entry). length l) on.1);
 })
 
+other_below : (n caller k : ℕ) → caller < n → is_within 0 n k ≡ false → is_within caller (caller + 1) k ≡ false
+other_below n caller k below out = grind (arith, nat_tests)
+
 -- with no more of the callers below n, there is no more of each of them
 each_below : (caller n : ℕ) (h k : List Entry) → caller < n → GoesOn number_of 0 n h k → HasNoMore caller h k
-each_below caller n h k below on = (
-  on.0,
-  same_either (λ (e : Entry). is_within 0 n (number_of e)) (λ (e : Entry). is_within 0 n (number_of e))
-      (λ (e : Entry). is_within caller (caller + 1) (number_of e)) h k on.0
-      (λ e yes. inl (within 0 n (number_of e) (omega arith) (omega (arith, within_high caller (caller + 1) (number_of e) yes, below)))) on.1 on.1,
-)
+each_below caller n h k below on =
+    let all = gone_on number_of 0 n h k on in
+    goes_on number_of caller (caller + 1) h all.0 k all.1
+    (λ i d within. other_below n caller (number_of (get_or all.0 i d)) below (all.2 i d within))
 
 -- the front of two callers together goes on from that of each
 fronts : (plan : Plan) (p q r : CallerView) (n : ℕ) → p.first ≡ 0 → p.limit ≡ n → q.first ≡ n → q.limit ≡ n + 1 → IsBothOf number_of p q r
@@ -85,7 +86,7 @@ together law link plan n work last whole both passed soon as_before events well 
             subst (λ (passed : ℕ). CameOf plan (folder plan) r.front passed) (sym passed)
                 (subst (λ (c : ℕ). CameOf plan c r.front last.passed) is (mine fine)),
             subst (λ (c : ℕ). WereHanded plan c whole.folding.events.items r.front) is
-                (events ∙ (handed ∙ sym (handed_same law (opening_of plan) n q.front r.front on.1.0 on.1.1))),
+                (events ∙ (handed ∙ sym (handed_same law (opening_of plan) n q.front r.front on.1))),
           );
     }
 

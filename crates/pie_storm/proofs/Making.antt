@@ -2,7 +2,7 @@
 use Rattle.pie_storm.proofs.Names.{◌≡◌, ℕ, zero, suc, ◌+◌, ◌<◌, ◌≤◌, ◌==◌, ◌⊎◌, List, [], ◌∷◌, ◌++◌, Bool, true, false, cond, Some, None, Ok, Err}
 use Rattle.pie_storm.proofs.Names.{Option, Result, Vec, take, drop, min, length, slice_get, refl, ap, sym, ◌∙◌, subst, inl, inr, ⊎_elim, arith}
 use Rattle.pie_storm.proofs.Names.{length-append, length-drop, Global, take-add, take-length, length-take}
-use Rattle.pie_storm.proofs.Names.{nat_tests, own, is_within, GoesOn, within, prefix_self, prefix_trans, Answer, Command, Event, Bounded}
+use Rattle.pie_storm.proofs.Names.{append_assoc, nat_tests, is_within, GoesOn, goes_on_itself, Answer, Command, Event, Bounded}
 use Rattle.pie_storm.proofs.Names.{Rolling, Opening, Refusal, is_refused_full, or_full, refusal_by_rule, refusal_with, due_after, effective_moment}
 use Rattle.pie_storm.proofs.Names.{event_of, entries_of, events_in, handed_to, left_in, number_of, tail_in, EntriesLookBack, Entry, Made, Folded}
 use Rattle.pie_storm.proofs.Names.{Told, CallerView, LinkView, Call, Ask, Fold, Plan, IsFair, calls_of, folder, opening_of, AreMade}
@@ -23,10 +23,13 @@ use Rattle.pie_storm.proofs.PlanCommands.{IsFairCall, all_at, all_fair, folder_a
 
 module _ (opening : Opening) (caller : ℕ) where
   pub stays : (h : List Entry) → HasNoMore caller h h
-  stays h = (prefix_self h, refl)
+  stays h = goes_on_itself number_of caller (caller + 1) h
 
   goes_on : (h k l : List Entry) → HasNoMore caller h k → HasNoMore caller k l → HasNoMore caller h l
-  goes_on h k l a b = (prefix_trans h k l a.0 b.0, b.1 ∙ a.1)
+  goes_on h k l a b = (
+    (a.0.0 ++ b.0.0, sym (append_assoc h a.0.0 b.0.0) ∙ (ap (λ (x : List Entry). x ++ b.0.0) a.0.1 ∙ b.0.1)),
+    b.1 ∙ a.1,
+  )
 
   -- what was made by one that had been shown more, was made by one that had been shown less
   pub made_from : (front before : List Entry) (calls : List Call) (h : List Entry) (passed : ℕ) → HasNoMore caller front before
@@ -54,17 +57,12 @@ module _ (opening : Opening) (caller : ℕ) where
   made_on front (call ∷ calls) h k passed on (inl m) = inl (m.0, m.1, m.2, m.3, made_on (m.0 ++ m.1 ∷ []) calls h k passed on m.4)
   made_on front (call ∷ calls) h k passed on (inr m) = inr (m.0, m.1, m.2, m.3, m.4, made_on m.0 calls h k m.1 on m.5)
 
-  cond_true : {A : Type 0} (b : Bool) (x y : A) → b ≡ true → cond b x y ≡ x
-  cond_true true x y e = refl
-  cond_true false x y e = absurd (cc e)
-
   -- a caller's own entry is one more of its entries
   pub own_entry : (g : List Entry) (entry : Entry) → number_of entry ≡ caller → entries_of caller (g ++ entry ∷ []) ≡ entries_of caller g ++ entry ∷ []
   own_entry g entry e =
-      let yes : is_within caller (caller + 1) (number_of entry) ≡ true = within caller (caller + 1) (number_of entry) (omega (arith, e))
-      (omega (arith, e)) in
+      let yes : is_within caller (caller + 1) (number_of entry) ≡ true = grind (arith, nat_tests, e) in
       filter-append (λ (x : Entry). is_within caller (caller + 1) (number_of x)) g (entry ∷ [])
-      ∙ ap (λ w. entries_of caller g ++ w) (cond_true (is_within caller (caller + 1) (number_of entry)) (entry ∷ []) [] yes)
+      ∙ ap (λ w. entries_of caller g ++ w) (ap (λ (b : Bool). cond b (entry ∷ []) []) yes)
 
   pub numbered : (call : Call) (entry : Entry) → IsEntryOf caller call entry → number_of entry ≡ caller
   numbered (Ask command) (Made event) is = is.0
@@ -96,11 +94,7 @@ one_at (y ∷ xs) (suc k) x e = one_at xs k x e
 -- what a caller with one number is shown goes on from what it had been shown
 pub seen : (link : LinkView) (number : ℕ) (before : CallerView) (history : List Entry) → IsAt link number before
     → GoesOn number_of before.first before.limit before.front history → HasNoMore number before.front history
-seen link number before history at on = (
-  on.0,
-  subst (λ (first : ℕ). own number_of first (number + 1) history ≡ own number_of first (number + 1) before.front) at.first
-      (subst (λ (limit : ℕ). own number_of before.first limit history ≡ own number_of before.first limit before.front) at.limit on.1),
-)
+seen link number before history at on = rw (at.first, at.limit) at on
 
 -- ---- why a command is refused
 
@@ -255,7 +249,7 @@ module _ (plan : Plan) (number k : ℕ) (link : LinkView) (link_for : IsFor plan
   -- what comes of a fold
   module _ (law : EntriesLookBack) (n : ℕ) (there : slice_get (calls_of plan number) k ≡ Some (Fold n)) where
     handed_before : (history : List Entry) → HasNoMore number before.front history → number ≡ folder plan → WereHanded plan number old history
-    handed_before history on folds = had.handed folds ∙ sym (handed_same law (opening_of plan) number before.front history on.0 on.1)
+    handed_before history on folds = had.handed folds ∙ sym (handed_same law (opening_of plan) number before.front history on)
 
     folded : (history : List Entry) (new : List Event) (passed : Option ℕ) (more : ℕ) → passed ≡ Some more → HasNoMore number before.front history
         → (number ≡ folder plan → WereHanded plan number new after.front)

@@ -1,5 +1,5 @@
 -- What the files of this folder take from below, in one place.
-pub use Rattle.std.proofs.Common.{Bool, Err, List, None, Ok, Option, Result, Some, Vec, [], ap, append_assoc, arith, cond, drop, eq-eqb, false, inl}
+pub use Rattle.std.proofs.Common.{Bool, Err, List, None, Ok, Option, Result, Some, Vec, [], ap, append_assoc, arith, cond, drop, eq-eqb, false, get_or, inl}
 pub use Rattle.std.proofs.Common.{inr, length, length-append, length-drop, map, min, nat_le, not, refl, rules, slice_get, subst, suc, sym, take, true}
 pub use Rattle.std.proofs.Common.{zero, ℕ, ⊎_elim, ◌*◌, ◌++◌, ◌+◌, ◌-◌, ◌/◌, ◌<◌, ◌==◌, ◌^◌, ◌∙◌, ◌∷◌, ◌≡◌, ◌≤◌, ◌⊎◌}
 pub use Rattle.std.proofs.Math.Seq.{drop-length, take-add, take-length, take-suc}
@@ -28,8 +28,7 @@ pub use Rattle.pie_kept.specs.declared.entry.Entry.{Entry}
 pub use Rattle.pie_kept.specs.declared.entry.Entry.TheVariants.{Folded, Made}
 pub use Rattle.pie_kept.specs.declared.told.Told.{Told}
 pub use Rattle.pie_link.specs.Views.{CallerView, LinkView}
-pub use Rattle.pie_lock.proofs.Owns.{not_within, quiet_rest, within}
-pub use Rattle.pie_lock.proofs.Prefixes.{prefix_self, prefix_trans}
+pub use Rattle.pie_lock.proofs.Owns.{NoneOwn, goes_on_itself, gone_on, own_none}
 pub use Rattle.pie_lock.specs.Own.{is_within, own}
 pub use Rattle.pie_lock.specs.Steps.{GoesOn}
 pub use Rattle.pie_storm.specs.Plans.{IsFair, IsSound, arriving, changing, departing, folder, opening_of, planned, senders, sent, total, updater, updating}

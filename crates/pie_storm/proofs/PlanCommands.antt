@@ -1,8 +1,9 @@
 -- What a sound plan says of the calls of its callers.
 use Rattle.pie_storm.proofs.Names.{◌≡◌, ℕ, zero, suc, ◌+◌, ◌-◌, ◌==◌, ◌≤◌, nat_le, Bool, true, false, List, [], ◌∷◌, Some, Vec, map}
 use Rattle.pie_storm.proofs.Names.{slice_get, ◌∙◌, ap, drop, refl, subst, sym, take, arith, if◌then◌else◌, All, drop-map, take-map, Global}
-use Rattle.pie_storm.proofs.Names.{nat_tests, All-nil, All-cons, All-head, All-tail, Command, Arrival, Call, Ask, Fold, Plan}
+use Rattle.pie_storm.proofs.Names.{nat_tests, get_or, All-nil, All-head, All-tail, Command, Arrival, Call, Ask, Fold, Plan}
 use Rattle.pie_storm.proofs.Names.{IsFair, IsSound, arriving, calls_of, changing, departing, folder, senders, sent, updater, updating}
+use Rattle.std.proofs.lemmas.List.Elements.{All-map, All-weaker}
 use Rattle.pie_storm.specs.declared.plan.Change.{Change}
 use Rattle.pie_storm.specs.Plans.{IsMoment, IsSoundArrival}
 
@@ -16,8 +17,7 @@ of_if P true x y p q = p refl
 of_if P false x y p q = q
 
 pub all_of : {A B : Type 0} (P : A → Type 0) (Q : B → Type 0) (f : A → B) (xs : List A) → ((x : A) → P x → Q (f x)) → All P xs → All Q (map f xs)
-all_of P Q f [] each a = All-nil Q
-all_of P Q f (x ∷ xs) each a = All-cons Q (f x) (map f xs) (each x (All-head P x xs a)) (all_of P Q f xs each (All-tail P x xs a))
+all_of P Q f xs each a = All-map Q f xs (All-weaker P (λ x. Q (f x)) each xs a)
 
 -- what holds of the calls of each kind holds of a caller's
 pub of_calls : (P : Call → Type 0) (plan : Plan) (caller : ℕ) → ((k : ℕ) → All P (sent plan.arrivals.items k))
@@ -34,8 +34,7 @@ of_calls P plan caller senders_all departs updates changes folds =
     (of_either F (n == 3) _ _ changes (of_if F (n == 4) _ _ (λ four. folds (grind (arith, nat_tests, four))) (All-nil P))))))
 
 pub each : {A : Type 0} (P : Call → Type 0) (f : A → Call) (xs : List A) → ((x : A) → P (f x)) → All P (map f xs)
-each P f [] all = All-nil P
-each P f (x ∷ xs) all = All-cons P (f x) (map f xs) (all x) (each P f xs all)
+each P f xs all = All-map P f xs (λ k d within. all (get_or xs k d))
 
 pub each_sent : (P : Call → Type 0) (lists : List (Vec Arrival Global)) (k : ℕ) → ((a : Arrival) → P (arriving a)) → All P (sent lists k)
 each_sent P [] k all = All-nil P
@@ -102,15 +101,7 @@ folder_asks_nothing plan caller k command is at =
 -- other callers ask for nothing
 pub no_calls : (plan : Plan) (caller : ℕ) → senders plan + 5 ≤ caller → calls_of plan caller ≡ []
 unfolding calls_of
-no_calls plan caller over =
-    let n = caller - senders plan in
-    let not_first : (caller == 0) ≡ false = grind (arith, nat_tests, over) in
-    let no_sender : nat_le caller (senders plan) ≡ false = grind (arith, nat_tests, over) in
-    let one : (n == 1) ≡ false = grind (arith, nat_tests, over) in
-    let two : (n == 2) ≡ false = grind (arith, nat_tests, over) in
-    let three : (n == 3) ≡ false = grind (arith, nat_tests, over) in
-    let four : (n == 4) ≡ false = grind (arith, nat_tests, over) in
-    rw (not_first, no_sender, one, two, three, four) refl
+no_calls plan caller over = grind (arith, nat_tests, over)
 
 -- a part of a sender's list has the calls of that part
 pub part_of : (k n : ℕ) (list part : List Arrival) (calls : List Call) → calls ≡ map arriving list → part ≡ take n (drop k list)

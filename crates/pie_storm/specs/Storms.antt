@@ -2,14 +2,13 @@
 use Rattle.std.specs.Prelude.{◌≡◌, ◌==◌, ◌+◌, ◌<◌, ◌≤◌, ◌⊎◌, ℕ, Bool, false, All, List, [], ◌∷◌, ◌++◌, Option, Some, None, Result, Ok, Err}
 use Rattle.std.specs.Prelude.{IfSome, IsOk, Vec, min, length, take}
 use Rattle.std.specs.declared.alloc.Global.{Global}
-use Rattle.pie_lock.specs.Own.{own}
 use Rattle.pie_lock.specs.Steps.{GoesOn}
 use Rattle.pie_event.specs.declared.command.Command.{Command}
 use Rattle.pie_event.specs.declared.command.Event.{Event}
 use Rattle.pie_event.specs.declared.opening.Opening.{Opening}
 use Rattle.pie_event.specs.declared.command.Answer.{Answer}
 use Rattle.pie_event.specs.declared.refusal.Refusal.{Refusal}
-use Rattle.pie_event.specs.declared.refusal.Refusal.TheVariants.{Moment, Size, TooSoon, Exhausted, HistoryFull}
+use Rattle.pie_event.specs.declared.refusal.Refusal.TheVariants.{TooSoon}
 use Rattle.pie_event.specs.declared.refusal.FoldRefusal.{FoldRefusal}
 use Rattle.pie_event.specs.declared.refusal.FoldRefusal.TheVariants.{TooMany, Memory}
 use Rattle.pie_kept.specs.declared.told.Told.{Told}
@@ -27,10 +26,6 @@ use Rattle.pie_storm.specs.declared.plan.Call.TheVariants.{Ask, Fold}
 use Rattle.pie_storm.specs.declared.worker.Folding.{Folding}
 use Rattle.pie_storm.specs.declared.worker.Work.{Work}
 use Rattle.pie_storm.specs.Plans.{IsSound, calls_of, folder, opening_of, updater}
-
--- the events of a caller
-abbrev pub events_of : ℕ → List Event → List Event
-events_of caller events = own (λ (event : Event). event.caller) caller (caller + 1) events
 
 -- this entry is what the caller's call adds to a history
 abbrev pub IsEntryOf : ℕ → Call → Entry → Type 0
@@ -91,11 +86,8 @@ WereHanded plan caller events history = events ≡ handed_to (is_number caller) 
 -- what an answer adds to the calls that were passed over; none where it is another refusal
 unfoldable pub added_by : Result (Told Answer) Refusal → Option ℕ
 added_by (Ok told) = Some 0
-added_by (Err Moment) = None
-added_by (Err Size) = None
 added_by (Err (TooSoon due)) = Some 1
-added_by (Err Exhausted) = None
-added_by (Err HistoryFull) = None
+added_by (Err _) = None
 
 -- what a fold was answered was taken in, where memory was not wanting: the events at hand before and after, and what it adds
 unfoldable pub TakenIn : Result (Told (Vec Event Global)) FoldRefusal → List Event → List Event → Option ℕ → Type 0

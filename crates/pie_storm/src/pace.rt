@@ -2,6 +2,7 @@
 
 use crate::gate::Gate;
 use crate::plan::{Call, Plan};
+use std::array::from_fn;
 use std::io;
 use std::sync::atomic::{AtomicBool, AtomicU64, Ordering};
 use std::thread::{sleep, yield_now};
@@ -44,20 +45,7 @@ impl<'a, C: Clock> Pace<'a, C> {
         let pace = Pace {
             clock,
             plan,
-            next: [
-                AtomicU64::new(AWAY),
-                AtomicU64::new(AWAY),
-                AtomicU64::new(AWAY),
-                AtomicU64::new(AWAY),
-                AtomicU64::new(AWAY),
-                AtomicU64::new(AWAY),
-                AtomicU64::new(AWAY),
-                AtomicU64::new(AWAY),
-                AtomicU64::new(AWAY),
-                AtomicU64::new(AWAY),
-                AtomicU64::new(AWAY),
-                AtomicU64::new(AWAY),
-            ],
+            next: from_fn(|_| AtomicU64::new(AWAY)),
             is_over: AtomicBool::new(false),
         };
         for caller in 1..13 {

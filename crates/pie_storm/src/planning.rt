@@ -10,7 +10,7 @@ use crate::plan::{Change, Plan};
 use pie_book::Limits;
 use pie_link::Arrival;
 use pie_params::{Params, RawParams};
-use pie_queue::{Ecn, Memory, Packet};
+use pie_queue::{Ecn, Packet};
 use rand_core::Rng;
 use rand_pcg::Lcg128Xsl64;
 use std::alloc::{AllocError, Global};
@@ -244,38 +244,19 @@ fn folds_of(alloc: Global, senders: u64, packets: u64, folds: u64) -> Result<Vec
 ///
 /// # Errors
 ///
-/// `Memory` where there was none for the lists.
-pub(crate) fn storm_plan(alloc: Global, numbers: StormNumbers) -> Result<Plan, Memory>
+/// Where there was no memory for the lists.
+pub(crate) fn storm_plan(alloc: Global, numbers: StormNumbers) -> Result<Plan, AllocError>
     requires { HasStormRange numbers }
     ensures { IfOk result (IsStormPlan numbers) }
 {
-    let StormNumbers {
-        load,
-        burst,
-        seed,
-        changes,
-        folds,
-        profile,
-        elements,
-        ..
-    } = numbers;
     let (senders, packets) = (u64::from(numbers.senders), u64::from(numbers.packets));
-    let commands = 2 * senders * packets + packets / 15 + 1 + changes;
-    let Ok(arrivals) = all_arrivals(alloc, senders, packets, u64::from(burst), seed) else {
-        return Err(Memory);
-    };
-    let Ok(departs) = departs_of(alloc, senders, packets, load) else {
-        return Err(Memory);
-    };
-    let Ok(updates) = updates_of(alloc, packets) else {
-        return Err(Memory);
-    };
-    let Ok(changes) = changes_of(alloc, packets, changes) else {
-        return Err(Memory);
-    };
-    let Ok(folds) = folds_of(alloc, senders, packets, folds) else {
-        return Err(Memory);
-    };
+    let commands = 2 * senders * packets + packets / 15 + 1 + numbers.changes;
+    let burst = u64::from(numbers.burst);
+    let arrivals = all_arrivals(alloc, senders, packets, burst, numbers.seed)?;
+    let departs = departs_of(alloc, senders, packets, numbers.load)?;
+    let updates = updates_of(alloc, packets)?;
+    let changes = changes_of(alloc, packets, numbers.changes)?;
+    let folds = folds_of(alloc, senders, packets, numbers.folds)?;
     Ok(Plan {
         limits: Limits {
             packets: 1024,
@@ -284,10 +265,10 @@ pub(crate) fn storm_plan(alloc: Global, numbers: StormNumbers) -> Result<Plan, M
         },
         params: Params::default_profile(),
         moment: 0,
-        profile,
-        elements,
+        profile: numbers.profile,
+        elements: numbers.elements,
         arrivals,
-        burst,
+        burst: numbers.burst,
         departs,
         updates,
         changes,

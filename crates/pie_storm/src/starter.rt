@@ -236,7 +236,6 @@ fn run<R: Threads + Wait + Sync, G: Gate + Sync>(
     ensures opened { (why : LinkRefusal) → result ≢ Err (StormFault.Opening why) }
     ensures no_gap { result ≢ Err StormFault.Gap }
 {
-    entries_look_back();
     let Some(work) = work_at_once(rt, alloc, &link, plan, gate, starter) else {
         return Err(StormFault::Thread);
     };

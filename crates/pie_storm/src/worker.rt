@@ -140,30 +140,6 @@ fn added_by_all(answers: &[Result<Told<Answer>, Refusal>]) -> Option<u64>
     }
 }
 
-// Makes the call of a caller that comes after `k` others, and tells whether it was passed over. There is no answer where the book was full, or
-// memory was wanting.
-fn call_next<R: Wait>(
-    rt: &R,
-    link: &Link,
-    plan: &Plan,
-    number: u16,
-    caller: &mut Caller,
-    folding: &mut Folding,
-    k: usize,
-) -> Option<u64>
-    requires link_for { IsFor plan.now link.now }
-    requires at { IsAt link.now number caller.old }
-    requires some { k < length (calls_of plan.now number) }
-    ensures { TakesTurn link.now plan.now number k (k + 1) caller.old caller.new folding.old folding.new result }
-{
-    entries_look_back();
-    match plan.call(number, k) {
-        Some(Call::Ask(command)) => added_by(&ask(rt, link, caller, &command)),
-        Some(Call::Fold(n)) => folding.take_in(link.fold(rt, caller, n)),
-        None => unreachable!(),
-    }
-}
-
 // Hands in at once the `count` arrivals of a sender that come after `k` others. There is no answer where the book was full, or memory was wanting.
 fn send_next<R: Wait>(
     rt: &R,
@@ -192,7 +168,8 @@ fn send_next<R: Wait>(
     added_by_all(folding.replies.as_slice())
 }
 
-// Makes the `count` calls of a caller that come after `k` others, in one turn at the link, and tells how many were passed over.
+// Makes the `count` calls of a caller that come after `k` others, in one turn at the link, and tells how many were passed over. There is no
+// answer where the book was full, or memory was wanting.
 fn make_turn<R: Wait>(
     rt: &R,
     link: &Link,
@@ -210,10 +187,14 @@ fn make_turn<R: Wait>(
     requires there { k + count ≤ length (calls_of plan.now number) }
     ensures { TakesTurn link.now plan.now number k (k + count) caller.old caller.new folding.old folding.new result }
 {
-    if plan.turn(number) == 1 {
-        call_next(rt, link, plan, number, caller, folding, k)
-    } else {
-        send_next(rt, link, plan, number, caller, folding, k, count)
+    if plan.turn(number) > 1 {
+        return send_next(rt, link, plan, number, caller, folding, k, count);
+    }
+    entries_look_back();
+    match plan.call(number, k) {
+        Some(Call::Ask(command)) => added_by(&ask(rt, link, caller, &command)),
+        Some(Call::Fold(n)) => folding.take_in(link.fold(rt, caller, n)),
+        None => unreachable!(),
     }
 }
 

@@ -16,5 +16,5 @@ returns-clause-ended g c =
     let book = c.in-Ok.book in
     let worked = subst (λ (n : ℕ). IsWorkBelow c.args.link plan n work) (ap (λ (p : CallerView). p.limit) c.requires.starter) c.in-Some.ensures in
     let end = c.end_of-end.ensures in
-    ended c.entries_look_back.ensures plan c.args.link work book c.requires.link_for c.requires.callers worked c.in-Ok.ensures.opening
+    ended plan c.args.link work book c.requires.link_for c.requires.callers worked c.in-Ok.ensures.opening
     c.in-Ok.ensures.same c.in-Ok.ensures.numbered c.end_of-end.result end.events end.registers end.stats end.counts

@@ -1,13 +1,10 @@
 use Rattle.std.proofs.Common.{List, map, subst, sym}
 use Rattle.pie_kept.specs.Bursts.{Reply, always, arrive}
 use Rattle.pie_link.specs.Bursts.{AnswersAll}
-use Rattle.pie_link.proofs.Unlimited.{unlimited}
 use Rattle.pie_link.proofs.link.Link.arrive_all.Goals as goal
 
 pub returns-clause-answered : goal.returns-clause-answered
 returns-clause-answered g c =
-    let commands = map arrive c.args.arrivals.now in
     let said = c.answer_all.ensures.answered c.answer_all.result c.args.answers.now.items (λ i. (c.replace-replies.ensures.value i).items) in
-    let answered = unlimited c.bursts_need_no_budget.ensures always c.args.self.now c.args.caller.now commands c.args.answers.now.items said.0 c.answer_all.new.caller said.2 in
-    subst (λ (replies : List Reply). AnswersAll always c.args.self.now c.args.caller.now commands c.args.answers.now.items replies
-    c.answer_all.new.caller) (sym said.1) answered
+    subst (λ (replies : List Reply). AnswersAll always c.args.self.now c.args.caller.now (map arrive c.args.arrivals.now) c.args.answers.now.items
+    replies c.answer_all.new.caller) (sym said.1) said.2

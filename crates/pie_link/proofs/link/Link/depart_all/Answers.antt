@@ -1,16 +1,13 @@
-use Rattle.std.proofs.Common.{◌≡◌, ◌-◌, ℕ, List, None, arith, subst, sym}
+use Rattle.std.proofs.Common.{◌≡◌, ◌-◌, ℕ, List, arith, subst, sym}
 use Rattle.pie_kept.specs.Bursts.{Reply, departures, has_left}
-use Rattle.pie_link.specs.Bursts.{AnswersAll, AnswersWithin}
-use Rattle.pie_link.proofs.Unlimited.{unlimited}
+use Rattle.pie_link.specs.Bursts.{AnswersAll}
 use Rattle.pie_link.proofs.link.Link.depart_all.Goals as goal
 
 pub returns-clause-answered : goal.returns-clause-answered
 returns-clause-answered g c =
     let said = c.answer_all.ensures.answered c.answer_all.result c.args.answers.now.items (λ i. (c.replace-replies.ensures.value i).items) in
     let all : c.args.most - 0 ≡ c.args.most = omega arith in
-    let within = subst (λ (most : ℕ). AnswersWithin None has_left c.args.self.now c.args.caller.now (departures most c.args.moment)
+    let answered = subst (λ (most : ℕ). AnswersAll has_left c.args.self.now c.args.caller.now (departures most c.args.moment)
     c.args.answers.now.items said.0 c.answer_all.new.caller) all said.2 in
-    let answered = unlimited c.bursts_need_no_budget.ensures has_left c.args.self.now c.args.caller.now (departures c.args.most c.args.moment) c.args.answers.now.items said.0
-    c.answer_all.new.caller within in
     subst (λ (replies : List Reply). AnswersAll has_left c.args.self.now c.args.caller.now (departures c.args.most c.args.moment)
     c.args.answers.now.items replies c.answer_all.new.caller) (sym said.1) answered

@@ -1,5 +1,5 @@
-use Rattle.pie_lock.proofs.Names.{rules, ap}
-use Rattle.pie_lock.proofs.Taking.{takes_keep}
+use Rattle.std.proofs.Common.{rules, ap}
+use Rattle.pie_lock.proofs.Steps.{takes_keep}
 use Rattle.pie_lock.proofs.lock.RuledLock.exchange.Goals as goal
 
 pub compare_exchange-found-requires : goal.compare_exchange-found-requires

@@ -1,5 +1,5 @@
-use Rattle.pie_lock.proofs.Names.{rules}
-use Rattle.pie_lock.proofs.Putting.{frees_keep}
+use Rattle.std.proofs.Common.{rules}
+use Rattle.pie_lock.proofs.Steps.{frees_keep}
 use Rattle.pie_lock.proofs.lock.RuledLock.free.Goals as goal
 
 pub store-requires : goal.store-requires

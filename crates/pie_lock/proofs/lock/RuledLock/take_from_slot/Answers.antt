@@ -1,4 +1,5 @@
-use Rattle.pie_lock.proofs.Names.{rules, ◌∷◌, Some, ap, sym, ◌∙◌, rest}
+use Rattle.std.proofs.Common.{rules, ◌∷◌, Some, ap, sym, ◌∙◌}
+use Rattle.atomic_table.specs.Table.{rest}
 use Rattle.pie_lock.proofs.lock.RuledLock.take_from_slot.Goals as goal
 
 pub exchange-requires : goal.exchange-requires

@@ -247,8 +247,8 @@ module _ (opening : Opening) (core : CoreView) (history : List Event) (shows : S
   unfolding held_after
   held-is = held_is (opened_of opening) (shown opening history) core.held shows.controller
 
-  pub delay-is : Steps.delay_in core.held (bytes_of core.waiting) ≡ delay_after opening history
-  delay-is = λ i. Steps.delay_in (held-is i) (bytes_of (shows.waiting i))
+  pub delay_is : Steps.delay_in core.held (bytes_of core.waiting) ≡ delay_after opening history
+  delay_is = λ i. Steps.delay_in (held-is i) (bytes_of (shows.waiting i))
 
   answered-is : Steps.delay_answered core.held (bytes_of core.waiting) ≡ delay_answered opening history
   answered-is = λ i. Steps.delay_answered (held-is i) (bytes_of (shows.waiting i))

@@ -1,7 +1,7 @@
 //! How many events there were, and their statistics, added up.
 ghost use Rattle.std.specs.Prelude.{◌≡◌, ◌+◌, ◌<◌, ◌≤◌, ◌^◌, ℕ};
-ghost use Rattle.pie_book.specs.{RawParams, Packet, counted, with_queue};
-ghost use Rattle.pie_event.specs.Deed.{arrival_deed, found_none, updated, was_reset, departed, set};
+ghost use Rattle.pie_book.specs.{Packet, counted, with_queue};
+ghost use Rattle.pie_event.specs.Deed.{arrival_deed, found_none, updated, was_reset, departed};
 ghost use Rattle.pie_event.specs.Verdict.{answer_of};
 
 use crate::Stats;
@@ -133,8 +133,7 @@ impl Tally {
     /// One more change of the parameters.
     pub(crate) fn changed(&mut self)
         requires { self.old.count < 2 ^ 47 }
-        ensures count { self.new.count ≡ self.old.count + 1 }
-        ensures stats { (params : RawParams) → self.new.stats ≡ counted self.old.stats (set params) 0 0 }
+        ensures { self.new ≡ record { count = self.old.count + 1; stats = record self.old.stats { changes = self.old.stats.changes + 1 } } }
     {
         self.count += 1;
         self.stats.changes += 1;

@@ -1,6 +1,6 @@
 -- The definitions at examples worked out by hand.
 use Rattle.std.proofs.Common.{◌≡◌, ℕ, ◌+◌, ◌<◌, ◌^◌, refl, lit<, arith}
-use Rattle.std.specs.Prelude.{pos, negsuc, int_div}
+use Rattle.std.specs.Prelude.{pos, negsuc}
 use Rattle.pie_fixed.specs.declared.TheConstants.{ALWAYS_PICKED, MAX_ACCU, MAX_GAIN, MAX_NANOS, ONE}
 use Rattle.pie_fixed.specs.Fixed.{Picks, bounded_of}
 
@@ -36,7 +36,3 @@ always_at_one word h = omega arith
 
 bounds : (bounded_of (negsuc 0) ≡ 0) × (bounded_of (pos 50) ≡ 50) × (bounded_of (pos 1_000_000_000_001) ≡ 1_000_000_000_000)
 bounds = (refl, refl, refl)
-
--- 7 / 2 is 3, -7 / 2 is -3 and -1 / 2048 is 0
-quotients : (int_div (pos 7) (pos 2) ≡ pos 3) × (int_div (negsuc 6) (pos 2) ≡ negsuc 2) × (int_div (negsuc 0) (pos 2048) ≡ pos 0)
-quotients = (refl, refl, refl)

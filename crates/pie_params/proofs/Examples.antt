@@ -2,9 +2,9 @@
 use Rattle.std.proofs.Common.{◌≡◌, ◌*◌, ◌^◌, ◌∷◌, [], refl}
 use Rattle.std.specs.Prelude.{true, false, Some, None, map}
 use Rattle.pie_fixed.specs.declared.TheConstants.{ONE}
-use Rattle.pie_params.specs.declared.raw.Field.TheVariants.{Target, TUpdate, MaxBurst, Alpha, Beta, MeanPkt, LimitBytes, MarkEcnth, DqThreshold}
+use Rattle.pie_params.specs.declared.raw.Field.TheVariants.{Target, TUpdate, DqThreshold}
 use Rattle.pie_params.specs.Profile.{default_profile, profile_for}
-use Rattle.pie_params.specs.Range.{first_bad, is_dq_threshold, is_in_range}
+use Rattle.pie_params.specs.Range.{first_bad, is_dq_threshold}
 
 -- the bound of the marking threshold, which a definition and a clause name, is the probability 1
 one : ONE ≡ 10 ^ 12
@@ -30,26 +30,3 @@ first_bads = refl
 
 powers : map is_dq_threshold (512 ∷ 1024 ∷ 65536 ∷ 131072 ∷ []) ≡ false ∷ true ∷ true ∷ false ∷ []
 powers = refl
-
--- each range at its ends: the value before the least, the least, the greatest and the one after
-duration_ends : (map (λ n. is_in_range (record default_profile { target = n }) Target) (1 ∷ 2 ∷ 10_000_000_000 ∷ 10_000_000_001 ∷ [])
-    ≡ false ∷ true ∷ true ∷ false ∷ [])
-    × (map (λ n. is_in_range (record default_profile { t_update = n }) TUpdate) (0 ∷ 1 ∷ 10_000_000_000 ∷ 10_000_000_001 ∷ [])
-    ≡ false ∷ true ∷ true ∷ false ∷ [])
-    × (map (λ n. is_in_range (record default_profile { max_burst = n }) MaxBurst) (0 ∷ 1_000_000_000_000 ∷ 1_000_000_000_001 ∷ [])
-    ≡ true ∷ true ∷ false ∷ [])
-duration_ends = (refl, refl, refl)
-
-gain_ends : (map (λ n. is_in_range (record default_profile { alpha = n }) Alpha) (0 ∷ 1_000_000 ∷ 1_000_001 ∷ []) ≡ true ∷ true ∷ false ∷ [])
-    × (map (λ n. is_in_range (record default_profile { beta = n }) Beta) (0 ∷ 1_000_000 ∷ 1_000_001 ∷ []) ≡ true ∷ true ∷ false ∷ [])
-gain_ends = (refl, refl)
-
-size_ends : (map (λ n. is_in_range (record default_profile { mean_pkt = n }) MeanPkt) (0 ∷ 1 ∷ 65535 ∷ 65536 ∷ [])
-    ≡ false ∷ true ∷ true ∷ false ∷ [])
-    × (map (λ n. is_in_range (record default_profile { limit_bytes = n }) LimitBytes) (0 ∷ 1 ∷ 1_073_741_824 ∷ 1_073_741_825 ∷ [])
-    ≡ false ∷ true ∷ true ∷ false ∷ [])
-size_ends = (refl, refl)
-
-mark_ecnth_ends : map (λ n. is_in_range (record default_profile { mark_ecnth = n }) MarkEcnth) (0 ∷ 1_000_000_000_000 ∷ 1_000_000_000_001 ∷ [])
-    ≡ true ∷ true ∷ false ∷ []
-mark_ecnth_ends = refl

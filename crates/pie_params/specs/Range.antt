@@ -1,9 +1,10 @@
--- Which parameters are in their ranges, and the first one that is not.
-use Rattle.std.specs.Prelude.{ℕ, ◌^◌, ◌≤◌, Bool, ◌&&◌, ◌||◌, ◌==◌, nat_le, not, IsTrue, Option, find, List, [], ◌∷◌}
+-- Which parameters are in their ranges, and the first one that is not; and the record of parameters that were checked.
+use Rattle.std.specs.Prelude.{ℕ, ◌+◌, ◌^◌, ◌≤◌, Bool, ◌&&◌, ◌||◌, ◌==◌, nat_le, not, IsTrue, Option, find, List, [], ◌∷◌}
 use Rattle.pie_fixed.specs.declared.TheConstants.{ONE}
 use Rattle.pie_params.specs.declared.raw.Field.{Field}
 use Rattle.pie_params.specs.declared.raw.Field.TheVariants.{Target, TUpdate, MaxBurst, Alpha, Beta, MeanPkt, LimitBytes, MarkEcnth, DqThreshold}
 use Rattle.pie_params.specs.declared.raw.RawParams.{RawParams}
+use Rattle.pie_params.specs.declared.checked.Params.TheInside.{Inside}
 
 -- a power of two from 1024 to 65536
 abbrev pub is_dq_threshold : ℕ → Bool
@@ -41,3 +42,17 @@ pub record IsInRange (raw : RawParams) : Type 0 where
   pub limit_bytes : (1 ≤ raw.limit_bytes) × (raw.limit_bytes ≤ 2 ^ 30)
   pub mark_ecnth : raw.mark_ecnth ≤ ONE
   pub dq_threshold : IsTrue (is_dq_threshold raw.dq_threshold)
+
+-- the record that checked parameters stand for
+abbrev pub held_raw : Inside → RawParams
+held_raw p = record {
+  target = p.target;
+  t_update = p.t_update;
+  max_burst = p.max_burst;
+  alpha = p.alpha;
+  beta = p.beta;
+  mean_pkt = p.mean_pkt;
+  limit_bytes = p.limit_bytes;
+  mark_ecnth = p.mark_ecnth;
+  dq_threshold = p.below_threshold + 1;
+}

@@ -21,37 +21,18 @@ pub struct Params {
 }
 
 impl Model for Params {
-    ghost use Rattle.std.specs.Prelude.{◌+◌, ◌-◌};
+    ghost use Rattle.std.specs.Prelude.{◌-◌};
     ghost use Rattle.std.proofs.Common.{ap};
     ghost use Rattle.std.proofs.Math.Nat.{add-sub_cancel};
     ghost use Rattle.pie_params.specs.declared.raw.RawParams.{RawParams};
-    ghost use Rattle.pie_params.specs.Range.{IsInRange};
 
     ghost Value = { RawParams };
 
-    ghost view = { λ p. record {
-      target = p.target;
-      t_update = p.t_update;
-      max_burst = p.max_burst;
-      alpha = p.alpha;
-      beta = p.beta;
-      mean_pkt = p.mean_pkt;
-      limit_bytes = p.limit_bytes;
-      mark_ecnth = p.mark_ecnth;
-      dq_threshold = p.below_threshold + 1;
-    } };
+    ghost use Rattle.pie_params.specs.Range.{IsInRange, held_raw};
 
-    ghost invariant = { λ p. IsInRange (record {
-      target = p.target;
-      t_update = p.t_update;
-      max_burst = p.max_burst;
-      alpha = p.alpha;
-      beta = p.beta;
-      mean_pkt = p.mean_pkt;
-      limit_bytes = p.limit_bytes;
-      mark_ecnth = p.mark_ecnth;
-      dq_threshold = p.below_threshold + 1;
-    }) };
+    ghost view = { held_raw };
+
+    ghost invariant = { λ p. IsInRange (held_raw p) };
 
     ghost inverse = { λ p. record {
       target = p.target;
@@ -65,18 +46,7 @@ impl Model for Params {
       below_threshold = p.dq_threshold - 1;
     } };
 
-    ghost inverse_ok = { λ p h. ap (λ below. record {
-      target = p.target;
-      t_update = p.t_update;
-      max_burst = p.max_burst;
-      alpha = p.alpha;
-      beta = p.beta;
-      mean_pkt = p.mean_pkt;
-      limit_bytes = p.limit_bytes;
-      mark_ecnth = p.mark_ecnth;
-      below_threshold = below;
-    })
-        (add-sub_cancel p.below_threshold 1) };
+    ghost inverse_ok = { λ p h. ap (λ below. record p { below_threshold = below }) (add-sub_cancel p.below_threshold 1) };
 }
 
 impl Params {

@@ -70,14 +70,14 @@ const FIELDS: [Field; 9] = [
 #[error("the parameter {0} is out of its range")]
 pub struct BadParam(pub Field);
 
-impl Field {
+impl fmt::Display for Field {
+    ghost use Rattle.std.specs.Prelude.{Some};
     ghost use Rattle.pie_params.specs.Name.{field_name};
 
-    /// The field's name, as in [`RawParams`].
-    fn name(self) -> &'static str
-        ensures { result.now ≡ field_name self }
-    {
-        match self {
+    ghost output = { λ field. Some (field_name field) };
+
+    fn fmt<W: fmt::Write>(&self, f: &mut fmt::Formatter<W>) -> fmt::Result {
+        f.write_str(match self {
             Field::Target => "target",
             Field::TUpdate => "t_update",
             Field::MaxBurst => "max_burst",
@@ -87,18 +87,7 @@ impl Field {
             Field::LimitBytes => "limit_bytes",
             Field::MarkEcnth => "mark_ecnth",
             Field::DqThreshold => "dq_threshold",
-        }
-    }
-}
-
-impl fmt::Display for Field {
-    ghost use Rattle.std.specs.Prelude.{Some};
-    ghost use Rattle.pie_params.specs.Name.{field_name};
-
-    ghost output = { λ field. Some (field_name field) };
-
-    fn fmt<W: fmt::Write>(&self, f: &mut fmt::Formatter<W>) -> fmt::Result {
-        f.write_str(self.name())
+        })
     }
 }
 

@@ -1,23 +1,16 @@
 -- What a byte queue's list and sum do at an arrival and at a departure.
 use Rattle.std.proofs.Common.{◌≡◌, ◌≤◌, ◌<◌, ◌+◌, ◌*◌, ◌^◌, ℕ, List, [], ◌∷◌, ◌++◌, length, drop, refl, arith, length-append, length-drop}
 use Rattle.std.specs.Prelude.{All, slice_get, Some}
-use Rattle.std.proofs.lemmas.List.Sums.{sum_by-append, sum_by-cons, sum_by-le}
+use Rattle.std.proofs.lemmas.List.Sums.{sum_by-cons, sum_by-le}
 use Rattle.std.proofs.lemmas.List.Elements.{All-append, All-drop, All-cons, All-nil}
 use Rattle.pie_queue.specs.declared.packet.Waiting.{Waiting}
-use Rattle.pie_queue.specs.Queue.{Queue, IsQueue, HasSize, IsSize, bytes_of}
+use Rattle.pie_queue.specs.Queue.{IsQueue, HasSize, IsSize, bytes_of}
 
 -- the sum fits 36 bits
-pub bytes-bound : (queue : Queue) → IsQueue queue → bytes_of queue.waiting ≤ 65535 * 2 ^ 20
-bytes-bound queue kept =
-    let each : All (λ entry. entry.packet.size ≤ 65535) queue.waiting = λ k d within. (kept.sizes k d within).1 in
-    let sum = sum_by-le (λ (entry : Waiting). entry.packet.size) 65535 queue.waiting each in
-    let count : length queue.waiting ≤ 2 ^ 20 = let a = kept.within in let b = kept.ring in omega arith in
+pub bytes_bound : (waiting : List Waiting) → length waiting ≤ 2 ^ 20 → All HasSize waiting → bytes_of waiting ≤ 65535 * 2 ^ 20
+bytes_bound waiting few sizes =
+    let sum = sum_by-le (λ (entry : Waiting). entry.packet.size) 65535 waiting (λ k d within. (sizes k d within).1) in
     omega (arith, sum)
-
--- one more packet adds its size
-pub bytes-push : (entries : List Waiting) (entry : Waiting) → bytes_of (entries ++ entry ∷ []) ≡ bytes_of entries + entry.packet.size
-bytes-push entries entry =
-    let sum = sum_by-append (λ (w : Waiting). w.packet.size) entries (entry ∷ []) in omega (arith, sum)
 
 -- the oldest leaves with its size
 pub bytes-drop : (entries : List Waiting) (entry : Waiting) → slice_get entries 0 ≡ Some entry

@@ -58,6 +58,7 @@ impl ByteQueue {
     /// # Errors
     ///
     /// The packet itself where the ring is full, and nothing has changed.
+    #[tactic(auto, using(crate::proofs::QueueFacts::bytes_bound, std::proofs::lemmas::List::Sums::sum_by_push))]
     pub fn admit(&mut self, packet: Packet, since: Nanos) -> Result<(), Packet>
         requires { IsSize packet.size }
         ensures full { IsErr result ↔ (length self.old.waiting ≡ self.old.packets) }
@@ -103,6 +104,7 @@ impl ByteQueue {
     }
 
     /// The sum of the sizes of the packets that wait, in bytes: at most 65535 times `2^20`.
+    #[tactic(auto, using(crate::proofs::QueueFacts::bytes_bound))]
     pub fn bytes(&self) -> u64
         ensures sum { result ≡ bytes_of self.now.waiting }
         ensures within { result ≤ 65535 * 2 ^ 20 }

@@ -2,12 +2,12 @@
 pub use Rattle.std.proofs.Common.{Bool, Err, List, None, Ok, Option, Result, Some, Vec, [], ap, append_assoc, arith, cond, drop, eq-eqb, false, get_or, inl}
 pub use Rattle.std.proofs.Common.{inr, length, length-append, length-drop, map, min, nat_le, not, refl, rules, slice_get, subst, suc, sym, take, true}
 pub use Rattle.std.proofs.Common.{zero, ℕ, ⊎_elim, ◌*◌, ◌++◌, ◌+◌, ◌-◌, ◌/◌, ◌<◌, ◌==◌, ◌^◌, ◌∙◌, ◌∷◌, ◌≡◌, ◌≤◌, ◌⊎◌}
-pub use Rattle.std.proofs.Math.Seq.{drop-length, take-add, take-length, take-suc}
+pub use Rattle.std.proofs.Math.Seq.{take-add, take-length, take-suc}
 pub use Rattle.std.proofs.lemmas.Bool.Decides.{nat_tests}
 pub use Rattle.std.proofs.lemmas.List.{append-nil, length-map, length-take, map-append}
 pub use Rattle.std.proofs.lemmas.List.Elements.{All-cons, All-head, All-nil, All-tail}
 pub use Rattle.std.specs.List.{All, drop-map, range_with_len, take-map}
-pub use Rattle.std.specs.Prelude.{IfSome, IsOk, if◌then◌else◌, vec_capacity}
+pub use Rattle.std.specs.Prelude.{IfSome, IsOk, if◌then◌else◌}
 pub use Rattle.std.specs.declared.alloc.Global.{Global}
 pub use Rattle.pie_book.specs.Decision.{IsLegal, IsLegalAt, decision, is_refused_full, or_full, refusal_by_rule, refusal_with}
 pub use Rattle.pie_book.specs.Estimates.{due_after}
@@ -15,7 +15,6 @@ pub use Rattle.pie_book.specs.History.{effective_moment}
 pub use Rattle.pie_book.specs.Run.{event_of}
 pub use Rattle.pie_event.specs.declared.command.Answer.{Answer}
 pub use Rattle.pie_event.specs.declared.command.Command.{Command}
-pub use Rattle.pie_event.specs.declared.command.Command.TheVariants.{Depart, Update}
 pub use Rattle.pie_event.specs.declared.command.Event.{Event}
 pub use Rattle.pie_event.specs.declared.opening.Mode.TheVariants.{Bounded, Rolling}
 pub use Rattle.pie_event.specs.declared.opening.Opening.{Opening}
@@ -31,7 +30,7 @@ pub use Rattle.pie_link.specs.Views.{CallerView, LinkView}
 pub use Rattle.pie_lock.proofs.Owns.{NoneOwn, goes_on_itself, gone_on, own_none}
 pub use Rattle.pie_lock.specs.Own.{is_within, own}
 pub use Rattle.pie_lock.specs.Steps.{GoesOn}
-pub use Rattle.pie_storm.specs.Plans.{IsFair, IsSound, arriving, changing, departing, folder, opening_of, planned, senders, sent, total, updater, updating}
+pub use Rattle.pie_storm.specs.Plans.{IsFair, IsSound, arriving, changing, departing, folder, opening_of, senders, sent, total, updater, updating}
 unfoldable pub use Rattle.pie_storm.specs.Plans.{calls_of}
 pub use Rattle.pie_storm.specs.StormPlan.{arrivals_of, change_at, held_by, planned_arrival, sender_words, words_of}
 unfoldable pub use Rattle.pie_storm.specs.StormPlan.{words_after}
@@ -42,6 +41,5 @@ pub use Rattle.pie_storm.specs.declared.plan.Call.{Call}
 pub use Rattle.pie_storm.specs.declared.plan.Call.TheVariants.{Ask, Fold}
 pub use Rattle.pie_storm.specs.declared.plan.Plan.{Plan}
 pub use Rattle.pie_storm.specs.declared.worker.Work.{Work}
-pub use mathlib.Core.List.{IsPrefix}
 pub use mathlib.Core.Logic.{dite}
 pub use native.Mathlib.Decide.{ℕ_discrete}

@@ -84,15 +84,11 @@ impl<'a, C: Clock> Pace<'a, C> {
 
     /// Whether every caller is there, and none is to make a call before this moment; or nobody waits any more.
     fn are_level(&self, moment: u64) -> bool {
-        if self.is_over.load(Ordering::SeqCst) {
-            return true;
-        }
-        for next in &self.next {
-            if next.load(Ordering::SeqCst) < moment {
-                return false;
-            }
-        }
-        true
+        self.is_over.load(Ordering::SeqCst)
+            || self
+                .next
+                .iter()
+                .all(|next| next.load(Ordering::SeqCst) >= moment)
     }
 }
 

@@ -7,7 +7,7 @@ use Rattle.pie_units.specs.declared.when.When.TheVariants.{Moment, Unix}
 use Rattle.pie_cut.specs.declared.span.Met.{Met}
 use Rattle.pie_cut.specs.declared.span.Span.{Span}
 use Rattle.pie_cut.specs.Segment.{segment}
-use Rattle.pie_cut.specs.Span.{is_past, is_reached}
+use Rattle.pie_cut.specs.Excerpt.{is_past, is_reached}
 use Rattle.pie_book.specs.Core.{CoreView}
 use Rattle.pie_cut.specs.declared.joined.Joint.TheVariants.{Follows, Gap, Unlike}
 use Rattle.pie_cut.specs.Joined.{EndView, JoinsBy}

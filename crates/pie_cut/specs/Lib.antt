@@ -1,5 +1,4 @@
 pub mod Names
-pub mod Span
 pub mod Excerpt
 pub mod Told
 pub mod Answer
@@ -7,7 +6,6 @@ pub mod Segment
 pub mod Last
 pub mod Joined
 unfoldable pub use Names.*
-unfoldable pub use Span.*
 unfoldable pub use Excerpt.*
 unfoldable pub use Told.*
 unfoldable pub use Answer.*

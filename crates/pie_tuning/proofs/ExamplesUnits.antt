@@ -3,14 +3,16 @@ use Rattle.std.proofs.Common.{◌≡◌, codes, refl}
 use Rattle.std.specs.Prelude.{Ok, Err}
 use Rattle.pie_units.specs.Scale.{is_word, prefix_scale, rate_scale, time_scale}
 use Rattle.pie_units.specs.Written.{digit_count, number_after}
-use Rattle.pie_tuning.specs.declared.units.OptionFault.TheVariants.{NotATime, NoRate, PreciseTime}
+use Rattle.pie_tuning.specs.declared.units.OptionFault.TheVariants.{NoRate, Unread}
+use Rattle.pie_units.specs.declared.unit.Quantity.TheVariants.{Time}
+use Rattle.pie_units.specs.declared.written.UnitFault.TheVariants.{NotANumber, TooPrecise}
 use Rattle.pie_tuning.specs.Opening.{gain_of}
 use Rattle.pie_tuning.specs.Units.{packets_of, rate_of, time_of}
 
 -- as tc(8) has them; RFC 8033's 0.125 and 1.25 at the end
 asked : (time_of (codes "1.5ms") ≡ Ok 1_500_000)
-    × (time_of (codes "20") ≡ Err NotATime)
-    × (time_of (codes "1.5ns") ≡ Err PreciseTime)
+    × (time_of (codes "20") ≡ Err (Unread Time NotANumber))
+    × (time_of (codes "1.5ns") ≡ Err (Unread Time TooPrecise))
     × (rate_of (codes "100mbit") ≡ Ok 100_000_000)
     × (rate_of (codes "1kbps") ≡ Ok 8_000)
     × (rate_of (codes "0mbit") ≡ Err NoRate)

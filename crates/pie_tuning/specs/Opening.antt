@@ -1,14 +1,10 @@
 -- The parameters and the elements that `tc`'s options ask for, and the opening of a book with them.
-use Rattle.std.specs.Prelude.{ℕ, ◌*◌, ◌/◌, ◌^◌, ◌==◌, Bool, true, false, not, ◌&&◌, nat_lt, max, min, if◌then◌else◌}
+use Rattle.std.specs.Prelude.{ℕ, ◌*◌, ◌/◌, ◌^◌, ◌==◌, Bool, not, ◌&&◌, nat_lt, max, min, if◌then◌else◌}
 use Rattle.std.specs.Int.{div_ceil}
-use Rattle.pie_params.specs.declared.elements.Delay.{Delay}
 use Rattle.pie_params.specs.declared.elements.Delay.TheVariants.{Rate, Stamp}
 use Rattle.pie_params.specs.declared.elements.Elements.{Elements}
-use Rattle.pie_params.specs.declared.elements.Picking.{Picking}
 use Rattle.pie_params.specs.declared.elements.Picking.TheVariants.{Derandomized, Random}
-use Rattle.pie_params.specs.declared.elements.Size.{Size}
 use Rattle.pie_params.specs.declared.elements.Size.TheVariants.{Scaled, Unscaled}
-use Rattle.pie_params.specs.declared.elements.Step.{Step}
 use Rattle.pie_params.specs.declared.elements.Step.TheVariants.{Capped, Uncapped}
 use Rattle.pie_params.specs.declared.raw.RawParams.{RawParams}
 use Rattle.pie_params.specs.Profile.{default_profile, profile_for}
@@ -34,32 +30,14 @@ params_for asked = record (profile_for asked.rate) {
 
 -- ---- RFC 8033's optional elements
 
--- from the departure rate where it is asked for, and else from time stamps
-abbrev pub delay_for : Bool → Delay
-delay_for true = Rate
-delay_for false = Stamp
-
--- by the random word alone where de-randomization is turned off
-abbrev pub picking_for : Bool → Picking
-picking_for true = Random
-picking_for false = Derandomized
-
--- with no cap where it is turned off
-abbrev pub step_for : Bool → Step
-step_for true = Uncapped
-step_for false = Capped
-
--- a packet's size counts where it is asked for
-abbrev pub size_for : Bool → Size
-size_for true = Scaled
-size_for false = Unscaled
-
+-- delays from the departure rate where it is asked for, and else from time stamps; by the random word alone where de-randomization is turned off; with
+-- no cap where it is turned off; and a packet's size counts where it is asked for
 abbrev pub elements_for : TuningOptions → Elements
 elements_for asked = record {
-  delay = delay_for asked.dq_rate_estimator;
-  picking = picking_for asked.no_derandomization;
-  step = step_for asked.no_cap_drop_adjustment;
-  size = size_for asked.bytemode;
+  delay = if asked.dq_rate_estimator then Rate else Stamp;
+  picking = if asked.no_derandomization then Random else Derandomized;
+  step = if asked.no_cap_drop_adjustment then Uncapped else Capped;
+  size = if asked.bytemode then Scaled else Unscaled;
   decay = asked.decay;
 }
 

@@ -1,7 +1,6 @@
 //! The parameters and the choices that a link of some rate is to have.
 ghost use Rattle.std.specs.Prelude.{◌≡◌, ◌≤◌, ◌*◌, nat_lt};
-ghost use Rattle.pie_tuning.specs.Opening.{can_stall, delay_for, elements_for, gain_of, params_for, picking_for, size_for};
-ghost use Rattle.pie_tuning.specs.Opening.{step_for};
+ghost use Rattle.pie_tuning.specs.Opening.{can_stall, elements_for, gain_of, params_for};
 
 use pie_params::{Decay, Delay, Elements, Params, Picking, RawParams, Size, Step};
 
@@ -44,59 +43,31 @@ pub fn gain_of(gain: u64) -> u64
     gain * 1000 / 16
 }
 
-/// Where delays are taken from.
-fn delay_for(dq_rate_estimator: bool) -> Delay
-    ensures { result ≡ delay_for dq_rate_estimator }
-{
-    if dq_rate_estimator {
-        Delay::Rate
-    } else {
-        Delay::Stamp
-    }
-}
-
-/// How packets are picked.
-fn picking_for(no_derandomization: bool) -> Picking
-    ensures { result ≡ picking_for no_derandomization }
-{
-    if no_derandomization {
-        Picking::Random
-    } else {
-        Picking::Derandomized
-    }
-}
-
-/// How far an update may raise the probability.
-fn step_for(no_cap_drop_adjustment: bool) -> Step
-    ensures { result ≡ step_for no_cap_drop_adjustment }
-{
-    if no_cap_drop_adjustment {
-        Step::Uncapped
-    } else {
-        Step::Capped
-    }
-}
-
-/// Whether a packet's size counts.
-fn size_for(bytemode: bool) -> Size
-    ensures { result ≡ size_for bytemode }
-{
-    if bytemode {
-        Size::Scaled
-    } else {
-        Size::Unscaled
-    }
-}
-
 /// RFC 8033's optional elements of what is asked for, as `tc` and ns-3 have them.
 pub fn elements_for(asked: &TuningOptions) -> Elements
     ensures { result ≡ elements_for asked.now }
 {
     Elements {
-        delay: delay_for(asked.dq_rate_estimator),
-        picking: picking_for(asked.no_derandomization),
-        step: step_for(asked.no_cap_drop_adjustment),
-        size: size_for(asked.bytemode),
+        delay: if asked.dq_rate_estimator {
+            Delay::Rate
+        } else {
+            Delay::Stamp
+        },
+        picking: if asked.no_derandomization {
+            Picking::Random
+        } else {
+            Picking::Derandomized
+        },
+        step: if asked.no_cap_drop_adjustment {
+            Step::Uncapped
+        } else {
+            Step::Capped
+        },
+        size: if asked.bytemode {
+            Size::Scaled
+        } else {
+            Size::Unscaled
+        },
         decay: asked.decay,
     }
 }

@@ -1,40 +1,15 @@
--- Texts with units, worked out: as tc(8) has the units, and as `tc` of iproute2 reads them.
-use Rattle.std.proofs.Common.{◌≡◌, ◌^◌, ◌-◌, codes, refl}
+-- Rates, sizes and packets with units, worked out: as tc(8) has the units, and as `tc` of iproute2 reads them. Times are in tests/program/moments.py.
+use Rattle.std.proofs.Common.{◌≡◌, ◌^◌, codes, refl}
 use Rattle.std.specs.Prelude.{Ok, Err, ⊤}
-use Rattle.pie_units.specs.declared.unit.Quantity.TheVariants.{Moment, Time, Rate, Size, Packets}
-use Rattle.pie_units.specs.declared.written.UnitFault.TheVariants.{NotANumber, TooPrecise, TooGreat}
-use Rattle.pie_units.specs.Scale.{is_word, prefix_scale, rate_scale, size_scale, time_scale}
+use Rattle.pie_units.specs.declared.unit.Quantity.TheVariants.{Rate, Size, Packets}
+use Rattle.pie_units.specs.declared.written.UnitFault.TheVariants.{NotANumber, TooPrecise}
+use Rattle.pie_units.specs.Scale.{is_word, prefix_scale, rate_scale, size_scale}
 use Rattle.pie_units.specs.Written.{digit_count, number_after, value_of}
 
 -- what computing a value unfolds
 unfoldable worked : Type 0
-unfolding digit_count number_after is_word prefix_scale rate_scale size_scale time_scale
+unfolding digit_count number_after is_word prefix_scale rate_scale size_scale
 worked = ⊤
-
-times : (value_of Time (codes "1.5ms") ≡ Ok 1_500_000)
-    × (value_of Time (codes "20MS") ≡ Ok 20_000_000)
-    × (value_of Time (codes "2secs") ≡ Ok 2_000_000_000)
-    × (value_of Time (codes "7Usec") ≡ Ok 7_000)
-    × (value_of Time (codes "9nsecs") ≡ Ok 9)
-    × (value_of Time (codes ".25s") ≡ Ok 250_000_000)
-    × (value_of Time (codes "20") ≡ Err NotANumber)
-    × (value_of Time (codes "ms") ≡ Err NotANumber)
-    × (value_of Time (codes ".s") ≡ Err NotANumber)
-    × (value_of Time (codes "3min") ≡ Err NotANumber)
-    × (value_of Time (codes "1.5ns") ≡ Err TooPrecise)
-    × (value_of Time (codes "1.50000000000us") ≡ Ok 1_500)
-    × (value_of Time (codes "1.0000000000000000000s") ≡ Err TooPrecise)
-    × (value_of Time (codes "340282366920938463463374607431768211456s") ≡ Err TooGreat)
-unfolding worked
-times = (refl, refl, refl, refl, refl, refl, refl, refl, refl, refl, refl, refl, refl, refl)
-
-moments : (value_of Moment (codes "1.5m") ≡ Ok 90_000_000_000)
-    × (value_of Moment (codes "2H") ≡ Ok 7_200_000_000_000)
-    × (value_of Moment (codes "3min") ≡ Err NotANumber)
-    × (value_of Moment (codes "1152921504606846975") ≡ Ok (2 ^ 60 - 1))
-    × (value_of Moment (codes "1152921504606846976") ≡ Err TooGreat)
-unfolding worked
-moments = (refl, refl, refl, refl, refl)
 
 rates : (value_of Rate (codes "100mbit") ≡ Ok 100_000_000)
     × (value_of Rate (codes "1Mibit") ≡ Ok 1_048_576)

@@ -1,5 +1,4 @@
 mod ExamplesUnits
 mod ExamplesDates
 pub mod DigitFacts
-pub mod WordFacts
 pub mod WrittenFacts

@@ -1,5 +1,6 @@
 -- A moment as a person writes it: whole nanoseconds, or a number with a unit, such as 1.5ms.
 use Rattle.std.specs.Prelude.{ℕ, ◌≡◌, List, Result, Ok, Err}
+use Rattle.std.specs.Result.{result_map_both}
 use Rattle.pie_units.specs.declared.moment.Moment.{Moment as Moment}
 use Rattle.pie_units.specs.declared.moment.MomentFault.{MomentFault}
 use Rattle.pie_units.specs.declared.moment.MomentFault.TheVariants.{NotAMoment, TooFine, TooLate}
@@ -14,13 +15,9 @@ moment_fault NotANumber = NotAMoment
 moment_fault TooPrecise = TooFine
 moment_fault TooGreat = TooLate
 
-abbrev pub moment_by : Result ℕ UnitFault → Result ℕ MomentFault
-moment_by (Ok number) = Ok number
-moment_by (Err why) = Err (moment_fault why)
-
 -- the moment that a text writes, in nanoseconds
 abbrev pub moment_in : List ℕ → Result ℕ MomentFault
-moment_in text = moment_by (value_of AMoment text)
+moment_in text = result_map_both (λ number. number) moment_fault (value_of AMoment text)
 
 -- what reading a text as a moment answers
 abbrev pub WritesMoment : List ℕ → Result Moment MomentFault → Type 0

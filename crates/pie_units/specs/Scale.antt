@@ -1,16 +1,13 @@
 -- Units of times, rates, sizes and packets, as `tc` has them: how many nanoseconds, bits a second, bytes or packets each is.
-use Rattle.std.specs.Prelude.{ℕ, ◌-◌, ◌*◌, ◌^◌, ◌==◌, ◌&&◌, ◌||◌, Bool, true, false, List, [], ◌∷◌, length, take, drop, Option, Some, None}
+use Rattle.std.specs.Prelude.{ℕ, ◌-◌, ◌*◌, ◌^◌, ◌||◌, Bool, List, length, take, drop, Option, Some, None}
 use Rattle.std.specs.Prelude.{if◌then◌else◌, codes}
-use Rattle.std.specs.Char.{to_ascii_lowercase}
+use Rattle.std.specs.Str.{str_eq_ignore_ascii_case}
 use Rattle.pie_units.specs.declared.unit.Quantity.{Quantity}
 use Rattle.pie_units.specs.declared.unit.Quantity.TheVariants.{Moment, Time, Rate, Size, Packets}
 
 -- a text is this word, its letters of any case
 unfoldable pub is_word : List ℕ → List ℕ → Bool
-is_word [] [] = true
-is_word [] (byte ∷ text) = false
-is_word (letter ∷ word) [] = false
-is_word (letter ∷ word) (byte ∷ text) = (to_ascii_lowercase byte == letter) && is_word word text
+is_word word text = str_eq_ignore_ascii_case text word
 
 -- a text is one of these words
 abbrev pub is_either : List ℕ → List ℕ → List ℕ → Bool

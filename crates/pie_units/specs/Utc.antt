@@ -1,5 +1,5 @@
 -- A time of day as UTC writes it: 2026-11-24T20:00:00.265333333Z.
-use Rattle.std.specs.Prelude.{ℕ, ◌+◌, ◌-◌, ◌*◌, ◌/◌, ◌%◌, ◌^◌, ◌==◌, ◌&&◌, ◌||◌, nat_lt, min, Bool, List, ◌++◌, length, take, drop}
+use Rattle.std.specs.Prelude.{ℕ, ◌+◌, ◌-◌, ◌*◌, ◌/◌, ◌%◌, ◌^◌, ◌==◌, ◌&&◌, ◌||◌, nat_lt, min, Bool, List, [], ◌++◌, length, take, drop}
 use Rattle.std.specs.Prelude.{slice_index}
 use Rattle.std.specs.Prelude.{not, replicate, Option, Some, None, Result, Ok, Err, if◌then◌else◌, codes}
 use Rattle.std.specs.Fmt.{decimal}
@@ -11,7 +11,7 @@ use Rattle.pie_units.specs.declared.utc.Utc.{Utc as Utc}
 use Rattle.pie_units.specs.declared.utc.UtcFault.{UtcFault}
 use Rattle.pie_units.specs.declared.utc.UtcFault.TheVariants.{NotUtc, OutOfRange}
 use Rattle.pie_units.specs.Date.{date_of, day_number, days_in_month}
-use Rattle.pie_units.specs.Written.{decimals_in, digit_count, number_after, unit_in}
+use Rattle.pie_units.specs.Written.{decimals_in, digit_count, number_after, parts_of, unit_in}
 
 -- ---- how it is written
 
@@ -58,13 +58,9 @@ date_part text =
     option_and_then (λ year. option_and_then (λ month. option_and_then (λ day. Some (record { year = year; month = month; day = day }))
     (number_within (part 8 10 text) 1 (days_in_month year month))) (number_within (part 5 7 text) 1 12)) (number_within (part 0 4 text) 0 9999)
 
--- the number that nine decimals write, filled up with zeros
-abbrev pub billionths : List ℕ → ℕ
-billionths decimals = number_after 0 (decimals ++ take (9 - length decimals) (codes "000000000"))
-
 -- the nanoseconds that the decimals of a second write: nine digits are no more than this
 unfoldable pub nanos_in : List ℕ → ℕ
-nanos_in decimals = min (billionths decimals) 999999999
+nanos_in decimals = min (parts_of 9 [] decimals) 999999999
 
 -- the seconds of the day behind the date
 unfoldable pub seconds_part : List ℕ → Option ℕ

@@ -2,6 +2,7 @@
 use Rattle.std.specs.Prelude.{ℕ, ◌+◌, ◌-◌, ◌*◌, ◌/◌, ◌%◌, ◌^◌, ◌==◌, ◌&&◌, List, [], ◌∷◌, ◌++◌, length, take, drop, Option, Some, None}
 use Rattle.std.specs.Prelude.{Result, Ok, Err, nat_lt, if◌then◌else◌, codes}
 use Rattle.std.specs.Char.{is_ascii_digit}
+use Rattle.std.specs.List.{prefix_len}
 use Rattle.pie_units.specs.declared.unit.Quantity.{Quantity}
 use Rattle.pie_units.specs.declared.written.UnitFault.{UnitFault}
 use Rattle.pie_units.specs.declared.written.UnitFault.TheVariants.{NotANumber, TooPrecise, TooGreat}
@@ -9,8 +10,7 @@ use Rattle.pie_units.specs.Scale.{scale_of}
 
 -- how many digits stand first in a text
 unfoldable pub digit_count : List ℕ → ℕ
-digit_count [] = 0
-digit_count (byte ∷ text) = if is_ascii_digit byte then 1 + digit_count text else 0
+digit_count text = prefix_len is_ascii_digit text
 
 -- the number that digits write, where they follow those of another
 unfoldable pub number_after : ℕ → List ℕ → ℕ
@@ -33,9 +33,9 @@ whole_in parts =
     else if parts % 10 ^ 18 == 0 then Ok (parts / 10 ^ 18)
     else Err TooPrecise
 
--- the number with these digits before the point and behind it, in parts, 10^18 of which are one: its decimals are filled up with zeros
-abbrev pub parts_of : List ℕ → List ℕ → ℕ
-parts_of whole decimals = number_after 0 (whole ++ decimals ++ take (18 - length decimals) (codes "000000000000000000"))
+-- the number with these digits before the point and behind it, in parts with so many decimals: those that are not there are zeros
+abbrev pub parts_of : ℕ → List ℕ → List ℕ → ℕ
+parts_of places whole decimals = number_after 0 (whole ++ decimals ++ take (places - length decimals) (codes "000000000000000000"))
 
 -- what these digits before the point and behind it come to, in a unit that is so many; at most 18 decimals are read
 abbrev pub value_by : List ℕ → List ℕ → Option ℕ → Result ℕ UnitFault
@@ -43,7 +43,7 @@ value_by whole decimals None = Err NotANumber
 value_by whole decimals (Some scale) =
     if (length whole == 0) && (length decimals == 0) then Err NotANumber
     else if nat_lt 18 (length decimals) then Err TooPrecise
-    else whole_in (parts_of whole decimals * scale)
+    else whole_in (parts_of 18 whole decimals * scale)
 
 -- .. where these digits stand first, and this text behind them
 abbrev pub value_with : Quantity → List ℕ → List ℕ → Result ℕ UnitFault

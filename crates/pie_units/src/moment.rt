@@ -40,10 +40,7 @@ fn moment_fault(why: UnitFault) -> MomentFault
 pub(crate) fn moment_in(text: &[u8]) -> Result<u64, MomentFault>
     ensures { result ≡ moment_in text.now }
 {
-    match read(Quantity::Moment, text) {
-        Ok(number) => Ok(number),
-        Err(why) => Err(moment_fault(why)),
-    }
+    read(Quantity::Moment, text).map_err(moment_fault)
 }
 
 impl FromStr for Moment {

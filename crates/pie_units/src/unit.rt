@@ -19,18 +19,11 @@ pub enum Quantity {
 }
 
 /// Whether a text is this word, its letters of any case.
+#[tactic(auto, unfolding(crate::specs::Scale::is_word))]
 fn is_word(word: &[u8], text: &[u8]) -> bool
     ensures { result ≡ is_word word.now text.now }
 {
-    if word.len() != text.len() {
-        return false;
-    }
-    'letters: for i in 0..text.len() {
-        if text[i].to_ascii_lowercase() != word[i] {
-            return false;
-        }
-    }
-    true
+    text.eq_ignore_ascii_case(word)
 }
 
 /// Whether a text is one of two words.
@@ -50,8 +43,7 @@ fn is_any(first: &[u8], second: &[u8], third: &[u8], text: &[u8]) -> bool
 /// The nanoseconds of a unit of time.
 #[tactic(auto, unfolding(crate::specs::Scale::time_scale))]
 fn time_scale(unit: &[u8]) -> Option<u64>
-    ensures scale { result ≡ time_scale unit.now }
-    ensures some { IfSome result (λ scale. 1 ≤ scale) }
+    ensures { result ≡ time_scale unit.now }
 {
     if is_any(b"ns", b"nsec", b"nsecs", unit) {
         Some(1)
@@ -70,7 +62,6 @@ fn time_scale(unit: &[u8]) -> Option<u64>
 #[tactic(auto, unfolding(crate::specs::Scale::prefix_scale))]
 fn prefix_scale(prefix: &[u8]) -> Option<u64>
     ensures scale { result ≡ prefix_scale prefix.now }
-    ensures some { IfSome result (λ scale. 1 ≤ scale) }
     ensures few { IfSome result (λ scale. scale ≤ 2 ^ 40) }
 {
     if is_word(b"", prefix) {
@@ -99,7 +90,6 @@ fn prefix_scale(prefix: &[u8]) -> Option<u64>
 /// The bits a second of `bit` and of `bps`, a byte a second.
 fn base_scale(base: &[u8]) -> Option<u64>
     ensures scale { result ≡ base_scale base.now }
-    ensures some { IfSome result (λ scale. 1 ≤ scale) }
     ensures few { IfSome result (λ scale. scale ≤ 8) }
 {
     if is_word(b"bit", base) {
@@ -114,8 +104,7 @@ fn base_scale(base: &[u8]) -> Option<u64>
 /// The bits a second of a unit of rates.
 #[tactic(auto, unfolding(crate::specs::Scale::rate_scale))]
 fn rate_scale(unit: &[u8]) -> Option<u64>
-    ensures scale { result ≡ rate_scale unit.now }
-    ensures some { IfSome result (λ scale. 1 ≤ scale) }
+    ensures { result ≡ rate_scale unit.now }
 {
     let (prefix, base) = unit.split_at(unit.len().saturating_sub(3));
     match (prefix_scale(prefix), base_scale(base)) {
@@ -128,8 +117,7 @@ fn rate_scale(unit: &[u8]) -> Option<u64>
 /// The bytes of a unit of sizes.
 #[tactic(auto, unfolding(crate::specs::Scale::size_scale))]
 fn size_scale(unit: &[u8]) -> Option<u64>
-    ensures scale { result ≡ size_scale unit.now }
-    ensures some { IfSome result (λ scale. 1 ≤ scale) }
+    ensures { result ≡ size_scale unit.now }
 {
     if is_either(b"", b"b", unit) {
         Some(1)
@@ -152,8 +140,7 @@ fn size_scale(unit: &[u8]) -> Option<u64>
 
 /// What a unit of this kind comes to, in nanoseconds, bits a second, bytes or packets.
 pub(crate) fn scale_of(kind: Quantity, unit: &[u8]) -> Option<u64>
-    ensures scale { result ≡ scale_of kind unit.now }
-    ensures some { IfSome result (λ scale. 1 ≤ scale) }
+    ensures { result ≡ scale_of kind unit.now }
 {
     match kind {
         Quantity::Moment => moment_scale(unit),
@@ -166,8 +153,7 @@ pub(crate) fn scale_of(kind: Quantity, unit: &[u8]) -> Option<u64>
 
 /// Packets, in which a number without a unit is too.
 fn packets_scale(unit: &[u8]) -> Option<u64>
-    ensures scale { result ≡ packets_scale unit.now }
-    ensures some { IfSome result (λ scale. 1 ≤ scale) }
+    ensures { result ≡ packets_scale unit.now }
 {
     if is_either(b"", b"p", unit) {
         Some(1)
@@ -178,8 +164,7 @@ fn packets_scale(unit: &[u8]) -> Option<u64>
 
 /// The nanoseconds of a unit of time, of minutes or hours, or of none.
 fn moment_scale(unit: &[u8]) -> Option<u64>
-    ensures scale { result ≡ moment_scale unit.now }
-    ensures some { IfSome result (λ scale. 1 ≤ scale) }
+    ensures { result ≡ moment_scale unit.now }
 {
     if is_word(b"", unit) {
         Some(1)

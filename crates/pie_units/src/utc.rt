@@ -1,9 +1,9 @@
 //! Times of day, as UTC writes them: `2026-11-24T20:00:00.265333333Z`.
 ghost use Rattle.std.specs.Prelude.{◌≡◌, ◌≤◌, ◌-◌, ◌^◌, IfSome, length, min};
-ghost use Rattle.pie_units.specs.Utc.{billionths, date_part, has_marks, nanos_in, number_in, number_within, seconds_part, unix_of, utc_in, utc_with};
+ghost use Rattle.pie_units.specs.Utc.{date_part, has_marks, nanos_in, number_in, number_within, seconds_part, unix_of, utc_in, utc_with};
 
 use crate::date::{Date, date_of, day_number, days_in_month};
-use crate::written::{decimals_in, digit_count, number_after, unit_in};
+use crate::written::{decimals_in, digit_count, number_after, parts_of, unit_in};
 use std::fmt;
 use std::fmt::Display;
 use std::str::FromStr;
@@ -17,9 +17,6 @@ const DAY: u64 = 86_400_000_000_000;
 
 /// The nanoseconds of a second.
 const SECOND: u64 = 1_000_000_000;
-
-/// As many zeros as a second may have decimals.
-const ZEROS: &[u8] = b"000000000";
 
 /// Why a text is no time of day.
 #[derive(Clone, Copy, Debug, PartialEq, Eq, Error)]
@@ -36,38 +33,6 @@ pub enum UtcFault {
 #[derive(Clone, Copy, Debug, PartialEq, Eq)]
 pub struct Utc(pub u64);
 
-/// A date as it is written: `2026-11-24`.
-#[derive(Clone, Copy)]
-struct DateWords(Date);
-
-impl Display for DateWords {
-    ghost use Rattle.std.specs.Prelude.{Some, []};
-    ghost use Rattle.pie_units.specs.Utc.{date_text};
-
-    ghost output = { λ date. Some (date_text date.0 []) };
-
-    fn fmt<W: fmt::Write>(&self, f: &mut fmt::Formatter<W>) -> fmt::Result {
-        let Date { year, month, day } = self.0;
-        write!(f, "{year:04}-{month:02}-{day:02}")
-    }
-}
-
-/// So many seconds of a day as they are written: `20:00:00`.
-#[derive(Clone, Copy)]
-struct SecondsWords(u64);
-
-impl Display for SecondsWords {
-    ghost use Rattle.std.specs.Prelude.{Some, []};
-    ghost use Rattle.pie_units.specs.Utc.{seconds_text};
-
-    ghost output = { λ seconds. Some (seconds_text seconds.0 []) };
-
-    fn fmt<W: fmt::Write>(&self, f: &mut fmt::Formatter<W>) -> fmt::Result {
-        let (hour, minute, second) = (self.0 / 3600, self.0 / 60 % 60, self.0 % 60);
-        write!(f, "{hour:02}:{minute:02}:{second:02}")
-    }
-}
-
 impl Display for Utc {
     ghost use Rattle.std.specs.Prelude.{Some};
     ghost use Rattle.pie_units.specs.Utc.{utc_text};
@@ -75,10 +40,14 @@ impl Display for Utc {
     ghost output = { λ time. Some (utc_text time.0) };
 
     fn fmt<W: fmt::Write>(&self, f: &mut fmt::Formatter<W>) -> fmt::Result {
-        let date = DateWords(date_of(self.0 / DAY));
-        let time = SecondsWords(self.0 % DAY / SECOND);
+        let Date { year, month, day } = date_of(self.0 / DAY);
+        let seconds = self.0 % DAY / SECOND;
+        let (hour, minute, second) = (seconds / 3600, seconds / 60 % 60, seconds % 60);
         let nanos = self.0 % SECOND;
-        write!(f, "{date}T{time}.{nanos:09}Z")
+        write!(
+            f,
+            "{year:04}-{month:02}-{day:02}T{hour:02}:{minute:02}:{second:02}.{nanos:09}Z"
+        )
     }
 }
 
@@ -126,23 +95,13 @@ fn date_part(text: &[u8]) -> Option<Date>
     Some(Date { year, month, day })
 }
 
-/// The number that nine decimals write, filled up with zeros; at most 2^128 - 1.
-fn billionths(decimals: &[u8]) -> u128
-    requires { length decimals.now ≤ 9 }
-    ensures { result ≡ min (billionths decimals.now) (2 ^ 128 - 1) }
-{
-    let zeros = &ZEROS[..9 - decimals.len()];
-    let digits = number_after(0, decimals);
-    number_after(digits, zeros)
-}
-
 /// The nanoseconds that the decimals of a second write, at most nine of them.
 #[tactic(auto, unfolding(crate::specs::Utc::nanos_in))]
 fn nanos_in(decimals: &[u8]) -> u64
     requires { length decimals.now ≤ 9 }
     ensures { result ≡ nanos_in decimals.now }
 {
-    billionths(decimals).min(999_999_999) as u64
+    parts_of(9, b"", decimals).min(999_999_999) as u64
 }
 
 /// The seconds of the day that a text writes behind its date.

@@ -39,15 +39,9 @@ fn when_in(text: &[u8]) -> Result<When, WhenFault>
     ensures { result ≡ when_in text.now }
 {
     if is_date(text) {
-        match utc_in(text) {
-            Ok(unix) => Ok(When::Unix(unix)),
-            Err(why) => Err(WhenFault::Utc(why)),
-        }
+        utc_in(text).map(When::Unix).map_err(WhenFault::Utc)
     } else {
-        match moment_in(text) {
-            Ok(moment) => Ok(When::Moment(moment)),
-            Err(why) => Err(WhenFault::Moment(why)),
-        }
+        moment_in(text).map(When::Moment).map_err(WhenFault::Moment)
     }
 }
 

@@ -29,12 +29,7 @@ pub(crate) fn digit_count(text: &[u8]) -> usize
     ensures count { result ≡ digit_count text.now }
     ensures within { result ≤ length text.now }
 {
-    'digits: for i in 0..text.len() {
-        if !text[i].is_ascii_digit() {
-            return i;
-        }
-    }
-    text.len()
+    text.iter().take_while(|byte| byte.is_ascii_digit()).count()
 }
 
 /// A number with one more digit behind it; at most 2^128 - 1.
@@ -92,12 +87,13 @@ fn whole_in(parts: u128) -> Result<u64, UnitFault>
     }
 }
 
-/// The number with these digits before the point and behind it, in parts; at most 2^128 - 1.
-fn parts_of(whole: &[u8], decimals: &[u8]) -> u128
-    requires { length decimals.now ≤ 18 }
-    ensures { result ≡ min (parts_of whole.now decimals.now) (2 ^ 128 - 1) }
+/// The number with these digits before the point and behind it, in parts with so many decimals; at most 2^128 - 1.
+pub(crate) fn parts_of(places: usize, whole: &[u8], decimals: &[u8]) -> u128
+    requires few { length decimals.now ≤ places }
+    requires places { places ≤ 18 }
+    ensures { result ≡ min (parts_of places whole.now decimals.now) (2 ^ 128 - 1) }
 {
-    let zeros = &ZEROS[..18 - decimals.len()];
+    let zeros = &ZEROS[..places - decimals.len()];
     let units = number_after(0, whole);
     let digits = number_after(units, decimals);
     number_after(digits, zeros)
@@ -105,16 +101,14 @@ fn parts_of(whole: &[u8], decimals: &[u8]) -> u128
 
 /// What a number of at most 18 decimals comes to in a unit that is so many.
 fn product_of(whole: &[u8], decimals: &[u8], scale: u64) -> Result<u64, UnitFault>
-    requires few { length decimals.now ≤ 18 }
-    requires some { 1 ≤ scale }
-    ensures { result ≡ whole_in (parts_of whole.now decimals.now * scale) }
+    requires { length decimals.now ≤ 18 }
+    ensures { result ≡ whole_in (parts_of 18 whole.now decimals.now * scale) }
 {
-    whole_in(parts_of(whole, decimals).saturating_mul(u128::from(scale)))
+    whole_in(parts_of(18, whole, decimals).saturating_mul(u128::from(scale)))
 }
 
 /// What a number comes to in a unit that is so many.
 fn value_by(whole: &[u8], decimals: &[u8], scale: u64) -> Result<u64, UnitFault>
-    requires { 1 ≤ scale }
     ensures { result ≡ value_by whole.now decimals.now (Some scale) }
 {
     if whole.is_empty() && decimals.is_empty() {

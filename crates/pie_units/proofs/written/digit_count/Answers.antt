@@ -1,25 +1,19 @@
-use Rattle.std.proofs.Common.{◌≡◌, ◌≤◌, arith, false, length, rules, slice_index, sym, true}
+use Rattle.std.proofs.Common.{◌≡◌, ◌∙◌, arith, length-take, rules, tests}
 use Rattle.std.specs.Char.{is_ascii_digit}
-use Rattle.pie_units.proofs.WrittenFacts.{count-end, count-more, count-stop}
+use Rattle.std.specs.List.{prefix_len}
+use Rattle.std.proofs.lemmas.Iterator.{YieldsList-from_slice}
+use Rattle.std.proofs.lemmas.Iterator.Consumers.{count_from_yields_List}
+use Rattle.std.proofs.lemmas.Iterator.Search.{YieldsList-from_take_while}
+use Rattle.std.proofs.lemmas.List.Folds.{length-prefix_len}
+use Rattle.pie_units.specs.Written.{digit_count}
 use Rattle.pie_units.proofs.written.digit_count.Goals as goal
 
-pub returns-then-not-is_ascii_digit-clause-count : goal.returns-then-not-is_ascii_digit-clause-count
-returns-then-not-is_ascii_digit-clause-count c =
-    let other : is_ascii_digit (slice_index c.args.text.now c.digits.i) ≡ false = search rules in
-    let none = count-stop c.args.text.now c.digits.i c.digits-test.true other in
-    let same = c.digits.invariant in
-    omega arith
-
-pub digits-preserved : goal.digits-preserved
-digits-preserved c =
-    let digit : is_ascii_digit (slice_index c.args.text.now c.digits.i) ≡ true = sym c.if-not-is_ascii_digit.ensures.value in
-    let more = count-more c.args.text.now c.digits.i c.digits-test.true digit in
-    let same = c.digits.invariant in
-    omega arith
-
-pub returns-clause-count : goal.returns-clause-count
-returns-clause-count c =
-    let all : length c.args.text.now ≤ c.digits.i = omega arith in
-    let none = count-end c.args.text.now c.digits.i all in
-    let same = c.digits.invariant in
-    omega arith
+pub returns : goal.returns
+unfolding digit_count
+returns c =
+    let text = c.args.text.now in
+    let is : c.count.result ≡ prefix_len is_ascii_digit text = count_from_yields_List c.take_while.result _ c.count.ensures.ran
+    (YieldsList-from_take_while _ is_ascii_digit (YieldsList-from_slice text cc) c.take_while.ensures.closure c.take_while.ensures.done
+    (λ x b q k. search (rules, tests))) ∙ length-prefix_len is_ascii_digit text in
+    let few = length-prefix_len is_ascii_digit text in
+    record { count = is; within = omega (arith, is, few, length-take (prefix_len is_ascii_digit text) text) }

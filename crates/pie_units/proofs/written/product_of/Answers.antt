@@ -5,5 +5,5 @@ use Rattle.pie_units.proofs.written.product_of.Goals as goal
 
 pub returns : goal.returns
 returns c =
-    c.whole_in.ensures ∙ value-kept (parts_of c.args.whole.now c.args.decimals.now) c.parts_of.result c.args.scale c.saturating_mul.result
-    c.requires.some c.parts_of.ensures (rw c.from.ensures at c.saturating_mul.ensures)
+    c.whole_in.ensures ∙ value-kept (parts_of 18 c.args.whole.now c.args.decimals.now) c.parts_of.result c.args.scale c.saturating_mul.result
+    c.parts_of.ensures (rw c.from.ensures at c.saturating_mul.ensures)

@@ -3,13 +3,13 @@ use Rattle.pie_summary.proofs.Names.{◌≡◌, ℕ, suc, zero, Bool, true, fals
 use Rattle.pie_summary.proofs.Names.{append-nil, length, ◌<◌, ◌+◌, Option, Some, None, if◌then◌else◌, cons_option, filter_map, values_of, eqb-true}
 use Rattle.pie_summary.proofs.Names.{eq-eqb, map_push, filter_map-append, Explained, Flow, FlowSums, added_up, flow_sums, is_of, together, HasFlows}
 use Rattle.pie_summary.proofs.Names.{distinct, first_of, flows_in, in_order, placed, sums_beside}
-use Rattle.std.proofs.Common.{◌||◌, nat_eq, take, true≢false}
+use Rattle.std.proofs.Common.{◌||◌, arith, nat_eq, take, true≢false}
 use Rattle.std.specs.Prelude.{slice_index_or}
 use Rattle.std.specs.Cmp.{nat_eq_equiv}
 use Rattle.std.specs.List.{AllByRecursion, IsDistinct, list_any}
 use Rattle.std.specs.Map.{lookup}
 use Rattle.std.proofs.lemmas.Bool.{or_parts}
-use Rattle.std.proofs.lemmas.List.{take_more}
+use Rattle.std.proofs.lemmas.List.{take-take, take_more}
 use Rattle.std.proofs.lemmas.List.Elements.{filter-append}
 use Rattle.std.proofs.lemmas.List.Folds.{list_any-append}
 use Rattle.std.proofs.lemmas.List.Sums.{fold_push}
@@ -119,9 +119,9 @@ flows-same shown one is =
 
 -- ---- all flows
 
-pub none-shown : HasFlows [] []
+pub none_shown : (rows : List (ℕ × Flow)) → rows ≡ [] → HasFlows rows []
 unfolding distinct IsDistinct
-none-shown = record { are = refl; apart = tt; others = λ flow e. refl }
+none_shown rows none = record { are = none; apart = tt; others = λ flow e. refl }
 
 -- what was found of a flow
 abbrev pub sums_found : Option Flow → FlowSums
@@ -174,9 +174,9 @@ flow-taken flow shown one rows now row has is row-is now-is = record {
       sums = flow_sums (sym (none-of x shown one (ap (is_this x) (sym is) ∙ flipped x e)) i);
     }
 
-pub nothing-taken : (shown : List Explained) (one : Explained) (rows : List (ℕ × Flow)) → HasFlows rows shown → None ≡ flow_in one
+pub nothing_taken : (shown : List Explained) (one : Explained) (rows : List (ℕ × Flow)) → HasFlows rows shown → None ≡ flow_in one
     → HasFlows rows (shown ++ one ∷ [])
-nothing-taken shown one rows has is = record {
+nothing_taken shown one rows has is = record {
   are = has.are ∙ (λ i. map (λ flow. (flow, same flow i)) (sym grown i));
   apart = subst (IsDistinct nat_eq) (sym grown) has.apart;
   others = λ x e. none-of x shown one (ap (is_this x) (sym is)) ∙ has.others x (ap (list_any (nat_eq x)) (sym grown) ∙ e);
@@ -190,14 +190,9 @@ nothing-taken shown one rows has is = record {
 
 -- ---- the first of them
 
-take-less : {X : Type 0} (m : ℕ) (ys : List X) → take m (take (suc m) ys) ≡ take m ys
-take-less zero ys = refl
-take-less (suc m) [] = refl
-take-less (suc m) (y ∷ ys) = ap (λ zs. y ∷ zs) (take-less m ys)
-
 take-twice : {X : Type 0} (m : ℕ) (x : X) (xs : List X) → take m (x ∷ take m xs) ≡ take m (x ∷ xs)
 take-twice zero x xs = refl
-take-twice (suc m) x xs = ap (λ ys. x ∷ ys) (take-less m xs)
+take-twice (suc m) x xs = ap (λ ys. x ∷ ys) (take-take m (suc m) xs (omega arith))
 
 take-placed : (m : ℕ) (flows : List Flow) (one : Flow) → take m (placed (take m flows) one) ≡ take m (placed flows one)
 take-placed zero flows one = refl

@@ -1,19 +1,13 @@
 -- Numbers of flows with more.
-use Rattle.pie_summary.proofs.Names.{◌≡◌, ◌+◌, ◌-◌, ℕ, List, [], ◌∷◌, ◌++◌, map, length, sym, ap, ◌∙◌, arith, refl, append-nil, digits, max}
-use Rattle.pie_summary.proofs.Names.{replicate, sum, map_push, sum_by_push, greatest, greatest-push, Explained, FlowSums, kept, added_up, flow_sums}
+use Rattle.pie_summary.proofs.Names.{◌≡◌, ◌-◌, ℕ, List, [], ◌∷◌, ◌++◌, map, length, sym, ap, ◌∙◌, arith, refl, append-nil, digits, max}
+use Rattle.pie_summary.proofs.Names.{replicate, map_push, greatest, greatest-push, Explained, FlowSums, added_up, flow_sums}
 use Rattle.pie_summary.proofs.Names.{together}
 use Rattle.std.specs.Fmt.{char_count, format_spec, padded_integral}
 use Rattle.std.specs.Prelude.{false}
 use Rattle.pie_summary.specs.FlowSums.{numbers_of}
-use Rattle.pie_summary.proofs.CountFacts.{kept-more}
+use Rattle.pie_summary.proofs.SumsFacts.{sum-push}
 
--- a sum, and a greatest number, with one more
-sum-more : (number : FlowSums → ℕ) (all : List FlowSums) (one : FlowSums)
-    → kept (kept (sum (map number all)) + number one) ≡ kept (sum (map number (all ++ one ∷ [])))
-sum-more number all one =
-    kept-more (sum (map number all)) (number one) 18446744073709551615
-    ∙ ap kept (sym (ap sum (map_push number all one) ∙ sum_by_push (λ (n : ℕ). n) (map number all) (number one)))
-
+-- a greatest number with one more
 greatest-more : (number : FlowSums → ℕ) (all : List FlowSums) (one : FlowSums)
     → max (greatest (map number all)) (number one) ≡ greatest (map number (all ++ one ∷ []))
 greatest-more number all one = sym (ap greatest (map_push number all one) ∙ greatest-push (map number all) (number one))
@@ -21,18 +15,18 @@ greatest-more number all one = sym (ap greatest (map_push number all one) ∙ gr
 pub added-push : (all : List FlowSums) (one : FlowSums) → together (added_up all) one ≡ added_up (all ++ one ∷ [])
 unfolding added_up
 added-push all one = λ i. record {
-  arrivals = sum-more (λ n. n.arrivals) all one i;
-  bytes = sum-more (λ n. n.bytes) all one i;
-  queued = sum-more (λ n. n.queued) all one i;
-  marked = sum-more (λ n. n.marked) all one i;
-  early = sum-more (λ n. n.early) all one i;
-  no_bytes = sum-more (λ n. n.no_bytes) all one i;
-  no_packets = sum-more (λ n. n.no_packets) all one i;
-  left = sum-more (λ n. n.left) all one i;
-  carried = sum-more (λ n. n.carried) all one i;
-  waited = sum-more (λ n. n.waited) all one i;
+  arrivals = sum-push (λ n. n.arrivals) all one refl refl refl i;
+  bytes = sum-push (λ n. n.bytes) all one refl refl refl i;
+  queued = sum-push (λ n. n.queued) all one refl refl refl i;
+  marked = sum-push (λ n. n.marked) all one refl refl refl i;
+  early = sum-push (λ n. n.early) all one refl refl refl i;
+  no_bytes = sum-push (λ n. n.no_bytes) all one refl refl refl i;
+  no_packets = sum-push (λ n. n.no_packets) all one refl refl refl i;
+  left = sum-push (λ n. n.left) all one refl refl refl i;
+  carried = sum-push (λ n. n.carried) all one refl refl refl i;
+  waited = sum-push (λ n. n.waited) all one refl refl refl i;
   greatest_wait = greatest-more (λ n. n.greatest_wait) all one i;
-  held = sum-more (λ n. n.held) all one i;
+  held = sum-push (λ n. n.held) all one refl refl refl i;
 }
 
 -- of events with one more

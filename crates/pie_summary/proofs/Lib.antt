@@ -10,4 +10,3 @@ pub mod LiveFacts
 pub mod NotedFacts
 pub mod FlowSumsFacts
 pub mod FlowFacts
-mod FlowExamples

@@ -1,6 +1,6 @@
 -- What is kept of a period that is summed up as it goes, with one more event.
 use Rattle.pie_summary.proofs.Names.{◌≡◌, ◌≤◌, ◌<◌, ◌+◌, ◌*◌, ◌-◌, ◌/◌, ◌==◌, arith, ℕ, Bool, true, false, cond, not, List, [], ◌∷◌, ◌++◌, refl}
-use Rattle.pie_summary.proofs.Names.{subst, sym, ap, ◌∙◌, nat_le, nat_lt, min, count_by, Option, Some, None, if◌then◌else◌, eq-eqb, ne_eqb, nat_tests}
+use Rattle.pie_summary.proofs.Names.{sym, ap, ◌∙◌, nat_le, nat_lt, min, count_by, Option, Some, None, if◌then◌else◌, eq-eqb, ne_eqb, nat_tests}
 use Rattle.pie_summary.proofs.Names.{sum_by_push, Place, places, time_of, Explained, Csv, CsvByWall, LivePeriod, Meter, kept, Holds, clock_of}
 use Rattle.pie_summary.proofs.Names.{length_of, number_in, last_events, last_period, period_at, since, starts, ranges_of, record_of, said_of}
 use Rattle.pie_summary.proofs.Names.{meter_of, reached, sums_of, waits_of}
@@ -9,7 +9,7 @@ use Rattle.std.proofs.lemmas.Nat.{div-mul-add}
 use Rattle.pie_summary.specs.Live.{Awaits, IsSet, Spans, is_first, periods_begun}
 use Rattle.pie_summary.specs.Words.{wait_99}
 use Rattle.pie_summary.proofs.CountFacts.{kept-more}
-use Rattle.pie_summary.proofs.PeriodFacts.{Begins, last_events-push, last_period-push, since-begun, some-events, under-way}
+use Rattle.pie_summary.proofs.PeriodFacts.{last_events-push, last_period-push, since-begun, some-events, under-way}
 use Rattle.pie_summary.proofs.SumsFacts.{place_of, places-push, reached-later, reached-none}
 
 -- ---- periods
@@ -45,10 +45,6 @@ not-started period p some is =
 pub both-ends : (start end moment : ℕ) → (nat_le start moment && nat_lt moment end) ≡ true → (start ≤ moment) × (moment < end)
 both-ends start end moment is = grind (arith, nat_tests, is)
 
-reached-same : (shown : List Explained) (one : Explained) → Begins shown → meter_of shown ≡ reached shown one
-reached-same shown one (first, rest, is) =
-    subst (λ (before : List Explained). meter_of before ≡ reached before one) (sym is) (reached-later (first ∷ rest) one (λ e. omega (arith, e)))
-
 -- an event in the period that is under way
 pub awaits-same : (period : LivePeriod) (shown : List Explained) (one : Explained) → Holds period shown
     → starts (number_in period) (period_at (length_of period) one) ≡ false
@@ -63,7 +59,7 @@ awaits-same period shown one holds same =
       number = holds.number ∙ last ∙ sym (last_period-push every shown one);
       begun = holds.begun ∙ small (count_by (is_first every) (places shown))
           ∙ ap (λ (b : Bool). min (periods_begun every shown + cond b 1 0) 18446744073709551615) (sym none_more) ∙ sym (begun-push every shown one);
-      meter = holds.meter ∙ reached-same (last_events every shown) one (some-events every p shown last)
+      meter = holds.meter ∙ reached-later (last_events every shown) one (some-events every p shown last)
           ∙ ap (λ (before : List Explained). reached before one) goes_on;
       waits = holds.waits ∙ ap waits_of goes_on;
       spans = holds.spans;

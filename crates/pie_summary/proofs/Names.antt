@@ -17,13 +17,10 @@ unfoldable pub use Rattle.pie_aqm.specs.Places.{greatest, last_or, places}
 unfoldable pub use Rattle.pie_event.specs.CauseName.{word_of_cause}
 pub use Rattle.pie_event.specs.Verdict.{answer_of}
 pub use Rattle.pie_event.specs.declared.command.Answer.{Answer}
-pub use Rattle.pie_event.specs.declared.command.Answer.TheVariants.{Done, Empty, Enqueued, Left, Updated}
-pub use Rattle.pie_event.specs.declared.command.Command.TheVariants.{Arrive, Depart, Update}
+pub use Rattle.pie_event.specs.declared.command.Answer.TheVariants.{Done, Empty, Left, Updated}
 pub use Rattle.pie_explain.specs.Selection.{time_of}
 pub use Rattle.pie_explain.specs.declared.explanation.Explained.{Explained}
 pub use Rattle.pie_explain.specs.declared.form.Form.TheVariants.{Csv, CsvByWall}
-pub use Rattle.pie_queue.specs.declared.ecn.Ecn.TheVariants.{NotEct}
-pub use Rattle.pie_queue.specs.declared.packet.Packet.{Packet}
 pub use Rattle.pie_summary.specs.ByFlow.{HoldsFlows, flow_header}
 pub use Rattle.pie_summary.specs.Counts.{kept}
 pub use Rattle.pie_summary.specs.FlowSums.{flow_sums, is_of, together}
@@ -39,7 +36,7 @@ unfoldable pub use Rattle.pie_summary.specs.Record.{record_of}
 pub use Rattle.pie_summary.specs.Spans.{bounds_of, moment_at, peak_of, span_of, time_at, total_in, total_of}
 pub use Rattle.pie_summary.specs.Summary.{HoldsSums, said_of}
 unfoldable pub use Rattle.pie_summary.specs.Summary.{header, noted}
-pub use Rattle.pie_summary.specs.Sums.{above_by, cause_of, cause_place, excess_by, late_at, reached, size_in, timed_by, wait_in}
+pub use Rattle.pie_summary.specs.Sums.{cause_of, cause_place, late_at, reached, size_in, timed_by, wait_in}
 unfoldable pub use Rattle.pie_summary.specs.Sums.{meter_of, sums_of, waits_of}
 unfoldable pub use Rattle.pie_summary.specs.Words.{cause_words}
 pub use Rattle.pie_summary.specs.declared.flow.Flow.{Flow}

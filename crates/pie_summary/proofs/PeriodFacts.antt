@@ -1,7 +1,8 @@
 -- The last events of a list with one more.
 use Rattle.pie_summary.proofs.Names.{◌≡◌, ◌==◌, ℕ, Bool, true, false, not, List, [], ◌∷◌, ◌++◌, map, refl, sym, ap, ◌∙◌, Option, Some, None, eq-eqb}
 use Rattle.pie_summary.proofs.Names.{eqb-true, map_push, last_or, last_or-push, Explained, last_events, last_period, period_at, since, starts}
-use Rattle.std.proofs.Common.{◌⊎◌, inl, inr}
+use Rattle.std.proofs.Common.{◌⊎◌, inl, inr, arith, length}
+use Rattle.std.proofs.lemmas.List.{length_push}
 use Rattle.pie_early.proofs.Laws.{after_last-push_no, after_last-push_yes}
 use Rattle.pie_summary.specs.Period.{is_elsewhere}
 
@@ -61,21 +62,13 @@ since-begun every period shown before is begun = by_end (ends-of shown)
         ap (λ all. since every (Some period) all) whole
         ∙ after_last-push_yes (is_elsewhere every period) front last (ap (λ b. starts b period) (sym known) ∙ begun)
 
--- a list with a last element has a first
-abbrev pub Begins : {X : Type 0} → List X → Type 0
-Begins {X} xs = (first : X) × (rest : List X) × (xs ≡ first ∷ rest)
-
-begins-with : {X : Type 0} (front : List X) (last : X) → Begins (front ++ last ∷ [])
-begins-with [] last = (last, [], refl)
-begins-with (x ∷ front) last = (x, front ++ last ∷ [], refl)
-
 -- where the last event has a period there are last events
-pub some-events : (every : Option ℕ) (period : ℕ) (shown : List Explained) → last_period every shown ≡ Some period → Begins (last_events every shown)
+pub some-events : (every : Option ℕ) (period : ℕ) (shown : List Explained) → last_period every shown ≡ Some period → last_events every shown ≡ [] → ⊥
 unfolding last_or
-some-events every period shown is = by_end (ends-of shown)
+some-events every period shown is empty = by_end (ends-of shown)
   where
-    by_end : Ends shown → Begins (last_events every shown)
+    by_end : Ends shown → ⊥
     by_end (inl none) = let never : None ≡ Some period = sym (ap (last_period every) none) ∙ is in cc
     by_end (inr (front, last, whole)) =
-        let begins = begins-with (since every (Some (period_at every last)) front) last in
-        (begins.0, begins.1, ap (last_events every) whole ∙ last_events-push every front last ∙ begins.2)
+        let nothing = ap length (sym (last_events-push every front last) ∙ ap (last_events every) (sym whole) ∙ empty) in
+        omega (arith, nothing, length_push (since every (Some (period_at every last)) front) last)

@@ -1,12 +1,12 @@
 -- Ranges of numbers.
 use Rattle.pie_summary.proofs.Names.{◌≡◌, ◌+◌, ◌-◌, ◌*◌, ◌/◌, ◌<◌, ◌≤◌, arith, ℕ, lit≤, suc, zero, Bool, true, false, List, [], ◌∷◌, ◌++◌, length}
-use Rattle.pie_summary.proofs.Names.{refl, sym, ap, ◌∙◌, if◌then◌else◌, min, nat_le, nat_lt, slice_index, slice_set, take, Option, Some, find}
+use Rattle.pie_summary.proofs.Names.{refl, sym, ap, ◌∙◌, if◌then◌else◌, min, nat_le, nat_lt, slice_index, slice_set, take, Option, Some, find, replicate}
 use Rattle.pie_summary.proofs.Names.{range_with_len, sum, nat_tests, first_up_to, range_of, ranges_of}
 use Rattle.std.proofs.Common.{◌^◌}
 use Rattle.std.proofs.lemmas.List.Sums.{sum_by_more}
 use Rattle.std.proofs.Math.Nat.{div-div-eq-div-mul, pow-suc}
 use Rattle.pie_summary.specs.Ranges.{range_within}
-use Rattle.pie_summary.proofs.CountFacts.{counted-push}
+use Rattle.pie_summary.proofs.CountFacts.{counted-push, none-counted}
 
 -- without its last digit a number has one less
 pub shorter : (digits number : ℕ) → (digits ≡ 0 → ⊥) → number < 100 * 10 ^ digits → number / 10 < 100 * 10 ^ (digits - 1)
@@ -98,6 +98,11 @@ search-goes-on counts rank place missing within left short so_far =
     let misses : sum (take (place + 1) counts) < rank = omega (arith, more, left, short) in
     let fails : nat_le rank (sum (take (place + 1) counts)) ≡ false = grind (arith, nat_tests, misses) in
     (omega (arith, more, left), so_far ∙ goes-on (λ p. nat_le rank (sum (take (p + 1) counts))) place (length counts) within fails)
+
+-- of no number all ranges are empty
+pub no_ranges : replicate 1720 0 ≡ ranges_of []
+unfolding ranges_of
+no_ranges = none-counted range_of 0 1720
 
 -- one more number in its range
 pub ranges-push : (at : ℕ) (numbers : List ℕ) (number : ℕ) (old held read : List ℕ) (count : ℕ) → old ≡ ranges_of numbers → held ≡ old → read ≡ old

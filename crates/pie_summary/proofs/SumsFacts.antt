@@ -29,7 +29,7 @@ waits-push shown one step is old-is = some-of-push ranges_of wait_in shown one s
 -- ---- a meter that awaits an event
 
 -- where there are events before it the first moment is known
-pub reached-later : (shown : List Explained) (one : Explained) → (kept (length (map moment_at shown)) ≡ 0 → ⊥) → meter_of shown ≡ reached shown one
+pub reached-later : (shown : List Explained) (one : Explained) → (shown ≡ [] → ⊥) → meter_of shown ≡ reached shown one
 unfolding meter_of
 reached-later [] one some = absurd (some refl)
 reached-later (first ∷ rest) one some = refl

@@ -13,15 +13,11 @@ use Rattle.pie_summary.specs.Sums.{answer_of, carried_in, size_in, wait_in}
 
 -- ---- of one event
 
--- the flow of the packet that left
-abbrev pub flow_left : Answer → Option ℕ
-flow_left (Left packet) = Some (packet.tag / 2 ^ 32)
-flow_left _ = None
-
 -- the flow of an event: that of the packet that arrived or left, the upper 32 bits of its tag; no other event has one
 abbrev pub flow_by : Command → Answer → Option ℕ
 flow_by (Arrive moment packet word) answer = Some (packet.tag / 2 ^ 32)
-flow_by _ answer = flow_left answer
+flow_by _ (Left packet) = Some (packet.tag / 2 ^ 32)
+flow_by _ _ = None
 
 abbrev pub flow_in : Explained → Option ℕ
 flow_in one = flow_by one.told.event.command one.told.event.answer

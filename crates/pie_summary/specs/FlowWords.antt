@@ -55,10 +55,11 @@ wait_words sums =
 unfoldable pub flow_words : Name → FlowSums → FlowSums → List ℕ
 flow_words name total sums = joined (amount_words name total sums ∷ fate_words sums ∷ wait_words sums ∷ [])
 
--- how many flows there are, and what arrived
-unfoldable pub total_words : ℕ → FlowSums → List ℕ
-total_words count total =
-    joined (codes "  " ∷ decimal count ∷ codes " flows: " ∷ decimal total.arrivals ∷ codes " arrivals, " ∷ decimal total.bytes ∷ codes " bytes\n" ∷ [])
+-- when the events of the flows were, by times of day or not, how many flows there are, and what arrived
+unfoldable pub total_words : Bool → Span → ℕ → FlowSums → List ℕ
+total_words by_wall span count total =
+    joined (head_words span.moments ∷ time_words by_wall (codes "  ") span.times
+    ∷ codes "  " ∷ decimal count ∷ codes " flows: " ∷ decimal total.arrivals ∷ codes " arrivals, " ∷ decimal total.bytes ∷ codes " bytes\n" ∷ [])
 
 -- ---- as a record
 
@@ -81,10 +82,9 @@ flow_record by_wall span name sums =
 -- ---- in either form
 
 -- what stands before the flows
-unfoldable pub head_said : Form → Span → ℕ → FlowSums → List ℕ
-head_said Text span count total = joined (head_words span.moments ∷ total_words count total ∷ [])
-head_said TextByWall span count total =
-    joined (head_words span.moments ∷ time_words true (codes "  ") span.times ∷ total_words count total ∷ [])
+abbrev pub head_said : Form → Span → ℕ → FlowSums → List ℕ
+head_said Text span count total = total_words false span count total
+head_said TextByWall span count total = total_words true span count total
 head_said Csv span count total = []
 head_said CsvByWall span count total = []
 

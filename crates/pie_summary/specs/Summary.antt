@@ -1,5 +1,5 @@
 -- What is written for summaries of the explained events, and between them for lost and marked packets.
-use Rattle.std.specs.Prelude.{ℕ, ◌≡◌, Bool, true, false, ◌&&◌, ◌||◌, List, [], ◌++◌, Option, None}
+use Rattle.std.specs.Prelude.{ℕ, ◌≡◌, Bool, true, false, ◌&&◌, ◌||◌, if◌then◌else◌, List, [], ◌++◌, Option, None}
 use Rattle.std.specs.List.{flat_map}
 use Rattle.pie_aqm.specs.Places.{Place, places}
 use Rattle.pie_explain.specs.declared.form.Form.{Form}
@@ -57,14 +57,9 @@ clock_for Csv clock = None
 clock_for TextByWall clock = clock
 clock_for CsvByWall clock = clock
 
--- the words for an event, where this holds
-abbrev pub words_where : Bool → Option Clock → Explained → List ℕ
-words_where true clock one = words_by clock one
-words_where false clock one = []
-
 -- what is said of an event by itself: its words, where packets are explained and it lost or marked one
 unfoldable pub noted : Summary → Explained → List ℕ
-noted summary one = words_where (summary.packets && is_lost_or_marked one) (clock_for summary.form one.told.clock) one
+noted summary one = if summary.packets && is_lost_or_marked one then words_by (clock_for summary.form one.told.clock) one else []
 
 -- ---- the whole
 

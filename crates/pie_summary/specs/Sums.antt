@@ -1,6 +1,7 @@
 -- The numbers of a summary, each over the whole list of the events that were explained.
 use Rattle.std.specs.Prelude.{ℕ, ◌-◌, ◌&&◌, nat_lt, min, if◌then◌else◌, Bool, true, false, List, [], ◌∷◌, ◌++◌, length, map, slice_index, Option, Some, None}
 use Rattle.std.specs.List.{filter_map, sum}
+use Rattle.std.specs.Option.{option_and}
 use Rattle.pie_event.specs.declared.cause.Cause.{Cause}
 use Rattle.pie_aqm.specs.Places.{Place, greatest, last_or, places, up_to}
 use Rattle.pie_event.specs.CauseName.{name_of, place_of_cause}
@@ -102,16 +103,12 @@ turned_on all = turned_at true all.told.before.active all.after.active all.told.
 abbrev pub turned_off : Explained → Option ℕ
 turned_off all = turned_at false all.told.before.active all.after.active all.told.moment
 
--- a time of day, where this moment is one
-abbrev pub time_where : Option ℕ → Option ℕ → Option ℕ
-time_where None time = None
-time_where (Some moment) time = time
-
+-- the time of day of an event that turned it on, or off
 abbrev pub on_time : Explained → Option ℕ
-on_time all = time_where (turned_on all) (time_at all)
+on_time all = option_and (turned_on all) (time_at all)
 
 abbrev pub off_time : Explained → Option ℕ
-off_time all = time_where (turned_off all) (time_at all)
+off_time all = option_and (turned_off all) (time_at all)
 
 -- ---- of an event after others
 

@@ -27,6 +27,7 @@ pub struct FlowTable {
 
 impl FlowTable {
     /// Of no event.
+    #[tactic(auto, using(crate::proofs::FlowFacts::none_shown))]
     pub(crate) fn empty(alloc: Global) -> FlowTable
         ensures { HasFlows result.rows.entries [] }
     {
@@ -36,6 +37,7 @@ impl FlowTable {
     }
 
     /// Forgets all events.
+    #[tactic(auto, using(crate::proofs::FlowFacts::none_shown))]
     pub(crate) fn clear(&mut self)
         ensures { HasFlows self.new.rows.entries [] }
     {

@@ -25,6 +25,7 @@ pub struct FlowPeriod {
 
 impl FlowPeriod {
     /// No event yet.
+    #[tactic(auto, unfolding(pie_aqm::specs::Places::last_or))]
     pub(crate) fn empty(alloc: Global) -> FlowPeriod
         ensures number { result.number ≡ None }
         ensures span { result.span ≡ span_of [] }
@@ -32,7 +33,7 @@ impl FlowPeriod {
     {
         FlowPeriod {
             number: None,
-            span: Span::empty(),
+            span: Span::NONE,
             table: FlowTable::empty(alloc),
         }
     }
@@ -43,7 +44,7 @@ impl FlowPeriod {
             → HoldsFlows self.new (since every (Some period) shown) }
     {
         if starts(self.number, period) {
-            self.span = Span::empty();
+            self.span = Span::NONE;
             self.table.clear();
         }
     }

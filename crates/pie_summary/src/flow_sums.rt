@@ -1,8 +1,7 @@
 //! The numbers of a flow.
 ghost use Rattle.std.specs.Prelude.{◌≡◌, ◌*◌, ◌/◌, ◌++◌, ◌∷◌, ◌==◌, [], List, if◌then◌else◌, is_some};
 ghost use Rattle.pie_explain.specs.declared.explanation.Explained.{Explained};
-ghost use Rattle.pie_summary.specs.Counts.{kept};
-ghost use Rattle.pie_summary.specs.FlowSums.{added_up, flow_by, flow_left, flow_sums, numbers_of, together};
+ghost use Rattle.pie_summary.specs.FlowSums.{added_up, flow_by, flow_sums, numbers_of, together};
 ghost use Rattle.pie_summary.specs.Sums.{answer_place};
 
 use crate::sums::{answer_place, carried_by, size_by, where_left};
@@ -38,33 +37,16 @@ pub struct FlowSums {
     pub held: u64,
 }
 
-/// The flow of the packet that left.
-fn flow_left(answer: Answer) -> Option<u32>
-    ensures { result ≡ flow_left answer }
-{
-    match answer {
-        Answer::Left(packet) => Some((packet.tag >> 32) as u32),
-        _ => None,
-    }
-}
-
 /// The flow of an event: of the packet that arrived or left, the upper 32 bits of its tag.
 pub(crate) fn flow_by(command: Command, answer: Answer) -> Option<u32>
     ensures { result ≡ flow_by command answer }
 {
     match command {
         Command::Arrive { packet, .. } => Some((packet.tag >> 32) as u32),
-        _ => flow_left(answer),
-    }
-}
-
-/// 1 where there is a number.
-fn one_of(number: Option<u64>) -> u64
-    ensures { result ≡ (if is_some number then 1 else 0) }
-{
-    match number {
-        Some(_) => 1,
-        None => 0,
+        _ => match answer {
+            Answer::Left(packet) => Some((packet.tag >> 32) as u32),
+            _ => None,
+        },
     }
 }
 
@@ -72,14 +54,7 @@ fn one_of(number: Option<u64>) -> u64
 fn answered(answer: Answer, place: usize) -> u64
     ensures { result ≡ (if answer_place answer == place then 1 else 0) }
 {
-    if answer_place(answer) == place { 1 } else { 0 }
-}
-
-/// What a packet of so many bytes had of the queue.
-fn held_by(carried: u64, waited: u64) -> u64
-    ensures { result ≡ kept (carried * (waited / 1000)) }
-{
-    carried.saturating_mul(waited / 1000)
+    u64::from(answer_place(answer) == place)
 }
 
 /// What one event counts.
@@ -92,7 +67,7 @@ fn numbers_of(all: &Explained) -> FlowSums
     let carried = carried_by(answer);
     let waited = where_left(answer, all.told.waited).unwrap_or(0);
     FlowSums {
-        arrivals: one_of(size),
+        arrivals: u64::from(size.is_some()),
         bytes: size.unwrap_or(0),
         queued: answered(answer, 0),
         marked: answered(answer, 1),
@@ -103,7 +78,7 @@ fn numbers_of(all: &Explained) -> FlowSums
         carried,
         waited,
         greatest_wait: waited,
-        held: held_by(carried, waited),
+        held: carried.saturating_mul(waited / 1000),
     }
 }
 

@@ -146,12 +146,20 @@ fn push_words(
     push_wait(page, sums)
 }
 
-/// How many flows there are, and what arrived.
+/// When the events of the flows were, by times of day or not, how many flows there are, and what arrived.
 #[tactic(auto, unfolding(crate::specs::FlowWords::total_words))]
-fn push_total(page: &mut String, count: u64, total: &FlowSums) -> Result<(), AllocError>
-    ensures { OnOk result (string_bytes page.new ≡ string_bytes page.old ++ total_words count total.now) }
+fn push_total(
+    page: &mut String,
+    by_wall: bool,
+    span: &Span,
+    count: u64,
+    total: &FlowSums,
+) -> Result<(), AllocError>
+    ensures { OnOk result (string_bytes page.new ≡ string_bytes page.old ++ total_words by_wall span.now count total.now) }
 {
     let (arrivals, bytes) = (total.arrivals, total.bytes);
+    push_head(page, &span.moments)?;
+    push_times(page, by_wall, "  ", &span.times)?;
     write!(
         page,
         "  {count} flows: {arrivals} arrivals, {bytes} bytes\n"
@@ -219,7 +227,6 @@ fn push_record(
 }
 
 /// What stands before the flows.
-#[tactic(auto, unfolding(crate::specs::FlowWords::head_said))]
 fn push_top(
     page: &mut String,
     form: Form,
@@ -230,15 +237,8 @@ fn push_top(
     ensures { OnOk result (string_bytes page.new ≡ string_bytes page.old ++ head_said form span.now count total.now) }
 {
     match form {
-        Form::Text => {
-            push_head(page, &span.moments)?;
-            push_total(page, count, total)
-        }
-        Form::TextByWall => {
-            push_head(page, &span.moments)?;
-            push_times(page, true, "  ", &span.times)?;
-            push_total(page, count, total)
-        }
+        Form::Text => push_total(page, false, span, count, total),
+        Form::TextByWall => push_total(page, true, span, count, total),
         Form::Csv | Form::CsvByWall => Ok(()),
     }
 }

@@ -125,6 +125,7 @@ fn add_excess(late: &mut u64, excess: Option<u64>, since: u64)
 
 impl Meter {
     /// No event yet, and the first at this moment.
+    #[tactic(auto, unfolding(crate::specs::Sums::meter_of, pie_aqm::specs::Places::greatest, pie_aqm::specs::Places::last_or, pie_aqm::specs::Places::places))]
     pub(crate) fn begun(moment: u64) -> Meter
         ensures { result ≡ record (meter_of []) { first = moment; since = moment } }
     {
@@ -135,13 +136,13 @@ impl Meter {
             last: 0,
             since: moment,
             arrivals: 0,
-            arrived: Total::empty(),
-            waits: Total::empty(),
+            arrived: Total::NONE,
+            waits: Total::NONE,
             greatest_wait: 0,
-            delays: Peak::empty(),
-            probs: Peak::empty(),
-            turned_on: Bounds::empty(),
-            turned_off: Bounds::empty(),
+            delays: Peak::NONE,
+            probs: Peak::NONE,
+            turned_on: Bounds::NONE,
+            turned_off: Bounds::NONE,
             timed: 0,
             time: 0,
             carried: 0,

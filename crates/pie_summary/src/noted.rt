@@ -6,9 +6,11 @@ ghost use Rattle.pie_event.specs.declared.command.Answer.TheVariants.{Done, Empt
 ghost use Rattle.pie_event.specs.declared.verdict.Verdict.{Verdict};
 ghost use Rattle.pie_event.specs.Verdict.{answer_of};
 ghost use Rattle.pie_summary.specs.Live.{Meets, noted_by, noted_of};
-ghost use Rattle.pie_summary.specs.Sums.{above_by, answer_place, cause_of, delay_by, excess_by, size_in};
+ghost use Rattle.pie_summary.specs.Sums.{answer_place, cause_of, size_in};
 
-use crate::sums::turned_at;
+use crate::sums::{above_by, answer_place, carried_by, delay_by, excess_by, turned_at, where_left};
+use pie_book::Answer;
+use pie_queue::{Ecn, Packet};
 
 /// What a meter takes of an event; what its kind has none of is none or 0.
 #[derive(Clone, Copy, Debug)]
@@ -67,54 +69,34 @@ pub struct Met {
     pub target: u64,
 }
 
-/// How much longer than the target a packet had waited, where it had waited longer.
-#[inline(always)]
-fn excess_over(waited: u64, target: u64) -> Option<u64>
-    ensures { (packet : Packet) → result ≡ excess_by (Left packet) waited target }
-{
-    if target < waited {
-        Some(waited - target)
-    } else {
-        None
-    }
-}
-
-/// The delay of an update, where the controller was active.
-#[inline(always)]
-fn delay_of(active: bool, delay: u64) -> Option<u64>
-    ensures { (prob burst : ℕ) → result ≡ delay_by active (Updated delay prob burst) }
-{
-    if active { Some(delay) } else { None }
-}
-
-/// How long it was since the update before, where this one took a delay above the target, while the controller was active.
-#[inline(always)]
-fn above_of(active: bool, delay: u64, target: u64, since: u64) -> u64
-    ensures { (prob burst : ℕ) → result ≡ above_by active (Updated delay prob burst) target since }
-{
-    if active && target < delay { since } else { 0 }
-}
-
 impl Met {
-    /// What there is of any event.
+    /// What a meter takes of an event with this answer, this place of its cause, this size of the packet that arrived, and so long a wait of the
+    /// one that left. Where it is compiled for a kind of event, what the kind has none of costs nothing.
     #[inline(always)]
-    fn bare(&self, answer: usize) -> Noted
-        ensures { result ≡ record (noted_by self.now Done 15 None 0) { answer = answer } }
+    pub(crate) fn noted(
+        &self,
+        answer: Answer,
+        cause: usize,
+        arrived: Option<u64>,
+        waited: u64,
+    ) -> Noted
+        ensures { result ≡ noted_by self.now answer cause arrived waited }
     {
+        let since = self.moment.saturating_sub(self.last);
         Noted {
-            answer,
-            cause: 15,
+            answer: answer_place(answer),
+            cause,
             moment: self.moment,
-            arrived: None,
-            wait: None,
-            left: None,
-            excess: None,
-            delay: None,
+            arrived,
+            wait: where_left(answer, waited),
+            left: where_left(answer, self.moment),
+            excess: excess_by(answer, waited, self.held),
+            delay: delay_by(self.was, answer),
             prob: self.prob,
             turned_on: turned_at(true, self.was, self.is, self.moment),
             turned_off: turned_at(false, self.was, self.is, self.moment),
-            carried: 0,
-            above: 0,
+            carried: carried_by(answer),
+            above: above_by(self.was, answer, self.held, since),
             target: self.target,
             burst: self.burst,
         }
@@ -128,9 +110,8 @@ impl Met {
             → answer ≡ answer_place (answer_of verdict) → cause ≡ cause_of one → size_in one ≡ Some size → result ≡ noted_of one }
     {
         Noted {
-            cause,
-            arrived: Some(u64::from(size)),
-            ..self.bare(answer)
+            answer,
+            ..self.noted(Answer::Done, cause, Some(u64::from(size)), 0)
         }
     }
 
@@ -141,13 +122,12 @@ impl Met {
         ensures noted { (one : Explained) (packet : Packet) → Meets self.now one → one.told.event.answer ≡ Left packet → packet.size ≡ size
             → one.told.waited ≡ waited → one.told.cause ≡ None → size_in one ≡ None → result ≡ noted_of one }
     {
-        Noted {
-            wait: Some(waited),
-            left: Some(self.moment),
-            excess: excess_over(waited, self.held),
-            carried: u64::from(size),
-            ..self.bare(5)
-        }
+        let packet = Packet {
+            tag: 0,
+            size,
+            ecn: Ecn::NotEct,
+        };
+        self.noted(Answer::Left(packet), 15, None, waited)
     }
 
     /// A departure that found no packet.
@@ -157,7 +137,7 @@ impl Met {
         ensures noted { (one : Explained) → Meets self.now one → one.told.event.answer ≡ Empty → one.told.cause ≡ None → size_in one ≡ None
             → result ≡ noted_of one }
     {
-        self.bare(6)
+        self.noted(Answer::Empty, 15, None, 0)
     }
 
     /// An update that took this delay.
@@ -167,16 +147,12 @@ impl Met {
         ensures noted { (one : Explained) (prob burst : ℕ) → Meets self.now one → one.told.event.answer ≡ Updated delay prob burst
             → one.told.cause ≡ None → size_in one ≡ None → result ≡ noted_of one }
     {
-        Noted {
-            delay: delay_of(self.was, delay),
-            above: above_of(
-                self.was,
-                delay,
-                self.held,
-                self.moment.saturating_sub(self.last),
-            ),
-            ..self.bare(7)
-        }
+        let answer = Answer::Updated {
+            delay,
+            prob: 0,
+            burst: 0,
+        };
+        self.noted(answer, 15, None, 0)
     }
 
     /// A reset, or new parameters.
@@ -186,6 +162,6 @@ impl Met {
         ensures noted { (one : Explained) → Meets self.now one → one.told.event.answer ≡ Done → one.told.cause ≡ None → size_in one ≡ None
             → result ≡ noted_of one }
     {
-        self.bare(8)
+        self.noted(Answer::Done, 15, None, 0)
     }
 }

@@ -81,6 +81,7 @@ fn end_within(range: usize, greatest: u64) -> u64
 }
 
 /// Forgets all numbers.
+#[tactic(auto, using(crate::proofs::RangeFacts::no_ranges))]
 pub(crate) fn clear_counts(counts: &mut [u64; RANGES])
     ensures { counts.new ≡ ranges_of [] }
 {

@@ -61,15 +61,11 @@ impl Bounds {
     ghost use Rattle.pie_summary.specs.Spans.{bounds_of};
 
     /// No number yet.
-    pub(crate) fn empty() -> Bounds
-        ensures { result ≡ bounds_of [] }
-    {
-        Bounds {
-            count: 0,
-            first: 0,
-            last: 0,
-        }
-    }
+    pub(crate) const NONE: Bounds = Bounds {
+        count: 0,
+        first: 0,
+        last: 0,
+    };
 
     /// Takes one more number.
     #[inline(never)]
@@ -98,14 +94,10 @@ impl Peak {
     ghost use Rattle.pie_summary.specs.Spans.{peak_of};
 
     /// No number yet.
-    pub(crate) fn empty() -> Peak
-        ensures { result ≡ peak_of [] }
-    {
-        Peak {
-            greatest: 0,
-            last: 0,
-        }
-    }
+    pub(crate) const NONE: Peak = Peak {
+        greatest: 0,
+        last: 0,
+    };
 
     /// Takes one more number. Most are the number before, which is none greater than the greatest.
     #[inline(always)]
@@ -134,11 +126,7 @@ impl Total {
     ghost use Rattle.pie_summary.specs.Spans.{total_of};
 
     /// No number yet.
-    pub(crate) fn empty() -> Total
-        ensures { result ≡ total_of [] }
-    {
-        Total { high: 0, low: 0 }
-    }
+    pub(crate) const NONE: Total = Total { high: 0, low: 0 };
 
     /// The sum.
     pub(crate) fn sum(self) -> u128
@@ -202,14 +190,10 @@ pub(crate) fn raise(most: &mut u64, number: u64)
 
 impl Span {
     /// Of no event.
-    pub(crate) fn empty() -> Span
-        ensures { result ≡ span_of [] }
-    {
-        Span {
-            moments: Bounds::empty(),
-            times: Bounds::empty(),
-        }
-    }
+    pub(crate) const NONE: Span = Span {
+        moments: Bounds::NONE,
+        times: Bounds::NONE,
+    };
 
     /// Takes one more event.
     pub(crate) fn take(&mut self, all: &Explained)

@@ -2,11 +2,11 @@
 ghost use Rattle.std.specs.Prelude.{◌≡◌, ◌-◌, ◌<◌, ◌++◌, ◌∷◌, [], List};
 ghost use Rattle.pie_explain.specs.declared.explanation.Explained.{Explained};
 ghost use Rattle.pie_summary.specs.Live.{noted_of};
-ghost use Rattle.pie_summary.specs.Sums.{above_by, answer_place, carried_by, cause_place, delay_by, excess_by, size_by, time_where};
+ghost use Rattle.pie_summary.specs.Sums.{above_by, answer_place, carried_by, cause_place, delay_by, excess_by, size_by};
 ghost use Rattle.pie_summary.specs.Sums.{reached, turned_at, where_left};
 
 use crate::meter::Meter;
-use crate::noted::Noted;
+use crate::noted::{Met, Noted};
 use crate::spans::{Bounds, Span};
 use pie_book::{Answer, Cause, Command};
 use pie_explain::{Explained, time_of};
@@ -25,6 +25,7 @@ pub struct Sums {
 }
 
 /// The place of an answer's count.
+#[inline(always)]
 pub(crate) fn answer_place(answer: Answer) -> usize
     ensures place { result ≡ answer_place answer }
     ensures within { result < 9 }
@@ -64,6 +65,7 @@ pub(crate) fn size_by(command: Command) -> Option<u64>
 }
 
 /// This number, where a packet left.
+#[inline(always)]
 pub(crate) fn where_left(answer: Answer, number: u64) -> Option<u64>
     ensures { result ≡ where_left answer number }
 {
@@ -74,7 +76,8 @@ pub(crate) fn where_left(answer: Answer, number: u64) -> Option<u64>
 }
 
 /// How much longer than the target the packet had waited that left, where it had waited longer.
-fn excess_by(answer: Answer, waited: u64, target: u64) -> Option<u64>
+#[inline(always)]
+pub(crate) fn excess_by(answer: Answer, waited: u64, target: u64) -> Option<u64>
     ensures { result ≡ excess_by answer waited target }
 {
     match answer {
@@ -83,17 +86,8 @@ fn excess_by(answer: Answer, waited: u64, target: u64) -> Option<u64>
     }
 }
 
-/// A time of day, where this moment is one.
-fn time_where(moment: Option<u64>, time: Option<u64>) -> Option<u64>
-    ensures { result ≡ time_where moment time }
-{
-    match moment {
-        Some(_) => time,
-        None => None,
-    }
-}
-
 /// How many bytes the packet had that left; 0 of any other event.
+#[inline(always)]
 pub(crate) fn carried_by(answer: Answer) -> u64
     ensures { result ≡ carried_by answer }
 {
@@ -105,7 +99,8 @@ pub(crate) fn carried_by(answer: Answer) -> u64
 
 /// How long it was since the update before, where an update took a delay above the target; 0 of any other event, and while the
 /// controller is not active.
-fn above_by(active: bool, answer: Answer, target: u64, since: u64) -> u64
+#[inline(always)]
+pub(crate) fn above_by(active: bool, answer: Answer, target: u64, since: u64) -> u64
     ensures { result ≡ above_by active answer target since }
 {
     match answer {
@@ -115,7 +110,8 @@ fn above_by(active: bool, answer: Answer, target: u64, since: u64) -> u64
 }
 
 /// The delay that an update took, where the controller was active before it or not.
-fn delay_by(active: bool, answer: Answer) -> Option<u64>
+#[inline(always)]
+pub(crate) fn delay_by(active: bool, answer: Answer) -> Option<u64>
     ensures { result ≡ delay_by active answer }
 {
     match answer {
@@ -125,6 +121,7 @@ fn delay_by(active: bool, answer: Answer) -> Option<u64>
 }
 
 /// The moment of an event that turned the controller on, or off: before it the controller was active or not, and after it is.
+#[inline(always)]
 pub(crate) fn turned_at(on: bool, was: bool, is: bool, moment: u64) -> Option<u64>
     ensures { result ≡ turned_at on was is moment }
 {
@@ -138,26 +135,24 @@ pub(crate) fn turned_at(on: bool, was: bool, is: bool, moment: u64) -> Option<u6
 fn noted(all: &Explained) -> Noted
     ensures { result ≡ noted_of all.now }
 {
-    let (told, was, is) = (&all.told, all.told.before.active, all.after.active);
-    let (answer, moment, waited) = (told.event.answer, told.moment, told.waited);
-    let target = told.before.params.target().units();
-    Noted {
-        answer: answer_place(answer),
-        cause: cause_place(told.cause),
-        moment,
-        arrived: size_by(told.event.command),
-        wait: where_left(answer, waited),
-        left: where_left(answer, moment),
-        excess: excess_by(answer, waited, target),
-        delay: delay_by(was, answer),
-        prob: all.after.prob,
-        turned_on: turned_at(true, was, is, moment),
-        turned_off: turned_at(false, was, is, moment),
-        carried: carried_by(answer),
-        above: above_by(was, answer, target, moment.saturating_sub(told.before.last)),
-        target: all.after.params.target().units(),
-        burst: all.after.burst,
-    }
+    let (told, after) = (&all.told, &all.after);
+    let met = Met {
+        moment: told.moment,
+        was: told.before.active,
+        is: after.active,
+        held: told.before.params.target().units(),
+        last: told.before.last,
+        prob: after.prob,
+        burst: after.burst,
+        target: after.params.target().units(),
+    };
+    let size = size_by(told.event.command);
+    met.noted(
+        told.event.answer,
+        cause_place(told.cause),
+        size,
+        told.waited,
+    )
 }
 
 impl Sums {
@@ -168,10 +163,10 @@ impl Sums {
         ensures { result ≡ sums_of [] }
     {
         Sums {
-            span: Span::empty(),
+            span: Span::NONE,
             meter: Meter::begun(0),
-            on_times: Bounds::empty(),
-            off_times: Bounds::empty(),
+            on_times: Bounds::NONE,
+            off_times: Bounds::NONE,
         }
     }
 
@@ -195,7 +190,7 @@ impl Sums {
         self.meter.note_time(time);
         self.meter.take(&noted);
         self.span.take(all);
-        self.on_times.take_some(time_where(noted.turned_on, time));
-        self.off_times.take_some(time_where(noted.turned_off, time));
+        self.on_times.take_some(noted.turned_on.and(time));
+        self.off_times.take_some(noted.turned_off.and(time));
     }
 }

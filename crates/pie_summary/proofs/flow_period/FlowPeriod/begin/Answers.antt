@@ -1,11 +1,12 @@
-use Rattle.pie_summary.proofs.Names.{◌∙◌, ap, subst, sym, HoldsFlows, HasFlows, span_of}
+use Rattle.pie_summary.proofs.Names.{◌∙◌, ap, last_or, subst, sym, HoldsFlows, HasFlows, span_of}
 use Rattle.pie_summary.proofs.PeriodFacts.{since-begun, since-same}
 use Rattle.pie_summary.proofs.flow_period.FlowPeriod.begin.Goals as goal
 
 pub returns-then-starts : goal.returns-then-starts
+unfolding last_or
 returns-then-starts c = λ shown every keeps.
     let none = sym (since-begun every c.args.period shown c.args.self.now.number keeps.last (sym c.starts.ensures ∙ c.if-starts.true)) in
-    record { span = c.empty-self.ensures ∙ ap span_of none; flows = subst (HasFlows c.clear.new.self.rows.entries) none c.clear.ensures }
+    record { span = ap span_of none; flows = subst (HasFlows c.clear.new.self.rows.entries) none c.clear.ensures }
 
 pub returns-else-starts : goal.returns-else-starts
 returns-else-starts c = λ shown every keeps.

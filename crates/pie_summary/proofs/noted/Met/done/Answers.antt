@@ -3,4 +3,4 @@ use Rattle.pie_summary.proofs.NotedFacts.{other-noted}
 use Rattle.pie_summary.proofs.noted.Met.done.Goals as goal
 
 pub returns-clause-noted : goal.returns-clause-noted
-returns-clause-noted c = λ one meets is cause none. c.bare.ensures ∙ other-noted c.args.self.now one Done meets is cause none
+returns-clause-noted c = λ one meets is cause none. c.noted.ensures ∙ other-noted c.args.self.now one Done meets is cause none

@@ -1,5 +1,6 @@
 use Rattle.pie_summary.proofs.Names.{ap, sym, ◌∙◌, time_of, Noted, Sums, bounds_of, sums_of}
-use Rattle.pie_summary.specs.Sums.{off_time, on_time, time_where}
+use Rattle.std.specs.Option.{option_and}
+use Rattle.pie_summary.specs.Sums.{off_time, on_time}
 use Rattle.pie_summary.proofs.SpanFacts.{some-of-push}
 use Rattle.pie_summary.proofs.SumsFacts.{awaited}
 use Rattle.pie_summary.proofs.sums.Sums.take.Goals as goal
@@ -15,7 +16,7 @@ returns c = λ shown same.
       span = c.take-2.ensures shown (ap (λ (s : Sums). s.span) reached) i;
       meter = c.take.ensures shown one noted (awaited shown one c.note_time.ensures time (ap (λ (s : Sums). s.meter) reached)) i;
       on_times = some-of-push bounds_of on_time shown one c.take_some.ensures
-          (c.time_where.ensures ∙ (λ j. time_where (noted j).turned_on (time j))) (ap (λ (s : Sums). s.on_times) reached) i;
+          (c.and.ensures ∙ (λ j. option_and (noted j).turned_on (time j))) (ap (λ (s : Sums). s.on_times) reached) i;
       off_times = some-of-push bounds_of off_time shown one c.take_some-2.ensures
-          (c.time_where-2.ensures ∙ (λ j. time_where (noted j).turned_off (time j))) (ap (λ (s : Sums). s.off_times) reached) i;
+          (c.and-2.ensures ∙ (λ j. option_and (noted j).turned_off (time j))) (ap (λ (s : Sums). s.off_times) reached) i;
     }

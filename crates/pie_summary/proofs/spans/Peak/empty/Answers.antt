@@ -1,6 +1,0 @@
-use Rattle.pie_summary.proofs.Names.{refl, greatest, last_or}
-use Rattle.pie_summary.proofs.spans.Peak.empty.Goals as goal
-
-pub returns : goal.returns
-unfolding greatest last_or
-returns c = refl

@@ -25,4 +25,3 @@ pub use Rattle.pie_params.specs.declared.elements.Picking.TheVariants.{Random}
 pub use Rattle.pie_params.specs.declared.elements.Size.TheVariants.{Scaled}
 pub use Rattle.pie_params.specs.declared.elements.Step.TheVariants.{Uncapped}
 pub use Rattle.pie_params.specs.declared.raw.RawParams.{RawParams}
-pub use Rattle.pie_summary.specs.Sums.{size_by}

@@ -35,18 +35,17 @@ deed-is : (opening : Opening) (before : List Event) (event : Event) → IsStep o
     → deed_of event ≡ deed event.command (answer_by (held_after opening before) (waiting_after opening before) opening.limits.packets event.command)
 deed-is opening before event step = ap (λ (a : Answer). deed event.command a) step.here.answered
 
+-- in how many ways a deed counts
+abbrev ways : Deed → ℕ
+ways d = cond (is_queued d) 1 0 + cond (is_marked d) 1 0 + cond (is_dropped_early d) 1 0 + cond (is_dropped_bytes d) 1 0
+    + cond (is_dropped_packets d) 1 0
+
 -- one command counts once
 once-more : (h : Held) (waiting : List Waiting) (packets : ℕ) (command : Command)
-    → cond (hands_in command) 1 0 ≡ cond (is_queued (deed command (answer_by h waiting packets command))) 1 0
-    + cond (is_marked (deed command (answer_by h waiting packets command))) 1 0
-    + cond (is_dropped_early (deed command (answer_by h waiting packets command))) 1 0
-    + cond (is_dropped_bytes (deed command (answer_by h waiting packets command))) 1 0
-    + cond (is_dropped_packets (deed command (answer_by h waiting packets command))) 1 0
+    → cond (hands_in command) 1 0 ≡ ways (deed command (answer_by h waiting packets command))
 once-more h waiting packets (Arrive moment packet word) = by (Steps.verdict h (arrival_of waiting packets packet word))
   where
-    by : (v : Verdict) → 1 ≡ cond (is_queued (arrival_deed packet (answer_of v))) 1 0 + cond (is_marked (arrival_deed packet (answer_of v))) 1 0
-        + cond (is_dropped_early (arrival_deed packet (answer_of v))) 1 0 + cond (is_dropped_bytes (arrival_deed packet (answer_of v))) 1 0
-        + cond (is_dropped_packets (arrival_deed packet (answer_of v))) 1 0
+    by : (v : Verdict) → 1 ≡ ways (arrival_deed packet (answer_of v))
     by verdict.Enqueued = refl
     by _ = refl
 once-more h [] packets (Depart moment) = refl

@@ -1,5 +1,5 @@
 -- What is known of a packet that was marked or dropped early.
-use Rattle.pie_guarantees.proofs.Names.{◌≡◌, ◌≤◌, ◌<◌, ◌+◌, ◌*◌, ◌⊎◌, ℕ, List, [], ◌∷◌, ◌++◌, Bool, true, false, refl, sym, ap, ◌∙◌}
+use Rattle.pie_guarantees.proofs.Names.{◌≡◌, ◌≤◌, ◌<◌, ◌+◌, ◌*◌, ◌⊎◌, ℕ, List, [], ◌∷◌, ◌++◌, true, false, refl, sym, ap, ◌∙◌}
 use Rattle.pie_guarantees.proofs.Names.{arith, nat_tests, is_capable, bytes_of, counted}
 use Rattle.pie_guarantees.proofs.Names.{is_considered, is_picked, picked_choice, Held, chosen, offered, verdict, Verdict, answer_of, Packet, Waiting}
 use Rattle.pie_guarantees.proofs.Names.{ArrivingPacket, Arrive, Depart, Answer, DroppedEarly, Marked, Command, Event, Opening}
@@ -64,11 +64,7 @@ pub early_at : (opening : Opening) (before : List Event) (event : Event) → IsS
 early_at opening before event step e = (early_arrival opening before event step e).chosen.picked
 
 unless : (answer : Answer) → (is_early answer ≡ true → ⊥) → is_early answer ≡ false
-unless answer never = by (is_early answer) refl
-  where
-    by : (b : Bool) → is_early answer ≡ b → is_early answer ≡ false
-    by true e = absurd (never e)
-    by false e = e
+unless answer never = grind (arith, nat_tests)
 
 module _ (opening : Opening) (before : List Event) (event : Event) (later : List Event) (lawful : IsLawful opening (before ++ event ∷ later)) where
   picked : is_early event.answer ≡ true → IsPicked (held_after opening before) (bytes_of (waiting_after opening before))

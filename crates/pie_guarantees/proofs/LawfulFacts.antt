@@ -36,14 +36,12 @@ pub record Stands (opening : Opening) (history : List Event) : Type 0 where
   pub shows : Shows opening core history
   pub sound : IsSound core.held
 
-start-moment : (opening : Opening) → Opens.opening_refusal opening.limits opening.moment ≡ None → opening.moment < 2 ^ 60
-start-moment opening good = let within : opening.moment ≤ Opens.last_moment = grind (arith, good) in omega (arith, within)
-
 stands-first : (opening : Opening) → Opens.opening_refusal opening.limits opening.moment ≡ None → first_bad opening.params ≡ None → Stands opening []
 stands-first opening good params = record {
   core = first_core opening;
   shows = first-shows opening;
-  sound = Sound_opened opening.choices.profile opening.choices.elements opening.params opening.moment params (start-moment opening good);
+  sound = Sound_opened opening.choices.profile opening.choices.elements opening.params opening.moment params
+      (let within : opening.moment ≤ Opens.last_moment = grind (arith, good) in omega (arith, within));
 }
 
 -- ---- one more event

@@ -146,8 +146,7 @@ pick-early true false = refl
 pick-early false b = refl
 
 off-before : (active large : Bool) → not active && large ≡ true → active ≡ false
-off-before true large e = cc
-off-before false large e = refl
+off-before active large e = grind (arith, nat_tests)
 
 -- what an answer is that picks no packet, and nothing else starts the accumulated probability anew
 record Keeps (command : Command) (answer : Answer) : Type 0 where

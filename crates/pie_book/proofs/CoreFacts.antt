@@ -259,12 +259,12 @@ module _ (opening : Opening) (core : CoreView) (history : List Event) (shows : S
   unfolding registers_after
   registers_is = λ i. registers_of (record core { count = shows.count i; held = record (held-is i) { moment = shows.moment i }; waiting = shows.waiting i })
 
-  pub refusal-is : (command : Command) → refusal_of core command ≡ refusal_by_rule opening history command
-  refusal-is command = λ i. refusal_with (shows.moment i) (Steps.due (held-is i)) (shows.count i) (shows.events i) command
+  pub refusal_is : (command : Command) → refusal_of core command ≡ refusal_by_rule opening history command
+  refusal_is command = λ i. refusal_with (shows.moment i) (Steps.due (held-is i)) (shows.count i) (shows.events i) command
 
   -- it answers the decision
-  pub next-decided : (command : Command) → answer_in core command ≡ decision opening history command
-  next-decided command = λ i. answer_by (held-is i) (shows.waiting i) (shows.packets i) command
+  pub next_decided : (command : Command) → answer_in core command ≡ decision opening history command
+  next_decided command = λ i. answer_by (held-is i) (shows.waiting i) (shows.packets i) command
 
   pub cause-is : (moment : ℕ) (packet : Packet) (word : ℕ)
       → Some (cause core.held (arrival_of core.waiting core.packets packet word) (length core.waiting))
@@ -371,8 +371,8 @@ module _ (opening : Opening) (core : CoreView) (history : List Event) (shows : S
       record {
         legal = rw (places-push history event)
             (All-push (IsLegalAt opening) (places history) (place_of history event) shows.legal (record {
-              taken = sym (refusal-is opening core history shows command) ∙ free;
-              answered = next-decided opening core history shows command;
+              taken = sym (refusal_is opening core history shows command) ∙ free;
+              answered = next_decided opening core history shows command;
             }));
         packets = shows.packets;
         events = shows.events;

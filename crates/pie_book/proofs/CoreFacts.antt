@@ -13,7 +13,9 @@ use Rattle.pie_book.proofs.Names.{departure_deed, fits, handed_in, ◌-◌, drop
 use Rattle.pie_book.proofs.Names.{deed_of, admission, departed, marked, queued, from_places-push, greatest-push, with_one, false, if◌then◌else◌}
 use Rattle.pie_book.proofs.Names.{option_map_or, count_of, is_queued, is_marked, is_dropped_early, is_dropped_bytes, is_dropped_packets, is_departure}
 use Rattle.pie_book.proofs.Names.{is_found_none, is_reset, bytes_departed, is_arrival, is_update, sets_params, up_to}
-use Rattle.std.proofs.Common.{append_assoc, sum_by}
+use Rattle.std.proofs.Common.{append_assoc, sum_by, option_map}
+use Rattle.pie_rate.specs.declared.raw.RawCycle.{RawCycle}
+use Rattle.pie_rate.specs.Estimate.{cycle_of}
 use Rattle.pie_book.specs.{refusal_with, active_after, arriving_size, event_shown, oldest_since, shown_at, admitted_at, wait_at, delay_at}
 use Rattle.pie_aqm.specs.Calls.{shown_by}
 use Rattle.pie_aqm.specs.Events.{Arrived}
@@ -257,18 +259,23 @@ module _ (opening : Opening) (core : CoreView) (history : List Event) (shows : S
   unfolding registers_after
   registers_is = λ i. registers_of (record core { count = shows.count i; held = record (held-is i) { moment = shows.moment i }; waiting = shows.waiting i })
 
-  pub refusal-is : (command : Command) → refusal_of core command ≡ refusal_by_rule opening history command
-  refusal-is command = λ i. refusal_with (shows.moment i) (Steps.due (held-is i)) (shows.count i) (shows.events i) command
+  pub refusal_is : (command : Command) → refusal_of core command ≡ refusal_by_rule opening history command
+  refusal_is command = λ i. refusal_with (shows.moment i) (Steps.due (held-is i)) (shows.count i) (shows.events i) command
 
   -- it answers the decision
-  pub next-decided : (command : Command) → answer_in core command ≡ decision opening history command
-  next-decided command = λ i. answer_by (held-is i) (shows.waiting i) (shows.packets i) command
+  pub next_decided : (command : Command) → answer_in core command ≡ decision opening history command
+  next_decided command = λ i. answer_by (held-is i) (shows.waiting i) (shows.packets i) command
 
   pub cause-is : (moment : ℕ) (packet : Packet) (word : ℕ)
       → Some (cause core.held (arrival_of core.waiting core.packets packet word) (length core.waiting))
       ≡ cause_after opening history (Arrive moment packet word)
   cause-is moment packet word =
       λ i. Some (cause (held-is i) (arrival_of (shows.waiting i) (shows.packets i) packet word) (length (shows.waiting i)))
+
+-- whether a cycle is begun, by its plain numbers
+pub is_begun : (begun : Option RawCycle) → is_some begun ≡ is_some (option_map cycle_of begun)
+is_begun None = refl
+is_begun (Some cycle) = refl
 
 -- ---- with no event
 
@@ -364,8 +371,8 @@ module _ (opening : Opening) (core : CoreView) (history : List Event) (shows : S
       record {
         legal = rw (places-push history event)
             (All-push (IsLegalAt opening) (places history) (place_of history event) shows.legal (record {
-              taken = sym (refusal-is opening core history shows command) ∙ free;
-              answered = next-decided opening core history shows command;
+              taken = sym (refusal_is opening core history shows command) ∙ free;
+              answered = next_decided opening core history shows command;
             }));
         packets = shows.packets;
         events = shows.events;

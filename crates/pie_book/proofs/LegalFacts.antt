@@ -7,7 +7,7 @@ use Rattle.pie_book.proofs.Names.{map-append, opened_by, answer_by, decision, re
 use Rattle.std.proofs.lemmas.List.{append-nil}
 use Rattle.pie_aqm.proofs.Laws.{has_threshold}
 use Rattle.std.proofs.lemmas.List.Elements.{All-pop}
-use Rattle.pie_book.proofs.CoreFacts.{Shows-opened, at_place, legal-all, next-decided, next-shows, refusal-is, held-is}
+use Rattle.pie_book.proofs.CoreFacts.{Shows-opened, at_place, legal-all, next_decided, next-shows, refusal_is, held-is}
 use Rattle.pie_aqm.specs.Calls.{Call}
 use Rattle.pie_book.specs.{after_calls, call_at, calls_of, held_after_calls, Follows}
 use Rattle.std.proofs.Common.{◌↔◌, append_assoc}
@@ -52,8 +52,8 @@ threshold-of core command good = has_threshold core.held (call_in core command) 
 pub next-legal : (opening : Opening) (core : CoreView) (history : List Event) (event : Event) → Shows opening core history
     → IsLegalAt opening (place_of history event) → IsNext core event
 next-legal opening core history event shows here = record {
-  taken = refusal-is opening core history shows event.command ∙ here.taken;
-  answered = here.answered ∙ sym (next-decided opening core history shows event.command);
+  taken = refusal_is opening core history shows event.command ∙ here.taken;
+  answered = here.answered ∙ sym (next_decided opening core history shows event.command);
 }
 
 -- .. which then shows the history with it

@@ -27,6 +27,7 @@ impl Core {
     /// In this order, and the core is as it was: `Moment` above `2^60 - 1`; `Size` of an arrival outside 1 to 65535;
     /// `TooSoon` at an update before the due moment; `Exhausted` where there were as many events as the limits allow.
     #[inline(always)]
+    #[tactic(auto, using(crate::proofs::CoreFacts::refusal_is))]
     pub fn step(&mut self, caller: u16, command: Command) -> Result<Answer, Refusal>
         ensures decides { (opening : Opening) (history : List Event) → Shows opening self.old history
             → result ≡ refused_or (refusal_by_rule opening history command) (decision opening history command) }
@@ -73,6 +74,7 @@ impl Core {
 
     /// Decides a command that is not refused and hands in this moment, and counts it: the event that it then is.
     #[inline(always)]
+    #[tactic(auto, using(crate::proofs::CoreFacts::next_decided))]
     pub(crate) fn advance(&mut self, caller: u16, moment: Nanos, command: Command) -> Recorded
         requires taken { refusal_of self.old command ≡ None }
         requires room { self.old.count < self.old.events }

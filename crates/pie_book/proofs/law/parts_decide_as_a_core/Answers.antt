@@ -1,5 +1,5 @@
 use Rattle.pie_book.proofs.Names.{refl, after_command, closed}
-use Rattle.pie_book.proofs.CoreFacts.{next-decided, next-shows}
+use Rattle.pie_book.proofs.CoreFacts.{next_decided, next-shows}
 use Rattle.pie_book.proofs.LegalFacts.{first-shows, first_core, threshold-of}
 use Rattle.pie_book.proofs.law.parts_decide_as_a_core.Goals as goal
 
@@ -8,7 +8,7 @@ returns-clause-opens c opening = record { core = first_core opening; shows = fir
 
 pub returns-clause-steps : goal.returns-clause-steps
 returns-clause-steps c opening core history shows caller command good free = record {
-  decided = next-decided opening core history shows command;
+  decided = next_decided opening core history shows command;
   core_after = closed (after_command core command);
   shows = next-shows opening core history shows caller command (threshold-of core command good) free;
   holds = refl;

@@ -2,7 +2,7 @@ use Rattle.pie_book.proofs.Names.{◌≡◌, ap, sym, length}
 use Rattle.pie_event.specs.declared.command.Command.TheVariants.{Arrive}
 use Rattle.pie_book.specs.Core.{CoreView}
 use Rattle.pie_book.proofs.CoreFacts.{cause-is}
-use Rattle.pie_book.proofs.CoreFacts.{next-decided}
+use Rattle.pie_book.proofs.CoreFacts.{next_decided}
 use Rattle.pie_book.proofs.deciding_core.Core.cause.Goals as goal
 
 pub returns-in-Arrive-clause-cause : goal.returns-in-Arrive-clause-cause
@@ -16,4 +16,4 @@ pub returns-in-Arrive-clause-decides : goal.returns-in-Arrive-clause-decides
 returns-in-Arrive-clause-decides c opening history shows =
     let held : c.self.inside.controller ≡ c.args.self.now.held = ap (λ (core : CoreView). core.held) c.self.view_is in
     rw (c.in-Arrive.is, c.cause.ensures.verdict, c.arrival-arrival.ensures, held)
-    (sym (next-decided opening c.args.self.now history shows (Arrive c.in-Arrive.moment c.in-Arrive.packet c.in-Arrive.word)))
+    (sym (next_decided opening c.args.self.now history shows (Arrive c.in-Arrive.moment c.in-Arrive.packet c.in-Arrive.word)))

@@ -30,8 +30,8 @@ params_for asked = record (profile_for asked.rate) {
 
 -- ---- RFC 8033's optional elements
 
--- delays from the departure rate where it is asked for, and else from time stamps; by the random word alone where de-randomization is turned off; with
--- no cap where it is turned off; and a packet's size counts where it is asked for
+-- delays from the departure rate where it is asked for, and else from time stamps; by the random word alone where de-randomization is turned off;
+-- with no cap where it is turned off; and a packet's size counts where it is asked for
 abbrev pub elements_for : TuningOptions → Elements
 elements_for asked = record {
   delay = if asked.dq_rate_estimator then Rate else Stamp;

@@ -43,7 +43,8 @@ number-joined whole decimals zeros first second third most first-is second-is th
     let digits = number_after units decimals in
     third-is ∙ ap (λ (k : ℕ). min (number_after k zeros) most) (second-is ∙ ap (λ (k : ℕ). min (number_after k decimals) most) first-is
     ∙ after-min units most decimals) ∙ after-min digits most zeros
-    ∙ ap (λ (k : ℕ). min k most) (sym (after-append 0 (whole ++ decimals) zeros ∙ ap (λ (k : ℕ). number_after k zeros) (after-append 0 whole decimals)))
+    ∙ ap (λ (k : ℕ). min k most) (sym (after-append 0 (whole ++ decimals) zeros
+    ∙ ap (λ (k : ℕ). number_after k zeros) (after-append 0 whole decimals)))
 
 -- what is kept at the greatest number is too great
 whole-kept : (parts : ℕ) → whole_in (min parts 340282366920938463463374607431768211455) ≡ whole_in parts

@@ -13,5 +13,6 @@ pub returns-else-self-eq0 : goal.returns-else-self-eq0
 unfolding sums_of
 returns-else-self-eq0 c = λ shown one at same i. record (same i) {
   meter = (ap (λ (s : Sums). s.meter) same ∙ reached-later shown one
-      (λ none. c.if-self-eq0.false (ap (λ (s : Sums). s.span.moments.count) same ∙ ap (λ (xs : List Explained). kept (length (map moment_at xs))) none))) i;
+      (λ none. c.if-self-eq0.false (ap (λ (s : Sums). s.span.moments.count) same
+      ∙ ap (λ (xs : List Explained). kept (length (map moment_at xs))) none))) i;
 }

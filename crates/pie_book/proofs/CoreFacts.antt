@@ -13,9 +13,7 @@ use Rattle.pie_book.proofs.Names.{departure_deed, fits, handed_in, ◌-◌, drop
 use Rattle.pie_book.proofs.Names.{deed_of, admission, departed, marked, queued, from_places-push, greatest-push, with_one, false, if◌then◌else◌}
 use Rattle.pie_book.proofs.Names.{option_map_or, count_of, is_queued, is_marked, is_dropped_early, is_dropped_bytes, is_dropped_packets, is_departure}
 use Rattle.pie_book.proofs.Names.{is_found_none, is_reset, bytes_departed, is_arrival, is_update, sets_params, up_to}
-use Rattle.std.proofs.Common.{append_assoc, sum_by, option_map}
-use Rattle.pie_rate.specs.declared.raw.RawCycle.{RawCycle}
-use Rattle.pie_rate.specs.Estimate.{cycle_of}
+use Rattle.std.proofs.Common.{append_assoc, sum_by}
 use Rattle.pie_book.specs.{refusal_with, active_after, arriving_size, event_shown, oldest_since, shown_at, admitted_at, wait_at, delay_at}
 use Rattle.pie_aqm.specs.Calls.{shown_by}
 use Rattle.pie_aqm.specs.Events.{Arrived}
@@ -271,11 +269,6 @@ module _ (opening : Opening) (core : CoreView) (history : List Event) (shows : S
       ≡ cause_after opening history (Arrive moment packet word)
   cause-is moment packet word =
       λ i. Some (cause (held-is i) (arrival_of (shows.waiting i) (shows.packets i) packet word) (length (shows.waiting i)))
-
--- whether a cycle is begun, by its plain numbers
-pub is_begun : (begun : Option RawCycle) → is_some begun ≡ is_some (option_map cycle_of begun)
-is_begun None = refl
-is_begun (Some cycle) = refl
 
 -- ---- with no event
 

@@ -105,8 +105,8 @@ class Crate:
                 text = re.sub(rf"\buse {re.escape(old)}(?=[. ])", f"use Rattle.pie_guarantees.{kind}.{name}", text)
             # (pie_event and pie_aqm do not export the declarations of these types to other crates; pie_book does)
             text = text.replace("use Rattle.pie_event.specs.Types.", "use Rattle.pie_book.specs.Types.")
-            text = re.sub(r"^(use Rattle\.pie_aqm\.specs\.Types\.\{.*), Arrival\b(.*)$", r"\1\2\nuse Rattle.pie_book.specs.Types.{Arrival}", text,
-                          flags=re.M)
+            text = re.sub(r"^(use Rattle\.pie_aqm\.specs\.Types\.\{.*), ArrivingPacket\b(.*)$",
+                          r"\1\2\nuse Rattle.pie_aqm.specs.declared.verdict.ArrivingPacket.{ArrivingPacket}", text, flags=re.M)
             kind, name = places[path]
             self.modules[kind].append(name)
             (self.folder / kind / f"{name}.antt").write_text(text)

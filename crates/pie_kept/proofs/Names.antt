@@ -18,12 +18,11 @@ pub use Rattle.pie_event.specs.declared.opening.Opening.{Opening}
 pub use Rattle.pie_event.specs.declared.refusal.FoldRefusal.{FoldRefusal}
 pub use Rattle.pie_event.specs.declared.refusal.FoldRefusal.TheVariants.{TooMany}
 pub use Rattle.pie_event.specs.declared.refusal.Refusal.{Refusal}
-pub use Rattle.pie_kept.specs.Bursts.{Reply, answer_bytes, asked_bytes, departed_bytes, entries_by, fits, refused_or_told, reply_in}
+pub use Rattle.pie_kept.specs.Bursts.{Reply, answer_bytes, asked_bytes, departed_bytes, entries_by, fits, refusal_in, refused_or_told, reply_in}
 pub use Rattle.pie_kept.specs.Bursts.{entries_within, replies_within}
-pub use Rattle.pie_kept.specs.Commands.{IsDecided, refusal_in}
 pub use Rattle.pie_kept.specs.Entries.{events_in, folded_in, handed_out, left_in, left_when_rolling, tail_in}
 pub use Rattle.pie_kept.specs.Excerpts.{IsExcerptOf}
-pub use Rattle.pie_kept.specs.Folds.{IsWhyNotFolded}
+pub use Rattle.pie_kept.specs.Folds.{IsFold}
 pub use Rattle.pie_kept.specs.Kept.{IsKept, KeptView, TellsEntries}
 pub use Rattle.pie_kept.specs.declared.entry.Entry.{Entry}
 pub use Rattle.pie_kept.specs.declared.entry.Entry.TheVariants.{Folded, Made}

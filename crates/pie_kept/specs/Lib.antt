@@ -1,7 +1,6 @@
 pub mod Entries
 pub mod EntryLaws
 pub mod Kept
-pub mod Commands
 pub mod Bursts
 pub mod BudgetLaws
 pub mod Folds

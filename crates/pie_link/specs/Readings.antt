@@ -1,25 +1,21 @@
 -- What a caller reads.
-use Rattle.std.specs.Prelude.{◌≡◌, List, Some, Result, Ok, Err}
+use Rattle.std.specs.Prelude.{◌≡◌, List, Result, Ok, Err}
 use Rattle.pie_event.specs.declared.command.Event.{Event}
 use Rattle.pie_event.specs.declared.opening.Opening.{Opening}
 use Rattle.pie_event.specs.declared.refusal.Refusal.{Refusal}
-use Rattle.pie_kept.specs.declared.entry.Entry.{Entry}
 use Rattle.pie_kept.specs.declared.told.Told.{Told}
 use Rattle.pie_kept.specs.Entries.{events_in}
 use Rattle.pie_kept.specs.Readings.{IsReading}
-use Rattle.pie_link.specs.Views.{LinkView, CallerView, shown, IsHistoryFor, WasBusy}
+use Rattle.pie_link.specs.Views.{LinkView, CallerView, HasTurn, WasBusy}
 use Rattle.pie_link.specs.declared.told.Tried.{Tried}
 use Rattle.pie_link.specs.declared.told.Tried.TheVariants.{Busy}
 
 module _ {A : Type 0} (value_after : Opening → List Event → A) where
   -- a link tells a caller what looking back over the events of a history gives, and has shown it this history
-  pub record IsRead (opening : Opening) (before : CallerView) (told : Told A) (after : CallerView) (history : List Entry) : Type 0 where
-    pub from : IsHistoryFor opening before history
-    pub read : IsReading (value_after opening (events_in history)) (events_in history) told
-    pub seen : after ≡ shown before history
-
   unfoldable pub Reads : LinkView → CallerView → Told A → CallerView → Type 0
-  Reads link before told after = (opening : Opening) → link.origin ≡ Some opening → (history : List Entry) × IsRead opening before told after history
+  Reads link before told after =
+      HasTurn link before (λ opening history. IsReading (value_after opening (events_in history)) (events_in history) told)
+      (λ opening history. history) after
 
   -- the same, or the link is busy
   unfoldable pub TriesToRead : LinkView → CallerView → Result (Told A) (Tried Refusal) → CallerView → Type 0

@@ -1,11 +1,13 @@
 -- What contracts see of a link and of its callers.
-use Rattle.std.specs.Prelude.{◌≡◌, List}
+use Rattle.std.specs.Prelude.{◌≡◌, List, Some, Result, Ok, Err}
 use Rattle.pie_lock.specs.Views.{LockView, PassView, HoldsAll}
 use Rattle.pie_lock.specs.Steps.{GoesOn}
 use Rattle.pie_event.specs.declared.opening.Opening.{Opening}
 use Rattle.pie_book.specs.Decision.{IsLegal}
 use Rattle.pie_kept.specs.declared.entry.Entry.{Entry}
 use Rattle.pie_kept.specs.Entries.{number_of, events_in}
+use Rattle.pie_link.specs.declared.told.Tried.{Tried}
+use Rattle.pie_link.specs.declared.told.Tried.TheVariants.{Busy, Refused}
 
 -- a link is its lock: which one it is, what its book was opened with (`origin`), and how many callers it has numbers for
 abbrev pub LinkView : Type 0
@@ -32,3 +34,21 @@ WasBusy before after = (after ≡ before) × (HoldsAll before → ⊥)
 pub record IsHistoryFor (opening : Opening) (caller : CallerView) (history : List Entry) : Type 0 where
   pub legal : IsLegal opening (events_in history)
   pub goes_on : GoesOn number_of caller.first caller.limit caller.front history
+
+-- a call had its turn after this history: what it says is so there, and its caller is then shown the history with what the call adds
+pub record IsTurn (opening : Opening) (before : CallerView) (says : List Entry → Type 0) (next : List Entry → List Entry) (after : CallerView)
+    (history : List Entry) : Type 0 where
+  pub from : IsHistoryFor opening before history
+  pub said : says history
+  pub seen : after ≡ shown before (next history)
+
+-- a call of this caller has its turn at a link, by the opening of which it says what it says
+abbrev pub HasTurn : LinkView → CallerView → (Opening → List Entry → Type 0) → (Opening → List Entry → List Entry) → CallerView → Type 0
+HasTurn link before says next after =
+    (opening : Opening) → link.origin ≡ Some opening → (history : List Entry) × IsTurn opening before (says opening) (next opening) after history
+
+-- a call that never blocks had its turn, with this result, or the link was busy
+abbrev pub TriesTo : {A E : Type 0} → (Result A E → Type 0) → Type 0 → Result A (Tried E) → Type 0
+TriesTo had busy (Ok value) = had (Ok value)
+TriesTo had busy (Err Busy) = busy
+TriesTo had busy (Err (Refused why)) = had (Err why)

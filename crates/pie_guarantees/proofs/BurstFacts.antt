@@ -1,14 +1,11 @@
 -- How the burst allowance goes down from update to update, and how far updates are apart.
-use Rattle.pie_guarantees.proofs.Names.{◌≡◌, ◌≤◌, ◌+◌, ◌*◌, ◌&&◌, ℕ, List, [], ◌∷◌, ◌++◌, true, false, refl, sym, ◌∙◌, cond}
-use Rattle.pie_guarantees.proofs.Names.{arith, subst, max, All, append_assoc, ltb-false}
-use Rattle.pie_guarantees.proofs.Names.{bytes_of, deed, is_update, after_call, Held, is_calm, Waiting}
-use Rattle.pie_guarantees.proofs.Names.{Command, Arrive, Depart, Update, Reset, SetParams, Answer, Event, Opening, arrival_of}
-use Rattle.pie_guarantees.proofs.Names.{call_of, is_too_soon, held_after, params_after, parts_after, effective_moment}
-use Rattle.pie_guarantees.proofs.Names.{waiting_after, AllAllow, Allows, IsAllowed, KeepsParams, SetsAllow}
-use Rattle.pie_guarantees.proofs.Names.{burst_left, updates_in, IsLawful, IsEarly}
+use Rattle.pie_guarantees.proofs.Names.{◌≡◌, ◌≤◌, ◌+◌, ◌*◌, ◌&&◌, ℕ, List, [], ◌∷◌, ◌++◌, true, false, refl, sym, ◌∙◌, cond, arith, subst, max, All}
+use Rattle.pie_guarantees.proofs.Names.{append_assoc, ltb-false, bytes_of, deed, is_update, after_call, Held, is_calm, Waiting, Command, Arrive}
+use Rattle.pie_guarantees.proofs.Names.{Depart, Update, Reset, SetParams, Answer, Event, Opening, arrival_of, call_of, is_too_soon, held_after}
+use Rattle.pie_guarantees.proofs.Names.{params_after, parts_after, effective_moment, waiting_after, AllAllow, Allows, IsAllowed, KeepsParams}
+use Rattle.pie_guarantees.proofs.Names.{SetsAllow, burst_left, updates_in, IsLawful, IsEarly, get_or}
 use Rattle.pie_aqm.specs.Steps as Steps
 use Rattle.pie_guarantees.proofs.LawfulFacts.{IsStep, all_along, along, counted-cons, first-held, sound_at, step_at}
-use Rattle.std.proofs.Common.{get_or}
 use Rattle.pie_guarantees.proofs.CallFacts.{after-arrival, asks_update, burst-updated, last-updated, update-is}
 use Rattle.pie_guarantees.proofs.EarlyFacts.{early_at}
 

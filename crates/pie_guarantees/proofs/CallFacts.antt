@@ -1,8 +1,8 @@
 -- What a call leaves, way by way: what each way leaves so is so after the call.
 use Rattle.pie_guarantees.proofs.Names.{◌≡◌, ◌+◌, ◌-◌, ◌&&◌, ◌||◌, ◌==◌, ℕ, Bool, true, false, refl, if◌then◌else◌, nat_lt, not, Enqueue}
-use Rattle.pie_guarantees.proofs.Names.{is_considered, is_picked, joined, counted, picked_choice, deed, is_update, Held, anew, bytes_with}
-use Rattle.pie_guarantees.proofs.Names.{arith, chosen, judged, nat_tests}
-use Rattle.pie_guarantees.proofs.Names.{is_calm, offered, ArrivingPacket, Verdict, Command, Arrive, Depart, Update, Answer, Enqueued}
+use Rattle.pie_guarantees.proofs.Names.{is_considered, is_picked, joined, counted, picked_choice, deed, is_update, Held, anew, bytes_with, arith}
+use Rattle.pie_guarantees.proofs.Names.{chosen, judged, nat_tests, is_calm, offered, ArrivingPacket, Verdict, Command, Arrive, Depart, Update, Answer}
+use Rattle.pie_guarantees.proofs.Names.{Enqueued}
 use Rattle.pie_event.specs.declared.verdict.Verdict.TheVariants as verdict
 use Rattle.pie_aqm.specs.Steps as Steps
 

@@ -1,19 +1,16 @@
 -- What becomes of every packet.
 use Rattle.pie_guarantees.proofs.Names.{◌≡◌, ◌≤◌, ◌+◌, ◌*◌, ◌==◌, ◌^◌, ℕ, List, [], ◌∷◌, ◌++◌, map, Bool, true, false, refl, sym, ap, ◌∙◌, cond, ◌⊎◌}
-use Rattle.pie_guarantees.proofs.Names.{inl, inr, length, arith, subst, All, Some, Option, sum_by, append-nil}
-use Rattle.pie_guarantees.proofs.Names.{append_assoc, length-map, map-append, filter_map-append, sum_by_push, sum_by-cons, bytes_of, Deed, deed}
-use Rattle.pie_guarantees.proofs.Names.{deed_of, departure, with_ce, answer_of, after_call, Held, filter_map-push, with_one, Packet}
-use Rattle.pie_guarantees.proofs.Names.{Waiting, Verdict, Command, Arrive, Depart, SetParams, Answer}
-use Rattle.pie_guarantees.proofs.Names.{Event, Opening, arrival_of, call_of, answer_by, held_after}
-use Rattle.pie_guarantees.proofs.Names.{params_after, bytes_after, effective_moment, waiting_after, count_of, is_dropped_bytes, is_dropped_early}
-use Rattle.pie_guarantees.proofs.Names.{is_dropped_packets, is_marked, is_queued, waiting_next, first-shows}
-use Rattle.pie_guarantees.proofs.Names.{ArrivingPacket, IsLawful, arrival_deed, eqb-false, nat_tests}
-use Rattle.std.proofs.Common.{take}
-use Rattle.std.proofs.Math.Seq.{take-append_seam}
+use Rattle.pie_guarantees.proofs.Names.{inl, inr, length, arith, subst, All, Some, Option, sum_by, append-nil, append_assoc, length-map, map-append}
+use Rattle.pie_guarantees.proofs.Names.{filter_map-append, sum_by_push, sum_by-cons, bytes_of, Deed, deed, deed_of, departure, with_ce, answer_of}
+use Rattle.pie_guarantees.proofs.Names.{after_call, Held, filter_map-push, with_one, Packet, Waiting, Verdict, Command, Arrive, Depart, SetParams}
+use Rattle.pie_guarantees.proofs.Names.{Answer, Event, Opening, arrival_of, call_of, answer_by, held_after, params_after, bytes_after}
+use Rattle.pie_guarantees.proofs.Names.{effective_moment, waiting_after, count_of, is_dropped_bytes, is_dropped_early, is_dropped_packets, is_marked}
+use Rattle.pie_guarantees.proofs.Names.{is_queued, waiting_next, first-shows, ArrivingPacket, IsLawful, arrival_deed, eqb-false, nat_tests, take}
+use Rattle.pie_guarantees.proofs.Names.{take-append_seam}
 use Rattle.std.proofs.lemmas.List.{append_cancel_left, length_push}
 use Rattle.std.proofs.lemmas.List.Recursion.{is_sum_by}
-use Rattle.pie_guarantees.specs.Counts.{Carries, SetsLimit, bytes_departed, hands_in, packet_queued, packets_departed, packets_handed_in}
-use Rattle.pie_guarantees.specs.Counts.{packets_queued, packets_waiting, time_of}
+use Rattle.pie_guarantees.specs.{Carries, SetsLimit, bytes_departed, hands_in, packet_queued, packets_departed, packets_handed_in, packets_queued}
+use Rattle.pie_guarantees.specs.{packets_waiting, time_of}
 use Rattle.pie_event.specs.declared.verdict.Verdict.TheVariants as verdict
 use Rattle.pie_event.specs.Verdict as Verdicts
 use Rattle.pie_aqm.specs.Steps as Steps

@@ -1,12 +1,9 @@
 -- What is known of a packet that was marked or dropped early.
-use Rattle.pie_guarantees.proofs.Names.{◌≡◌, ◌≤◌, ◌<◌, ◌+◌, ◌*◌, ◌⊎◌, ℕ, List, [], ◌∷◌, ◌++◌, true, false, refl, sym, ap, ◌∙◌}
-use Rattle.pie_guarantees.proofs.Names.{arith, nat_tests, is_capable, bytes_of, counted}
-use Rattle.pie_guarantees.proofs.Names.{is_considered, is_picked, picked_choice, Held, chosen, offered, verdict, Verdict, answer_of, Packet, Waiting}
-use Rattle.pie_guarantees.proofs.Names.{ArrivingPacket, Arrive, Depart, Answer, DroppedEarly, Marked, Command, Event, Opening}
-use Rattle.pie_guarantees.proofs.Names.{arrival_of, answer_by, held_after, waiting_after, IsLawful, IsArrivalOf}
-use Rattle.pie_guarantees.proofs.Names.{is_early}
+use Rattle.pie_guarantees.proofs.Names.{◌≡◌, ◌≤◌, ◌<◌, ◌+◌, ◌*◌, ◌⊎◌, ℕ, List, [], ◌∷◌, ◌++◌, true, false, refl, sym, ap, ◌∙◌, arith, nat_tests}
+use Rattle.pie_guarantees.proofs.Names.{is_capable, bytes_of, counted, is_considered, is_picked, picked_choice, Held, chosen, offered, verdict}
+use Rattle.pie_guarantees.proofs.Names.{Verdict, answer_of, Packet, Waiting, ArrivingPacket, Arrive, Depart, Answer, DroppedEarly, Marked, Command}
+use Rattle.pie_guarantees.proofs.Names.{Event, Opening, arrival_of, answer_by, held_after, waiting_after, IsLawful, IsArrivalOf, is_early, RawParams}
 use Rattle.pie_queue.specs.declared.ecn.Ecn.{Ecn}
-use Rattle.pie_book.specs.Types.{RawParams}
 use Rattle.pie_guarantees.proofs.CallFacts.{after-verdict}
 use Rattle.pie_guarantees.proofs.LawfulFacts.{IsStep, step_at}
 

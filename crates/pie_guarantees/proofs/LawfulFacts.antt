@@ -1,15 +1,12 @@
 -- At each place of a lawful history a core stands that shows the events before it, and each event makes of what it holds what its call does.
-use Rattle.pie_guarantees.proofs.Names.{◌≡◌, ◌≤◌, ◌<◌, ◌+◌, ℕ, List, [], ◌∷◌, ◌++◌, false, sym, subst, ap, ◌∙◌, arith, ⊤}
-use Rattle.pie_guarantees.proofs.Names.{All, None, length, ◌^◌, append-nil}
-use Rattle.pie_guarantees.proofs.Names.{append_assoc, All-head, All-tail, first_bad, deed_of}
-use Rattle.pie_guarantees.proofs.Names.{handed_in, IsTaken, after_call, Held, IsSound, places}
-use Rattle.pie_guarantees.proofs.Names.{place_of, Waiting, Command, Depart, SetParams, Event, Opening}
-use Rattle.pie_guarantees.proofs.Names.{call_of, departure_call, IsLegalAt, has_bad_size, is_too_soon}
-use Rattle.pie_guarantees.proofs.Names.{refusal_by_rule, due_after, held_after, effective_moment, waiting_after, after_command}
-use Rattle.pie_guarantees.proofs.Names.{call_in, waiting_next, at_place, departed-of-legal, held-is, first-shows, first_core, next-core}
-use Rattle.pie_guarantees.proofs.Names.{next-legal, AllAlong, IsLawful, SetsInRange, nat_tests, map, drop, All-cons, All-nil, Place, decision}
-use Rattle.pie_guarantees.proofs.Names.{Answer, answer_by, Sound_call, Sound_opened, ◌+◌, cond, is_update, sum_by-cons, updates_in}
-use Rattle.std.proofs.Math.Seq.{drop-append_seam, take-append_seam}
+use Rattle.pie_guarantees.proofs.Names.{◌≡◌, ◌≤◌, ◌<◌, ◌+◌, ℕ, List, [], ◌∷◌, ◌++◌, false, sym, subst, ap, ◌∙◌, arith, ⊤, All, None, length, ◌^◌}
+use Rattle.pie_guarantees.proofs.Names.{append-nil, append_assoc, All-head, All-tail, first_bad, deed_of, handed_in, IsTaken, after_call, Held}
+use Rattle.pie_guarantees.proofs.Names.{IsSound, places, place_of, Waiting, Command, Depart, SetParams, Event, Opening, call_of, departure_call}
+use Rattle.pie_guarantees.proofs.Names.{IsLegalAt, has_bad_size, is_too_soon, refusal_by_rule, due_after, held_after, effective_moment, waiting_after}
+use Rattle.pie_guarantees.proofs.Names.{after_command, call_in, waiting_next, at_place, departed-of-legal, held-is, first-shows, first_core}
+use Rattle.pie_guarantees.proofs.Names.{next-core, next-legal, AllAlong, IsLawful, SetsInRange, nat_tests, map, drop, All-cons, All-nil, Place}
+use Rattle.pie_guarantees.proofs.Names.{decision, Answer, answer_by, Sound_call, Sound_opened, cond, is_update, sum_by-cons, updates_in}
+use Rattle.pie_guarantees.proofs.Names.{drop-append_seam, take-append_seam}
 use Rattle.std.proofs.lemmas.List.Elements.{All-drop, All-take}
 use Rattle.pie_book.specs.Core.{CoreView, Shows, closed}
 use Rattle.pie_book.proofs.CoreFacts.{effective_moment-push, waiting_after-push}

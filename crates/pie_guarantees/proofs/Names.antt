@@ -27,13 +27,19 @@ pub use Rattle.pie_book.proofs.LegalFacts.{first-shows, first_core, next-core, n
 pub use Rattle.pie_book.specs.Decision.{arrival_of, call_of, departure_call}
 pub use Rattle.pie_book.specs.Decision.{IsLegal, IsLegalAt, answer_by, answer_to_departure, decision, has_bad_size, is_too_soon, refusal_by_rule}
 pub use Rattle.pie_book.specs.Decision.{refusal_with}
-pub use Rattle.pie_book.specs.Estimates.{active_after, average_after, delay_after, due_after, params_after, parts_after}
+pub use Rattle.pie_guarantees.specs.{active_after, delay_after, params_after, parts_after, bytes_after, effective_moment, waiting_after, count_of}
+pub use Rattle.pie_guarantees.specs.{is_dropped_bytes, is_dropped_packets, is_reset, Answer, Arrive, Command, Depart, DroppedEarly, Enqueued, Event}
+pub use Rattle.pie_guarantees.specs.{Left, Marked, Opening, Packet, SetParams, Update, Waiting, Deed, deed_of, departure, is_update, AllAllow, Allows}
+pub use Rattle.pie_guarantees.specs.{IsAllowed, IsWhole, KeepsParams, SetsAllow, burst_left, updates_in, IsLawful, SetsInRange, IsActiveUpdate}
+pub use Rattle.pie_guarantees.specs.{IsSteady, least_rise, old_delay_after, probability_after, untuned_fall, untuned_rise, updates_from}
+pub use Rattle.pie_guarantees.specs.{updates_to_a_tenth, IsArrivalOf, IsEarly, MarksOnlyCapable, OnlyMarks, SparesCapable, is_early, RawParams}
+pub use Rattle.pie_guarantees.specs.{burst_begins, burst_goes_on, burst_opening, first_drop, lowered, lowered_opening, IsBetween, samples_after}
+pub use Rattle.pie_book.specs.Estimates.{average_after, due_after}
 unfoldable pub use Rattle.pie_book.specs.Estimates.{held_after}
-pub use Rattle.pie_book.specs.History.{bytes_after, effective_moment, waiting_after}
-pub use Rattle.pie_book.specs.Statistics.{count_of, is_dropped_bytes, is_dropped_early, is_dropped_packets, is_marked, is_queued, is_reset}
+pub use Rattle.pie_book.specs.Statistics.{is_dropped_early, is_marked, is_queued}
 pub use Rattle.pie_book.specs.Core.{after_command, answer_in, call_in, waiting_next}
-pub use Rattle.pie_book.specs.Types.{Answer, ArrivingPacket, Arrive, Command, Depart, DroppedBytes, DroppedEarly, DroppedPackets, Empty, Enqueued, Event}
-pub use Rattle.pie_book.specs.Types.{Left, Marked, Opening, Packet, Refusal, Reset, SetParams, Update, Verdict, Waiting}
+pub use Rattle.pie_book.specs.Types.{ArrivingPacket, DroppedBytes, DroppedPackets, Empty}
+pub use Rattle.pie_book.specs.Types.{Refusal, Reset, Verdict}
 pub use Rattle.pie_control.proofs.Bounds.{bounded_of-below, decay-below, int_div-below}
 pub use Rattle.pie_control.specs.Next.{decays}
 unfoldable pub use Rattle.pie_control.specs.Next.{decayed, next, raw_step, tuned_step, tuning_divisor}
@@ -41,16 +47,10 @@ pub use Rattle.pie_early.specs.Decision.{counted, counted_as, joined, picked_cho
 unfoldable pub use Rattle.pie_early.specs.Decision.{is_considered, is_picked}
 pub use Rattle.pie_early.specs.declared.early.Choice.{Choice}
 pub use Rattle.pie_early.specs.declared.early.Choice.TheVariants.{Drop, Enqueue, Mark}
-pub use Rattle.pie_event.specs.Deed.{Deed, arrival_deed, deed, deed_of, departure, departure_deed, fits, handed_in, is_update, with_ce}
+pub use Rattle.pie_event.specs.Deed.{arrival_deed, deed, departure_deed, fits, handed_in, with_ce}
 pub use Rattle.pie_event.specs.Verdict.{answer_of}
 pub use Rattle.pie_fixed.specs.Fixed.{bounded_of}
-pub use Rattle.pie_guarantees.specs.Bursts.{AllAllow, Allows, IsAllowed, IsWhole, KeepsParams, SetsAllow, burst_left, updates_in}
-pub use Rattle.pie_guarantees.specs.Lawful.{IsLawful, SetsInRange}
-unfoldable pub use Rattle.pie_guarantees.specs.Lawful.{AllAlong}
-pub use Rattle.pie_guarantees.specs.Probability.{IsActiveUpdate, IsSteady, least_rise, old_delay_after, probability_after, untuned_fall, untuned_rise}
-pub use Rattle.pie_guarantees.specs.Probability.{updates_from, updates_to_a_tenth}
-unfoldable pub use Rattle.pie_guarantees.specs.Probability.{after_updates}
-pub use Rattle.pie_guarantees.specs.Verdicts.{IsArrivalOf, IsEarly, MarksOnlyCapable, OnlyMarks, SparesCapable, is_early}
+unfoldable pub use Rattle.pie_guarantees.specs.{AllAlong, after_updates}
 pub use Rattle.pie_params.specs.Elements.{is_capped, usual}
 pub use Rattle.pie_params.specs.Profile.{default_profile}
 pub use Rattle.pie_params.specs.Range.{first_bad}
@@ -58,3 +58,7 @@ pub use Rattle.pie_params.specs.declared.elements.Elements.{Elements}
 pub use Rattle.pie_params.specs.declared.elements.Step.{Step}
 pub use Rattle.pie_queue.specs.Ecn.{is_capable}
 pub use Rattle.pie_queue.specs.Queue.{bytes_of}
+pub use Rattle.pie_rate.specs.Average.{average_of, averaged}
+unfoldable pub use Rattle.pie_rate.specs.Average.{average}
+pub use Rattle.std.proofs.Common.{get_or, take}
+pub use Rattle.std.proofs.Math.Seq.{drop-append_seam, take-append_seam}

@@ -1,6 +1,6 @@
 -- How the next probability follows the delay.
-use Rattle.pie_guarantees.proofs.Names.{◌≡◌, ◌≤◌, ◌<◌, ◌+◌, ◌*◌, ◌/◌, ◌&&◌, ◌^◌, ℕ, suc, Bool, true, false, refl, arith, if◌then◌else◌}
-use Rattle.pie_guarantees.proofs.Names.{ℤ, pos, negsuc, ◌+ℤ◌, ◌-ℤ◌, ◌*ℤ◌, ◌≤ℤ◌, int_div, nat_le, int_min, nat_tests, clamps, ints, le-div, mul-le}
+use Rattle.pie_guarantees.proofs.Names.{◌≡◌, ◌≤◌, ◌<◌, ◌+◌, ◌*◌, ◌/◌, ◌&&◌, ◌^◌, ℕ, suc, Bool, true, false, refl, arith, if◌then◌else◌, ℤ, pos}
+use Rattle.pie_guarantees.proofs.Names.{negsuc, ◌+ℤ◌, ◌-ℤ◌, ◌*ℤ◌, ◌≤ℤ◌, int_div, nat_le, int_min, nat_tests, clamps, ints, le-div, mul-le}
 use Rattle.pie_guarantees.proofs.Names.{div-mul-le_self, bounded_of, Elements, Step, is_capped, decayed, decays, next, raw_step, tuned_step}
 use Rattle.pie_guarantees.proofs.Names.{tuning_divisor, bounded_of-below, decay-below}
 use Rattle.pie_params.specs.declared.raw.RawParams.{RawParams}

@@ -1,13 +1,11 @@
 -- How the probability follows the delay, at each event of a lawful history.
 use Rattle.pie_guarantees.proofs.Names.{◌≡◌, ◌≤◌, ◌<◌, ◌+◌, ◌*◌, ◌-◌, ◌^◌, ◌⊎◌, inl, inr, ℕ, zero, suc, List, [], ◌∷◌, ◌++◌, Bool, true, false, refl}
-use Rattle.pie_guarantees.proofs.Names.{sym, ap, ◌∙◌, cond, if◌then◌else◌, arith, subst, mul-le, le_of_mul-le-mul_right, pow-suc}
-use Rattle.pie_guarantees.proofs.Names.{usual, default_profile, Elements, bytes_of, decayed, decays, next}
-use Rattle.pie_guarantees.proofs.Names.{raw_step, tuned_step, tuning_divisor, deed, deed_of, is_update, after_call, Held, held_of}
-use Rattle.pie_guarantees.proofs.Names.{Waiting, Command, Arrive, Depart, Update, Reset, SetParams, Answer}
-use Rattle.pie_guarantees.proofs.Names.{Event, Opening, arrival_of, call_of, delay_after, held_after, params_after}
-use Rattle.pie_guarantees.proofs.Names.{waiting_after, is_reset, KeepsParams, updates_in, AllAlong, IsLawful, IsActiveUpdate, IsSteady, after_updates}
-use Rattle.pie_guarantees.proofs.Names.{old_delay_after, probability_after}
-use Rattle.pie_book.specs.Types.{RawParams}
+use Rattle.pie_guarantees.proofs.Names.{sym, ap, ◌∙◌, cond, if◌then◌else◌, arith, subst, mul-le, le_of_mul-le-mul_right, pow-suc, usual}
+use Rattle.pie_guarantees.proofs.Names.{default_profile, Elements, bytes_of, decayed, decays, next, raw_step, tuned_step, tuning_divisor, deed}
+use Rattle.pie_guarantees.proofs.Names.{deed_of, is_update, after_call, Held, held_of, Waiting, Command, Arrive, Depart, Update, Reset, SetParams}
+use Rattle.pie_guarantees.proofs.Names.{Answer, Event, Opening, arrival_of, call_of, delay_after, held_after, params_after, waiting_after, is_reset}
+use Rattle.pie_guarantees.proofs.Names.{KeepsParams, updates_in, AllAlong, IsLawful, IsActiveUpdate, IsSteady, after_updates, old_delay_after}
+use Rattle.pie_guarantees.proofs.Names.{probability_after, RawParams}
 use Rattle.pie_aqm.specs.Steps as Steps
 use Rattle.pie_guarantees.proofs.CallFacts.{after-arrival, asks_update, update-is}
 use Rattle.pie_guarantees.proofs.LawfulFacts.{IsStep, along, counted-cons}

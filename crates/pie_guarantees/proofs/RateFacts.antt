@@ -1,8 +1,6 @@
 -- A weighted average lies between what it is made of.
-use Rattle.pie_guarantees.proofs.Names.{◌≡◌, ◌≤◌, ◌<◌, ◌+◌, ◌*◌, ◌-◌, ◌/◌, ℕ, List, [], ◌∷◌, refl, arith, length, All, fold}
-use Rattle.pie_guarantees.proofs.Names.{All-head, All-tail, le-div, mul-le, div-le_of_le-mul}
-use Rattle.pie_rate.specs.Average.{average_of, averaged}
-use Rattle.pie_guarantees.specs.Rates.{IsBetween}
+use Rattle.pie_guarantees.proofs.Names.{◌≡◌, ◌≤◌, ◌<◌, ◌+◌, ◌*◌, ◌-◌, ◌/◌, ℕ, List, [], ◌∷◌, refl, arith, length, All, fold, All-head, All-tail}
+use Rattle.pie_guarantees.proofs.Names.{le-div, mul-le, div-le_of_le-mul, average_of, averaged, IsBetween}
 
 parts : (n t u : ℕ) → t + u ≡ 65536 → n * 65536 ≡ n * t + n * u
 parts n t u whole = let both : n * (t + u) ≡ n * t + n * u = grind arith in rw whole at both

@@ -1,22 +1,18 @@
 -- How the accumulated probability grows, and where it starts anew.
-use Rattle.pie_guarantees.proofs.Names.{◌≡◌, ◌≤◌, ◌<◌, ◌+◌, ◌*◌, ◌&&◌, ℕ, List, [], ◌∷◌, ◌++◌, Bool, true, false, refl, sym, ap, ◌∙◌}
-use Rattle.pie_guarantees.proofs.Names.{if◌then◌else◌, nat_lt, arith, subst, not, nat_tests, Elements}
-use Rattle.pie_guarantees.proofs.Names.{is_capable, bytes_of, Mark, Drop, counted_as, is_considered, is_picked, joined}
-use Rattle.pie_guarantees.proofs.Names.{deed, answer_of, after_call, Held, chosen, Waiting}
-use Rattle.pie_guarantees.proofs.Names.{ArrivingPacket, Verdict, Command, Arrive, Depart, Reset, Answer, Event, Opening, arrival_of}
-use Rattle.pie_guarantees.proofs.Names.{call_of, answer_by, held_after, waiting_after, is_dropped_bytes, is_dropped_packets, is_reset, AllAlong}
-use Rattle.pie_guarantees.proofs.Names.{IsLawful, IsEarly, is_early}
+use Rattle.pie_guarantees.proofs.Names.{◌≡◌, ◌≤◌, ◌<◌, ◌+◌, ◌*◌, ◌&&◌, ℕ, List, [], ◌∷◌, ◌++◌, Bool, true, false, refl, sym, ap, ◌∙◌, if◌then◌else◌}
+use Rattle.pie_guarantees.proofs.Names.{nat_lt, arith, subst, not, nat_tests, Elements, is_capable, bytes_of, Mark, Drop, counted_as, is_considered}
+use Rattle.pie_guarantees.proofs.Names.{is_picked, joined, deed, answer_of, after_call, Held, chosen, Waiting, ArrivingPacket, Verdict, Command}
+use Rattle.pie_guarantees.proofs.Names.{Arrive, Depart, Reset, Answer, Event, Opening, arrival_of, call_of, answer_by, held_after, waiting_after}
+use Rattle.pie_guarantees.proofs.Names.{is_dropped_bytes, is_dropped_packets, is_reset, AllAlong, IsLawful, IsEarly, is_early, held_of}
 use Rattle.pie_params.specs.declared.elements.Picking.{Picking}
 use Rattle.pie_params.specs.declared.elements.Picking.TheVariants.{Derandomized, Random}
-use Rattle.pie_book.specs.Shown.{arriving_size}
-use Rattle.pie_guarantees.specs.Spacing.{CountsAtLeast, CountsAtMost, GoesOn, considered_in, counted_at, had_room, was_considered}
+use Rattle.pie_guarantees.specs.{arriving_size, CountsAtLeast, CountsAtMost, GoesOn, considered_in, counted_at, had_room, was_considered}
 use Rattle.pie_aqm.specs.Steps as Steps
 use Rattle.pie_book.specs.Estimates as Book
 use Rattle.pie_guarantees.proofs.LawfulFacts.{IsStep, along, at-step, sound_at, step_at}
 use Rattle.pie_guarantees.proofs.ProbabilityFacts.{elements-is}
 use Rattle.pie_guarantees.proofs.CallFacts.{after-arrival, after-verdict}
 use Rattle.pie_guarantees.proofs.EarlyFacts.{early_arrival}
-use Rattle.pie_guarantees.proofs.Names.{held_of}
 use Rattle.std.proofs.lemmas.Bool.{eqb-true}
 
 -- ---- one command

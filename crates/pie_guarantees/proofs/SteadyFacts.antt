@@ -1,9 +1,8 @@
 -- How far updates at one delay move the probability, by the table of auto-tuning.
-use Rattle.pie_guarantees.proofs.Names.{◌≡◌, ◌≤◌, ◌<◌, ◌+◌, ◌*◌, ◌-◌, ◌/◌, ◌^◌, ℕ, zero, suc, false, refl, ap, ◌∙◌, arith}
-use Rattle.pie_guarantees.proofs.Names.{subst, min, ℤ, pos, negsuc, ◌+ℤ◌, ◌-ℤ◌, ◌*ℤ◌, ◌≤ℤ◌, int_div, nat_tests}
-use Rattle.pie_guarantees.proofs.Names.{clamps, ints, le-div, mul-le, div-mul-le_self, lt-mul-div-succ, bounded_of, Elements, Step}
-use Rattle.pie_guarantees.proofs.Names.{decayed, decays, next, raw_step, tuned_step, tuning_divisor, bounded_of-below, after_updates}
-use Rattle.pie_guarantees.proofs.Names.{next-hold, least_rise, untuned_fall, untuned_rise, updates_from, updates_to_a_tenth}
+use Rattle.pie_guarantees.proofs.Names.{◌≡◌, ◌≤◌, ◌<◌, ◌+◌, ◌*◌, ◌-◌, ◌/◌, ◌^◌, ℕ, zero, suc, false, refl, ap, ◌∙◌, arith, subst, min, ℤ, pos, negsuc}
+use Rattle.pie_guarantees.proofs.Names.{◌+ℤ◌, ◌-ℤ◌, ◌*ℤ◌, ◌≤ℤ◌, int_div, nat_tests, clamps, ints, le-div, mul-le, div-mul-le_self, lt-mul-div-succ}
+use Rattle.pie_guarantees.proofs.Names.{bounded_of, Elements, Step, decayed, decays, next, raw_step, tuned_step, tuning_divisor, bounded_of-below}
+use Rattle.pie_guarantees.proofs.Names.{after_updates, next-hold, least_rise, untuned_fall, untuned_rise, updates_from, updates_to_a_tenth}
 use Rattle.pie_params.specs.declared.raw.RawParams.{RawParams}
 use Rattle.pie_guarantees.proofs.NextFacts.{decayed-less, divisor-some, next_down, next_up, none_decays, tuned-by}
 

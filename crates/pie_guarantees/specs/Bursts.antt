@@ -1,9 +1,6 @@
 -- How long a burst is let in (RFC 8033, section 4.4).
 use Rattle.std.specs.Prelude.{◌≡◌, ◌≤◌, ℕ, List, All, ⊤}
-use Rattle.pie_event.specs.Deed.{is_update}
-use Rattle.pie_book.specs.Types.{RawParams, Command, SetParams, Event, Opening}
-use Rattle.pie_book.specs.Estimates.{params_after, parts_after}
-use Rattle.pie_book.specs.Statistics.{count_of}
+use Rattle.pie_guarantees.specs.Names.{is_update, RawParams, Command, SetParams, Event, Opening, params_after, parts_after, count_of}
 
 -- after these events the burst allowance is whole: no update has taken of it
 abbrev pub IsWhole : Opening → List Event → Type 0

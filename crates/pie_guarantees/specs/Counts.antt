@@ -1,10 +1,8 @@
 -- What becomes of every packet that arrives, and how much waits.
 use Rattle.std.specs.Prelude.{◌≤◌, ◌*◌, ◌-◌, ◌^◌, ◌++◌, ℕ, Bool, true, false, List, map, Option, Some, None, count_by, sum_by, ⊤}
 use Rattle.std.specs.List.{filter_map}
-use Rattle.pie_event.specs.Deed.{Deed, deed_of, departure, marked, queued}
-use Rattle.pie_queue.specs.declared.ecn.Ecn.TheVariants.{Ce}
-use Rattle.pie_book.specs.Types.{Packet, Waiting, Command, Arrive, SetParams, Event, Opening}
-use Rattle.pie_book.specs.History.{effective_moment, waiting_after}
+use Rattle.pie_guarantees.specs.Names.{Deed, deed_of, departure, marked, queued, Ce, Packet, Waiting, Command, Arrive, SetParams, Event, Opening}
+use Rattle.pie_guarantees.specs.Names.{effective_moment, waiting_after}
 
 -- the command hands in a packet
 abbrev pub hands_in : Command → Bool

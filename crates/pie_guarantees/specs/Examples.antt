@@ -3,10 +3,8 @@ use Rattle.std.specs.Prelude.{ℕ, List, [], ◌∷◌}
 use Rattle.pie_params.specs.Elements.{usual}
 use Rattle.pie_params.specs.declared.elements.Delay.TheVariants.{Stamp}
 use Rattle.pie_params.specs.declared.elements.Picking.TheVariants.{Random}
-use Rattle.pie_queue.specs.declared.ecn.Ecn.TheVariants.{NotEct}
-use Rattle.pie_book.specs.Types.{RawParams, One, Command, Arrive, Depart, Update, SetParams}
-use Rattle.pie_book.specs.Types.{Answer, Enqueued, DroppedEarly, Left, Updated, Done, Event}
-use Rattle.pie_book.specs.Types.{Bounded, Elements, Opening, Packet}
+use Rattle.pie_guarantees.specs.Names.{NotEct, RawParams, One, Command, Arrive, Depart, Update, SetParams, Answer, Enqueued, DroppedEarly, Left}
+use Rattle.pie_guarantees.specs.Names.{Updated, Done, Event, Bounded, Elements, Opening, Packet}
 
 abbrev pub happened : Command → Answer → Event
 happened command answer = record { caller = 1; command = command; answer = answer }

@@ -2,7 +2,7 @@
 use Rattle.std.specs.Prelude.{◌≡◌, ◌++◌, List, [], ◌∷◌, None, All, ⊤}
 use Rattle.pie_params.specs.Range.{first_bad}
 use Rattle.pie_event.specs.Opening.{opening_refusal}
-use Rattle.pie_book.specs.Types.{Command, SetParams, Event, Opening}
+use Rattle.pie_guarantees.specs.Names.{Command, SetParams, Event, Opening}
 use Rattle.pie_book.specs.Decision.{IsLegal}
 
 -- new parameters are in their ranges

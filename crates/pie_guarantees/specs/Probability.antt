@@ -2,10 +2,7 @@
 use Rattle.std.specs.Prelude.{◌≡◌, ◌+◌, ◌*◌, ◌-◌, ◌/◌, ◌^◌, min, ℕ, zero, suc, List, true, false}
 use Rattle.pie_params.specs.declared.elements.Elements.{Elements}
 use Rattle.pie_control.specs.Next.{next, tuning_divisor}
-use Rattle.pie_event.specs.Deed.{deed_of, is_update}
-use Rattle.pie_book.specs.Types.{RawParams, Event, Opening}
-use Rattle.pie_book.specs.Estimates.{active_after, delay_after, parts_after}
-use Rattle.pie_book.specs.Statistics.{is_reset}
+use Rattle.pie_guarantees.specs.Names.{deed_of, is_update, RawParams, Event, Opening, active_after, delay_after, parts_after, is_reset}
 use Rattle.pie_guarantees.specs.Bursts.{KeepsParams}
 
 -- the event is an update, and the controller was active before it

@@ -1,10 +1,7 @@
 -- What the departure rate was measured from (RFC 8033, section 5.2).
 use Rattle.std.specs.Prelude.{◌≤◌, ℕ, List}
 use Rattle.pie_rate.specs.Average.{samples}
-use Rattle.pie_aqm.specs.History.{departures_shown}
-use Rattle.pie_book.specs.Types.{Event, Opening}
-use Rattle.pie_book.specs.Estimates.{params_after}
-use Rattle.pie_book.specs.Shown.{opened_of, shown}
+use Rattle.pie_guarantees.specs.Names.{departures_shown, Event, Opening, params_after, opened_of, shown}
 
 -- the samples after a history: of each measuring cycle since the estimate was cleared, the time in which `dq_threshold` bytes departed
 abbrev pub samples_after : Opening → List Event → List ℕ

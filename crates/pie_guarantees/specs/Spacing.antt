@@ -1,13 +1,8 @@
 -- How far picked packets are apart, where probabilities accumulate (RFC 8033, section 5.4).
 use Rattle.std.specs.Prelude.{◌≡◌, ◌≤◌, ◌+◌, ◌++◌, ℕ, Bool, true, false, ◌&&◌, List, [], ◌∷◌, if◌then◌else◌}
 use Rattle.pie_early.specs.Decision.{counted_as}
-use Rattle.pie_aqm.specs.History.{considered_where}
-use Rattle.pie_event.specs.Deed.{Deed, deed_of, dropped_early, marked, queued}
-use Rattle.pie_book.specs.Types.{Event, Opening}
-use Rattle.pie_book.specs.Estimates.{active_after, params_after, parts_after}
-use Rattle.pie_book.specs.History.{bytes_after}
-use Rattle.pie_book.specs.Shown.{arriving_size}
-use Rattle.pie_book.specs.Statistics.{is_dropped_bytes, is_dropped_packets, is_reset}
+use Rattle.pie_guarantees.specs.Names.{considered_where, Deed, deed_of, dropped_early, marked, queued, Event, Opening, active_after, params_after}
+use Rattle.pie_guarantees.specs.Names.{parts_after, bytes_after, arriving_size, is_dropped_bytes, is_dropped_packets, is_reset}
 use Rattle.pie_guarantees.specs.Verdicts.{is_early}
 
 -- a packet arrived that the queue had room for

@@ -1,8 +1,7 @@
 -- What early drop does to a packet, and by what that is known.
 use Rattle.std.specs.Prelude.{◌≡◌, ◌<◌, ℕ, Bool, true, false, List}
 use Rattle.pie_queue.specs.Ecn.{is_capable}
-use Rattle.pie_book.specs.Types.{Packet, Arrive, Answer, Event, Opening, DroppedEarly, Marked}
-use Rattle.pie_book.specs.Estimates.{params_after, parts_after}
+use Rattle.pie_guarantees.specs.Names.{Packet, Arrive, Answer, Event, Opening, DroppedEarly, Marked, params_after, parts_after}
 
 -- an early verdict: the packet was marked, or dropped early
 abbrev pub is_early : Answer → Bool

@@ -1,11 +1,8 @@
 //! How long a burst is let in (RFC 8033, section 4.4).
 ghost use Rattle.std.specs.Prelude.{◌≡◌, ◌≤◌, ◌+◌, ◌*◌, ◌++◌, ◌∷◌, [], All, List, ℕ, false, true};
-ghost use Rattle.pie_book.specs.Types.{Event, Opening, Reset};
-ghost use Rattle.pie_book.specs.Estimates.{active_after, params_after, parts_after};
-ghost use Rattle.pie_book.specs.History.{effective_moment};
-ghost use Rattle.pie_guarantees.specs.Bursts.{AllAllow, IsAllowed, IsWhole, KeepsParams, burst_left, updates_in};
-ghost use Rattle.pie_guarantees.specs.Lawful.{IsLawful};
-ghost use Rattle.pie_guarantees.specs.Verdicts.{IsEarly};
+ghost use Rattle.pie_guarantees.specs.{Event, Opening, active_after, params_after, parts_after, effective_moment, AllAllow, IsAllowed, IsWhole};
+ghost use Rattle.pie_guarantees.specs.{KeepsParams, burst_left, updates_in, IsLawful, IsEarly};
+ghost use Rattle.pie_book.specs.Types.{Reset};
 
 /// The burst allowance is whole at the opening, after a reset, and where an arrival turns the controller on (RFC 8033, sections 4.4 and 5.3).
 pub fn allowances_begin_whole()

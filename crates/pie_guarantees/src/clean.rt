@@ -1,13 +1,12 @@
 //! A history that an audit finds clean is one of which the laws hold.
 ghost use Rattle.std.specs.Prelude.{◌≡◌, List, ℕ, Ok};
-ghost use Rattle.pie_book.specs.Types.{Opening};
+ghost use Rattle.pie_guarantees.specs.{Opening, IsLawful};
 ghost use Rattle.pie_record.specs.ReadBack.{TellsHistory};
 ghost use Rattle.pie_record.specs.Text.{records_of};
 ghost use Rattle.pie_record.specs.declared.history_record.Line.{Line};
 ghost use Rattle.pie_audit.specs.declared.auditor.Finding.TheVariants.{Clean};
 ghost use Rattle.pie_audit.specs.Finding.{events_of};
 ghost use Rattle.pie_audit.specs.Text.{text_finding};
-ghost use Rattle.pie_guarantees.specs.Lawful.{IsLawful};
 
 use pie_audit::clean_is_legal;
 

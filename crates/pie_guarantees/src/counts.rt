@@ -1,13 +1,9 @@
 //! No loss of count: what becomes of every packet, how much waits, and how long.
 ghost use Rattle.std.specs.Prelude.{◌≡◌, ◌≤◌, ◌+◌, ◌*◌, ◌^◌, ◌++◌, ◌∷◌, [], All, List, ℕ, Some, length};
-ghost use Rattle.pie_event.specs.Deed.{deed_of};
-ghost use Rattle.pie_book.specs.Types.{Event, Opening, Packet};
-ghost use Rattle.pie_book.specs.Estimates.{params_after};
-ghost use Rattle.pie_book.specs.History.{bytes_after, waiting_after};
-ghost use Rattle.pie_book.specs.Statistics.{count_of, is_dropped_bytes, is_dropped_early, is_dropped_packets, is_marked, is_queued};
-ghost use Rattle.pie_guarantees.specs.Counts.{Carries, SetsLimit, packet_queued, packets_departed};
-ghost use Rattle.pie_guarantees.specs.Counts.{packets_handed_in, packets_queued, packets_waiting, time_of};
-ghost use Rattle.pie_guarantees.specs.Lawful.{IsLawful};
+ghost use Rattle.pie_guarantees.specs.{deed_of, Event, Opening, Packet, params_after, bytes_after, waiting_after, count_of, is_dropped_bytes};
+ghost use Rattle.pie_guarantees.specs.{is_dropped_packets, Carries, SetsLimit, packet_queued, packets_departed, packets_handed_in, packets_queued};
+ghost use Rattle.pie_guarantees.specs.{packets_waiting, time_of, IsLawful};
+ghost use Rattle.pie_book.specs.Statistics.{is_dropped_early, is_marked, is_queued};
 
 /// Every packet that was handed in was queued, marked, dropped early, or dropped for want of room, exactly once (`once`); those that departed,
 /// and then those that wait, are exactly those that were queued or marked, in the order in which they arrived, unchanged but for CE where one was

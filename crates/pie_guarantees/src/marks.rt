@@ -1,8 +1,6 @@
 //! The laws of ECN (RFC 8033, section 5.1; RFC 3168).
 ghost use Rattle.std.specs.Prelude.{◌++◌, ◌∷◌, List};
-ghost use Rattle.pie_book.specs.Types.{Event, Opening};
-ghost use Rattle.pie_guarantees.specs.Lawful.{IsLawful};
-ghost use Rattle.pie_guarantees.specs.Verdicts.{MarksOnlyCapable, OnlyMarks, SparesCapable};
+ghost use Rattle.pie_guarantees.specs.{Event, Opening, IsLawful, MarksOnlyCapable, OnlyMarks, SparesCapable};
 
 /// A packet whose endpoints understand a mark is never dropped early while the probability is below `mark_ecnth` (RFC 8033, section 5.1).
 pub fn capable_packets_are_spared()

@@ -1,10 +1,6 @@
 //! When nothing is marked or dropped early: while a burst is allowed, at a short queue, at a low delay (RFC 8033, sections 4.1 and 4.4).
 ghost use Rattle.std.specs.Prelude.{◌≡◌, ◌≤◌, ◌<◌, ◌*◌, ◌++◌, ◌∷◌, List, false};
-ghost use Rattle.pie_book.specs.Types.{Event, Opening};
-ghost use Rattle.pie_book.specs.Estimates.{active_after, params_after, parts_after};
-ghost use Rattle.pie_book.specs.History.{bytes_after};
-ghost use Rattle.pie_guarantees.specs.Lawful.{IsLawful};
-ghost use Rattle.pie_guarantees.specs.Verdicts.{is_early};
+ghost use Rattle.pie_guarantees.specs.{Event, Opening, active_after, params_after, parts_after, bytes_after, IsLawful, is_early};
 
 /// While burst allowance is left no packet is marked or dropped early (RFC 8033, section 4.4).
 pub fn bursts_are_let_in()

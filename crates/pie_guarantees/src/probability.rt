@@ -1,16 +1,12 @@
 //! How the probability follows the delay (RFC 8033, sections 4.2, 5.1 and 5.5).
 ghost use Rattle.std.specs.Prelude.{◌≡◌, ◌≤◌, ◌<◌, ◌+◌, ◌*◌, ◌/◌, ◌^◌, min, ◌⊎◌, ◌++◌, ◌∷◌, [], List, ℕ, true, false};
 ghost use Rattle.pie_control.specs.Next.{decays, next, tuning_divisor};
-ghost use Rattle.pie_event.specs.Deed.{deed_of, is_update};
+ghost use Rattle.pie_guarantees.specs.{deed_of, is_update, Event, Opening, RawParams, active_after, delay_after, params_after, updates_in, AllAlong};
+ghost use Rattle.pie_guarantees.specs.{IsLawful, IsActiveUpdate, IsSteady, after_updates, least_rise, old_delay_after, probability_after};
+ghost use Rattle.pie_guarantees.specs.{untuned_fall, untuned_rise, updates_to_a_tenth};
 ghost use Rattle.pie_params.specs.Elements.{is_capped, usual};
 ghost use Rattle.pie_params.specs.Profile.{default_profile};
 ghost use Rattle.pie_params.specs.declared.elements.Elements.{Elements};
-ghost use Rattle.pie_book.specs.Types.{Event, Opening, RawParams};
-ghost use Rattle.pie_book.specs.Estimates.{active_after, delay_after, params_after};
-ghost use Rattle.pie_guarantees.specs.Bursts.{updates_in};
-ghost use Rattle.pie_guarantees.specs.Lawful.{AllAlong, IsLawful};
-ghost use Rattle.pie_guarantees.specs.Probability.{IsActiveUpdate, IsSteady, after_updates, least_rise, old_delay_after, probability_after};
-ghost use Rattle.pie_guarantees.specs.Probability.{untuned_fall, untuned_rise, updates_to_a_tenth};
 
 /// The probability is always 0 to 1, in units of 10^-12 (`bounded`). An update of an active controller that finds the delay at or above the
 /// target and not fallen doesn't lower it (`rises`); one that finds it at or below the target and not risen doesn't raise it (`falls`). From 10 per

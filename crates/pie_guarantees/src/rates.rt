@@ -1,9 +1,7 @@
 //! What the estimate of the departure rate guarantees (RFC 8033, section 5.2).
 ghost use Rattle.std.specs.Prelude.{◌≡◌, ◌≤◌, ◌<◌, All, List, ℕ, length};
-ghost use Rattle.pie_book.specs.Types.{Event, Opening};
+ghost use Rattle.pie_guarantees.specs.{Event, Opening, IsLawful, IsBetween, samples_after};
 ghost use Rattle.pie_book.specs.Estimates.{average_after};
-ghost use Rattle.pie_guarantees.specs.Lawful.{IsLawful};
-ghost use Rattle.pie_guarantees.specs.Rates.{IsBetween, samples_after};
 
 /// The estimated time in which `dq_threshold` bytes depart lies between the shortest and the longest sample since the estimate was cleared,
 /// where there is a sample (`between`, RFC 8033, section 5.2); with none it is 0 (`unmeasured`), and then the delay counts as 0.

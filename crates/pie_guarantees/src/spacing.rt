@@ -1,11 +1,8 @@
 //! How far picked packets are apart, where probabilities accumulate (RFC 8033, section 5.4).
 ghost use Rattle.std.specs.Prelude.{◌≡◌, ◌≤◌, ◌<◌, ◌+◌, ◌*◌, ◌++◌, ◌∷◌, [], List, ℕ};
 ghost use Rattle.pie_params.specs.declared.elements.Picking.TheVariants.{Derandomized};
-ghost use Rattle.pie_book.specs.Types.{Event, Opening};
+ghost use Rattle.pie_guarantees.specs.{Event, Opening, AllAlong, IsLawful, CountsAtLeast, CountsAtMost, GoesOn, considered_in, counted_at, IsEarly};
 ghost use Rattle.pie_book.specs.Estimates.{accu_after};
-ghost use Rattle.pie_guarantees.specs.Lawful.{AllAlong, IsLawful};
-ghost use Rattle.pie_guarantees.specs.Spacing.{CountsAtLeast, CountsAtMost, GoesOn, considered_in, counted_at};
-ghost use Rattle.pie_guarantees.specs.Verdicts.{IsEarly};
 
 /// A packet that is marked or dropped early leaves an accumulated probability of 0 (RFC 8033, section 5.4).
 pub fn picks_start_anew()

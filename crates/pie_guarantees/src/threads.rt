@@ -3,12 +3,11 @@ ghost use Rattle.std.specs.Prelude.{◌≡◌, All, List, None, Some};
 ghost use Rattle.pie_params.specs.Range.{first_bad};
 ghost use Rattle.pie_event.specs.Opening.{opening_refusal};
 ghost use Rattle.pie_book.specs.Book.{BookView};
-ghost use Rattle.pie_book.specs.Types.{Opening};
+ghost use Rattle.pie_guarantees.specs.{Opening, IsLawful, SetsInRange};
 ghost use Rattle.pie_kept.specs.Entries.{events_in};
 ghost use Rattle.pie_kept.specs.declared.entry.Entry.{Entry};
 ghost use Rattle.pie_link.specs.Headline.{IsFree, IsKeyOf, IsOneHistory, KeepsOneHistory, LiesIn, LockKey, LockState, callers_of};
 ghost use Rattle.pie_link.specs.Views.{LinkView};
-ghost use Rattle.pie_guarantees.specs.Lawful.{IsLawful, SetsInRange};
 
 use atomic_table::TableRule;
 use pie_book::Opening as LinkOpening;

@@ -1,11 +1,8 @@
 //! What does not follow, and how near the bounds are: worked histories.
 ghost use Rattle.std.specs.Prelude.{◌≡◌, ◌++◌, ◌∷◌, []};
 ghost use Rattle.pie_book.specs.Decision.{IsLegal};
-ghost use Rattle.pie_book.specs.Estimates.{params_after};
-ghost use Rattle.pie_book.specs.History.{bytes_after, effective_moment};
-ghost use Rattle.pie_guarantees.specs.Bursts.{IsWhole};
-ghost use Rattle.pie_guarantees.specs.Examples.{burst_begins, burst_goes_on, burst_opening, first_drop, lowered, lowered_opening};
-ghost use Rattle.pie_guarantees.specs.Verdicts.{IsEarly};
+ghost use Rattle.pie_guarantees.specs.{params_after, bytes_after, effective_moment, IsWhole, burst_begins, burst_goes_on, burst_opening, first_drop};
+ghost use Rattle.pie_guarantees.specs.{lowered, lowered_opening, IsEarly};
 
 /// More bytes can wait than `limit_bytes` allows: 1000 wait when new parameters lower it to 500.
 pub fn limits_may_be_lowered_below_the_queue()

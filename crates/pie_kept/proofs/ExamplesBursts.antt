@@ -1,7 +1,7 @@
 -- Bursts that were worked out by hand.
 use Rattle.pie_kept.proofs.Names.{refl, held_after, waiting_after, Command, Arrive, Answer, Empty, Bounded, None, Opening, Entry, Made, Reply}
-use Rattle.pie_kept.proofs.Names.{entries_within, replies_within}
-use Rattle.std.specs.Prelude.{ℕ, ◌≡◌, List, [], ◌∷◌, Ok, Err, ⊤}
+use Rattle.pie_kept.proofs.Names.{entries_within, replies_within, ⊤, always, burst_within, departures, has_left}
+use Rattle.std.specs.Prelude.{ℕ, ◌≡◌, List, [], ◌∷◌, Ok, Err}
 use Rattle.pie_params.specs.Profile.{default_profile}
 use Rattle.pie_params.specs.Elements.{usual}
 use Rattle.pie_queue.specs.declared.ecn.Ecn.TheVariants.{NotEct}
@@ -15,7 +15,6 @@ use Rattle.pie_book.specs.History.{effective_moment, admitted, departed_count}
 use Rattle.pie_book.specs.Shown.{shown}
 use Rattle.pie_event.specs.declared.command.Answer.TheVariants.{DroppedBytes, Enqueued, Left}
 use Rattle.pie_event.specs.declared.refusal.Refusal.TheVariants.{HistoryFull, Size}
-use Rattle.pie_kept.specs.Bursts.{always, burst_within, departures, has_left}
 
 -- all that a burst of these computes with
 unfoldable worked : Type 0

@@ -26,3 +26,13 @@ pub use Rattle.pie_kept.specs.Folds.{IsFold}
 pub use Rattle.pie_kept.specs.Kept.{IsKept, KeptView, TellsEntries}
 pub use Rattle.pie_kept.specs.declared.entry.Entry.{Entry}
 pub use Rattle.pie_kept.specs.declared.entry.Entry.TheVariants.{Folded, Made}
+pub use Rattle.pie_book.specs.Book.{first_run, kept_of, tail_with}
+pub use Rattle.pie_book.specs.Decision.{answer_to_departure, arrival_of, is_refused_full, or_full, refusal_after, refusal_by_rule}
+pub use Rattle.pie_book.specs.Run.{event_of, refused_or}
+pub use Rattle.pie_kept.specs.Bursts.{always, arrive, behind, departures, front_bytes, has_bytes, has_left, less, remaining_after}
+unfoldable pub use Rattle.pie_kept.specs.Bursts.{burst_within}
+pub use Rattle.pie_kept.specs.Entries.{handed_to, left_of, number_of}
+pub use Rattle.pie_kept.specs.Folds.{IsFolded, IsFoldedInto}
+pub use Rattle.std.proofs.Common.{Vec, get_or, map, max, min, vec_capacity, vec_len, zero, ◌==◌, ◌↔◌, ◌≢◌}
+pub use Rattle.std.proofs.lemmas.List.{drop-append-le, drop-drop, drop_more, length-map, length-replicate, take-append-drop}
+pub use Rattle.std.specs.Prelude.{OnErr, OnOk, nat_le, ⊤}

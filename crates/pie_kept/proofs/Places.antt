@@ -1,7 +1,6 @@
 -- What is asked from a place of a list on.
-use Rattle.pie_kept.proofs.Names.{◌≡◌, ◌+◌, ◌-◌, ◌<◌, ℕ, suc, List, ◌∷◌, ap, sym, ◌∙◌, length, drop, length-drop, arith, Command}
-use Rattle.std.proofs.Common.{map, get_or}
-use Rattle.std.proofs.lemmas.List.{drop_more, length-map, length-replicate}
+use Rattle.pie_kept.proofs.Names.{◌≡◌, ◌+◌, ◌-◌, ◌<◌, ℕ, suc, List, ◌∷◌, ap, sym, ◌∙◌, length, drop, length-drop, arith, Command, map, get_or}
+use Rattle.pie_kept.proofs.Names.{drop_more, length-map, length-replicate}
 use lib.ListN.{replicate}
 
 module _ {A : Type 0} (f : A → Command) where

@@ -1,7 +1,5 @@
 -- The definitions at small values that were worked out by hand: a lock over a counter with three numbers, after two calls.
-use Rattle.std.proofs.Common.{◌≡◌, ℕ, List, [], ◌∷◌, refl}
-use Rattle.pie_lock.specs.Own.{own}
-use Rattle.pie_lock.specs.Steps.{longer}
+use Rattle.pie_lock.proofs.Names.{◌≡◌, ℕ, List, [], ◌∷◌, refl, own, longer}
 use Rattle.pie_lock.specs.declared.lock.TheConstants.{WORD, SLOT, FREE, HELD}
 use Rattle.pie_lock.specs.declared.counter.CounterEntry.{CounterEntry}
 use Rattle.pie_lock.specs.Tally.{Tally, Tells}

@@ -1,3 +1,4 @@
+mod Names
 pub mod Owns
 pub mod Seats
 pub mod Steps

@@ -1,11 +1,8 @@
 -- Which entries of a list stand under the numbers of a range, and lists that go on with none of them.
-use Rattle.std.proofs.Common.{◌≡◌, ℕ, ◌≤◌, Bool, true, false, cond, List, [], ◌∷◌, ◌++◌, length, refl, ap, sym, ◌∙◌, subst, arith}
+use Rattle.pie_lock.proofs.Names.{◌≡◌, ℕ, ◌≤◌, Bool, true, false, cond, List, [], ◌∷◌, ◌++◌, length, refl, ap, sym, ◌∙◌, subst, arith, append-nil}
+use Rattle.pie_lock.proofs.Names.{append_cancel_left, All-cons, All-drop, All-head, All-nil, All-tail, All-take, filter-append, All, is_within, own}
+use Rattle.pie_lock.proofs.Names.{GoesOn}
 use Rattle.std.proofs.Math.Seq.{take-append_seam, drop-append_seam}
-use Rattle.std.proofs.lemmas.List.{append-nil, append_cancel_left}
-use Rattle.std.proofs.lemmas.List.Elements.{All-cons, All-drop, All-head, All-nil, All-tail, All-take, filter-append}
-use Rattle.std.specs.List.{All}
-use Rattle.pie_lock.specs.Own.{is_within, own}
-use Rattle.pie_lock.specs.Steps.{GoesOn}
 
 -- of two beginnings of one list the shorter begins the longer, and its rest begins with what lies between
 pub between : {A : Type 0} (xs r ys s : List A) → xs ++ r ≡ ys ++ s → length xs ≤ length ys → (m : List A) × (xs ++ m ≡ ys) × (r ≡ m ++ s)

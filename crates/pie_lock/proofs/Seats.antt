@@ -1,23 +1,14 @@
 -- The seats against one history: what a pass follows, as its numbers are cut, as the history grows, and as two passes become one.
-use Rattle.std.proofs.Common.{◌≡◌, ◌≢◌, ℕ, zero, suc, ◌<◌, ◌≤◌, ◌⊎◌, Bool, true, false, cond, Option, List, [], ◌∷◌, ◌++◌, length, get_or, min, max, set, refl}
-use Rattle.std.proofs.Common.{ap, sym, subst, ◌∙◌, inl, inr, ⊎_elim, arith, append_assoc}
+use Rattle.pie_lock.proofs.Names.{◌≡◌, ◌≢◌, ℕ, zero, suc, ◌<◌, ◌≤◌, ◌⊎◌, Bool, true, false, cond, Option, List, [], ◌∷◌, ◌++◌, length, get_or, min}
+use Rattle.pie_lock.proofs.Names.{max, set, refl, ap, sym, subst, ◌∙◌, inl, inr, ⊎_elim, arith, append_assoc, nat_tests, append-nil, All-append, All}
+use Rattle.pie_lock.proofs.Names.{at_set, set_else, is_within, Agreed, EachPass, Follows, IsNumberAt, IsNumberOf, IsSeated, AreAdjacent, GoesOn}
+use Rattle.pie_lock.proofs.Names.{HasAll, longer, made_one, with_front, with_numbers, Place, Holds, Meets, Spent, Waits, Shown}
 use Rattle.std.proofs.Math.Dec.{ltb}
 use Rattle.std.proofs.lemmas.Bool.{false_from_ne_true}
-use Rattle.std.proofs.lemmas.Bool.Decides.{nat_tests}
-use Rattle.std.proofs.lemmas.List.{append-nil}
-use Rattle.std.proofs.lemmas.List.Elements.{All-append}
-use Rattle.std.specs.List.{All}
-use Rattle.atomic_table.proofs.Lists.{at_set, set_else}
 use lib.ListN.{get_elem?}
 use mathlib.Core.Logic.{dite}
 use mathlib.Core.Option.{some, some-injective, some-ne-none}
 use native.Mathlib.Decide.{dec_le}
-use Rattle.pie_lock.specs.Own.{is_within}
-use Rattle.pie_lock.specs.Rule.{Agreed, EachPass, Follows, IsNumberAt, IsNumberOf, IsSeated}
-use Rattle.pie_lock.specs.Steps.{AreAdjacent, GoesOn, HasAll, longer, made_one, with_front, with_numbers}
-use Rattle.pie_lock.specs.declared.view.Place.{Place}
-use Rattle.pie_lock.specs.declared.view.Place.TheVariants.{Holds, Meets, Spent, Waits}
-use Rattle.pie_lock.specs.declared.view.Shown.{Shown}
 use Rattle.pie_lock.proofs.Owns.{NoneOwn, all_parts, between, goes_on, goes_on_itself, gone_on}
 
 -- ---- places of lists

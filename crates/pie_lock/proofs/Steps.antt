@@ -1,21 +1,13 @@
 -- Each step on the lock's word, and each seat that is split or joined, keeps the rule.
-use Rattle.std.proofs.Common.{◌≡◌, ◌≢◌, ℕ, zero, suc, ◌+◌, ◌-◌, ◌<◌, ◌==◌, ◌⊎◌, true, false, cond, Option, Some, None, List, [], ◌∷◌, ◌++◌, length}
-use Rattle.std.proofs.Common.{get_or, set, refl, ap, sym, subst, ◌∙◌, inl, inr, ⊎_elim, arith, get_or-set_same, length-set}
-use Rattle.std.proofs.lemmas.Bool.Decides.{nat_tests}
-use Rattle.std.proofs.lemmas.List.Elements.{All-nil}
-use Rattle.std.specs.List.{All}
-use Rattle.atomic_table.proofs.Lists.{at_longer, at_set, exchanged, set_again, set_else}
-use Rattle.atomic_table.specs.Table.{Act, Allows, Joins, Me, Splits, State, Valid, carried_after, gives, keeps, opening, step, stepped, takes}
+use Rattle.pie_lock.proofs.Names.{◌≡◌, ◌≢◌, ℕ, zero, suc, ◌+◌, ◌-◌, ◌<◌, ◌==◌, ◌⊎◌, true, false, cond, Option, Some, None, List, [], ◌∷◌, ◌++◌}
+use Rattle.pie_lock.proofs.Names.{length, get_or, set, refl, ap, sym, subst, ◌∙◌, inl, inr, ⊎_elim, arith, get_or-set_same, length-set, nat_tests}
+use Rattle.pie_lock.proofs.Names.{All-nil, All, at_longer, at_set, exchanged, set_again, set_else, Act, Allows, Joins, Me, Splits, State, Valid}
+use Rattle.pie_lock.proofs.Names.{carried_after, gives, keeps, opening, step, stepped, takes, Agreed, EachPass, Follows, IsSeated, Ruled, WhileFree}
+use Rattle.pie_lock.proofs.Names.{WhileHeld, opened, IsIdle, IsLeaving, AreAdjacent, HasAll, Won, all_but_highest, freed, highest, looked, made_one}
+use Rattle.pie_lock.proofs.Names.{meeting, merged, pass_at, taken, with_front, with_numbers, Place, Holds, Meets, Spent, Waits, Shown}
 use lib.ListN.{get_elem?}
 use mathlib.Core.Option.{none, some, some-injective, some-ne-none}
 use prog.Atomic.{either}
-use Rattle.pie_lock.specs.Rule.{Agreed, EachPass, Follows, IsSeated, Ruled, WhileFree, WhileHeld, opened}
-use Rattle.pie_lock.specs.Seating.{IsIdle, IsLeaving}
-use Rattle.pie_lock.specs.Steps.{AreAdjacent, HasAll, Won, all_but_highest, freed, highest, looked, made_one, meeting, merged, pass_at, taken}
-use Rattle.pie_lock.specs.Steps.{with_front, with_numbers}
-use Rattle.pie_lock.specs.declared.view.Place.{Place}
-use Rattle.pie_lock.specs.declared.view.Place.TheVariants.{Holds, Meets, Spent, Waits}
-use Rattle.pie_lock.specs.declared.view.Shown.{Shown}
 use Rattle.pie_lock.proofs.Owns.{goes_on_itself}
 use Rattle.pie_lock.proofs.Seats.{agreed_longer, agreed_set, all_shown, below_longer, each_longer, follows_both, follows_fewer, follows_whole}
 use Rattle.pie_lock.proofs.Seats.{in_either, set_at, set_beside}

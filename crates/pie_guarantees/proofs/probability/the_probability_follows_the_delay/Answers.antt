@@ -1,5 +1,5 @@
-use Rattle.pie_guarantees.proofs.Names.{◌≤◌, arith, subst, sym, [], append-nil, in-range, Held, held_after, params_after}
-use Rattle.pie_guarantees.proofs.Names.{probability_after, waiting_after}
+use Rattle.pie_guarantees.proofs.Names.{◌≤◌, arith, subst, sym, [], append-nil, in-range, Held, held_after, params_after, probability_after}
+use Rattle.pie_guarantees.proofs.Names.{waiting_after}
 use Rattle.pie_guarantees.proofs.LawfulFacts.{sound_at, step_at}
 use Rattle.pie_guarantees.proofs.NextFacts.{next_capped, next_decays, next_down, next_up}
 use Rattle.pie_guarantees.proofs.ProbabilityFacts.{prob-next, stays-or-zero}

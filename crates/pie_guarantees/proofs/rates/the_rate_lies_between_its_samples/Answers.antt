@@ -1,6 +1,4 @@
-use Rattle.pie_guarantees.proofs.Names.{[], append-nil, held_after, held_of, params_after, threshold-holds}
-use Rattle.pie_rate.specs.Average.{average}
-use Rattle.pie_guarantees.specs.Rates.{samples_after}
+use Rattle.pie_guarantees.proofs.Names.{[], append-nil, held_after, held_of, params_after, threshold-holds, average, samples_after}
 use Rattle.pie_guarantees.proofs.LawfulFacts.{sound_at}
 use Rattle.pie_guarantees.proofs.RateFacts.{between-all, none-sampled}
 use Rattle.pie_guarantees.proofs.rates.the_rate_lies_between_its_samples.Goals as goal

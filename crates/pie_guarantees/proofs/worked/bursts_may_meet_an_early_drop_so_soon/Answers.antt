@@ -1,5 +1,4 @@
-use Rattle.pie_guarantees.proofs.Names.{◌++◌, ◌∷◌, [], refl, places, worked}
-use Rattle.pie_guarantees.specs.Examples.{burst_begins, burst_goes_on, burst_opening, first_drop}
+use Rattle.pie_guarantees.proofs.Names.{◌++◌, ◌∷◌, [], refl, places, worked, burst_begins, burst_goes_on, burst_opening, first_drop}
 use Rattle.pie_guarantees.proofs.LawfulFacts.{all_legal}
 use Rattle.pie_guarantees.proofs.worked.bursts_may_meet_an_early_drop_so_soon.Goals as goal
 

@@ -1,5 +1,4 @@
-use Rattle.pie_guarantees.proofs.Names.{refl, places, worked}
-use Rattle.pie_guarantees.specs.Examples.{lowered, lowered_opening}
+use Rattle.pie_guarantees.proofs.Names.{refl, places, worked, lowered, lowered_opening}
 use Rattle.pie_guarantees.proofs.LawfulFacts.{all_legal}
 use Rattle.pie_guarantees.proofs.worked.limits_may_be_lowered_below_the_queue.Goals as goal
 

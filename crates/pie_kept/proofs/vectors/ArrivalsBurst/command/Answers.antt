@@ -1,4 +1,4 @@
-use Rattle.pie_kept.specs.Bursts.{arrive}
+use Rattle.pie_kept.proofs.Names.{arrive}
 use Rattle.pie_kept.proofs.Places.{is_at, is_place}
 use Rattle.pie_kept.proofs.vectors.ArrivalsBurst.command.Goals as goal
 

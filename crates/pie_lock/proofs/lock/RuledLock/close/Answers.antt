@@ -1,4 +1,4 @@
-use Rattle.std.proofs.Common.{sym, subst}
+use Rattle.pie_lock.proofs.Names.{sym, subst}
 use Rattle.pie_lock.proofs.lock.RuledLock.close.Goals as goal
 
 pub returns-in-Ok-clause-told : goal.returns-in-Ok-clause-told

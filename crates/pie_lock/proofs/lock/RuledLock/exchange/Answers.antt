@@ -1,4 +1,4 @@
-use Rattle.std.proofs.Common.{rules, ap}
+use Rattle.pie_lock.proofs.Names.{rules, ap}
 use Rattle.pie_lock.proofs.Steps.{takes_keep}
 use Rattle.pie_lock.proofs.lock.RuledLock.exchange.Goals as goal
 

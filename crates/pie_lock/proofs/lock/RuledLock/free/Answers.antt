@@ -1,4 +1,4 @@
-use Rattle.std.proofs.Common.{rules}
+use Rattle.pie_lock.proofs.Names.{rules}
 use Rattle.pie_lock.proofs.Steps.{frees_keep}
 use Rattle.pie_lock.proofs.lock.RuledLock.free.Goals as goal
 

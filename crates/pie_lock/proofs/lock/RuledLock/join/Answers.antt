@@ -1,6 +1,4 @@
-use Rattle.std.proofs.Common.{rules, ap, ◌∙◌}
-use Rattle.pie_lock.specs.declared.view.Place.TheVariants.{Meets}
-use Rattle.pie_lock.specs.Steps.{pass_at}
+use Rattle.pie_lock.proofs.Names.{rules, ap, ◌∙◌, Meets, pass_at}
 use Rattle.pie_lock.proofs.Steps.{joins_keep, merges_keep}
 use Rattle.pie_lock.proofs.lock.RuledLock.join.Goals as goal
 

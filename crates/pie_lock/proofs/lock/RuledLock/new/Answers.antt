@@ -1,4 +1,4 @@
-use Rattle.std.proofs.Common.{refl, [], ◌∷◌, ◌++◌, Some, ap, sym, ◌∙◌, subst}
+use Rattle.pie_lock.proofs.Names.{refl, [], ◌∷◌, ◌++◌, Some, ap, sym, ◌∙◌, subst}
 use Rattle.pie_lock.proofs.Steps.{opens}
 use Rattle.pie_lock.proofs.lock.RuledLock.new.Goals as goal
 

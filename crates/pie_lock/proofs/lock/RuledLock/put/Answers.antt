@@ -1,9 +1,4 @@
-use Rattle.std.proofs.Common.{◌≡◌, ◌++◌, [], ◌∷◌, Option, Some, ap, sym, ◌∙◌, subst}
-use Rattle.std.specs.List.{All}
-use Rattle.atomic_table.specs.Table.{Me}
-use Rattle.pie_lock.specs.declared.view.Place.{Place}
-use Rattle.pie_lock.specs.Seating.{IsLeaving}
-use Rattle.pie_lock.specs.Steps.{pass_at}
+use Rattle.pie_lock.proofs.Names.{◌≡◌, ◌++◌, [], ◌∷◌, Option, Some, ap, sym, ◌∙◌, subst, All, Me, Place, IsLeaving, pass_at}
 use Rattle.pie_lock.proofs.lock.RuledLock.put.Goals as goal
 
 pub free-requires-clause-slot : goal.free-requires-clause-slot

@@ -1,5 +1,4 @@
-use Rattle.std.proofs.Common.{◌≡◌, ◌∷◌, Some, subst}
-use Rattle.atomic_table.specs.Table.{rest}
+use Rattle.pie_lock.proofs.Names.{◌≡◌, ◌∷◌, Some, subst, rest}
 use Rattle.pie_lock.proofs.lock.RuledLock.put_into_slot.Goals as goal
 
 pub returns-clause-slot : goal.returns-clause-slot

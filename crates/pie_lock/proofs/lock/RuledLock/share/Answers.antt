@@ -1,4 +1,4 @@
-use Rattle.std.proofs.Common.{rules, ap, arith}
+use Rattle.pie_lock.proofs.Names.{rules, ap, arith}
 use Rattle.pie_lock.proofs.Steps.{splits_keep}
 use Rattle.pie_lock.proofs.lock.RuledLock.share.Goals as goal
 

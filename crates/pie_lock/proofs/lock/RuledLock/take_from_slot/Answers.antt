@@ -1,5 +1,4 @@
-use Rattle.std.proofs.Common.{rules, ◌∷◌, Some, ap, sym, ◌∙◌}
-use Rattle.atomic_table.specs.Table.{rest}
+use Rattle.pie_lock.proofs.Names.{rules, ◌∷◌, Some, ap, sym, ◌∙◌, rest}
 use Rattle.pie_lock.proofs.lock.RuledLock.take_from_slot.Goals as goal
 
 pub exchange-requires : goal.exchange-requires

@@ -1,15 +1,10 @@
 -- The link's definitions at small values that were worked out by hand.
 use Rattle.std.specs.Prelude.{ℕ, ◌≡◌, [], ◌∷◌, Some, None}
-use Rattle.std.proofs.Common.{refl}
-use Rattle.pie_lock.specs.declared.view.Shown.{Shown}
-use Rattle.pie_lock.specs.declared.view.Place.TheVariants.{Spent, Waits, Meets}
+use Rattle.pie_link.proofs.Names.{refl, Shown, Spent, Waits, Meets, Opening, Entry, Informed, callers_of}
 use Rattle.pie_event.specs.declared.opening.Limits.{Limits}
-use Rattle.pie_event.specs.declared.opening.Opening.{Opening}
 use Rattle.pie_event.specs.declared.refusal.OpenRefusal.TheVariants as of_book
-use Rattle.pie_kept.specs.declared.entry.Entry.{Entry}
 use Rattle.pie_link.specs.declared.refusal.LinkRefusal.TheVariants.{Book, NoCallers}
 use Rattle.pie_link.specs.Opening.{link_refusal}
-use Rattle.pie_link.specs.Headline.{Informed, callers_of}
 
 abbrev limits : ℕ → Limits
 limits packets = record { packets = packets; tail = 8; events = 100 }

@@ -1,28 +1,18 @@
 -- The headline, from the rule of the lock.
-use Rattle.std.proofs.Common.{◌≡◌, ℕ, suc, Option, List, [], ◌∷◌, ◌++◌, refl, subst, ⊎_elim, arith}
+use Rattle.pie_link.proofs.Names.{◌≡◌, ℕ, suc, Option, List, [], ◌∷◌, refl, subst, ⊎_elim, arith, Shown, Spent, Waits, Holds, Meets, Opening}
+use Rattle.pie_link.proofs.Names.{Entry, number_of, events_in, KeptView, IsKept, Informed, BeginsWith, HasCallsOf, informed, callers_at, callers_of}
+use Rattle.pie_link.proofs.Names.{LockKey, LockState, LiesIn, IsOneHistory, KeepsOneHistory}
 use Rattle.std.specs.List.{All}
 use Rattle.std.proofs.lemmas.List.Elements.{All-nil, All-cons, All-append}
 use mathlib.Core.Option.{some}
 use lib.ListN.{get_elem?}
-use Rattle.pie_lock.specs.declared.view.Shown.{Shown}
 use Rattle.pie_lock.specs.declared.view.Place.{Place}
-use Rattle.pie_lock.specs.declared.view.Place.TheVariants.{Spent, Waits, Holds, Meets}
 use Rattle.pie_lock.specs.Rule.{EachPass, Follows, Agreed, Ruled, WhileFree}
 use Rattle.pie_event.specs.declared.command.Event.{Event}
-use Rattle.pie_event.specs.declared.opening.Mode.TheVariants.{Bounded}
-use Rattle.pie_event.specs.declared.opening.Opening.{Opening}
 use Rattle.pie_book.specs.Book.{BookView}
 use Rattle.pie_book.specs.Core.{CoreView, Shows, registers_of}
-use Rattle.pie_book.specs.History.{waiting_after}
 use Rattle.pie_book.specs.Registers.{registers_after}
-use Rattle.pie_book.specs.Statistics.{stats_after}
-use Rattle.pie_book.specs.Decision.{IsLegal}
-use Rattle.pie_kept.specs.declared.entry.Entry.{Entry}
-use Rattle.pie_kept.specs.Entries.{number_of, events_in, tail_in, handed_out}
-use Rattle.pie_kept.specs.Kept.{KeptView, IsKept}
 use Rattle.pie_link.specs.Views.{LinkView}
-use Rattle.pie_link.specs.Headline.{Informed, BeginsWith, HasCallsOf, informed, callers_at, callers_of, LockKey, LockState, LiesIn, IsOneHistory}
-use Rattle.pie_link.specs.Headline.{KeepsOneHistory}
 
 module _ (P : Shown Entry Opening → Type 0) (Q : Informed → Type 0) (follows : (p : Shown Entry Opening) → P p → Q (informed p)) where
   -- what holds of each pass at a seat holds of each of its callers
@@ -53,28 +43,25 @@ while_free look_back opening numbers lock history holder owner agreed free =
     let follow = λ (seat : ℕ) (view : Place Entry Opening) (at : get_elem? lock.views seat ≡ some view). (agreed.seated seat view at).follows in
     let kept = free.2.0 in
     let book = kept.book in
-    let opened : book.opening ≡ opening = free.2.2 in
     let tells = free.2.3.tells in
     let told = tells.told in (
       book,
       (kept.folds, free.2.1),
       (
         history,
-        record {
-          opened = opened;
+        subst (λ (o : Opening). IsOneHistory o book (callers_of lock.views) history) free.2.2 (record {
+          opened = refl;
           told = told;
-          legal = subst (λ (o : Opening). IsLegal o (events_in history)) opened told.running.legal;
+          legal = told.running.legal;
           begins = at_all (Follows number_of opening numbers history) (BeginsWith history) (λ p f. f.shown) lock.views follow;
           calls = at_all (Follows number_of opening numbers history) (HasCallsOf history) (λ p f. f.owned) lock.views follow;
           ends = told.tail;
-          tail = subst (λ (o : Opening). book.tail ≡ tail_in o history) opened tells.tail;
-          nothing_lost = subst (λ (o : Opening). o.choices.mode ≡ Bounded → handed_out o history ++ book.tail ≡ events_in history) opened
-              tells.nothing_lost;
-          queue = subst (λ (o : Opening). book.running.waiting ≡ waiting_after o (events_in history)) opened told.running.waiting;
-          registers = subst (λ (o : Opening). registers_of book.running ≡ registers_after o (events_in history)) opened
-              (look_back book.opening book.running (events_in history) told.running);
-          stats = subst (λ (o : Opening). book.running.stats ≡ stats_after o (events_in history)) opened told.running.stats;
-        },
+          tail = tells.tail;
+          nothing_lost = tells.nothing_lost;
+          queue = told.running.waiting;
+          registers = look_back book.opening book.running (events_in history) told.running;
+          stats = told.running.stats;
+        }),
       ),
     )
 

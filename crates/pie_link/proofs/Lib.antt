@@ -1,2 +1,3 @@
+mod Names
 pub mod Headline
 pub mod Examples

@@ -13,15 +13,12 @@ use Rattle.pie_lock.specs.declared.view.Place.TheVariants.{Spent, Waits, Holds, 
 use Rattle.pie_lock.specs.Own.{own}
 use Rattle.pie_lock.specs.declared.view.LockOpening.{LockOpening}
 use Rattle.pie_event.specs.declared.opening.Mode.TheVariants.{Bounded}
-use Rattle.pie_event.specs.declared.opening.Opening.{Opening}
+use Rattle.pie_link.specs.Names.{Opening, IsLegal, Entry, number_of, events_in, tail_in, handed_out}
 use Rattle.pie_book.specs.Book.{BookView, Tells, last_events}
-use Rattle.pie_book.specs.Decision.{IsLegal}
 use Rattle.pie_book.specs.Core.{registers_of}
 use Rattle.pie_book.specs.History.{waiting_after}
 use Rattle.pie_book.specs.Registers.{registers_after}
 use Rattle.pie_book.specs.Statistics.{stats_after}
-use Rattle.pie_kept.specs.declared.entry.Entry.{Entry}
-use Rattle.pie_kept.specs.Entries.{number_of, events_in, tail_in, handed_out}
 use Rattle.pie_kept.specs.Kept.{KeptView}
 use Rattle.pie_link.specs.Views.{LinkView}
 

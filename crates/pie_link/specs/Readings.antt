@@ -1,10 +1,6 @@
 -- What a caller reads.
 use Rattle.std.specs.Prelude.{◌≡◌, List, Result, Ok, Err}
-use Rattle.pie_event.specs.declared.command.Event.{Event}
-use Rattle.pie_event.specs.declared.opening.Opening.{Opening}
-use Rattle.pie_event.specs.declared.refusal.Refusal.{Refusal}
-use Rattle.pie_kept.specs.declared.told.Told.{Told}
-use Rattle.pie_kept.specs.Entries.{events_in}
+use Rattle.pie_link.specs.Names.{Event, Opening, Refusal, Told, events_in}
 use Rattle.pie_kept.specs.Readings.{IsReading}
 use Rattle.pie_link.specs.Views.{LinkView, CallerView, HasTurn, WasBusy}
 use Rattle.pie_link.specs.declared.told.Tried.{Tried}

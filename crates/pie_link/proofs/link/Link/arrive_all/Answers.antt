@@ -1,6 +1,4 @@
-use Rattle.std.proofs.Common.{List, map, subst, sym}
-use Rattle.pie_kept.specs.Bursts.{Reply, always, arrive}
-use Rattle.pie_link.specs.Bursts.{AnswersAll}
+use Rattle.pie_link.proofs.Names.{List, map, subst, sym, Reply, always, arrive, AnswersAll}
 use Rattle.pie_link.proofs.link.Link.arrive_all.Goals as goal
 
 pub returns-clause-answered : goal.returns-clause-answered

@@ -1,6 +1,4 @@
-use Rattle.std.proofs.Common.{◌≡◌, ◌-◌, ℕ, List, arith, subst, sym}
-use Rattle.pie_kept.specs.Bursts.{Reply, departures, has_left}
-use Rattle.pie_link.specs.Bursts.{AnswersAll}
+use Rattle.pie_link.proofs.Names.{◌≡◌, ◌-◌, ℕ, List, arith, subst, sym, Reply, departures, has_left, AnswersAll}
 use Rattle.pie_link.proofs.link.Link.depart_all.Goals as goal
 
 pub returns-clause-answered : goal.returns-clause-answered

@@ -1,6 +1,4 @@
-use Rattle.std.proofs.Common.{List, map, subst, sym}
-use Rattle.pie_kept.specs.Bursts.{Reply, always, arrive}
-use Rattle.pie_link.specs.Bursts.{AnswersAll, TriesToAnswerAll}
+use Rattle.pie_link.proofs.Names.{List, map, subst, sym, Reply, always, arrive, AnswersAll, TriesToAnswerAll}
 use Rattle.pie_link.proofs.link.Link.try_arrive_all.Goals as goal
 
 pub returns-in-Ok-clause-answered : goal.returns-in-Ok-clause-answered

@@ -1,5 +1,5 @@
 -- What becomes of every packet.
-use Rattle.pie_guarantees.proofs.Names.{◌≡◌, ◌≤◌, ◌+◌, ◌*◌, ◌==◌, ◌^◌, ℕ, List, [], ◌∷◌, ◌++◌, map, Bool, true, false, refl, sym, ap, ◌∙◌, cond, ◌⊎◌}
+use Rattle.pie_guarantees.proofs.Names.{◌≡◌, ◌≤◌, ◌+◌, ◌*◌, ◌==◌, ◌^◌, ℕ, List, [], ◌∷◌, ◌++◌, map, Bool, true, false, refl, sym, ap, ◌∙◌, cond, ◌⊎◌, AtEachEvent, BetweenAny}
 use Rattle.pie_guarantees.proofs.Names.{inl, inr, length, arith, subst, All, Some, Option, sum_by, append-nil, append_assoc, length-map, map-append}
 use Rattle.pie_guarantees.proofs.Names.{filter_map-append, sum_by_push, sum_by-cons, bytes_of, Deed, deed, deed_of, departure, with_ce, answer_of}
 use Rattle.pie_guarantees.proofs.Names.{after_call, Held, filter_map-push, with_one, Packet, Waiting, Verdict, Command, Arrive, Depart, SetParams}
@@ -180,10 +180,9 @@ in_the_ring opening =
     throughout (λ history. length (waiting_after opening history) ≤ opening.limits.packets) opening (rw none-waits (omega arith))
     (λ before event step within. (bounded-at opening before event step).ring within)
 
-pub room_for_bytes : (opening : Opening) (before : List Event) (event : Event) (later : List Event) (packet : Packet)
-    → IsLawful opening (before ++ event ∷ later) → packet_queued (deed_of event) ≡ Some packet
-    → bytes_after opening (before ++ event ∷ []) ≤ (params_after opening before).limit_bytes
-room_for_bytes opening before event later packet lawful is =
+pub room_for_bytes : AtEachEvent (λ opening before event. (packet : Packet) → packet_queued (deed_of event) ≡ Some packet
+    → bytes_after opening (before ++ event ∷ []) ≤ (params_after opening before).limit_bytes)
+room_for_bytes opening before event later lawful packet is =
     (bounded-at opening before event (step_at opening before event later lawful)).queue packet is
 
 -- the limit in force after a call
@@ -225,9 +224,8 @@ same-beginning : (some other : List Packet) (rest more : List Packet) → some +
 same-beginning some other rest more e l =
     sym (take-append_seam some rest) ∙ (λ i. take (l i) (e i)) ∙ take-append_seam other more
 
-pub first_out : (opening : Opening) (before : List Event) (between : List Event) (later : List Event)
-    → IsLawful opening (before ++ between ++ later) → length (packets_departed between) ≡ length (waiting_after opening before)
-    → packets_departed between ≡ packets_waiting opening before
+pub first_out : BetweenAny (λ opening before between. length (packets_departed between) ≡ length (waiting_after opening before)
+    → packets_departed between ≡ packets_waiting opening before)
 unfolding packets_departed packets_queued
 first_out opening before between later lawful many =
     let first = in_order opening before (beginning opening before (between ++ later) (rw (append_assoc before between later) at lawful)) in
@@ -259,7 +257,7 @@ waits_bounded rate opening before event between later packet lawful in_queue man
     let b = before ++ event ∷ [] in
     let split : before ++ event ∷ [] ++ between ++ later ≡ before ++ (event ∷ (between ++ later)) =
     append_assoc b between later ∙ append_assoc before (event ∷ []) (between ++ later) in
-    let room = room_for_bytes opening before event (between ++ later) packet (rw split at lawful) in_queue in
+    let room = room_for_bytes opening before event (between ++ later) (rw split at lawful) packet in_queue in
     let bytes : bytes_departed between ≡ bytes_after opening b =
     ap (λ (ps : List Packet). sum_by (λ (packet : Packet). packet.size) ps) (first_out opening b between later lawful many)
     ∙ sizes-of (waiting_after opening b) in

@@ -1,10 +1,10 @@
 -- How the probability follows the delay, at each event of a lawful history.
-use Rattle.pie_guarantees.proofs.Names.{◌≡◌, ◌≤◌, ◌<◌, ◌+◌, ◌*◌, ◌-◌, ◌^◌, ◌⊎◌, inl, inr, ℕ, zero, suc, List, [], ◌∷◌, ◌++◌, Bool, true, false, refl}
+use Rattle.pie_guarantees.proofs.Names.{◌≡◌, ◌≤◌, ◌<◌, ◌+◌, ◌*◌, ◌-◌, ◌^◌, ◌⊎◌, inl, inr, ℕ, zero, suc, List, [], ◌∷◌, ◌++◌, Bool, true, false, refl, BetweenAny}
 use Rattle.pie_guarantees.proofs.Names.{sym, ap, ◌∙◌, cond, if◌then◌else◌, arith, subst, mul-le, le_of_mul-le-mul_right, pow-suc, usual}
 use Rattle.pie_guarantees.proofs.Names.{default_profile, Elements, bytes_of, decayed, decays, next, raw_step, tuned_step, tuning_divisor, deed}
 use Rattle.pie_guarantees.proofs.Names.{deed_of, is_update, after_call, Held, held_of, Waiting, Command, Arrive, Depart, Update, Reset, SetParams}
 use Rattle.pie_guarantees.proofs.Names.{Answer, Event, Opening, arrival_of, call_of, delay_after, held_after, params_after, waiting_after, is_reset}
-use Rattle.pie_guarantees.proofs.Names.{KeepsParams, updates_in, AllAlong, IsLawful, IsActiveUpdate, IsSteady, after_updates, old_delay_after}
+use Rattle.pie_guarantees.proofs.Names.{KeepsParams, updates_in, AllAlong, IsActiveUpdate, IsSteady, after_updates, old_delay_after}
 use Rattle.pie_guarantees.proofs.Names.{probability_after, RawParams}
 use Rattle.pie_aqm.specs.Steps as Steps
 use Rattle.pie_guarantees.proofs.CallFacts.{after-arrival, asks_update, update-is}
@@ -84,10 +84,9 @@ one-update false n elements params delay prob =
     let none : n ≡ 0 + n = omega arith in
     ap (λ (k : ℕ). after_updates k elements params delay prob) none
 
-pub steadily : (delay : ℕ) (opening : Opening) (before : List Event) (between : List Event) (later : List Event)
-    → IsLawful opening (before ++ between ++ later) → AllAlong (IsSteady delay opening) before between
+pub steadily : (delay : ℕ) → BetweenAny (λ opening before between. AllAlong (IsSteady delay opening) before between
     → probability_after opening (before ++ between)
-    ≡ after_updates (updates_in between) opening.choices.elements (params_after opening before) delay (probability_after opening before)
+    ≡ after_updates (updates_in between) opening.choices.elements (params_after opening before) delay (probability_after opening before))
 unfolding after_updates
 steadily delay opening before between later lawful steady =
     sym (along Comes (IsSteady delay opening) opening stays before between later lawful steady refl)

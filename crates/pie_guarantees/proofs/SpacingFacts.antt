@@ -1,5 +1,5 @@
 -- How the accumulated probability grows, and where it starts anew.
-use Rattle.pie_guarantees.proofs.Names.{◌≡◌, ◌≤◌, ◌<◌, ◌+◌, ◌*◌, ◌&&◌, ℕ, List, [], ◌∷◌, ◌++◌, Bool, true, false, refl, sym, ap, ◌∙◌, if◌then◌else◌}
+use Rattle.pie_guarantees.proofs.Names.{◌≡◌, ◌≤◌, ◌<◌, ◌+◌, ◌*◌, ◌&&◌, ℕ, List, [], ◌∷◌, ◌++◌, Bool, true, false, refl, sym, ap, ◌∙◌, if◌then◌else◌, AtEachEvent, BetweenAny}
 use Rattle.pie_guarantees.proofs.Names.{nat_lt, arith, subst, not, nat_tests, Elements, is_capable, bytes_of, Mark, Drop, counted_as, is_considered}
 use Rattle.pie_guarantees.proofs.Names.{is_picked, joined, deed, answer_of, after_call, Held, chosen, Waiting, ArrivingPacket, Verdict, Command}
 use Rattle.pie_guarantees.proofs.Names.{Arrive, Depart, Reset, Answer, Event, Opening, arrival_of, call_of, answer_by, held_after, waiting_after}
@@ -53,8 +53,7 @@ left-zero h a =
     after-verdict h a (λ (v : Verdict) (left : ℕ). is_early (answer_of v) ≡ true → left ≡ 0) (λ e. refl) (λ e. refl) (λ unseen e. cc)
     (λ on seen picked e. refl) (λ seen none e. refl) (λ seen some e. cc)
 
-pub starts_anew : (opening : Opening) (before : List Event) (event : Event) (later : List Event) → IsLawful opening (before ++ event ∷ later)
-    → IsEarly event → Book.accu_after opening (before ++ event ∷ []) ≡ 0
+pub starts_anew : AtEachEvent (λ opening before event. IsEarly event → Book.accu_after opening (before ++ event ∷ []) ≡ 0)
 starts_anew opening before event later lawful early =
     let step = step_at opening before event later lawful in
     let it = early_arrival opening before event step early in
@@ -205,10 +204,9 @@ unfolding AllAlong
 both P Q before [] p q = tt
 both P Q before (event ∷ between) p q = ((p.0, q.0), both P Q (before ++ event ∷ []) between p.1 q.1)
 
-pub not_too_far : (least : ℕ) (opening : Opening) (before : List Event) (between : List Event) (later : List Event)
-    → IsLawful opening (before ++ between ++ later) → opening.choices.elements.picking ≡ Derandomized → 0 < least
+pub not_too_far : (least : ℕ) → BetweenAny (λ opening before between. opening.choices.elements.picking ≡ Derandomized → 0 < least
     → AllAlong (CountsAtLeast least opening) before between → AllAlong (GoesOn opening) before between
-    → considered_in opening before between * least < 8_500_000_000_000
+    → considered_in opening before between * least < 8_500_000_000_000)
 unfolding considered_in
 not_too_far least opening before between later lawful spaced some large on =
     let all = along (λ earlier left. considered_in opening before between * least

@@ -22,3 +22,13 @@ pub record IsLawful (opening : Opening) (history : List Event) : Type 0 where
 unfoldable pub AllAlong : (List Event → Event → Type 0) → List Event → List Event → Type 0
 AllAlong P before [] = ⊤
 AllAlong P before (event ∷ later) = P before event × AllAlong P (before ++ event ∷ []) later
+
+-- this is so at each event of each lawful history, with the events before it
+abbrev pub AtEachEvent : (Opening → List Event → Event → Type 0) → Type 0
+AtEachEvent P = (opening : Opening) (before : List Event) (event : Event) (later : List Event) → IsLawful opening (before ++ event ∷ later)
+    → P opening before event
+
+-- .. between any two places of each lawful history: with the events before the first, and those from there to the second
+abbrev pub BetweenAny : (Opening → List Event → List Event → Type 0) → Type 0
+BetweenAny P = (opening : Opening) (before : List Event) (between : List Event) (later : List Event) → IsLawful opening (before ++ between ++ later)
+    → P opening before between

@@ -1,17 +1,16 @@
 //! How long a burst is let in (RFC 8033, section 4.4).
 ghost use Rattle.std.specs.Prelude.{◌≡◌, ◌≤◌, ◌+◌, ◌*◌, ◌++◌, ◌∷◌, [], All, List, ℕ, false, true};
 ghost use Rattle.pie_guarantees.specs.{Event, Opening, active_after, params_after, parts_after, effective_moment, AllAllow, IsAllowed, IsWhole};
+ghost use Rattle.pie_guarantees.specs.{AtEachEvent, BetweenAny};
 ghost use Rattle.pie_guarantees.specs.{KeepsParams, burst_left, updates_in, IsLawful, IsEarly};
 ghost use Rattle.pie_book.specs.Types.{Reset};
 
 /// The burst allowance is whole at the opening, after a reset, and where an arrival turns the controller on (RFC 8033, sections 4.4 and 5.3).
 pub fn allowances_begin_whole()
     ensures opening { (opening : Opening) → IsLawful opening [] → IsWhole opening [] }
-    ensures reset { (opening : Opening) (before : List Event) (event : Event) (later : List Event) (moment : ℕ)
-        → IsLawful opening (before ++ event ∷ later) → event.command ≡ Reset moment → IsWhole opening (before ++ event ∷ []) }
-    ensures turned_on { (opening : Opening) (before : List Event) (event : Event) (later : List Event)
-        → IsLawful opening (before ++ event ∷ later) → active_after opening before ≡ false
-        → active_after opening (before ++ event ∷ []) ≡ true → IsWhole opening (before ++ event ∷ []) }
+    ensures reset { AtEachEvent (λ opening before event. (moment : ℕ) → event.command ≡ Reset moment → IsWhole opening (before ++ event ∷ [])) }
+    ensures turned_on { AtEachEvent (λ opening before event. active_after opening before ≡ false → active_after opening (before ++ event ∷ []) ≡ true
+        → IsWhole opening (before ++ event ∷ [])) }
 {}
 
 /// From any moment on, by what is left then of the burst allowance: before the first packet is marked or dropped early there are as many updates
@@ -25,10 +24,9 @@ pub fn bursts_are_let_in_so_long()
     ensures updates { (burst : ℕ) (least : ℕ) (most : ℕ) (opening : Opening) (before : List Event) (between : List Event) (event : Event)
         (later : List Event) → IsLawful opening (before ++ between ++ event ∷ later) → burst ≤ burst_left opening before
         → AllAllow burst least most opening before between → IsEarly event → burst ≤ updates_in between * most }
-    ensures apart { (burst : ℕ) (least : ℕ) (most : ℕ) (opening : Opening) (before : List Event) (between : List Event)
-        (later : List Event) → IsLawful opening (before ++ between ++ later) → burst ≤ burst_left opening before
+    ensures apart { (burst : ℕ) (least : ℕ) (most : ℕ) → BetweenAny (λ opening before between. burst ≤ burst_left opening before
         → AllAllow burst least most opening before between
-        → effective_moment opening before + updates_in between * least ≤ effective_moment opening (before ++ between) + least }
+        → effective_moment opening before + updates_in between * least ≤ effective_moment opening (before ++ between) + least) }
     ensures earliest { (opening : Opening) (before : List Event) (between : List Event) (event : Event) (later : List Event)
         → IsLawful opening (before ++ between ++ event ∷ later) → IsAllowed opening before → All (λ event. KeepsParams event.command) between
         → IsEarly event

@@ -1,6 +1,7 @@
 //! No loss of count: what becomes of every packet, how much waits, and how long.
 ghost use Rattle.std.specs.Prelude.{◌≡◌, ◌≤◌, ◌+◌, ◌*◌, ◌^◌, ◌++◌, ◌∷◌, [], All, List, ℕ, Some, length};
 ghost use Rattle.pie_guarantees.specs.{deed_of, Event, Opening, Packet, params_after, bytes_after, waiting_after, count_of, is_dropped_bytes};
+ghost use Rattle.pie_guarantees.specs.{AtEachEvent, BetweenAny};
 ghost use Rattle.pie_guarantees.specs.{is_dropped_packets, Carries, SetsLimit, packet_queued, packets_departed, packets_handed_in, packets_queued};
 ghost use Rattle.pie_guarantees.specs.{packets_waiting, time_of, IsLawful};
 ghost use Rattle.pie_book.specs.Statistics.{is_dropped_early, is_marked, is_queued};
@@ -22,9 +23,8 @@ pub fn every_packet_is_accounted_for()
 pub fn queues_stay_within_their_limits()
     ensures packets { (opening : Opening) (history : List Event) → IsLawful opening history
         → length (waiting_after opening history) ≤ opening.limits.packets }
-    ensures bytes_queued { (opening : Opening) (before : List Event) (event : Event) (later : List Event) (packet : Packet)
-        → IsLawful opening (before ++ event ∷ later) → packet_queued (deed_of event) ≡ Some packet
-        → bytes_after opening (before ++ event ∷ []) ≤ (params_after opening before).limit_bytes }
+    ensures bytes_queued { AtEachEvent (λ opening before event. (packet : Packet) → packet_queued (deed_of event) ≡ Some packet
+        → bytes_after opening (before ++ event ∷ []) ≤ (params_after opening before).limit_bytes) }
     ensures bytes { (most : ℕ) (opening : Opening) (history : List Event) → IsLawful opening history → opening.params.limit_bytes ≤ most
         → All (λ event. SetsLimit most event.command) history → bytes_after opening history ≤ most }
 {}
@@ -33,9 +33,8 @@ pub fn queues_stay_within_their_limits()
 /// departs with the last of the events between, has waited for at most `limit_bytes` over the rate at which the link carried packets in that
 /// time, in which at least this one waited (`waits`; both are this project's own): 262144 bytes at 10 Mbit/s are 210 milliseconds.
 pub fn waits_are_bounded()
-    ensures first_in_first_out { (opening : Opening) (before : List Event) (between : List Event) (later : List Event)
-        → IsLawful opening (before ++ between ++ later) → length (packets_departed between) ≡ length (waiting_after opening before)
-        → packets_departed between ≡ packets_waiting opening before }
+    ensures first_in_first_out { BetweenAny (λ opening before between. length (packets_departed between) ≡ length (waiting_after opening before)
+        → packets_departed between ≡ packets_waiting opening before) }
     ensures waits { (rate : ℕ) (opening : Opening) (before : List Event) (event : Event) (between : List Event) (later : List Event)
         (packet : Packet) → IsLawful opening (before ++ event ∷ [] ++ between ++ later) → packet_queued (deed_of event) ≡ Some packet
         → length (packets_departed between) ≡ length (waiting_after opening (before ++ event ∷ []))

@@ -1,29 +1,26 @@
 //! When nothing is marked or dropped early: while a burst is allowed, at a short queue, at a low delay (RFC 8033, sections 4.1 and 4.4).
-ghost use Rattle.std.specs.Prelude.{◌≡◌, ◌≤◌, ◌<◌, ◌*◌, ◌++◌, ◌∷◌, List, false};
-ghost use Rattle.pie_guarantees.specs.{Event, Opening, active_after, params_after, parts_after, bytes_after, IsLawful, is_early};
+ghost use Rattle.std.specs.Prelude.{◌≡◌, ◌≤◌, ◌<◌, ◌*◌, ◌++◌, ◌∷◌, false};
+ghost use Rattle.pie_guarantees.specs.{active_after, params_after, parts_after, bytes_after, is_early, AtEachEvent};
 
 /// While burst allowance is left no packet is marked or dropped early (RFC 8033, section 4.4).
 pub fn bursts_are_let_in()
-    ensures { (opening : Opening) (before : List Event) (event : Event) (later : List Event) → IsLawful opening (before ++ event ∷ later)
-        → 0 < (parts_after opening before).burst → is_early event.answer ≡ false }
+    ensures { AtEachEvent (λ opening before event. 0 < (parts_after opening before).burst → is_early event.answer ≡ false) }
 {}
 
 /// While at most two packets of the mean size wait, by their bytes, none is marked or dropped early (RFC 8033, section 4.1).
 pub fn short_queues_are_left_alone()
-    ensures { (opening : Opening) (before : List Event) (event : Event) (later : List Event) → IsLawful opening (before ++ event ∷ later)
-        → bytes_after opening before ≤ 2 * (params_after opening before).mean_pkt → is_early event.answer ≡ false }
+    ensures { AtEachEvent (λ opening before event. bytes_after opening before ≤ 2 * (params_after opening before).mean_pkt
+        → is_early event.answer ≡ false) }
 {}
 
 /// While the last update's delay is below half the target, and the probability below 20 per cent, no packet is marked or dropped early
 /// (RFC 8033, section 4.1).
 pub fn low_delay_is_left_alone()
-    ensures { (opening : Opening) (before : List Event) (event : Event) (later : List Event) → IsLawful opening (before ++ event ∷ later)
-        → 2 * (parts_after opening before).old_delay < (params_after opening before).target
-        → (parts_after opening before).prob < 200_000_000_000 → is_early event.answer ≡ false }
+    ensures { AtEachEvent (λ opening before event. 2 * (parts_after opening before).old_delay < (params_after opening before).target
+        → (parts_after opening before).prob < 200_000_000_000 → is_early event.answer ≡ false) }
 {}
 
 /// While the controller is inactive no packet is marked or dropped early (RFC 8033, section 5.3; profile two alone is ever inactive).
 pub fn inactive_controllers_let_all_in()
-    ensures { (opening : Opening) (before : List Event) (event : Event) (later : List Event) → IsLawful opening (before ++ event ∷ later)
-        → active_after opening before ≡ false → is_early event.answer ≡ false }
+    ensures { AtEachEvent (λ opening before event. active_after opening before ≡ false → is_early event.answer ≡ false) }
 {}

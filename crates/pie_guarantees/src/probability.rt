@@ -2,6 +2,7 @@
 ghost use Rattle.std.specs.Prelude.{◌≡◌, ◌≤◌, ◌<◌, ◌+◌, ◌*◌, ◌/◌, ◌^◌, min, ◌⊎◌, ◌++◌, ◌∷◌, [], List, ℕ, true, false};
 ghost use Rattle.pie_control.specs.Next.{decays, next, tuning_divisor};
 ghost use Rattle.pie_guarantees.specs.{deed_of, is_update, Event, Opening, RawParams, active_after, delay_after, params_after, updates_in, AllAlong};
+ghost use Rattle.pie_guarantees.specs.{AtEachEvent, BetweenAny};
 ghost use Rattle.pie_guarantees.specs.{IsLawful, IsActiveUpdate, IsSteady, after_updates, least_rise, old_delay_after, probability_after};
 ghost use Rattle.pie_guarantees.specs.{untuned_fall, untuned_rise, updates_to_a_tenth};
 ghost use Rattle.pie_params.specs.Elements.{is_capped, usual};
@@ -14,26 +15,21 @@ ghost use Rattle.pie_params.specs.declared.elements.Elements.{Elements};
 /// that rises, leaves at most 98 hundredths (`decays`). No other event raises it (`nothing_else_raises`).
 pub fn the_probability_follows_the_delay()
     ensures bounded { (opening : Opening) (history : List Event) → IsLawful opening history → probability_after opening history ≤ 10 ^ 12 }
-    ensures rises { (opening : Opening) (before : List Event) (event : Event) (later : List Event) → IsLawful opening (before ++ event ∷ later)
-        → IsActiveUpdate opening before event → (params_after opening before).target ≤ delay_after opening before
-        → old_delay_after opening before ≤ delay_after opening before
-        → probability_after opening before ≤ probability_after opening (before ++ event ∷ []) }
-    ensures falls { (opening : Opening) (before : List Event) (event : Event) (later : List Event) → IsLawful opening (before ++ event ∷ later)
-        → IsActiveUpdate opening before event → delay_after opening before ≤ (params_after opening before).target
-        → delay_after opening before ≤ old_delay_after opening before
-        → probability_after opening (before ++ event ∷ []) ≤ probability_after opening before }
-    ensures capped { (opening : Opening) (before : List Event) (event : Event) (later : List Event) → IsLawful opening (before ++ event ∷ later)
-        → IsActiveUpdate opening before event → is_capped opening.choices.elements.step ≡ true
+    ensures rises { AtEachEvent (λ opening before event. IsActiveUpdate opening before event
+        → (params_after opening before).target ≤ delay_after opening before → old_delay_after opening before ≤ delay_after opening before
+        → probability_after opening before ≤ probability_after opening (before ++ event ∷ [])) }
+    ensures falls { AtEachEvent (λ opening before event. IsActiveUpdate opening before event
+        → delay_after opening before ≤ (params_after opening before).target → delay_after opening before ≤ old_delay_after opening before
+        → probability_after opening (before ++ event ∷ []) ≤ probability_after opening before) }
+    ensures capped { AtEachEvent (λ opening before event. IsActiveUpdate opening before event → is_capped opening.choices.elements.step ≡ true
         → 100_000_000_000 ≤ probability_after opening before
-        → probability_after opening (before ++ event ∷ []) ≤ probability_after opening before + 20_000_000_000 }
-    ensures decays { (opening : Opening) (before : List Event) (event : Event) (later : List Event) → IsLawful opening (before ++ event ∷ later)
-        → IsActiveUpdate opening before event
+        → probability_after opening (before ++ event ∷ []) ≤ probability_after opening before + 20_000_000_000) }
+    ensures decays { AtEachEvent (λ opening before event. IsActiveUpdate opening before event
         → decays opening.choices.elements.decay (params_after opening before) (delay_after opening before) (old_delay_after opening before) ≡ true
         → delay_after opening before ≤ old_delay_after opening before
-        → probability_after opening (before ++ event ∷ []) * 100 ≤ probability_after opening before * 98 }
-    ensures nothing_else_raises { (opening : Opening) (before : List Event) (event : Event) (later : List Event)
-        → IsLawful opening (before ++ event ∷ later) → (is_update (deed_of event) ≡ false) ⊎ (active_after opening before ≡ false)
-        → probability_after opening (before ++ event ∷ []) ≤ probability_after opening before }
+        → probability_after opening (before ++ event ∷ []) * 100 ≤ probability_after opening before * 98) }
+    ensures nothing_else_raises { AtEachEvent (λ opening before event. (is_update (deed_of event) ≡ false) ⊎ (active_after opening before ≡ false)
+        → probability_after opening (before ++ event ∷ []) ≤ probability_after opening before) }
 {}
 
 /// A higher delay never gives a lower next probability, all else the same (`delay`). A higher probability before can give a lower one
@@ -50,16 +46,13 @@ pub fn what_gives_a_higher_probability()
 /// twice the target it is at least 10 per cent after 162 updates, 2.43 seconds (`tenth_at_last`, `not_before`). Where it decays it falls by 2 per
 /// cent an update at least (`fades`); with no delay from 1 to a tenth in 87 updates, 1.3 seconds (`faded`, `not_yet_faded`).
 pub fn how_fast_the_probability_changes()
-    ensures steady { (delay : ℕ) (opening : Opening) (before : List Event) (between : List Event) (later : List Event)
-        → IsLawful opening (before ++ between ++ later) → AllAlong (IsSteady delay opening) before between
-        → probability_after opening (before ++ between)
-        ≡ after_updates (updates_in between) opening.choices.elements (params_after opening before) delay (probability_after opening before) }
+    ensures steady { (delay : ℕ) → BetweenAny (λ opening before between. AllAlong (IsSteady delay opening) before between
+        → probability_after opening (before ++ between) ≡ after_updates (updates_in between) opening.choices.elements (params_after opening before) delay (probability_after opening before)) }
     ensures tenth_at_last { after_updates 162 usual default_profile 30_000_000 0 ≡ 100_178_833_003 }
     ensures not_before { after_updates 161 usual default_profile 30_000_000 0 ≡ 99_241_333_003 }
-    ensures fades { (delay : ℕ) (opening : Opening) (before : List Event) (between : List Event) (later : List Event)
-        → IsLawful opening (before ++ between ++ later) → AllAlong (IsSteady delay opening) before between
+    ensures fades { (delay : ℕ) → BetweenAny (λ opening before between. AllAlong (IsSteady delay opening) before between
         → decays opening.choices.elements.decay (params_after opening before) delay delay ≡ true
-        → probability_after opening (before ++ between) * 100 ^ updates_in between ≤ probability_after opening before * 98 ^ updates_in between }
+        → probability_after opening (before ++ between) * 100 ^ updates_in between ≤ probability_after opening before * 98 ^ updates_in between) }
     ensures faded { after_updates 87 usual default_profile 0 1_000_000_000_000 ≡ 96_421_179_148 }
     ensures not_yet_faded { after_updates 86 usual default_profile 0 1_000_000_000_000 ≡ 100_263_958_315 }
 {}

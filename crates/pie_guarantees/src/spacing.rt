@@ -2,12 +2,12 @@
 ghost use Rattle.std.specs.Prelude.{◌≡◌, ◌≤◌, ◌<◌, ◌+◌, ◌*◌, ◌++◌, ◌∷◌, [], List, ℕ};
 ghost use Rattle.pie_params.specs.declared.elements.Picking.TheVariants.{Derandomized};
 ghost use Rattle.pie_guarantees.specs.{Event, Opening, AllAlong, IsLawful, CountsAtLeast, CountsAtMost, GoesOn, considered_in, counted_at, IsEarly};
+ghost use Rattle.pie_guarantees.specs.{AtEachEvent, BetweenAny};
 ghost use Rattle.pie_book.specs.Estimates.{accu_after};
 
 /// A packet that is marked or dropped early leaves an accumulated probability of 0 (RFC 8033, section 5.4).
 pub fn picks_start_anew()
-    ensures { (opening : Opening) (before : List Event) (event : Event) (later : List Event) → IsLawful opening (before ++ event ∷ later)
-        → IsEarly event → accu_after opening (before ++ event ∷ []) ≡ 0 }
+    ensures { AtEachEvent (λ opening before event. IsEarly event → accu_after opening (before ++ event ∷ []) ≡ 0) }
 {}
 
 /// Where probabilities accumulate and the probability counts as at most `most` for each considered packet: from one picked packet to the next there
@@ -25,8 +25,7 @@ pub fn picks_are_far_apart()
 /// picked, and nothing else starts the accumulated probability anew, there are so few considered packets that these times `least` are below 8.5
 /// (RFC 8033, section 5.4). So at 1 per cent at least one of 850 in a row is picked.
 pub fn picks_are_not_too_far_apart()
-    ensures { (least : ℕ) (opening : Opening) (before : List Event) (between : List Event) (later : List Event)
-        → IsLawful opening (before ++ between ++ later) → opening.choices.elements.picking ≡ Derandomized → 0 < least
+    ensures { (least : ℕ) → BetweenAny (λ opening before between. opening.choices.elements.picking ≡ Derandomized → 0 < least
         → AllAlong (CountsAtLeast least opening) before between → AllAlong (GoesOn opening) before between
-        → considered_in opening before between * least < 8_500_000_000_000 }
+        → considered_in opening before between * least < 8_500_000_000_000) }
 {}

@@ -10,7 +10,7 @@ Whole h = h.control.burst ≡ h.params.max_burst
 pub returns : goal.returns
 returns c = record {
   opening = λ opening lawful. subst Whole (first-held opening) refl;
-  reset = λ opening before event later moment lawful is.
+  reset = λ opening before event later lawful moment is.
       let step = step_at opening before event later lawful in
       subst Whole (sym (step.held ∙ ap (λ (c : Command). after_call (held_after opening before)
       (call_of (waiting_after opening before) opening.limits.packets c)) is)) refl;

@@ -1,5 +1,6 @@
 -- What becomes of every packet.
-use Rattle.pie_guarantees.proofs.Names.{◌≡◌, ◌≤◌, ◌+◌, ◌*◌, ◌==◌, ◌^◌, ℕ, List, [], ◌∷◌, ◌++◌, map, Bool, true, false, refl, sym, ap, ◌∙◌, cond, ◌⊎◌, AtEachEvent, BetweenAny}
+use Rattle.pie_guarantees.proofs.Names.{◌≡◌, ◌≤◌, ◌+◌, ◌*◌, ◌==◌, ◌^◌, ℕ, List, [], ◌∷◌, ◌++◌, map, Bool, true, false, refl, sym, ap, ◌∙◌, cond, ◌⊎◌}
+use Rattle.pie_guarantees.proofs.Names.{AtEachEvent, BetweenAny}
 use Rattle.pie_guarantees.proofs.Names.{inl, inr, length, arith, subst, All, Some, Option, sum_by, append-nil, append_assoc, length-map, map-append}
 use Rattle.pie_guarantees.proofs.Names.{filter_map-append, sum_by_push, sum_by-cons, bytes_of, Deed, deed, deed_of, departure, with_ce, answer_of}
 use Rattle.pie_guarantees.proofs.Names.{after_call, Held, filter_map-push, with_one, Packet, Waiting, Verdict, Command, Arrive, Depart, SetParams}

@@ -1,5 +1,6 @@
 -- At each place of a lawful history a core stands that shows the events before it, and each event makes of what it holds what its call does.
-use Rattle.pie_guarantees.proofs.Names.{◌≡◌, ◌≤◌, ◌<◌, ◌+◌, ℕ, List, [], ◌∷◌, ◌++◌, false, sym, subst, ap, ◌∙◌, arith, ⊤, All, None, length, ◌^◌, AtEachEvent}
+use Rattle.pie_guarantees.proofs.Names.{◌≡◌, ◌≤◌, ◌<◌, ◌+◌, ℕ, List, [], ◌∷◌, ◌++◌, false, sym, subst, ap, ◌∙◌, arith, ⊤, All, None, length, ◌^◌}
+use Rattle.pie_guarantees.proofs.Names.{AtEachEvent}
 use Rattle.pie_guarantees.proofs.Names.{append-nil, append_assoc, All-head, All-tail, first_bad, deed_of, handed_in, IsTaken, after_call, Held}
 use Rattle.pie_guarantees.proofs.Names.{IsSound, places, place_of, Waiting, Command, Depart, SetParams, Event, Opening, call_of, departure_call}
 use Rattle.pie_guarantees.proofs.Names.{IsLegalAt, has_bad_size, is_too_soon, refusal_by_rule, due_after, held_after, effective_moment, waiting_after}

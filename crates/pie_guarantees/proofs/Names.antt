@@ -30,7 +30,8 @@ pub use Rattle.pie_book.specs.Decision.{refusal_with}
 pub use Rattle.pie_guarantees.specs.{active_after, delay_after, params_after, parts_after, bytes_after, effective_moment, waiting_after, count_of}
 pub use Rattle.pie_guarantees.specs.{is_dropped_bytes, is_dropped_packets, is_reset, Answer, Arrive, Command, Depart, DroppedEarly, Enqueued, Event}
 pub use Rattle.pie_guarantees.specs.{Left, Marked, Opening, Packet, SetParams, Update, Waiting, Deed, deed_of, departure, is_update, AllAllow, Allows}
-pub use Rattle.pie_guarantees.specs.{IsAllowed, IsWhole, KeepsParams, SetsAllow, burst_left, updates_in, AtEachEvent, BetweenAny, IsLawful, SetsInRange, IsActiveUpdate}
+pub use Rattle.pie_guarantees.specs.{IsAllowed, IsWhole, KeepsParams, SetsAllow, burst_left, updates_in, AtEachEvent, BetweenAny, IsLawful}
+pub use Rattle.pie_guarantees.specs.{SetsInRange, IsActiveUpdate}
 pub use Rattle.pie_guarantees.specs.{IsSteady, least_rise, old_delay_after, probability_after, untuned_fall, untuned_rise, updates_from}
 pub use Rattle.pie_guarantees.specs.{updates_to_a_tenth, IsArrivalOf, IsEarly, MarksOnlyCapable, OnlyMarks, SparesCapable, is_early, RawParams}
 pub use Rattle.pie_guarantees.specs.{burst_begins, burst_goes_on, burst_opening, first_drop, lowered, lowered_opening, IsBetween, samples_after}

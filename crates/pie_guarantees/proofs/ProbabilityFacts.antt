@@ -1,5 +1,6 @@
 -- How the probability follows the delay, at each event of a lawful history.
-use Rattle.pie_guarantees.proofs.Names.{◌≡◌, ◌≤◌, ◌<◌, ◌+◌, ◌*◌, ◌-◌, ◌^◌, ◌⊎◌, inl, inr, ℕ, zero, suc, List, [], ◌∷◌, ◌++◌, Bool, true, false, refl, BetweenAny}
+use Rattle.pie_guarantees.proofs.Names.{◌≡◌, ◌≤◌, ◌<◌, ◌+◌, ◌*◌, ◌-◌, ◌^◌, ◌⊎◌, inl, inr, ℕ, zero, suc, List, [], ◌∷◌, ◌++◌, Bool, true, false, refl}
+use Rattle.pie_guarantees.proofs.Names.{BetweenAny}
 use Rattle.pie_guarantees.proofs.Names.{sym, ap, ◌∙◌, cond, if◌then◌else◌, arith, subst, mul-le, le_of_mul-le-mul_right, pow-suc, usual}
 use Rattle.pie_guarantees.proofs.Names.{default_profile, Elements, bytes_of, decayed, decays, next, raw_step, tuned_step, tuning_divisor, deed}
 use Rattle.pie_guarantees.proofs.Names.{deed_of, is_update, after_call, Held, held_of, Waiting, Command, Arrive, Depart, Update, Reset, SetParams}

@@ -1,5 +1,6 @@
 -- How the accumulated probability grows, and where it starts anew.
-use Rattle.pie_guarantees.proofs.Names.{◌≡◌, ◌≤◌, ◌<◌, ◌+◌, ◌*◌, ◌&&◌, ℕ, List, [], ◌∷◌, ◌++◌, Bool, true, false, refl, sym, ap, ◌∙◌, if◌then◌else◌, AtEachEvent, BetweenAny}
+use Rattle.pie_guarantees.proofs.Names.{◌≡◌, ◌≤◌, ◌<◌, ◌+◌, ◌*◌, ◌&&◌, ℕ, List, [], ◌∷◌, ◌++◌, Bool, true, false, refl, sym, ap, ◌∙◌, if◌then◌else◌}
+use Rattle.pie_guarantees.proofs.Names.{AtEachEvent, BetweenAny}
 use Rattle.pie_guarantees.proofs.Names.{nat_lt, arith, subst, not, nat_tests, Elements, is_capable, bytes_of, Mark, Drop, counted_as, is_considered}
 use Rattle.pie_guarantees.proofs.Names.{is_picked, joined, deed, answer_of, after_call, Held, chosen, Waiting, ArrivingPacket, Verdict, Command}
 use Rattle.pie_guarantees.proofs.Names.{Arrive, Depart, Reset, Answer, Event, Opening, arrival_of, call_of, answer_by, held_after, waiting_after}

@@ -47,7 +47,8 @@ pub fn what_gives_a_higher_probability()
 /// cent an update at least (`fades`); with no delay from 1 to a tenth in 87 updates, 1.3 seconds (`faded`, `not_yet_faded`).
 pub fn how_fast_the_probability_changes()
     ensures steady { (delay : ℕ) → BetweenAny (λ opening before between. AllAlong (IsSteady delay opening) before between
-        → probability_after opening (before ++ between) ≡ after_updates (updates_in between) opening.choices.elements (params_after opening before) delay (probability_after opening before)) }
+        → probability_after opening (before ++ between)
+        ≡ after_updates (updates_in between) opening.choices.elements (params_after opening before) delay (probability_after opening before)) }
     ensures tenth_at_last { after_updates 162 usual default_profile 30_000_000 0 ≡ 100_178_833_003 }
     ensures not_before { after_updates 161 usual default_profile 30_000_000 0 ≡ 99_241_333_003 }
     ensures fades { (delay : ℕ) → BetweenAny (λ opening before between. AllAlong (IsSteady delay opening) before between

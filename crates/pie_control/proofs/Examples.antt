@@ -26,17 +26,11 @@ delays : (delay_of 49152 14_000_000 16384 ≡ 42_000_000) × (delay_of 49152 0 1
 unfolding delay_of
 delays = (refl, refl, refl)
 
--- a rise; the cap from a tenth on, and a hair below it; and the decay at no delay
+-- the next probability by the usual elements, of which bindings/c/rows.c has rows
 abbrev next_of : ℕ → ℕ → ℕ → ℕ
 next_of prob delay old = next usual default_profile prob delay old
 
-usually : (next_of 0 30_000_000 0 ≡ 19_226_074) × (next_of 19_226_074 30_000_000 30_000_000 ≡ 33_874_511)
-    × (next_of 100_000_000_000 60_000_000 15_000_000 ≡ 120_000_000_000) × (next_of 99_999_999_999 60_000_000 15_000_000 ≡ 130_937_499_999)
-    × (next_of (10 ^ 12) 0 0 ≡ 978_162_500_000) × (next_of 50 0 0 ≡ 0)
-unfolding next raw_step tuning_divisor tuned_step decayed
-usually = (refl, refl, refl, refl, refl, refl)
-
--- the same where steps are not capped: the whole step, tuned by 1 and by 2
+-- .. and where steps are not capped: the whole step, tuned by 1 and by 2
 abbrev uncapped_next : ℕ → ℕ
 uncapped_next prob = next (record usual { step = Uncapped }) default_profile prob 60_000_000 15_000_000
 

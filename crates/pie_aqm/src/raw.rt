@@ -67,19 +67,8 @@ impl RawController {
         }
     }
 
-    /// Decides on an arriving packet, as [`Controller::arrive`](crate::Controller::arrive) does.
-    #[inline(always)]
-    pub fn arrive(&mut self, arrival: ArrivingPacket, moment: u64) -> Verdict
-        requires { arrival.queued ≤ 2 ^ 30 }
-        ensures verdict { result ≡ verdict self.old arrival }
-        ensures fits { is_queued result ≡ true → (arrival.is_full ≡ false) × (arrival.queued + arrival.size ≤ self.old.params.limit_bytes) }
-        ensures after { self.new ≡ arrived self.old arrival moment }
-    {
-        self.arrive_with_place(arrival, moment).0
-    }
-
-    /// The same, with the place of what decides it, in the order of the decision: that of the name of its
-    /// [`cause`](crate::Controller::cause).
+    /// Decides on an arriving packet, as [`Controller::arrive`](crate::Controller::arrive) does, and answers the place of what decides it too,
+    /// in the order of the decision: that of the name of its [`cause`](crate::Controller::cause).
     #[inline(always)]
     pub fn arrive_with_place(&mut self, arrival: ArrivingPacket, moment: u64) -> (Verdict, usize)
         requires { arrival.queued ≤ 2 ^ 30 }
@@ -92,8 +81,8 @@ impl RawController {
         self.arrive_by(self.elements, arrival, moment)
     }
 
-    /// The same, where picking by the sum and sizes as they are have a way of their own, compiled with no choice in it, and all else is
-    /// a call.
+    /// The verdict alone, where picking by the sum and sizes as they are have a way of their own, compiled with no choice in it, and all else
+    /// is a call.
     #[inline(always)]
     pub(crate) fn arrive_either_way(&mut self, arrival: ArrivingPacket, moment: u64) -> Verdict
         requires { arrival.queued ≤ 2 ^ 30 }
@@ -145,7 +134,7 @@ impl RawController {
             ecn,
             word,
         };
-        self.arrive(arrival, moment)
+        self.arrive_with_place(arrival, moment).0
     }
 
     /// The same by these elements, which are its own.

@@ -20,7 +20,7 @@ use Rattle.pie_early.specs.Decision.{accu_after, choice_of, counted, is_consider
 use Rattle.pie_early.specs.Events.{EarlyEvent, arrival, cleared}
 use Rattle.pie_early.proofs.Laws.{shows_arrival, shows-next}
 use Rattle.pie_event.specs.declared.verdict.Verdict.TheVariants.{DroppedBytes, DroppedPackets}
-use Rattle.pie_rate.specs.Step.{after_departure}
+use Rattle.pie_rate.specs.Estimate.{after_departure}
 use Rattle.pie_rate.proofs.Laws.{nothing_shown, shows_after}
 use Rattle.pie_control.specs.Events.{ControlEvent, idled, reset, update_at}
 use Rattle.pie_control.proofs.Laws.{shows_idled, shows_reset, shows_updated}
@@ -425,6 +425,10 @@ Shows_call o events held shows =
 pub has_threshold : (held : Held) (call : Call) → held.params.dq_threshold ≤ 65536 → HasThreshold held call
 has_threshold held (Depart size left since moment) small = small
 has_threshold held _ small = tt
+
+pub shows_called : (o : Opened) (events : List ControllerEvent) (held : Held) → Shows o events held → held.params.dq_threshold ≤ 65536
+    → (call : Call) → Shows o (events ++ shown_by held call ∷ []) (after_call held call)
+shows_called o events held shows small call = Shows_call o events held shows call (has_threshold held call small)
 
 -- what is held is what looking back gives
 pub held_is : (o : Opened) (events : List ControllerEvent) (held : Held) → Shows o events held → held ≡ held_of o events

@@ -8,7 +8,7 @@ use Rattle.pie_params.specs.Range.{IsInRange, first_bad}
 use Rattle.pie_fixed.specs.Fixed.{bounded_of}
 use Rattle.pie_aqm.specs.Types.{Elements, Delay, Rate, Stamp, departure, Begun, Estimate, Parts, Profile, One, Two, ArrivingPacket}
 use Rattle.pie_rate.specs.Average.{averaged, with_sample}
-use Rattle.pie_rate.specs.Step.{after_departure, step_from}
+use Rattle.pie_rate.specs.Estimate.{after_departure, step_from}
 use Rattle.pie_control.specs.Delay.{delay_of}
 use Rattle.pie_control.specs.Next.{decayed, decays, next, raw_step, tuned_step}
 use Rattle.pie_early.specs.Decision.{counted}

@@ -2,11 +2,11 @@
 ghost use Rattle.std.specs.Prelude.{◌≡◌, ◌+◌, ◌^◌, ◌<◌, ◌≤◌, ℕ, IfSome, max, min, true, false};
 ghost use Rattle.pie_event.specs.Cause.{verdict_of};
 ghost use Rattle.pie_aqm.specs.{IsSound, accu_left, anew, arrived, capped, cause, changed, count_kept_open, delay_answered, delay_in};
-ghost use Rattle.pie_aqm.specs.{departed, due, is_too_soon, is_unmeasured, measures, opened, passed, reset, updated, verdict, wait_of, with_count};
+ghost use Rattle.pie_aqm.specs.{departed, due, is_too_soon, is_unmeasured, measures, opened, opens_active, passed, reset, updated, verdict};
+ghost use Rattle.pie_aqm.specs.{wait_of, with_count};
 ghost use Rattle.pie_event.specs.CauseName.{name_of, place_of_cause};
 ghost use Rattle.pie_event.specs.Verdict.{is_queued};
 
-use crate::profile::opens_active;
 use crate::verdict::{verdict_of, wakes};
 use crate::{ArrivingPacket, Cause, CauseName, Profile, Verdict};
 use pie_control::{MAX_DELAY, RawControl};
@@ -387,6 +387,16 @@ impl RawController {
         ensures { result ≡ due self.now }
     {
         self.control.last + self.params.t_update
+    }
+}
+
+/// Whether a controller of this profile works at the opening.
+fn opens_active(profile: Profile) -> bool
+    ensures { result ≡ opens_active profile }
+{
+    match profile {
+        Profile::One => true,
+        Profile::Two => false,
     }
 }
 

@@ -234,6 +234,12 @@ legal-all opening P none more history legal = go [] history none legal
         let joined : before ++ event ∷ [] ++ rest ≡ before ++ (event ∷ rest) = append_assoc before (event ∷ []) rest in
         subst P joined (go (before ++ event ∷ []) rest (more before event held here) (rw (← joined) at legal))
 
+-- a legal history is legal with one more event that is legal at its end
+pub legal-push : (opening : Opening) (history : List Event) (event : Event) → IsLegal opening history → IsLegalAt opening (place_of history event)
+    → IsLegal opening (history ++ event ∷ [])
+legal-push opening history event legal here =
+    rw (places-push history event) (All-push (IsLegalAt opening) (places history) (place_of history event) legal here)
+
 -- in a legal history no more packets have departed than were queued
 pub departed-of-legal : (opening : Opening) (history : List Event) → IsLegal opening history
     → departed_count history ≤ length (admitted opening history)
@@ -278,9 +284,9 @@ module _ (opening : Opening) (core : CoreView) (history : List Event) (shows : S
 
 -- ---- with no event
 
-pub first-shows : (opening : Opening) → Shows opening (first_core opening) []
+pub first_shows : (opening : Opening) → Shows opening (first_core opening) []
 unfolding places admitted departed_count effective_moment greatest waiting_after shown stats_after largest_queue largest_delay waited
-first-shows opening = record {
+first_shows opening = record {
   legal = All-nil (IsLegalAt opening);
   packets = refl;
   events = refl;
@@ -292,7 +298,7 @@ first-shows opening = record {
 }
 
 pub first_shown : (opening : Opening) (core : CoreView) → core ≡ first_core opening → Shows opening core []
-first_shown opening core is = subst (λ (c : CoreView). Shows opening c []) (sym is) (first-shows opening)
+first_shown opening core is = subst (λ (c : CoreView). Shows opening c []) (sym is) (first_shows opening)
 
 -- ---- one event more
 
@@ -368,11 +374,10 @@ module _ (opening : Opening) (core : CoreView) (history : List Event) (shows : S
       λ i. with_queue (counted (shows.stats i) d (answered-is opening core history shows i) (age_of_oldest (moment i) (shows.waiting i)))
       (bytes_of (waiting i)) in
       record {
-        legal = rw (places-push history event)
-            (All-push (IsLegalAt opening) (places history) (place_of history event) shows.legal (record {
-              taken = sym (refusal_is opening core history shows command) ∙ free;
-              answered = next_decided opening core history shows command;
-            }));
+        legal = legal-push opening history event shows.legal (record {
+          taken = sym (refusal_is opening core history shows command) ∙ free;
+          answered = next_decided opening core history shows command;
+        });
         packets = shows.packets;
         events = shows.events;
         count = rw (shows.count, length-append history (event ∷ [])) refl;
@@ -404,6 +409,13 @@ good-next core _ good fit = good
 pub threshold-of : (core : CoreView) (command : Command) → first_bad core.held.params ≡ None → HasThreshold core.held (call_in core command)
 threshold-of core command good = has_threshold core.held (call_in core command) (threshold-holds core.held.params good).1
 
+-- a core that shows a history shows it with a command that it takes
+pub next_shown : (opening : Opening) (core : CoreView) (history : List Event) → Shows opening core history → (caller : ℕ) (command : Command)
+    → first_bad core.held.params ≡ None → refusal_of core command ≡ None
+    → Shows opening (core_after core command) (history ++ event_of caller command (answer_in core command) ∷ [])
+next_shown opening core history shows caller command good free =
+    next-shows opening core history shows caller command (threshold-of core command good) free
+
 -- ---- one event more
 
 -- what is legal after a history is the next of a core that shows the history
@@ -421,7 +433,7 @@ next-core opening core history event shows good next =
     let same : event_of event.caller event.command (answer_in core event.command) ≡ event =
     ap (λ (answer : Answer). event_of event.caller event.command answer) (sym next.answered) in
     subst (λ (e : Event). Shows opening (core_after core event.command) (history ++ e ∷ [])) same
-    (next-shows opening core history shows event.caller event.command (threshold-of core event.command good) next.taken)
+    (next_shown opening core history shows event.caller event.command good next.taken)
 
 -- ---- a whole history
 
@@ -453,7 +465,7 @@ module _ (P : List Event → CoreView → Type 0) (opening : Opening) (stays : S
   pub run_of : (history : List Event) → P [] (first_core opening) → first_bad opening.params ≡ None → IsLegal opening history
       → All (λ event. CommandFits event.command) history → IsRun P opening history
   run_of history first good legal fit = legal-all opening (λ h. All (λ event. CommandFits event.command) h → IsRun P opening h)
-      (λ none. record { core = first_core opening; shows = first-shows opening; good = good; holds = first })
+      (λ none. record { core = first_core opening; shows = first_shows opening; good = good; holds = first })
       (λ before event run here fits.
       let both = All-pop (λ (e : Event). CommandFits e.command) (before ++ event ∷ []) before (Some event) refl fits in
       run-next before event (run both.0) here both.1)

@@ -27,21 +27,9 @@ always = (refl, refl)
 abbrev control : ℕ → ℕ → Parts
 control prob old = record { prob = prob; old_delay = old; burst = 0; last = 0 }
 
--- so many considered arrivals at a tenth that were queued
-abbrev queued : ℕ → List EarlyEvent
-queued n = replicate n (arrival true (10 ^ 11) Derandomized Enqueue)
-
 -- a packet of so many bytes at a queue of so many, with its random word
 abbrev packet : ℕ → ℕ → Ecn → ℕ → Offered
 packet size bytes ecn word = record { bytes = bytes; size = size; ecn = ecn; word = word }
-
--- a pick, a clear and an arrival considered at probability 0 each leave nothing accumulated; one that isn't considered changes nothing
-accumulations : map (λ events. accumulated (queued 8 ++ events))
-    ([] ∷ (arrival true (10 ^ 11) Derandomized Mark ∷ []) ∷ (arrival true (10 ^ 11) Derandomized Drop ∷ queued 2) ∷ (cleared ∷ queued 1)
-    ∷ (arrival true 0 Derandomized Enqueue ∷ []) ∷ (arrival false (10 ^ 11) Derandomized Enqueue ∷ []) ∷ [])
-    ≡ 800_000_000_000 ∷ 0 ∷ 200_000_000_000 ∷ 100_000_000_000 ∷ 0 ∷ 800_000_000_000 ∷ []
-unfolding accumulated
-accumulations = refl
 
 -- ---- random picking: by the word alone, whatever was accumulated, and nothing is added
 

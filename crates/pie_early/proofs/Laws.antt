@@ -1,7 +1,8 @@
 -- How the accumulated probability changes when one more event joins the list at its end.
 use Rattle.pie_early.proofs.Names.{◌≡◌, ℕ, ◌+◌, ◌*◌, ◌<◌, Bool, true, false, cond, List, [], ◌∷◌, ◌++◌, refl, sym, ap, ◌∙◌, arith, if◌then◌else◌}
 use Rattle.pie_early.proofs.Names.{ne_eqb, Derandomized, Enqueue, EarlyEvent, arrival, accumulated, Shows, ◌≤◌, nat_tests, RawParams, Picking, Random}
-use Rattle.pie_early.proofs.Names.{accumulates, cleared, Parts, Ecn, Choice, Mark, Drop, a_fifth, never_picked, always_picked, is_considered, is_picked}
+use Rattle.pie_early.proofs.Names.{accumulates, cleared, Parts, Ecn, Choice, Mark, Drop, a_fifth, never_picked, always_picked, is_considered}
+use Rattle.pie_early.proofs.Names.{is_picked}
 use Rattle.pie_early.proofs.Names.{picked_choice, accu_at, choice_at, Elements, name_of, place_of_cause, Offered, fate_of, counted}
 use Rattle.std.proofs.Common.{zero, suc, ◌-◌, not, length, drop, filter, replicate, zero-add, add-one, append_assoc, add-zero, inr, ltb, ◌⊎◌, ◌↔◌}
 use Rattle.std.proofs.Common.{◌&&◌, ◌==◌, ◌||◌, ◌/◌}
@@ -138,8 +139,10 @@ module _ (picking : Picking) (params : RawParams) (control : Parts) (prob bytes 
       → IsTrue (is_pick choice) ↔ IsPicked picking params control prob bytes word accu
   picked choice e =
       let same : is_pick choice ≡ (is_considered params control bytes && is_picked picking prob (accu + prob) word)
-      = ap is_pick e ∙ is_pick-at params control.prob ecn (is_considered params control bytes && is_picked picking prob (accu + prob) word) in
-      (λ t. picked_facts picking params control prob bytes word accu (sym same ∙ t), λ p. same ∙ picked_from picking params control prob bytes word accu p)
+      = ap is_pick e ∙ is_pick-at params control.prob ecn (is_considered params control bytes && is_picked picking prob (accu + prob) word) in (
+        λ t. picked_facts picking params control prob bytes word accu (sym same ∙ t),
+        λ p. same ∙ picked_from picking params control prob bytes word accu p,
+      )
 
 -- where probabilities accumulate, the sum grows by that of a considered arrival that isn't picked
 pub grown : (picking : Picking) (params : RawParams) (control : Parts) (prob bytes : ℕ) (ecn : Ecn) (word accu after : ℕ) (choice : Choice)

@@ -6,7 +6,7 @@ use Rattle.pie_guarantees.proofs.Names.{deed_of, departure, with_ce, answer_of, 
 use Rattle.pie_guarantees.proofs.Names.{Waiting, Verdict, Command, Arrive, Depart, SetParams, Answer}
 use Rattle.pie_guarantees.proofs.Names.{Event, Opening, arrival_of, call_of, answer_by, held_after}
 use Rattle.pie_guarantees.proofs.Names.{params_after, bytes_after, effective_moment, waiting_after, count_of, is_dropped_bytes, is_dropped_early}
-use Rattle.pie_guarantees.proofs.Names.{is_dropped_packets, is_marked, is_queued, waiting_next, first-shows}
+use Rattle.pie_guarantees.proofs.Names.{is_dropped_packets, is_marked, is_queued, waiting_next, first_shows}
 use Rattle.pie_guarantees.proofs.Names.{ArrivingPacket, IsLawful, arrival_deed, eqb-false, nat_tests}
 use Rattle.std.proofs.Common.{take}
 use Rattle.std.proofs.Math.Seq.{take-append_seam}
@@ -114,7 +114,7 @@ ordered-next opening before event step old =
 
 -- at the opening nothing waits
 none-waits : (opening : Opening) → waiting_after opening [] ≡ []
-none-waits opening = sym (first-shows opening).waiting
+none-waits opening = sym (first_shows opening).waiting
 
 ordered-first : (opening : Opening) → waiting_after opening [] ≡ [] → Ordered opening []
 unfolding packets_departed packets_queued

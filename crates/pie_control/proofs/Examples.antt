@@ -1,5 +1,5 @@
 -- The definitions on worked rows: each theorem computes. Registers along updates and resets are rows of tests/rows and bindings/c/rows.c.
-use Rattle.std.proofs.Common.{◌≡◌, ℕ, ◌*◌, ◌-◌, ◌^◌, List, [], ◌∷◌, refl}
+use Rattle.std.proofs.Common.{◌≡◌, ℕ, ◌*◌, ◌-◌, ◌^◌, [], ◌∷◌, refl}
 use Rattle.std.specs.Prelude.{pos, map, true, false}
 use Rattle.pie_fixed.specs.declared.TheConstants.{ONE}
 use Rattle.pie_control.specs.declared.update.TheConstants.{CAPPED_FROM, LARGEST_STEP, MAX_DELAY}
@@ -8,7 +8,7 @@ use Rattle.pie_params.specs.Profile.{default_profile}
 use Rattle.pie_params.specs.Elements.{usual}
 use Rattle.pie_params.specs.declared.elements.Decay.TheVariants.{Half}
 use Rattle.pie_params.specs.declared.elements.Step.TheVariants.{Uncapped}
-use Rattle.pie_control.specs.{delay_of, ControlEvent, idled, reset, update_at, probability, last_delay, last_moment, granted_burst, burst_allowance}
+use Rattle.pie_control.specs.{delay_of, ControlEvent, idled, update_at, probability, last_delay, granted_burst}
 use Rattle.pie_control.specs.{is_calm_after, raw_step, tuning_divisor, tuned_step, decayed, next}
 
 -- the constants: the greatest delay, which clauses and definitions name, is 2 ^ 40 nanoseconds, the cap begins

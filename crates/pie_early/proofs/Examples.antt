@@ -1,7 +1,7 @@
 -- The definitions on worked arrivals: each theorem computes. The bounds of what is considered, picked and marked are rows of bindings/c/rows.c.
-use Rattle.pie_early.proofs.Names.{Elements, Derandomized, Random, Parts, Ecn, Offered, Choice, Enqueue, Mark, Drop, a_fifth, accu_after}
-use Rattle.pie_early.proofs.Names.{always_picked, choice_of, is_considered, is_picked, never_picked, EarlyEvent, arrival, cleared, accumulated}
-use Rattle.std.specs.Prelude.{◌≡◌, ℕ, ◌^◌, ◌*◌, ◌-◌, true, false, List, [], ◌∷◌, ◌++◌, map, replicate, refl}
+use Rattle.pie_early.proofs.Names.{Elements, Random, Parts, Ecn, Offered, Enqueue, Drop, a_fifth, accu_after}
+use Rattle.pie_early.proofs.Names.{always_picked, choice_of, is_considered, is_picked, never_picked, arrival, accumulated}
+use Rattle.std.specs.Prelude.{◌≡◌, ℕ, ◌^◌, ◌*◌, ◌-◌, true, [], ◌∷◌, map, refl}
 use Rattle.pie_fixed.specs.declared.TheConstants.{ALWAYS_PICKED, ONE}
 use Rattle.pie_params.specs.Profile.{default_profile}
 use Rattle.pie_params.specs.declared.elements.Size.TheVariants.{Unscaled, Scaled}

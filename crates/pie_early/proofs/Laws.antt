@@ -1,10 +1,10 @@
 -- How the accumulated probability changes when one more event joins the list at its end.
 use Rattle.pie_early.proofs.Names.{◌≡◌, ℕ, ◌+◌, ◌*◌, ◌<◌, Bool, true, false, cond, List, [], ◌∷◌, ◌++◌, refl, sym, ap, ◌∙◌, arith, if◌then◌else◌}
 use Rattle.pie_early.proofs.Names.{ne_eqb, Derandomized, Enqueue, EarlyEvent, arrival, accumulated, Shows, ◌≤◌, nat_tests, RawParams, Picking, Random}
-use Rattle.pie_early.proofs.Names.{accumulates, cleared, Parts, Ecn, Choice, Mark, Drop, a_fifth, never_picked, always_picked, is_considered}
+use Rattle.pie_early.proofs.Names.{accumulates, cleared, Parts, Ecn, Choice, Mark, Drop, never_picked, always_picked, is_considered}
 use Rattle.pie_early.proofs.Names.{is_picked}
 use Rattle.pie_early.proofs.Names.{picked_choice, accu_at, choice_at, Elements, name_of, place_of_cause, Offered, fate_of, counted}
-use Rattle.std.proofs.Common.{zero, suc, ◌-◌, not, length, drop, filter, replicate, zero-add, add-one, append_assoc, add-zero, inr, ltb, ◌⊎◌, ◌↔◌}
+use Rattle.std.proofs.Common.{zero, suc, ◌-◌, not, length, drop, filter, replicate, zero-add, add-one, append_assoc, add-zero, inr, ltb, ◌↔◌}
 use Rattle.std.proofs.Common.{◌&&◌, ◌==◌, ◌||◌, ◌/◌}
 use Rattle.std.specs.Prelude.{sum_by, IsTrue, nat_le, nat_lt}
 use Rattle.std.specs.List.{after_last, suffix_len}
@@ -12,8 +12,6 @@ use Rattle.std.proofs.lemmas.List.{drop-append-le, drop_all, length_push, revers
 use Rattle.std.proofs.lemmas.List.Elements.{filter-append}
 use Rattle.std.proofs.lemmas.List.Sums.{sum_by-append, suffix_len-le-length}
 use Rattle.pie_early.specs.Events.{is_clearing, joins, prob_of}
-use Rattle.std.proofs.lemmas.Bool.{and_parts, and_from}
-use Rattle.pie_fixed.specs.Fixed.{Picks}
 use Rattle.pie_queue.specs.Ecn.{is_capable}
 use Rattle.pie_early.specs.Decision.{is_pick, IsPicked, joined, chosen}
 use Rattle.pie_event.specs.declared.cause.Cause.TheVariants.{NoProbability, PickedBySum, PickedByWord}

@@ -1,22 +1,44 @@
--- What a controller holds stays sound at each call.
-use Rattle.std.proofs.Common.{◌≡◌, ◌≤◌, ◌<◌, ◌+◌, ◌-◌, ◌^◌, ◌&&◌, ℕ, ℤ, pos, negsuc, ◌+ℤ◌, Bool, true, false, refl, ap, subst, sym, arith}
-use Rattle.std.proofs.Common.{if◌then◌else◌}
-use Rattle.std.specs.Prelude.{max, nat_lt, Option, Some, None}
+-- Parameters that are in their ranges.
+use Rattle.std.proofs.Common.{◌≡◌, ◌≤◌, arith, ◌<◌, ◌+◌, ◌-◌, ◌^◌, ◌&&◌, ℕ, ℤ, pos, negsuc, ◌+ℤ◌, Bool, true, false, refl, ap, subst, sym}
+use Rattle.std.proofs.Common.{if◌then◌else◌, ◌↔◌}
+use Rattle.std.specs.Prelude.{None, max, nat_lt, Option, Some, is_none}
 use Rattle.std.proofs.lemmas.Bool.Decides.{nat_tests}
+use Rattle.pie_params.specs.declared.raw.RawParams.{RawParams}
+use Rattle.pie_params.specs.Range.{IsInRange, first_bad}
 use Rattle.pie_fixed.specs.Fixed.{bounded_of}
-use Rattle.pie_aqm.specs.Types.{RawParams, Elements, Delay, Rate, Stamp, departure, Begun, Estimate, Parts, Profile, One, Two, ArrivingPacket}
-use Rattle.pie_params.specs.Range.{first_bad}
+use Rattle.pie_aqm.specs.Types.{Elements, Delay, Rate, Stamp, departure, Begun, Estimate, Parts, Profile, One, Two, ArrivingPacket}
 use Rattle.pie_rate.specs.Average.{averaged, with_sample}
-use Rattle.pie_rate.specs.Step.{after_departure, step_from}
+use Rattle.pie_rate.specs.Estimate.{after_departure, step_from}
 use Rattle.pie_control.specs.Delay.{delay_of}
 use Rattle.pie_control.specs.Next.{decayed, decays, next, raw_step, tuned_step}
 use Rattle.pie_early.specs.Decision.{counted}
-use Rattle.pie_early.proofs.Arrivals.{accu_below}
+use Rattle.pie_early.proofs.Laws.{accu_below}
 use Rattle.pie_aqm.specs.Calls.{Arrive, Call, Change, Depart, IsTaken, Pass, Restart, Update, after_call}
 use Rattle.pie_aqm.specs.Held.{Held, IsSound, IsWithin}
-use Rattle.pie_aqm.specs.Steps.{accu_left, anew, bytes_with, control_updated, delay_in, is_calm, judged, no_estimate, now_at}
-use Rattle.pie_aqm.specs.Steps.{delay_by, keeps_wait, measures, offered, opened, opens_active, stays_active, turns_on, verdict, wait_of}
-use Rattle.pie_aqm.proofs.InRange.{in-range, threshold-holds}
+use Rattle.pie_aqm.specs.Steps.{accu_left, anew, bytes_with, control_updated, delay_in, is_calm, judged, no_estimate, now_at, delay_by, keeps_wait}
+use Rattle.pie_aqm.specs.Steps.{measures, offered, opened, opens_active, stays_active, turns_on, verdict, wait_of}
+use Rattle.std.proofs.lemmas.Bool.{le-leb, leb-true, lt-ltb, ltb-true}
+use Rattle.pie_aqm.specs.{began_by, counts_below, first_unsound, fits_profile}
+
+pub in-range : (params : RawParams) → first_bad params ≡ None → IsInRange params
+in-range params e = record {
+  target = (grind (arith, nat_tests), grind (arith, nat_tests));
+  t_update = (grind (arith, nat_tests), grind (arith, nat_tests));
+  max_burst = grind (arith, nat_tests);
+  alpha = grind (arith, nat_tests);
+  beta = grind (arith, nat_tests);
+  mean_pkt = (grind (arith, nat_tests), grind (arith, nat_tests));
+  limit_bytes = (grind (arith, nat_tests), grind (arith, nat_tests));
+  mark_ecnth = grind (arith, nat_tests);
+  dq_threshold = grind (arith, nat_tests);
+}
+
+-- the bounds of the threshold
+pub threshold-holds : (params : RawParams) → first_bad params ≡ None → (1024 ≤ params.dq_threshold) × (params.dq_threshold ≤ 65536)
+threshold-holds params e = let r = in-range params e in let power = r.dq_threshold in
+    (grind (arith, nat_tests, power), grind (arith, nat_tests, power))
+
+-- ---- What a controller holds stays sound at each call
 
 -- ---- the accumulated probability
 
@@ -217,3 +239,53 @@ Sound_call h sound (Change params moment) taken = change-sound h sound moment ta
 
 pub stays_sound : (h g : Held) → g ≡ h → IsSound h → IsSound g
 stays_sound h g is sound = subst (λ (k : Held). IsSound k) (sym is) sound
+
+-- ---- No number of a controller can't be believed exactly where all are sound
+
+none-is : {X : Type 0} (o : Option X) → is_none o ≡ true → o ≡ None
+none-is None e = refl
+none-is (Some x) e = cc
+
+-- the cycle
+cycle-from : (threshold now : ℕ) (o : Option Begun) → began_by now o ≡ true → counts_below threshold o ≡ true → IsWithin threshold now o
+cycle-from threshold now None b c = tt
+cycle-from threshold now (Some cycle) b c = (leb-true cycle.start now b, ltb-true cycle.count threshold c)
+
+cycle-to : (threshold now : ℕ) (o : Option Begun) → IsWithin threshold now o → (began_by now o ≡ true) × (counts_below threshold o ≡ true)
+cycle-to threshold now None w = (refl, refl)
+cycle-to threshold now (Some cycle) w = (le-leb cycle.start now w.0, lt-ltb cycle.count threshold w.1)
+
+active-from : (profile : Profile) (active : Bool) → fits_profile profile active ≡ true → profile ≡ One → active ≡ true
+active-from One active fits one = fits
+active-from Two active fits one = cc
+
+active-to : (profile : Profile) (active : Bool) → (profile ≡ One → active ≡ true) → fits_profile profile active ≡ true
+active-to One active always = always refl
+active-to Two active always = refl
+
+pub sound_from : (h : Held) → first_unsound h ≡ None → IsSound h
+unfolding first_unsound
+sound_from h none = record {
+  params = none-is (first_bad h.params) (grind (arith, nat_tests));
+  moment = grind (arith, nat_tests);
+  prob = grind (arith, nat_tests);
+  old_delay = grind (arith, nat_tests);
+  burst = grind (arith, nat_tests);
+  last = grind (arith, nat_tests);
+  accu = grind (arith, nat_tests);
+  average = grind (arith, nat_tests);
+  cycle = cycle-from h.params.dq_threshold h.moment h.rate.begun (grind (arith, nat_tests)) (grind (arith, nat_tests));
+  waited = grind (arith, nat_tests);
+  active = active-from h.profile h.active (grind (arith, nat_tests));
+}
+
+pub sound_to : (h : Held) → IsSound h → first_unsound h ≡ None
+unfolding first_unsound
+sound_to h s =
+    let cycle = cycle-to h.params.dq_threshold h.moment h.rate.begun s.cycle in
+    let active = active-to h.profile h.active s.active in
+    let params = ap is_none s.params in
+    grind (arith, nat_tests)
+
+pub sound_is : (h : Held) → (first_unsound h ≡ None) ↔ IsSound h
+sound_is h = (sound_from h, sound_to h)

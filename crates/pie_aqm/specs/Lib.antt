@@ -1,7 +1,6 @@
 pub mod Types
 pub mod Places
 pub mod Held
-pub mod Sound
 pub mod Steps
 pub mod Events
 pub mod History
@@ -9,7 +8,6 @@ pub mod Calls
 unfoldable pub use Types.*
 unfoldable pub use Places.*
 unfoldable pub use Held.*
-unfoldable pub use Sound.*
 unfoldable pub use Steps.*
 unfoldable pub use Events.*
 unfoldable pub use History.*

@@ -5,8 +5,7 @@ use Rattle.std.specs.Prelude.{min, option_map, if◌then◌else◌}
 use Rattle.pie_aqm.specs.Types.{RawParams, Elements, Delay, Rate, Stamp, departure, Estimate, Parts, Offered, Choice, Enqueue}
 use Rattle.pie_aqm.specs.Types.{Profile, One, Two, ArrivingPacket, Verdict}
 use Rattle.pie_aqm.specs.Held.{Held}
-use Rattle.pie_rate.specs.Estimate.{Begun}
-use Rattle.pie_rate.specs.Step.{after_departure}
+use Rattle.pie_rate.specs.Estimate.{Begun, after_departure}
 use Rattle.pie_control.specs.Delay.{delay_of}
 use Rattle.pie_control.specs.History.{burst_after, ends_calm}
 use Rattle.pie_control.specs.Next.{next}

@@ -19,6 +19,7 @@ pub fn calls_keep_it_sound()
 /// then what looking back over the events gives (RFC 8033, sections 4.1, 4.2, 4.4 and 5.1 to 5.5).
 ///
 /// It does nothing: its contract is the law, for a caller who has no controller in hand.
+#[tactic(auto, using(crate::proofs::Laws::Shows_opened, crate::proofs::Laws::shows_called, crate::proofs::Laws::held_is))]
 pub fn calls_look_back()
     ensures opens { (profile : Profile) (elements : Elements) (params : RawParams) (moment : ℕ)
         → Shows (record { profile = profile; elements = elements; params = params; moment = moment }) [] (opened profile elements params moment) }

@@ -11,15 +11,13 @@
 
 mod controller;
 mod law;
-mod profile;
 mod raw;
 mod register;
 mod verdict;
 
 pub use controller::Controller;
 pub use law::{calls_keep_it_sound, calls_look_back};
-pub use pie_event::{Cause, CauseName, Fate};
-pub use profile::Profile;
+pub use pie_event::{Cause, CauseName, Fate, Profile};
 pub use raw::RawController;
 pub use register::Register;
 pub use verdict::{ArrivingPacket, Verdict};

@@ -2,11 +2,11 @@
 ghost use Rattle.std.specs.Prelude.{◌≡◌, ◌+◌, ◌^◌, ◌<◌, ◌≤◌, ℕ, IfSome, max, min, true, false};
 ghost use Rattle.pie_event.specs.Cause.{verdict_of};
 ghost use Rattle.pie_aqm.specs.{IsSound, accu_left, anew, arrived, capped, cause, changed, count_kept_open, delay_answered, delay_in};
-ghost use Rattle.pie_aqm.specs.{departed, due, is_too_soon, is_unmeasured, measures, opened, passed, reset, updated, verdict, wait_of, with_count};
+ghost use Rattle.pie_aqm.specs.{departed, due, is_too_soon, is_unmeasured, measures, opened, opens_active, passed, reset, updated, verdict};
+ghost use Rattle.pie_aqm.specs.{wait_of, with_count};
 ghost use Rattle.pie_event.specs.CauseName.{name_of, place_of_cause};
 ghost use Rattle.pie_event.specs.Verdict.{is_queued};
 
-use crate::profile::opens_active;
 use crate::verdict::{verdict_of, wakes};
 use crate::{ArrivingPacket, Cause, CauseName, Profile, Verdict};
 use pie_control::{MAX_DELAY, RawControl};
@@ -67,19 +67,8 @@ impl RawController {
         }
     }
 
-    /// Decides on an arriving packet, as [`Controller::arrive`](crate::Controller::arrive) does.
-    #[inline(always)]
-    pub fn arrive(&mut self, arrival: ArrivingPacket, moment: u64) -> Verdict
-        requires { arrival.queued ≤ 2 ^ 30 }
-        ensures verdict { result ≡ verdict self.old arrival }
-        ensures fits { is_queued result ≡ true → (arrival.is_full ≡ false) × (arrival.queued + arrival.size ≤ self.old.params.limit_bytes) }
-        ensures after { self.new ≡ arrived self.old arrival moment }
-    {
-        self.arrive_with_place(arrival, moment).0
-    }
-
-    /// The same, with the place of what decides it, in the order of the decision: that of the name of its
-    /// [`cause`](crate::Controller::cause).
+    /// Decides on an arriving packet, as [`Controller::arrive`](crate::Controller::arrive) does, and answers the place of what decides it too,
+    /// in the order of the decision: that of the name of its [`cause`](crate::Controller::cause).
     #[inline(always)]
     pub fn arrive_with_place(&mut self, arrival: ArrivingPacket, moment: u64) -> (Verdict, usize)
         requires { arrival.queued ≤ 2 ^ 30 }
@@ -92,8 +81,8 @@ impl RawController {
         self.arrive_by(self.elements, arrival, moment)
     }
 
-    /// The same, where picking by the sum and sizes as they are have a way of their own, compiled with no choice in it, and all else is
-    /// a call.
+    /// The verdict alone, where picking by the sum and sizes as they are have a way of their own, compiled with no choice in it, and all else
+    /// is a call.
     #[inline(always)]
     pub(crate) fn arrive_either_way(&mut self, arrival: ArrivingPacket, moment: u64) -> Verdict
         requires { arrival.queued ≤ 2 ^ 30 }
@@ -145,7 +134,7 @@ impl RawController {
             ecn,
             word,
         };
-        self.arrive(arrival, moment)
+        self.arrive_with_place(arrival, moment).0
     }
 
     /// The same by these elements, which are its own.
@@ -398,6 +387,16 @@ impl RawController {
         ensures { result ≡ due self.now }
     {
         self.control.last + self.params.t_update
+    }
+}
+
+/// Whether a controller of this profile works at the opening.
+fn opens_active(profile: Profile) -> bool
+    ensures { result ≡ opens_active profile }
+{
+    match profile {
+        Profile::One => true,
+        Profile::Two => false,
     }
 }
 

@@ -38,7 +38,7 @@ impl RawController {
     }
 
     /// The same.
-    #[tactic(auto, unfolding(crate::specs::Sound::first_unsound))]
+    #[tactic(auto, unfolding(crate::specs::Held::first_unsound))]
     fn look(&self) -> Option<Register>
         ensures { result ≡ first_unsound self.now }
     {

@@ -1,26 +1,32 @@
 -- What a core holds, where it shows a history, is what looking back over the history gives; and it shows the history with one event more
 -- after each command.
-use Rattle.pie_book.proofs.Names.{◌≡◌, ◌≤◌, ◌<◌, ◌+◌, ℕ, List, [], ◌∷◌, ◌++◌, map, length, true, refl, ap, subst, ◌∙◌, sym, arith, length-append}
-use Rattle.pie_book.proofs.Names.{nat_tests, max, None, Some, All, is_some, append-nil, map-append, All-cons, All-head, All-nil, All-push, All-tail}
-use Rattle.pie_book.proofs.Names.{sum_by_push, ArrivingPacket, Packet, Waiting, One, Verdict, Held, Command, Arrive, Depart, Answer, Enqueued, Event}
-use Rattle.pie_book.proofs.Names.{Opening, opened_by, arrival_of, departure_call, cause_after, CoreView, Shows, closed, counted, refusal_of}
-use Rattle.pie_book.proofs.Names.{registers_of, with_queue, IsLegal, IsLegalAt, answer_by, answer_to_departure, decision, refusal_by_rule}
-use Rattle.pie_book.proofs.Names.{delay_after, delay_answered, held_after, admitted, bytes_after, departed_count, effective_moment, waiting_after}
-use Rattle.pie_book.proofs.Names.{registers_after, event_of, opened_of, shown, age_of_oldest, largest_delay, largest_queue, no_stats, stats_after}
-use Rattle.pie_book.proofs.Names.{waited, after_command, answer_in, call_in, waiting_next, bytes_of, HasThreshold, after_call, cause, Place, places}
-use Rattle.pie_book.proofs.Names.{greatest, bytes_with, now_at, place_of, places-push, answer_of, Deed, arrival_deed, deed, departure}
-use Rattle.pie_book.proofs.Names.{departure_deed, fits, handed_in, ◌-◌, drop, Bool, cond, Option, filter_map, drop-drop, length-drop, drop-append-le}
-use Rattle.pie_book.proofs.Names.{deed_of, admission, departed, marked, queued, from_places-push, greatest-push, with_one, false, if◌then◌else◌}
-use Rattle.pie_book.proofs.Names.{option_map_or, count_of, is_queued, is_marked, is_dropped_early, is_dropped_bytes, is_dropped_packets, is_departure}
-use Rattle.pie_book.proofs.Names.{is_found_none, is_reset, bytes_departed, is_arrival, is_update, sets_params, up_to}
-use Rattle.std.proofs.Common.{append_assoc, sum_by}
-use Rattle.pie_book.specs.{refusal_with, active_after, arriving_size, event_shown, oldest_since, shown_at, admitted_at, wait_at, delay_at}
-use Rattle.pie_aqm.specs.Calls.{shown_by}
+use Rattle.std.proofs.Common.{◌≡◌, ◌≤◌, ◌<◌, ◌+◌, ℕ, List, [], ◌∷◌, ◌++◌, map, length, true, refl, ap, subst, ◌∙◌, sym, arith, length-append, max}
+use Rattle.std.proofs.Common.{None, Some, All, is_some, append-nil, ◌-◌, drop, Bool, cond, Option, filter_map, drop-drop, length-drop, false}
+use Rattle.std.proofs.Common.{if◌then◌else◌, sum_by, ◌↔◌}
+use Rattle.std.proofs.lemmas.Bool.Decides.{nat_tests}
+use Rattle.std.proofs.lemmas.List.{map-append, drop-append-le, append_assoc}
+use Rattle.std.proofs.lemmas.List.Elements.{All-cons, All-head, All-nil, All-push, All-tail, All-pop}
+use Rattle.std.proofs.lemmas.List.Sums.{sum_by_push}
+use Rattle.pie_book.specs.{ArrivingPacket, Packet, Waiting, One, Verdict, Held, Command, Arrive, Depart, Answer, Enqueued, Event, Opening, opened_by}
+use Rattle.pie_book.specs.{arrival_of, departure_call, cause_after, CoreView, Shows, counted, refusal_of, registers_of, with_queue, IsLegal}
+use Rattle.pie_book.specs.{IsLegalAt, answer_by, answer_to_departure, decision, refusal_by_rule, delay_after, delay_answered, held_after, admitted}
+use Rattle.pie_book.specs.{bytes_after, departed_count, effective_moment, waiting_after, registers_after, event_of, opened_of, shown, age_of_oldest}
+use Rattle.pie_book.specs.{largest_delay, largest_queue, stats_after, waited, answer_in, call_in, waiting_next, bytes_of, HasThreshold}
+use Rattle.pie_book.specs.{after_call, Place, places, greatest, answer_of, Deed, arrival_deed, deed, departure, departure_deed, fits, handed_in}
+use Rattle.pie_book.specs.{deed_of, admission, departed, marked, queued, count_of, is_queued, is_marked, is_dropped_early, is_dropped_bytes}
+use Rattle.pie_book.specs.{is_dropped_packets, is_departure, is_found_none, is_reset, bytes_departed, is_arrival, is_update, up_to, first_bad}
+use Rattle.pie_book.specs.{SetParams, IsNext, CommandFits, refusal_with, active_after, arriving_size, event_shown, oldest_since, shown_at}
+use Rattle.pie_book.specs.{admitted_at, wait_at, delay_at, core_after, first_core, registers_with, after_calls, call_at, calls_of, held_after_calls}
+use Rattle.pie_book.specs.{Follows}
+use Rattle.pie_aqm.specs.Steps.{cause, bytes_with, now_at}
+use Rattle.pie_aqm.proofs.Places.{place_of, places-push, from_places-push, greatest-push, with_one}
+use Rattle.std.specs.Option.{option_map_or}
+use Rattle.pie_event.specs.Deed.{sets_params, with_ce}
+use Rattle.pie_aqm.proofs.Sounds.{threshold-holds}
+use Rattle.pie_aqm.specs.Calls.{shown_by, Call}
 use Rattle.pie_aqm.specs.Events.{Arrived}
 use Rattle.pie_aqm.specs.Places.{after}
-use Rattle.pie_aqm.proofs.Laws.{Shows_call, Shows_opened, held_is}
-use Rattle.pie_aqm.proofs.Looks.{one_is_active}
-use Rattle.pie_event.specs.Deed.{with_ce}
+use Rattle.pie_aqm.proofs.Laws.{Shows_call, Shows_opened, held_is, has_threshold, one_is_active}
 use Rattle.pie_event.specs.declared.verdict.Verdict.TheVariants as verdict
 use Rattle.pie_aqm.specs.History as Controller
 use Rattle.pie_aqm.specs.Steps as Steps
@@ -190,15 +196,15 @@ departs-some opening history (Arrive moment packet word) = by_answer (decision o
 departs-some opening history _ = λ some. cc
 
 -- each command is answered as it can be
-pub answer-fits : (h : Held) (waiting : List Waiting) (packets : ℕ) (command : Command) → fits command (answer_by h waiting packets command) ≡ true
-answer-fits h waiting packets (Arrive moment packet word) = by (Steps.verdict h (arrival_of waiting packets packet word))
+pub answer_fits : (h : Held) (waiting : List Waiting) (packets : ℕ) (command : Command) → fits command (answer_by h waiting packets command) ≡ true
+answer_fits h waiting packets (Arrive moment packet word) = by (Steps.verdict h (arrival_of waiting packets packet word))
   where
     by : (v : Verdict) → fits (Arrive moment packet word) (answer_of v) ≡ true
     by verdict.Enqueued = refl
     by _ = refl
-answer-fits h [] packets (Depart moment) = refl
-answer-fits h (oldest ∷ others) packets (Depart moment) = refl
-answer-fits h waiting packets _ = refl
+answer_fits h [] packets (Depart moment) = refl
+answer_fits h (oldest ∷ others) packets (Depart moment) = refl
+answer_fits h waiting packets _ = refl
 
 -- what holds of each place of a history holds of the place between these events
 pub at_place : (P : Place Event → Type 0) (before : List Event) (event : Event) (rest : List Event) → All P (places (before ++ event ∷ rest))
@@ -228,6 +234,12 @@ legal-all opening P none more history legal = go [] history none legal
         let joined : before ++ event ∷ [] ++ rest ≡ before ++ (event ∷ rest) = append_assoc before (event ∷ []) rest in
         subst P joined (go (before ++ event ∷ []) rest (more before event held here) (rw (← joined) at legal))
 
+-- a legal history is legal with one more event that is legal at its end
+pub legal-push : (opening : Opening) (history : List Event) (event : Event) → IsLegal opening history → IsLegalAt opening (place_of history event)
+    → IsLegal opening (history ++ event ∷ [])
+legal-push opening history event legal here =
+    rw (places-push history event) (All-push (IsLegalAt opening) (places history) (place_of history event) legal here)
+
 -- in a legal history no more packets have departed than were queued
 pub departed-of-legal : (opening : Opening) (history : List Event) → IsLegal opening history
     → departed_count history ≤ length (admitted opening history)
@@ -255,7 +267,7 @@ module _ (opening : Opening) (core : CoreView) (history : List Event) (shows : S
 
   pub registers_is : registers_of core ≡ registers_after opening history
   unfolding registers_after
-  registers_is = λ i. registers_of (record core { count = shows.count i; held = record (held-is i) { moment = shows.moment i }; waiting = shows.waiting i })
+  registers_is = λ i. registers_with (shows.count i) (shows.moment i) (held-is i) (shows.waiting i)
 
   pub refusal_is : (command : Command) → refusal_of core command ≡ refusal_by_rule opening history command
   refusal_is command = λ i. refusal_with (shows.moment i) (Steps.due (held-is i)) (shows.count i) (shows.events i) command
@@ -264,29 +276,29 @@ module _ (opening : Opening) (core : CoreView) (history : List Event) (shows : S
   pub next_decided : (command : Command) → answer_in core command ≡ decision opening history command
   next_decided command = λ i. answer_by (held-is i) (shows.waiting i) (shows.packets i) command
 
-  pub cause-is : (moment : ℕ) (packet : Packet) (word : ℕ)
+  pub cause_is : (moment : ℕ) (packet : Packet) (word : ℕ)
       → Some (cause core.held (arrival_of core.waiting core.packets packet word) (length core.waiting))
       ≡ cause_after opening history (Arrive moment packet word)
-  cause-is moment packet word =
+  cause_is moment packet word =
       λ i. Some (cause (held-is i) (arrival_of (shows.waiting i) (shows.packets i) packet word) (length (shows.waiting i)))
 
 -- ---- with no event
 
--- a core with no event and no packet whose controller holds what it opens with
-pub Shows-opened : (opening : Opening) (core : CoreView) → core.packets ≡ opening.limits.packets → core.events ≡ opening.limits.events
-    → core.held ≡ opened_by opening
-    → core.count ≡ 0 → core.waiting ≡ [] → core.stats ≡ no_stats → Shows opening core []
+pub first_shows : (opening : Opening) → Shows opening (first_core opening) []
 unfolding places admitted departed_count effective_moment greatest waiting_after shown stats_after largest_queue largest_delay waited
-Shows-opened opening core packets events held count waiting stats = record {
+first_shows opening = record {
   legal = All-nil (IsLegalAt opening);
-  packets = packets;
-  events = events;
-  count = count;
-  moment = let start : max opening.moment 0 ≡ opening.moment = omega arith in ap (λ (h : Held). h.moment) held ∙ sym start;
-  waiting = waiting;
-  controller = rw held (Shows_opened opening.choices.profile opening.choices.elements opening.params opening.moment);
-  stats = stats;
+  packets = refl;
+  events = refl;
+  count = refl;
+  moment = let start : max opening.moment 0 ≡ opening.moment = omega arith in sym start;
+  waiting = refl;
+  controller = Shows_opened opening.choices.profile opening.choices.elements opening.params opening.moment;
+  stats = refl;
 }
+
+pub first_shown : (opening : Opening) (core : CoreView) → core ≡ first_core opening → Shows opening core []
+first_shown opening core is = subst (λ (c : CoreView). Shows opening c []) (sym is) (first_shows opening)
 
 -- ---- one event more
 
@@ -339,7 +351,7 @@ shown-push opening history event =
 
 module _ (opening : Opening) (core : CoreView) (history : List Event) (shows : Shows opening core history) where
   pub next-shows : (caller : ℕ) (command : Command) → HasThreshold core.held (call_in core command) → refusal_of core command ≡ None
-      → Shows opening (closed (after_command core command)) (history ++ event_of caller command (answer_in core command) ∷ [])
+      → Shows opening (core_after core command) (history ++ event_of caller command (answer_in core command) ∷ [])
   next-shows caller command small free =
       let event : Event = event_of caller command (answer_in core command) in
       let all : List Event = history ++ event ∷ [] in
@@ -362,11 +374,10 @@ module _ (opening : Opening) (core : CoreView) (history : List Event) (shows : S
       λ i. with_queue (counted (shows.stats i) d (answered-is opening core history shows i) (age_of_oldest (moment i) (shows.waiting i)))
       (bytes_of (waiting i)) in
       record {
-        legal = rw (places-push history event)
-            (All-push (IsLegalAt opening) (places history) (place_of history event) shows.legal (record {
-              taken = sym (refusal_is opening core history shows command) ∙ free;
-              answered = next_decided opening core history shows command;
-            }));
+        legal = legal-push opening history event shows.legal (record {
+          taken = sym (refusal_is opening core history shows command) ∙ free;
+          answered = next_decided opening core history shows command;
+        });
         packets = shows.packets;
         events = shows.events;
         count = rw (shows.count, length-append history (event ∷ [])) refl;
@@ -376,3 +387,142 @@ module _ (opening : Opening) (core : CoreView) (history : List Event) (shows : S
             (Shows_call (opened_of opening) (shown opening history) core.held shows.controller (call_in core command) small);
         stats = counts ∙ sym (stats_after-push opening history event);
       }
+
+-- ---- Each legal history is shown by a core that made its commands, one after another
+
+-- ---- parameters stay in their ranges
+
+params-arrived : (h : Held) (a : ArrivingPacket) (moment : ℕ) → (Steps.arrived h a moment).params ≡ h.params
+params-arrived h a moment = grind (arith, nat_tests)
+
+pub good-next : (core : CoreView) (command : Command) → first_bad core.held.params ≡ None → CommandFits command
+    → first_bad (after_call core.held (call_in core command)).params ≡ None
+good-next core (Arrive moment packet word) good fit = rw (params-arrived core.held (arrival_of core.waiting core.packets packet word) moment) good
+good-next core (Depart moment) good fit = by core.waiting
+  where
+    by : (waiting : List Waiting) → first_bad (after_call core.held (departure_call waiting moment)).params ≡ None
+    by [] = good
+    by (oldest ∷ others) = good
+good-next core (SetParams moment params) good fit = fit.1.in_range
+good-next core _ good fit = good
+
+pub threshold-of : (core : CoreView) (command : Command) → first_bad core.held.params ≡ None → HasThreshold core.held (call_in core command)
+threshold-of core command good = has_threshold core.held (call_in core command) (threshold-holds core.held.params good).1
+
+-- a core that shows a history shows it with a command that it takes
+pub next_shown : (opening : Opening) (core : CoreView) (history : List Event) → Shows opening core history → (caller : ℕ) (command : Command)
+    → first_bad core.held.params ≡ None → refusal_of core command ≡ None
+    → Shows opening (core_after core command) (history ++ event_of caller command (answer_in core command) ∷ [])
+next_shown opening core history shows caller command good free =
+    next-shows opening core history shows caller command (threshold-of core command good) free
+
+-- ---- one event more
+
+-- what is legal after a history is the next of a core that shows the history
+pub next-legal : (opening : Opening) (core : CoreView) (history : List Event) (event : Event) → Shows opening core history
+    → IsLegalAt opening (place_of history event) → IsNext core event
+next-legal opening core history event shows here = record {
+  taken = refusal_is opening core history shows event.command ∙ here.taken;
+  answered = here.answered ∙ sym (next_decided opening core history shows event.command);
+}
+
+-- .. which then shows the history with it
+pub next-core : (opening : Opening) (core : CoreView) (history : List Event) (event : Event) → Shows opening core history
+    → first_bad core.held.params ≡ None → IsNext core event → Shows opening (core_after core event.command) (history ++ event ∷ [])
+next-core opening core history event shows good next =
+    let same : event_of event.caller event.command (answer_in core event.command) ≡ event =
+    ap (λ (answer : Answer). event_of event.caller event.command answer) (sym next.answered) in
+    subst (λ (e : Event). Shows opening (core_after core event.command) (history ++ e ∷ [])) same
+    (next_shown opening core history shows event.caller event.command good next.taken)
+
+-- ---- a whole history
+
+-- a core shows these events, of which this is so
+pub record IsRun (P : List Event → CoreView → Type 0) (opening : Opening) (history : List Event) : Type 0 where
+  pub core : CoreView
+  pub shows : Shows opening core history
+  pub good : first_bad core.held.params ≡ None
+  pub holds : P history core
+
+-- what is so stays so at each command that is taken
+abbrev pub Stays : (List Event → CoreView → Type 0) → Opening → Type 0
+Stays P opening = (core : CoreView) (history : List Event) (event : Event) → Shows opening core history → P history core → CommandFits event.command
+    → refusal_of core event.command ≡ None
+    → P (history ++ event ∷ []) (core_after core event.command)
+
+module _ (P : List Event → CoreView → Type 0) (opening : Opening) (stays : Stays P opening) where
+  run-next : (history : List Event) (event : Event) → IsRun P opening history → IsLegalAt opening (place_of history event)
+      → CommandFits event.command → IsRun P opening (history ++ event ∷ [])
+  run-next history event run here fit =
+      let next = next-legal opening run.core history event run.shows here in
+      record {
+        core = core_after run.core event.command;
+        shows = next-core opening run.core history event run.shows run.good next;
+        good = good-next run.core event.command run.good fit;
+        holds = stays run.core history event run.shows run.holds fit next.taken;
+      }
+
+  pub run_of : (history : List Event) → P [] (first_core opening) → first_bad opening.params ≡ None → IsLegal opening history
+      → All (λ event. CommandFits event.command) history → IsRun P opening history
+  run_of history first good legal fit = legal-all opening (λ h. All (λ event. CommandFits event.command) h → IsRun P opening h)
+      (λ none. record { core = first_core opening; shows = first_shows opening; good = good; holds = first })
+      (λ before event run here fits.
+      let both = All-pop (λ (e : Event). CommandFits e.command) (before ++ event ∷ []) before (Some event) refl fits in
+      run-next before event (run both.0) here both.1)
+      history legal fit
+
+-- ---- a controller beside a queue decides and holds what a core does: a whole run
+
+calls-push : (opening : Opening) (history : List Event) (event : Event)
+    → calls_of opening (history ++ event ∷ []) ≡ calls_of opening history ++ call_at opening (place_of history event) ∷ []
+unfolding calls_of
+calls-push opening history event = ap (λ (ps : List (Place Event)). map (call_at opening) ps) (places-push history event)
+    ∙ map-append (call_at opening) (places history) (place_of history event ∷ [])
+
+after-push : (h : Held) (calls : List Call) (call : Call) → after_calls h (calls ++ call ∷ []) ≡ after_call (after_calls h calls) call
+unfolding after_calls
+after-push h [] call = refl
+after-push h (first ∷ calls) call = after-push (after_call h first) calls call
+
+none-called : (opening : Opening) → (first_core opening).held ≡ held_after_calls opening []
+unfolding calls_of places after_calls
+none-called opening = refl
+
+-- a core holds what the controller does after the calls of the history
+abbrev HoldsCalls : Opening → List Event → CoreView → Type 0
+HoldsCalls opening history core = core.held ≡ held_after_calls opening history
+
+call-next : (opening : Opening) → Stays (HoldsCalls opening) opening
+call-next opening core history event shows holds fit free =
+    let made : call_in core event.command ≡ call_at opening (place_of history event) = rw (shows.waiting, shows.packets) refl in
+    ap (after_call core.held) made ∙ ap (λ (h : Held). after_call h (call_at opening (place_of history event))) holds
+    ∙ sym (ap (after_calls (opened_by opening)) (calls-push opening history event)
+    ∙ after-push (opened_by opening) (calls_of opening history) (call_at opening (place_of history event)))
+
+pub run_beside : (opening : Opening) (history : List Event) (command : Command) → first_bad opening.params ≡ None → IsLegal opening history
+    → All (λ event. CommandFits event.command) history
+    → refusal_by_rule opening history command ≡ None
+    → answer_by (held_after_calls opening history) (waiting_after opening history) opening.limits.packets command ≡ decision opening history command
+run_beside opening history command good legal fit free =
+    let run = run_of (HoldsCalls opening) opening (call-next opening) history (none-called opening) good legal fit in
+    ap (λ (h : Held). answer_by h (waiting_after opening history) opening.limits.packets command)
+    (sym run.holds ∙ held-is opening run.core history run.shows)
+
+-- ---- events that follow from a core are legal after each history that the core shows
+
+module _ (opening : Opening) where
+  pub follows_legal : (core : CoreView) (history rest : List Event) → Shows opening core history → first_bad core.held.params ≡ None
+      → All (λ event. CommandFits event.command) rest → Follows core rest ↔ IsLegal opening (history ++ rest)
+  unfolding Follows
+  follows_legal core history [] shows good fit = (λ follows. rw (append-nil history) shows.legal, λ legal. tt)
+  follows_legal core history (event ∷ rest) shows good fit =
+      let joined : (history ++ event ∷ []) ++ rest ≡ history ++ (event ∷ rest) = append_assoc history (event ∷ []) rest in
+      let later : IsNext core event → Follows (core_after core event.command) rest ↔ IsLegal opening ((history ++ event ∷ []) ++ rest) =
+      λ next. follows_legal (core_after core event.command) (history ++ event ∷ []) rest
+      (next-core opening core history event shows good next)
+      (good-next core event.command good (All-head (λ e. CommandFits e.command) event rest fit)) (All-tail (λ e. CommandFits e.command) event rest fit) in (
+        λ follows. subst (λ (h : List Event). IsLegal opening h) joined ((later follows.0).0 follows.1),
+        λ legal.
+            let next = next-legal opening core history event shows (at_place (IsLegalAt opening) history event rest legal) in
+            (next, (later next).1 (subst (λ (h : List Event). IsLegal opening h) (sym joined) legal)),
+      )

@@ -1,12 +1,12 @@
 -- Folds change no answer: up to the first that says that the tail is full, the answers of a run are those that the rules give
 -- its commands, whatever was folded.
-use Rattle.pie_book.proofs.Names.{◌≡◌, ◌≤◌, ◌+◌, ◌==◌, ℕ, List, [], ◌∷◌, ◌++◌, Bool, true, false, cond, take, refl, sym, ap, ◌∙◌, arith, min, Option}
-use Rattle.pie_book.proofs.Names.{Some, None, Result, Ok, Err, filter_map, Step, HistoryFull}
-use Rattle.std.proofs.Common.{one-add, not, take-take}
+use Rattle.std.proofs.Common.{◌≡◌, ◌≤◌, ◌+◌, ◌==◌, ℕ, List, [], ◌∷◌, ◌++◌, Bool, true, false, cond, take, refl, sym, ap, ◌∙◌, arith, min, Option}
+use Rattle.std.proofs.Common.{Some, None, Result, Ok, Err, one-add, not, take-take}
+use Rattle.pie_book.specs.Run.{Step, asked, folded, Progress, Asked, event_of, refused_or, recorded, held_after_fold, answers_from, answers}
+use Rattle.pie_book.specs.Run.{without_folds, is_full, before_full, AreSameUntilFull}
+use Rattle.pie_event.specs.declared.refusal.Refusal.TheVariants.{HistoryFull}
 use Rattle.pie_book.specs.Types.{Command, Answer, Event, Mode, Bounded, Rolling, Opening, Refusal}
 use Rattle.pie_book.specs.Decision.{decision, refusal_by_rule, or_full, is_refused_full}
-use Rattle.pie_book.specs.Run.{asked, folded, Progress, Asked, event_of, refused_or, recorded, held_after_fold, outcomes, answer_of, answers}
-use Rattle.pie_book.specs.Run.{without_folds, is_full, before_full, AreSameUntilFull}
 
 abbrev Given : Type 0
 Given = Result Answer Refusal
@@ -27,10 +27,6 @@ all_ruled opening history (request ∷ requests) =
     ruled opening history request.command
     ∷ all_ruled opening (extended history request.caller request.command (ruled opening history request.command)) requests
 
--- what the commands of these steps are answered, from here on
-abbrev given_from : Opening → Progress → List Step → List Given
-given_from opening progress steps = filter_map answer_of (outcomes opening progress steps)
-
 abbrev at : List Event → ℕ → Progress
 at history held = record { history = history; held = held }
 
@@ -42,9 +38,9 @@ module _ (opening : Opening) (R : List Given → List Given → Type 0) (none : 
     → R (Err HistoryFull ∷ some) other) where
   -- one command, and the steps after it
   one-asked : (history : List Event) (held caller : ℕ) (command : Command) (steps : List Step)
-      → ((history : List Event) (held : ℕ) → R (given_from opening (at history held) steps) (all_ruled opening history (without_folds steps)))
+      → ((history : List Event) (held : ℕ) → R (answers_from opening (at history held) steps) (all_ruled opening history (without_folds steps)))
       → (why : Option Refusal) (full : Bool) (answer : Answer) → is_refused_full opening.choices.mode (held == opening.limits.tail) ≡ full
-      → R (refused_or (or_full why full) answer ∷ given_from opening
+      → R (refused_or (or_full why full) answer ∷ answers_from opening
       (recorded opening (at history held) caller command (refused_or (or_full why full) answer)) steps)
       (refused_or why answer ∷ all_ruled opening (extended history caller command (refused_or why answer)) (without_folds steps))
   one-asked history held caller command steps later (Some why) full answer is = same (Err why) _ _ (later history held)
@@ -52,8 +48,8 @@ module _ (opening : Opening) (R : List Given → List Given → Type 0) (none : 
   one-asked history held caller command steps later None false answer is = same (Ok answer) _ _ (later _ _)
 
   all-asked : (history : List Event) (held : ℕ) (steps : List Step)
-      → R (given_from opening (at history held) steps) (all_ruled opening history (without_folds steps))
-  unfolding all_ruled outcomes without_folds
+      → R (answers_from opening (at history held) steps) (all_ruled opening history (without_folds steps))
+  unfolding all_ruled answers_from without_folds
   all-asked history held [] = none
   all-asked history held (folded n ∷ steps) = all-asked history (held_after_fold held n) steps
   all-asked history held (asked caller command ∷ steps) =
@@ -62,7 +58,7 @@ module _ (opening : Opening) (R : List Given → List Given → Type 0) (none : 
 
 -- a rolling book answers as the rules do, since its tail refuses nothing
 rolling-ruled : (opening : Opening) (steps : List Step) → opening.choices.mode ≡ Rolling
-    → given_from opening (at [] 0) steps ≡ all_ruled opening [] (without_folds steps)
+    → answers_from opening (at [] 0) steps ≡ all_ruled opening [] (without_folds steps)
 rolling-ruled opening steps is =
     all-asked opening (λ some other. some ≡ other) refl (λ first some other e. ap (◌∷◌ first) e)
     (λ held some other full. let none = rolls opening.choices.mode (held == opening.limits.tail) is in cc) [] 0 steps
@@ -76,7 +72,7 @@ abbrev SameUntilFull : List Given → List Given → Type 0
 SameUntilFull some other = take (before_full some) some ≡ take (before_full some) other
 
 until_full-ruled : (opening : Opening) (steps : List Step)
-    → SameUntilFull (given_from opening (at [] 0) steps) (all_ruled opening [] (without_folds steps))
+    → SameUntilFull (answers_from opening (at [] 0) steps) (all_ruled opening [] (without_folds steps))
 until_full-ruled opening steps = all-asked opening SameUntilFull refl same-cons (λ held some other full. refl) [] 0 steps
   where
     same-cons : (first : Given) (some other : List Given) → SameUntilFull some other → SameUntilFull (first ∷ some) (first ∷ other)
@@ -90,7 +86,6 @@ until_full-ruled opening steps = all-asked opening SameUntilFull refl same-cons 
 -- two lists of steps with the same commands are answered the same until a tail is full
 pub same_until_full : (opening : Opening) (some other : List Step) → without_folds some ≡ without_folds other
     → AreSameUntilFull (answers opening some) (answers opening other)
-unfolding answers
 same_until_full opening some other same =
     shorter (before_full (answers opening some)) (before_full (answers opening other))
     (answers opening some) (answers opening other) (all_ruled opening [] (without_folds some))
@@ -106,6 +101,5 @@ same_until_full opening some other same =
 -- .. and in a rolling book always
 pub same_when_rolling : (opening : Opening) (some other : List Step) → opening.choices.mode ≡ Rolling → without_folds some ≡ without_folds other
     → answers opening some ≡ answers opening other
-unfolding answers
 same_when_rolling opening some other is same =
     rolling-ruled opening some is ∙ ap (all_ruled opening []) same ∙ sym (rolling-ruled opening other is)

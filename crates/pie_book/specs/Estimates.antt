@@ -1,8 +1,7 @@
 -- What the controller holds after a history: what looking back over all that it was shown gives (RFC 8033, sections 4.1, 4.2, 4.4 and
 -- 5.1 to 5.5).
-use Rattle.std.specs.Prelude.{ℕ, Bool, List, is_some}
-use Rattle.pie_book.specs.Types.{RawParams, Held, Event, Opening}
-use Rattle.pie_control.specs.Parts.{Parts}
+use Rattle.std.specs.Prelude.{ℕ, Bool, List}
+use Rattle.pie_book.specs.Types.{RawParams, Held, Event, Opening, Parts}
 use Rattle.pie_aqm.specs.History.{held_of}
 use Rattle.pie_aqm.specs.Steps as Steps
 use Rattle.pie_book.specs.History.{bytes_after}
@@ -19,12 +18,9 @@ params_after opening history = (held_after opening history).params
 abbrev pub active_after : Opening → List Event → Bool
 active_after opening history = (held_after opening history).active
 
--- the average time in which the threshold in force departs, and whether a cycle is begun
+-- the average time in which the threshold in force departs
 abbrev pub average_after : Opening → List Event → ℕ
 average_after opening history = (held_after opening history).rate.average
-
-abbrev pub measuring_after : Opening → List Event → Bool
-measuring_after opening history = is_some (held_after opening history).rate.begun
 
 -- the probability, the old delay, the burst allowance and the last update's moment
 abbrev pub parts_after : Opening → List Event → Parts

@@ -3,10 +3,8 @@
 use Rattle.std.specs.Prelude.{ℕ, List, [], ◌∷◌, map}
 use Rattle.pie_event.specs.declared.verdict.Verdict.TheVariants as verdict
 use Rattle.pie_aqm.specs.Events.{ControllerEvent, Opened, Arrived, Departed, Passed, Updated, Reset, Changed}
-use Rattle.pie_aqm.specs.Places.{Place, places, up_to}
-use Rattle.pie_book.specs.Types.{Waiting, Command, Arrive, Event, Opening}
-use Rattle.pie_event.specs.Deed.{Deed, deed_of, handed_in, queued, marked, dropped_early, dropped_bytes, dropped_packets, departed, found_none}
-use Rattle.pie_event.specs.Deed.{updated, was_reset, set, nothing}
+use Rattle.pie_book.specs.Types.{Place, places, up_to, Waiting, Command, Arrive, Event, Opening, Deed, deed_of, handed_in, queued, marked}
+use Rattle.pie_book.specs.Types.{dropped_early, dropped_bytes, dropped_packets, departed, found_none, updated, was_reset, set, nothing}
 use Rattle.pie_book.specs.History.{bytes_after, waiting_after}
 
 -- what the controller was opened with

@@ -1,14 +1,12 @@
 -- The statistics after a history: counts, sums and greatest values over all its events.
 use Rattle.std.specs.Prelude.{ℕ, ◌-◌, Bool, true, false, List, [], ◌∷◌, map, Option, Some, None, count_by, sum_by, if◌then◌else◌, filter_map, is_some}
-use Rattle.std.specs.Prelude.{◌*◌, ◌^◌, ◌≤◌}
+use Rattle.std.specs.Prelude.{◌≡◌, ◌*◌, ◌^◌, ◌≤◌, ◌&&◌, nat_le}
 use Rattle.std.specs.Option.{option_map_or}
-use Rattle.pie_book.specs.Types.{Packet, Waiting, Event, Opening, Stats}
-use Rattle.pie_aqm.specs.Places.{Place, places, up_to, greatest}
-use Rattle.pie_event.specs.Deed.{Deed, deed_of, departure, is_arrival, is_update, sets_params, queued, marked, dropped_early, dropped_bytes}
-use Rattle.pie_event.specs.Deed.{dropped_packets, found_none, was_reset}
+use Rattle.pie_book.specs.Types.{Packet, Waiting, Event, Opening, Stats, Place, places, up_to, greatest, Deed, deed_of, departure, is_arrival}
+use Rattle.pie_book.specs.Types.{is_update, queued, marked, dropped_early, dropped_bytes, dropped_packets, found_none, was_reset}
+use Rattle.pie_event.specs.Deed.{sets_params}
 use Rattle.pie_book.specs.History.{effective_moment, waiting_after, bytes_after}
 use Rattle.pie_book.specs.Estimates.{delay_answered}
-use Rattle.pie_event.specs.declared.stats.Stats.{Stats}
 
 abbrev pub is_queued : Deed → Bool
 is_queued (queued packet) = true
@@ -127,18 +125,12 @@ pub record TallyView : Type 0 where
   pub stats : Stats
 
 -- no statistic is greater than so many events can make it
-pub record IsReached (count : ℕ) (stats : Stats) : Type 0 where
-  pub most : count ≤ 2 ^ 47
-  pub arrivals : stats.arrivals ≤ count
-  pub enqueued : stats.enqueued ≤ count
-  pub marked : stats.marked ≤ count
-  pub early : stats.early ≤ count
-  pub over_bytes : stats.over_bytes ≤ count
-  pub over_packets : stats.over_packets ≤ count
-  pub left : stats.left ≤ count
-  pub left_bytes : stats.left_bytes ≤ count * 65535
-  pub empty : stats.empty ≤ count
-  pub updates : stats.updates ≤ count
-  pub resets : stats.resets ≤ count
-  pub changes : stats.changes ≤ count
-  pub waited : stats.waited ≤ count * 2 ^ 60
+unfoldable pub are_reached : ℕ → Stats → Bool
+are_reached count s =
+    nat_le s.arrivals count && nat_le s.enqueued count && nat_le s.marked count && nat_le s.early count && nat_le s.over_bytes count
+    && nat_le s.over_packets count && nat_le s.left count && nat_le s.empty count && nat_le s.updates count && nat_le s.resets count
+    && nat_le s.changes count && nat_le s.left_bytes (count * 65535) && nat_le s.waited (count * 2 ^ 60)
+
+-- .. and no more events than a book may have
+abbrev pub IsReached : ℕ → Stats → Type 0
+IsReached count s = (count ≤ 2 ^ 47) × (are_reached count s ≡ true)

@@ -1,4 +1,4 @@
--- The types that definitions here speak of, and their cases.
+-- What definitions here, and the contracts over them, take from the crates below.
 pub use Rattle.pie_params.specs.declared.raw.RawParams.{RawParams}
 pub use Rattle.pie_params.specs.declared.elements.Elements.{Elements}
 pub use Rattle.pie_queue.specs.declared.packet.Packet.{Packet}
@@ -20,3 +20,19 @@ pub use Rattle.pie_event.specs.declared.stats.Stats.{Stats}
 pub use Rattle.pie_event.specs.declared.registers.Registers.{Registers}
 pub use Rattle.pie_aqm.specs.declared.verdict.ArrivingPacket.{ArrivingPacket}
 pub use Rattle.pie_aqm.specs.Held.{Held}
+pub use Rattle.pie_queue.specs.Queue.{IsSize, bytes_of}
+pub use Rattle.pie_params.specs.Range.{first_bad}
+pub use Rattle.pie_params.specs.Elements.{usual}
+pub use Rattle.pie_event.specs.Verdict.{answer_of}
+pub use Rattle.pie_event.specs.Cause.{verdict_of}
+pub use Rattle.pie_event.specs.Deed.{Deed, admission, arrival_deed, deed, deed_of, departed, departure, departure_deed, dropped_bytes, dropped_early}
+pub use Rattle.pie_event.specs.Deed.{dropped_packets, fits, found_none, handed_in, is_arrival, is_update, marked, nothing, queued, set, updated}
+pub use Rattle.pie_event.specs.Deed.{was_reset, with_ce}
+pub use Rattle.pie_event.specs.Opening.{are_in_range, last_moment, opening_of, opening_refusal}
+pub use Rattle.pie_event.specs.Ranges.{AnswerFits, CommandFits, ParamsFit, RegistersFit, StatsFit}
+pub use Rattle.pie_event.specs.declared.opening.Limits.{Limits}
+pub use Rattle.pie_event.specs.declared.refusal.OpenRefusal.{OpenRefusal}
+pub use Rattle.pie_aqm.specs.Calls.{Call, HasThreshold, after_call}
+pub use Rattle.pie_aqm.specs.Places.{Place, up_to}
+pub use Rattle.pie_control.specs.Parts.{Parts}
+unfoldable pub use Rattle.pie_aqm.specs.Places.{greatest, places}

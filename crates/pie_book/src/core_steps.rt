@@ -2,10 +2,9 @@
 //! done.
 ghost use Rattle.std.specs.Prelude.{◌≡◌, ◌<◌, ◌++◌, ◌∷◌, [], List, None, Some, IfOk, IfErr, OnErr, ◌==◌, ◌≤◌, ◌^◌, ◌+◌, length, true, false};
 ghost use Rattle.pie_book.specs.{Event, Opening, decision, refusal_by_rule, event_of, refused_or, Arrive, Depart, Update, Reset, SetParams};
-ghost use Rattle.pie_event.specs.Deed.{handed_in, arrival_deed};
-ghost use Rattle.pie_queue.specs.Queue.{IsSize, bytes_of};
+ghost use Rattle.pie_book.specs.{handed_in, arrival_deed, IsSize, bytes_of, HasThreshold, Shows, closed, refusal_of, after_command, answer_in};
+ghost use Rattle.pie_book.specs.{call_in, arrival_of, departure_call, waiting_next, answer_of};
 ghost use Rattle.pie_event.specs.Verdict.{is_queued};
-ghost use Rattle.pie_aqm.specs.Calls.{HasThreshold};
 
 use crate::deciding_core::Core;
 use crate::recorded::{Happened, Recorded};
@@ -16,10 +15,6 @@ use pie_params::Params;
 use pie_queue::{Ecn, MAX_SIZE, Packet};
 
 impl Core {
-    ghost use Rattle.pie_book.specs.{Shows, closed, refusal_of, after_command, answer_in, call_in, arrival_of, departure_call, waiting_next};
-    ghost use Rattle.pie_aqm.specs.Calls.{HasThreshold};
-    ghost use Rattle.pie_event.specs.Verdict.{answer_of};
-
     /// Decides a command of a caller, and counts it as an event. It takes no memory.
     ///
     /// # Errors

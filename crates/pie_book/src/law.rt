@@ -1,14 +1,10 @@
 //! Laws. Each function does nothing: its contract is the law.
 ghost use Rattle.std.specs.Prelude.{◌≡◌, List, true, ◌++◌, ◌∷◌, [], ℕ, All, None, nat_lt};
 ghost use Rattle.pie_book.specs.{One, Event, Rolling, Opening, CoreView, Shows, registers_of, registers_after, active_after, answers, without_folds};
-ghost use Rattle.pie_book.specs.{AreSameUntilFull, RawParams, Command, IsLegal, decision, refusal_by_rule, event_of, stats_after, Update, IsOpening};
-ghost use Rattle.pie_book.specs.{IsStep, held_after_calls, opened_by, call_of, refusal_of, answer_by, is_too_soon, waiting_after};
+ghost use Rattle.pie_book.specs.{AreSameUntilFull, RawParams, Command, IsLegal, decision, refusal_by_rule, event_of, stats_after, Update, first_core};
+ghost use Rattle.pie_book.specs.{core_after, held_after_calls, opened_by, call_of, refusal_of, answer_by, is_too_soon, waiting_after, first_bad};
+ghost use Rattle.pie_book.specs.{fits, opening_refusal, AnswerFits, CommandFits, ParamsFit, RegistersFit, StatsFit, after_call};
 ghost use Rattle.pie_book.specs.Run.{Step};
-ghost use Rattle.pie_params.specs.Range.{first_bad};
-ghost use Rattle.pie_event.specs.Deed.{fits};
-ghost use Rattle.pie_event.specs.Opening.{opening_refusal};
-ghost use Rattle.pie_event.specs.Ranges.{AnswerFits, CommandFits, ParamsFit, RegistersFit, StatsFit};
-ghost use Rattle.pie_aqm.specs.Calls.{after_call};
 ghost use Rattle.pie_aqm.specs.Steps.{due, due_of, now_at};
 
 /// Where two runs from one opening have the same commands in the same order, and differ in their folds alone, all
@@ -46,7 +42,7 @@ pub fn registers_look_back()
 /// field's type holds, and a legal history with one more decided command is legal (this project's own).
 ///
 /// It does nothing: its contract is the law, for readers of histories who have no book in hand.
-#[tactic(auto, using(crate::proofs::RangeFacts::params_are_held, crate::proofs::RangeFacts::registers_are_held, crate::proofs::RangeFacts::stats_are_held, crate::proofs::RangeFacts::answers_are_held, crate::proofs::RangeFacts::answers_are_of_their_kind, crate::proofs::RangeFacts::legal_at_first, crate::proofs::RangeFacts::legal_with_one_more))]
+#[tactic(auto, using(crate::proofs::RangeFacts::params_are_held, crate::proofs::RangeFacts::registers_are_held, crate::proofs::RangeFacts::stats_are_held, crate::proofs::RangeFacts::answers_are_held, crate::proofs::CoreFacts::answer_fits, crate::proofs::RangeFacts::legal_at_first, crate::proofs::RangeFacts::legal_with_one_more))]
 pub fn all_numbers_are_held()
     ensures params { (params : RawParams) → first_bad params ≡ None → ParamsFit params }
     ensures registers { (opening : Opening) (history : List Event) → opening_refusal opening.limits opening.moment ≡ None → ParamsFit opening.params
@@ -73,12 +69,17 @@ pub fn all_numbers_are_held()
 /// for the one where it is for the other. The library for C is proved to make exactly these calls.
 ///
 /// It does nothing: its contract is the law.
+#[tactic(auto, using(crate::proofs::CoreFacts::next_decided))]
 pub fn parts_decide_as_a_core()
-    ensures opens { (opening : Opening) → IsOpening opening (opened_by opening) }
-    ensures steps { (opening : Opening) (core : CoreView) (history : List Event) → Shows opening core history
+    ensures opens { (opening : Opening) → Shows opening (first_core opening) [] }
+    ensures opened { (opening : Opening) → (first_core opening).held ≡ opened_by opening }
+    ensures decides { (opening : Opening) (core : CoreView) (history : List Event) → Shows opening core history
+        → (command : Command) → answer_by core.held core.waiting core.packets command ≡ decision opening history command }
+    ensures shows { (opening : Opening) (core : CoreView) (history : List Event) → Shows opening core history
         → (caller : ℕ) (command : Command) → first_bad core.held.params ≡ None → refusal_of core command ≡ None
-        → IsStep opening history caller command (answer_by core.held core.waiting core.packets command)
-        (after_call core.held (call_of core.waiting core.packets command)) }
+        → Shows opening (core_after core command) (history ++ event_of caller command (answer_by core.held core.waiting core.packets command) ∷ []) }
+    ensures holds { (core : CoreView) (command : Command)
+        → (core_after core command).held ≡ after_call core.held (call_of core.waiting core.packets command) }
     ensures too_soon { (core : CoreView) (moment : ℕ) → is_too_soon core.held.moment (due_of core.held.params core.held.control) (Update moment)
         ≡ nat_lt (now_at core.held moment) (due core.held) }
 {}
@@ -87,7 +88,7 @@ pub fn parts_decide_as_a_core()
 /// another, answers the next command that is not refused with the decision after that history (this project's own).
 ///
 /// It does nothing: its contract is the law.
-#[tactic(auto, using(crate::proofs::LegalFacts::run_beside))]
+#[tactic(auto, using(crate::proofs::CoreFacts::run_beside))]
 pub fn runs_decide_as_a_core()
     ensures { (opening : Opening) (history : List Event) (command : Command) → first_bad opening.params ≡ None → IsLegal opening history
         → All (λ event. CommandFits event.command) history

@@ -1,8 +1,7 @@
 //! How many events there were, and their statistics, added up.
 ghost use Rattle.std.specs.Prelude.{◌≡◌, ◌+◌, ◌<◌, ◌≤◌, ◌^◌, ℕ};
-ghost use Rattle.pie_book.specs.{Packet, counted, with_queue};
-ghost use Rattle.pie_event.specs.Deed.{arrival_deed, found_none, updated, was_reset, departed};
-ghost use Rattle.pie_event.specs.Verdict.{answer_of};
+ghost use Rattle.pie_book.specs.{Packet, counted, with_queue, arrival_deed, found_none, updated, was_reset, departed, answer_of, TallyView};
+ghost use Rattle.pie_book.specs.{IsReached, no_stats};
 
 use crate::Stats;
 use pie_aqm::Verdict;
@@ -28,9 +27,8 @@ impl Model for Tally {
 }
 
 impl Tally {
-    ghost use Rattle.pie_book.specs.{TallyView, IsReached, no_stats};
-
     /// No event yet.
+    #[tactic(auto, using(std::proofs::lemmas::Bool::Decides::nat_tests), unfolding(crate::specs::Statistics::are_reached))]
     pub(crate) fn empty() -> Tally
         ensures { result ≡ record { count = 0; stats = no_stats } }
     {
@@ -73,6 +71,7 @@ impl Tally {
     }
 
     /// One more arrival, with its verdict.
+    #[tactic(auto, using(std::proofs::lemmas::Bool::Decides::nat_tests), unfolding(crate::specs::Statistics::are_reached))]
     pub(crate) fn arrived(&mut self, verdict: Verdict)
         requires { self.old.count < 2 ^ 47 }
         ensures count { self.new.count ≡ self.old.count + 1 }
@@ -90,6 +89,7 @@ impl Tally {
     }
 
     /// One more packet departed, of this size, after this many nanoseconds.
+    #[tactic(auto, using(std::proofs::lemmas::Bool::Decides::nat_tests), unfolding(crate::specs::Statistics::are_reached))]
     pub(crate) fn departed(&mut self, packet: Packet, waited: u64)
         requires count { self.old.count < 2 ^ 47 }
         requires size { packet.size ≤ 65535 }
@@ -103,6 +103,7 @@ impl Tally {
     }
 
     /// One more departure that found no packet.
+    #[tactic(auto, using(std::proofs::lemmas::Bool::Decides::nat_tests), unfolding(crate::specs::Statistics::are_reached))]
     pub(crate) fn found_none(&mut self)
         requires { self.old.count < 2 ^ 47 }
         ensures { self.new ≡ record { count = self.old.count + 1; stats = counted self.old.stats found_none 0 0 } }
@@ -112,6 +113,7 @@ impl Tally {
     }
 
     /// One more update, with this delay.
+    #[tactic(auto, using(std::proofs::lemmas::Bool::Decides::nat_tests), unfolding(crate::specs::Statistics::are_reached))]
     pub(crate) fn updated(&mut self, delay: u64)
         requires { self.old.count < 2 ^ 47 }
         ensures { self.new ≡ record { count = self.old.count + 1; stats = counted self.old.stats updated delay 0 } }
@@ -122,6 +124,7 @@ impl Tally {
     }
 
     /// One more reset.
+    #[tactic(auto, using(std::proofs::lemmas::Bool::Decides::nat_tests), unfolding(crate::specs::Statistics::are_reached))]
     pub(crate) fn was_reset(&mut self)
         requires { self.old.count < 2 ^ 47 }
         ensures { self.new ≡ record { count = self.old.count + 1; stats = counted self.old.stats was_reset 0 0 } }
@@ -131,6 +134,7 @@ impl Tally {
     }
 
     /// One more change of the parameters.
+    #[tactic(auto, using(std::proofs::lemmas::Bool::Decides::nat_tests), unfolding(crate::specs::Statistics::are_reached))]
     pub(crate) fn changed(&mut self)
         requires { self.old.count < 2 ^ 47 }
         ensures { self.new ≡ record { count = self.old.count + 1; stats = record self.old.stats { changes = self.old.stats.changes + 1 } } }
@@ -140,6 +144,7 @@ impl Tally {
     }
 
     /// So many bytes wait after the event that was counted last.
+    #[tactic(auto, using(std::proofs::lemmas::Bool::Decides::nat_tests), unfolding(crate::specs::Statistics::are_reached))]
     pub(crate) fn queue_is(&mut self, bytes: u64)
         ensures { self.new ≡ record { count = self.old.count; stats = with_queue self.old.stats bytes } }
     {

@@ -1,5 +1,5 @@
--- The definitions at examples worked out by hand, with the default parameters.
-use Rattle.std.proofs.Common.{◌≡◌, ℕ, ◌*◌, ◌-◌, ◌^◌, List, [], ◌∷◌, refl}
+-- The definitions on worked rows: each theorem computes. Registers along updates and resets are rows of tests/rows and bindings/c/rows.c.
+use Rattle.std.proofs.Common.{◌≡◌, ℕ, ◌*◌, ◌-◌, ◌^◌, [], ◌∷◌, refl}
 use Rattle.std.specs.Prelude.{pos, map, true, false}
 use Rattle.pie_fixed.specs.declared.TheConstants.{ONE}
 use Rattle.pie_control.specs.declared.update.TheConstants.{CAPPED_FROM, LARGEST_STEP, MAX_DELAY}
@@ -8,7 +8,7 @@ use Rattle.pie_params.specs.Profile.{default_profile}
 use Rattle.pie_params.specs.Elements.{usual}
 use Rattle.pie_params.specs.declared.elements.Decay.TheVariants.{Half}
 use Rattle.pie_params.specs.declared.elements.Step.TheVariants.{Uncapped}
-use Rattle.pie_control.specs.{delay_of, ControlEvent, idled, reset, update_at, probability, last_delay, last_moment, granted_burst, burst_allowance}
+use Rattle.pie_control.specs.{delay_of, ControlEvent, idled, update_at, probability, last_delay, granted_burst}
 use Rattle.pie_control.specs.{is_calm_after, raw_step, tuning_divisor, tuned_step, decayed, next}
 
 -- the constants: the greatest delay, which clauses and definitions name, is 2 ^ 40 nanoseconds, the cap begins
@@ -26,17 +26,11 @@ delays : (delay_of 49152 14_000_000 16384 ≡ 42_000_000) × (delay_of 49152 0 1
 unfolding delay_of
 delays = (refl, refl, refl)
 
--- a rise; the cap from a tenth on, and a hair below it; and the decay at no delay
+-- the next probability by the usual elements, of which bindings/c/rows.c has rows
 abbrev next_of : ℕ → ℕ → ℕ → ℕ
 next_of prob delay old = next usual default_profile prob delay old
 
-usually : (next_of 0 30_000_000 0 ≡ 19_226_074) × (next_of 19_226_074 30_000_000 30_000_000 ≡ 33_874_511)
-    × (next_of 100_000_000_000 60_000_000 15_000_000 ≡ 120_000_000_000) × (next_of 99_999_999_999 60_000_000 15_000_000 ≡ 130_937_499_999)
-    × (next_of (10 ^ 12) 0 0 ≡ 978_162_500_000) × (next_of 50 0 0 ≡ 0)
-unfolding next raw_step tuning_divisor tuned_step decayed
-usually = (refl, refl, refl, refl, refl, refl)
-
--- the same where steps are not capped: the whole step, tuned by 1 and by 2
+-- .. and where steps are not capped: the whole step, tuned by 1 and by 2
 abbrev uncapped_next : ℕ → ℕ
 uncapped_next prob = next (record usual { step = Uncapped }) default_profile prob 60_000_000 15_000_000
 
@@ -54,34 +48,13 @@ decays_below_half : (half_of 7_499_999 7_499_999 ≡ 979_081_249_877) × (half_o
 unfolding next raw_step tuning_divisor tuned_step decayed
 decays_below_half = (refl, refl, refl, refl)
 
--- with no event, after two updates, and after a reset and one more; idle updates between leave all but the last moment
+-- an update under load
 abbrev load : ℕ → ControlEvent
 load moment = update_at default_profile usual 30_000_000 moment
 
-abbrev with_idle_updates : List ControlEvent
-with_idle_updates = load 1 ∷ idled 2 ∷ reset default_profile ∷ idled 3 ∷ update_at default_profile usual 40_000_000 4 ∷ idled 9 ∷ []
-
-registers : (probability [] ≡ 0) × (last_delay [] ≡ 0) × (last_moment 9 [] ≡ 9)
-    × (probability (load 5 ∷ load 6 ∷ []) ≡ next_of (next_of 0 30_000_000 0) 30_000_000 30_000_000)
-    × (probability with_idle_updates ≡ next_of 0 40_000_000 0) × (last_delay with_idle_updates ≡ 40_000_000)
-    × (last_moment 0 with_idle_updates ≡ 9) × (last_moment 5 (idled 3 ∷ []) ≡ 3)
-unfolding probability last_delay last_moment
-registers = (refl, refl, refl, refl, refl, refl, refl, refl)
-
--- each update under load takes 15 milliseconds off the burst allowance, and there is nothing below 0; a reset makes it whole again, and so does a
--- calm update, here under a smaller `max_burst`
-abbrev ten_updates : List ControlEvent
-ten_updates = load 1 ∷ load 2 ∷ load 3 ∷ load 4 ∷ load 5 ∷ load 6 ∷ load 7 ∷ load 8 ∷ load 9 ∷ load 10 ∷ []
-
+-- a calm update, here under a smaller `max_burst`, grants the burst allowance anew
 abbrev calm : ControlEvent
 calm = update_at (record default_profile { max_burst = 40_000_000 }) usual 1_000_000 3
-
-bursts : map (burst_allowance default_profile)
-    ([] ∷ (load 1 ∷ []) ∷ ten_updates ∷ (load 0 ∷ ten_updates) ∷ (load 1 ∷ reset default_profile ∷ load 2 ∷ []) ∷ (reset default_profile ∷ calm ∷ [])
-    ∷ (calm ∷ load 1 ∷ []) ∷ with_idle_updates ∷ [])
-    ≡ 150_000_000 ∷ 135_000_000 ∷ 0 ∷ 0 ∷ 135_000_000 ∷ 40_000_000 ∷ 25_000_000 ∷ 135_000_000 ∷ []
-unfolding burst_allowance granted_burst next raw_step tuning_divisor tuned_step decayed
-bursts = refl
 
 grants : (granted_burst default_profile (load 1 ∷ calm ∷ []) ≡ 150_000_000) × (granted_burst default_profile (calm ∷ load 1 ∷ []) ≡ 40_000_000)
 unfolding granted_burst next raw_step tuning_divisor tuned_step decayed

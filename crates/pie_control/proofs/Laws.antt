@@ -38,13 +38,13 @@ burst-updated opening events params elements delay moment =
     rw (reversed events (updated u))
     (refilled calm params.max_burst (burst_after_refill opening earlier) u (updates_after_refill earlier))
 
-pub burst_allowance-granted : (opening : RawParams) (events : List ControlEvent)
+pub burst_granted : (opening : RawParams) (events : List ControlEvent)
     → burst_allowance opening events ≤ granted_burst opening events
 unfolding burst_allowance
-burst_allowance-granted opening events = omega arith
+burst_granted opening events = omega arith
 
 module _ (opening : RawParams) (start : ℕ) (events : List ControlEvent) (before after : Parts) (shows : Shows opening start events before) where
-  pub Shows-updated : (params : RawParams) (elements : Elements) (delay moment : ℕ)
+  pub shows_updated : (params : RawParams) (elements : Elements) (delay moment : ℕ)
       → after ≡ record {
         prob = next elements params before.prob delay before.old_delay;
         old_delay = delay;
@@ -53,7 +53,7 @@ module _ (opening : RawParams) (start : ℕ) (events : List ControlEvent) (befor
       }
       → Shows opening start (events ++ update_at params elements delay moment ∷ []) after
   unfolding probability last_delay last_moment
-  Shows-updated params elements delay moment is = record {
+  shows_updated params elements delay moment is = record {
     prob = rw (is, reversed events (update_at params elements delay moment), shows.prob, shows.old_delay) refl;
     old_delay = rw (is, reversed events (update_at params elements delay moment)) refl;
     burst = rw (is, burst-updated opening events params elements delay moment, shows.burst, shows.prob, shows.old_delay) refl;
@@ -61,19 +61,19 @@ module _ (opening : RawParams) (start : ℕ) (events : List ControlEvent) (befor
   }
 
   -- an idle update leaves all but the last moment
-  pub Shows-idled : (moment : ℕ) → after ≡ record before { last = moment } → Shows opening start (events ++ idled moment ∷ []) after
+  pub shows_idled : (moment : ℕ) → after ≡ record before { last = moment } → Shows opening start (events ++ idled moment ∷ []) after
   unfolding probability last_delay last_moment burst_allowance granted_burst
-  Shows-idled moment is = record {
+  shows_idled moment is = record {
     prob = rw (is, reversed events (idled moment)) shows.prob;
     old_delay = rw (is, reversed events (idled moment)) shows.old_delay;
     burst = rw (is, reversed events (idled moment)) shows.burst;
     last = rw (is, reversed events (idled moment)) refl;
   }
 
-  pub Shows-reset : (params : RawParams) → after ≡ record before { prob = 0; old_delay = 0; burst = params.max_burst }
+  pub shows_reset : (params : RawParams) → after ≡ record before { prob = 0; old_delay = 0; burst = params.max_burst }
       → Shows opening start (events ++ reset params ∷ []) after
   unfolding probability last_delay last_moment burst_allowance granted_burst
-  Shows-reset params is = record {
+  shows_reset params is = record {
     prob = rw (is, reversed events (reset params)) refl;
     old_delay = rw (is, reversed events (reset params)) refl;
     burst = rw (is, reversed events (reset params)) (omega arith);

@@ -128,6 +128,7 @@ impl Control {
     }
 
     /// The burst allowance, in nanoseconds, at most 10^12 (RFC 8033, section 4.4).
+    #[tactic(auto, using(crate::proofs::Laws::burst_granted))]
     pub fn burst(&self) -> u64
         ensures value { result ≡ self.now.burst }
         ensures within { self.now.burst ≤ 10 ^ 12 }

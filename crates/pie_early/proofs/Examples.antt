@@ -1,7 +1,7 @@
--- The definitions on worked arrivals: each theorem computes.
-use Rattle.pie_early.proofs.Names.{Elements, Derandomized, Random, Parts, Ecn, Offered, Choice, Enqueue, Mark, Drop, a_fifth, accu_after}
-use Rattle.pie_early.proofs.Names.{always_picked, choice_of, is_considered, is_picked, never_picked, EarlyEvent, arrival, cleared, accumulated}
-use Rattle.std.specs.Prelude.{◌≡◌, ℕ, ◌^◌, ◌*◌, ◌-◌, true, false, List, [], ◌∷◌, ◌++◌, map, replicate, refl}
+-- The definitions on worked arrivals: each theorem computes. The bounds of what is considered, picked and marked are rows of bindings/c/rows.c.
+use Rattle.pie_early.proofs.Names.{Elements, Random, Parts, Ecn, Offered, Enqueue, Drop, a_fifth, accu_after}
+use Rattle.pie_early.proofs.Names.{always_picked, choice_of, is_considered, is_picked, never_picked, arrival, accumulated}
+use Rattle.std.specs.Prelude.{◌≡◌, ℕ, ◌^◌, ◌*◌, ◌-◌, true, [], ◌∷◌, map, refl}
 use Rattle.pie_fixed.specs.declared.TheConstants.{ALWAYS_PICKED, ONE}
 use Rattle.pie_params.specs.Profile.{default_profile}
 use Rattle.pie_params.specs.declared.elements.Size.TheVariants.{Unscaled, Scaled}
@@ -27,54 +27,9 @@ always = (refl, refl)
 abbrev control : ℕ → ℕ → Parts
 control prob old = record { prob = prob; old_delay = old; burst = 0; last = 0 }
 
--- so many considered arrivals at a tenth that were queued
-abbrev queued : ℕ → List EarlyEvent
-queued n = replicate n (arrival true (10 ^ 11) Derandomized Enqueue)
-
 -- a packet of so many bytes at a queue of so many, with its random word
 abbrev packet : ℕ → ℕ → Ecn → ℕ → Offered
 packet size bytes ecn word = record { bytes = bytes; size = size; ecn = ecn; word = word }
-
--- the choice after so many of them, with 3000 bytes in the queue
-abbrev after : ℕ → ℕ → Choice
-after n word = choice_of usual default_profile (control (10 ^ 11) 15000000) (packet 1024 3000 NotEct word) (accumulated (queued n))
-
--- the greatest word picks none before the 85th, where the accumulated probability is exactly 8.5, and the least word none while it is below 0.85
-choices : (map (λ n. after n (2 ^ 64 - 1)) (1 ∷ 83 ∷ 84 ∷ []) ≡ Enqueue ∷ Enqueue ∷ Drop ∷ [])
-    × (map (λ n. after n 0) (7 ∷ 8 ∷ []) ≡ Enqueue ∷ Drop ∷ [])
-unfolding accumulated is_considered is_picked
-choices = (refl, refl)
-
--- a packet whose endpoints understand a mark is dropped at the marking threshold, and marked below it
-marks : map (λ prob. choice_of usual default_profile (control prob 15000000) (packet 1024 3000 Ect0 0) (accumulated (queued 8))) ((10 ^ 11) ∷ (10 ^ 11 - 1) ∷ [])
-    ≡ Drop ∷ Mark ∷ []
-unfolding accumulated is_considered is_picked
-marks = refl
-
--- a pick, a clear and an arrival considered at probability 0 each leave nothing accumulated; one that isn't considered changes nothing
-accumulations : map (λ events. accumulated (queued 8 ++ events))
-    ([] ∷ (arrival true (10 ^ 11) Derandomized Mark ∷ []) ∷ (arrival true (10 ^ 11) Derandomized Drop ∷ queued 2) ∷ (cleared ∷ queued 1)
-    ∷ (arrival true 0 Derandomized Enqueue ∷ []) ∷ (arrival false (10 ^ 11) Derandomized Enqueue ∷ []) ∷ [])
-    ≡ 800_000_000_000 ∷ 0 ∷ 200_000_000_000 ∷ 100_000_000_000 ∷ 0 ∷ 800_000_000_000 ∷ []
-unfolding accumulated
-accumulations = refl
-
--- the bounds of what is considered: two packets of the mean size, half the target, a fifth, and no burst allowance
-considerations : (map (is_considered default_profile (control (10 ^ 11) 15000000)) (2048 ∷ 2049 ∷ []) ≡ false ∷ true ∷ [])
-    × (map (λ old. is_considered default_profile (control (10 ^ 11) old) 3000) (7499999 ∷ 7500000 ∷ []) ≡ false ∷ true ∷ [])
-    × (map (λ prob. is_considered default_profile (control prob 0) 3000) (199_999_999_999 ∷ 200_000_000_000 ∷ []) ≡ false ∷ true ∷ [])
-    × (is_considered default_profile (record { prob = 10 ^ 11; old_delay = 15000000; burst = 1; last = 0 }) 3000 ≡ false)
-unfolding is_considered
-considerations = (refl, refl, refl, refl)
-
--- the accumulated probability after an arrival that isn't considered, one that is queued, one that is
--- picked, and one that is considered at probability 0
-accus : (accu_after usual default_profile (control (10 ^ 11) 15000000) (packet 1024 2048 NotEct 0) 5 ≡ 5)
-    × (accu_after usual default_profile (control (10 ^ 11) 15000000) (packet 1024 3000 NotEct 0) 5 ≡ 100_000_000_005)
-    × (accu_after usual default_profile (control (10 ^ 11) 15000000) (packet 1024 3000 NotEct 0) 750_000_000_000 ≡ 0)
-    × (accu_after usual default_profile (control 0 15000000) (packet 1024 3000 NotEct 0) 5 ≡ 0)
-unfolding is_considered is_picked
-accus = (refl, refl, refl, refl)
 
 -- ---- random picking: by the word alone, whatever was accumulated, and nothing is added
 

@@ -1,13 +1,24 @@
 -- How the accumulated probability changes when one more event joins the list at its end.
 use Rattle.pie_early.proofs.Names.{◌≡◌, ℕ, ◌+◌, ◌*◌, ◌<◌, Bool, true, false, cond, List, [], ◌∷◌, ◌++◌, refl, sym, ap, ◌∙◌, arith, if◌then◌else◌}
-use Rattle.pie_early.proofs.Names.{ne_eqb, Derandomized, Enqueue, EarlyEvent, arrival, accumulated, Shows}
-use Rattle.std.proofs.Common.{zero, suc, ◌-◌, not, length, drop, filter, replicate, zero-add, add-one, append_assoc, add-zero}
-use Rattle.std.specs.Prelude.{sum_by}
+use Rattle.pie_early.proofs.Names.{ne_eqb, Derandomized, Enqueue, EarlyEvent, arrival, accumulated, Shows, ◌≤◌, nat_tests, RawParams, Picking, Random}
+use Rattle.pie_early.proofs.Names.{accumulates, cleared, Parts, Ecn, Choice, Mark, Drop, never_picked, always_picked, is_considered}
+use Rattle.pie_early.proofs.Names.{is_picked}
+use Rattle.pie_early.proofs.Names.{picked_choice, accu_at, choice_at, Elements, name_of, place_of_cause, Offered, fate_of, counted}
+use Rattle.std.proofs.Common.{zero, suc, ◌-◌, not, length, drop, filter, replicate, zero-add, add-one, append_assoc, add-zero, inr, ltb, ◌↔◌}
+use Rattle.std.proofs.Common.{◌&&◌, ◌==◌, ◌||◌, ◌/◌}
+use Rattle.std.specs.Prelude.{sum_by, IsTrue, nat_le, nat_lt}
 use Rattle.std.specs.List.{after_last, suffix_len}
 use Rattle.std.proofs.lemmas.List.{drop-append-le, drop_all, length_push, reverse-append, replicate_more}
 use Rattle.std.proofs.lemmas.List.Elements.{filter-append}
 use Rattle.std.proofs.lemmas.List.Sums.{sum_by-append, suffix_len-le-length}
 use Rattle.pie_early.specs.Events.{is_clearing, joins, prob_of}
+use Rattle.pie_queue.specs.Ecn.{is_capable}
+use Rattle.pie_early.specs.Decision.{is_pick, IsPicked, joined, chosen}
+use Rattle.pie_event.specs.declared.cause.Cause.TheVariants.{NoProbability, PickedBySum, PickedByWord}
+use Rattle.pie_event.specs.declared.cause.Fate.{Fate}
+use Rattle.pie_event.specs.declared.verdict.Verdict.TheVariants.{Enqueued}
+use Rattle.pie_early.specs.Cause.{considered_cause, early_cause}
+use Rattle.std.proofs.Math.Nat.{div-le_of_le-mul}
 
 suffix_len-push : {X : Type 0} (p : X → Bool) (xs : List X) (x : X) → suffix_len p (xs ++ x ∷ []) ≡ cond (p x) (1 + suffix_len p xs) 0
 suffix_len-push p xs x = rw reverse-append refl
@@ -68,13 +79,159 @@ abbrev pub accu_next : ℕ → EarlyEvent → ℕ
 accu_next held event = if is_clearing event then 0 else if joins event then held + prob_of event else held
 
 pub shows-next : (events : List EarlyEvent) (held : ℕ) (event : EarlyEvent) → Shows events held → Shows (events ++ event ∷ []) (accu_next held event)
-shows-next events held event shown = record { accu = by (is_clearing event) refl }
+shows-next events held event shown = by (is_clearing event) refl
   where
     grown : (b : Bool) → (if b then held + prob_of event else held) ≡ accumulated events + cond b (prob_of event) 0
-    grown true = ap (λ n. n + prob_of event) shown.accu
-    grown false = shown.accu ∙ sym (add-zero (accumulated events))
+    grown true = ap (λ n. n + prob_of event) shown
+    grown false = shown ∙ sym (add-zero (accumulated events))
 
     by : (clears : Bool) → is_clearing event ≡ clears
         → (if clears then 0 else if joins event then held + prob_of event else held) ≡ accumulated (events ++ event ∷ [])
     by true is = sym (accumulated-clearing events event is)
     by false is = grown (joins event) ∙ sym (accumulated-push events event is)
+
+-- ---- What the tests of the decision say in facts
+
+picked_facts : (picking : Picking) (params : RawParams) (control : Parts) (prob bytes word accu : ℕ)
+    → (is_considered params control bytes && is_picked picking prob (accu + prob) word) ≡ true
+    → IsPicked picking params control prob bytes word accu
+unfolding is_considered is_picked
+picked_facts Derandomized params control prob bytes word accu e = record {
+  no_burst = grind (arith, nat_tests);
+  above_two_packets = grind (arith, nat_tests);
+  not_calm = grind (arith, nat_tests);
+  some_prob = grind (arith, nat_tests);
+  enough = λ on. grind (arith, nat_tests);
+  by_sum_or_word = grind (arith, nat_tests);
+}
+picked_facts Random params control prob bytes word accu e = record {
+  no_burst = grind (arith, nat_tests);
+  above_two_packets = grind (arith, nat_tests);
+  not_calm = grind (arith, nat_tests);
+  some_prob = grind (arith, nat_tests);
+  enough = λ on. cc;
+  by_sum_or_word = inr (grind (arith, nat_tests));
+}
+
+picked_from : (picking : Picking) (params : RawParams) (control : Parts) (prob bytes word accu : ℕ)
+    → IsPicked picking params control prob bytes word accu
+    → (is_considered params control bytes && is_picked picking prob (accu + prob) word) ≡ true
+unfolding is_considered is_picked
+picked_from Derandomized params control prob bytes word accu p =
+    grind (arith, nat_tests, p.no_burst, p.above_two_packets, p.not_calm, p.some_prob, p.enough refl, p.by_sum_or_word)
+picked_from Random params control prob bytes word accu p =
+    grind (arith, nat_tests, p.no_burst, p.above_two_packets, p.not_calm, p.some_prob, p.by_sum_or_word)
+
+-- a picked packet's choice is a pick, and no other
+pub is_pick-at : (params : RawParams) (prob : ℕ) (ecn : Ecn) (b : Bool) → is_pick (cond b (picked_choice params prob ecn) Enqueue) ≡ b
+is_pick-at params prob ecn b = by b (is_capable ecn && ltb prob params.mark_ecnth)
+  where
+    by : (picked marked : Bool) → is_pick (cond picked (cond marked Mark Drop) Enqueue) ≡ picked
+    by true true = refl
+    by true false = refl
+    by false marked = refl
+
+module _ (picking : Picking) (params : RawParams) (control : Parts) (prob bytes : ℕ) (ecn : Ecn) (word accu : ℕ) where
+  -- a packet is marked or dropped exactly where it is picked
+  pub picked : (choice : Choice) → choice ≡ choice_at picking params control prob bytes ecn word accu
+      → IsTrue (is_pick choice) ↔ IsPicked picking params control prob bytes word accu
+  picked choice e =
+      let same : is_pick choice ≡ (is_considered params control bytes && is_picked picking prob (accu + prob) word)
+      = ap is_pick e ∙ is_pick-at params control.prob ecn (is_considered params control bytes && is_picked picking prob (accu + prob) word) in (
+        λ t. picked_facts picking params control prob bytes word accu (sym same ∙ t),
+        λ p. same ∙ picked_from picking params control prob bytes word accu p,
+      )
+
+-- where probabilities accumulate, the sum grows by that of a considered arrival that isn't picked
+pub grown : (picking : Picking) (params : RawParams) (control : Parts) (prob bytes : ℕ) (ecn : Ecn) (word accu after : ℕ) (choice : Choice)
+    → picking ≡ Derandomized → is_considered params control bytes ≡ true → 0 < prob → choice ≡ Enqueue
+    → choice ≡ choice_at picking params control prob bytes ecn word accu → after ≡ accu_at picking params control prob bytes word accu
+    → after ≡ accu + prob
+grown Derandomized params control prob bytes ecn word accu after choice accumulates considered some queued chosen is = grind (arith, nat_tests)
+grown Random params control prob bytes ecn word accu after choice accumulates considered some queued chosen is = cc
+
+-- ---- What an arrival leaves of the accumulated probability, and what early drop shows after it
+
+-- it stays below 8.5
+pub accu_below : (picking : Picking) (params : RawParams) (control : Parts) (prob bytes word held : ℕ) → held < always_picked
+    → accu_at picking params control prob bytes word held < always_picked
+unfolding is_picked
+accu_below Derandomized params control prob bytes word held h = grind (arith, nat_tests)
+accu_below Random params control prob bytes word held h = grind (arith, nat_tests)
+
+-- it is what the look-back says of the arrival
+arrival-is : (picking : Picking) (params : RawParams) (control : Parts) (prob bytes word held : ℕ) (ecn : Ecn)
+    → accu_at picking params control prob bytes word held
+    ≡ accu_next held (arrival (is_considered params control bytes) prob picking (choice_at picking params control prob bytes ecn word held))
+arrival-is picking params control prob bytes word held ecn =
+    rw (is_pick-at params control.prob ecn (is_considered params control bytes && is_picked picking prob (held + prob) word))
+    (by picking (is_considered params control bytes) (is_picked picking prob (held + prob) word) (prob == 0))
+  where
+    by : (picking : Picking) (considered picked nothing : Bool)
+        → (if not considered then held else if nothing || picked then 0 else joined picking held prob)
+        ≡ (if (considered && picked) || (considered && nothing) then 0 else if considered && accumulates picking then held + prob else held)
+    by Derandomized considered picked nothing = grind (arith, nat_tests)
+    by Random considered picked nothing = grind (arith, nat_tests)
+
+pub shows_arrival : (picking : Picking) (params : RawParams) (control : Parts) (prob bytes word held : ℕ) (events : List EarlyEvent) (ecn : Ecn)
+    → Shows events held
+    → Shows (events ++ arrival (is_considered params control bytes) prob picking (choice_at picking params control prob bytes ecn word held) ∷ [])
+    (accu_at picking params control prob bytes word held)
+shows_arrival picking params control prob bytes word held events ecn shown =
+    arrival-is picking params control prob bytes word held ecn
+    ∙ shows-next events held (arrival (is_considered params control bytes) prob picking (choice_at picking params control prob bytes ecn word held))
+    shown
+
+-- .. and a clear
+pub shows_cleared : (events : List EarlyEvent) (held : ℕ) → held ≡ 0 → Shows (events ++ cleared ∷ []) held
+shows_cleared events held is = is ∙ sym (accumulated-clearing events cleared refl)
+
+-- ---- The cause of a considered arrival is that of its case, and the verdict of a choice that depends on a test
+
+pub chosen-if : (picked : Bool) (choice : Choice) → (if picked then chosen choice else Enqueued) ≡ chosen (if picked then choice else Enqueue)
+chosen-if true choice = refl
+chosen-if false choice = refl
+
+module _ (elements : Elements) (params : RawParams) (parts : Parts) (offered : Offered) (accu : ℕ) where
+  -- the cause where it is considered
+  pub cause-considered : is_considered params parts offered.bytes ≡ true → early_cause elements params parts offered accu
+      ≡ considered_cause elements.picking (counted elements params parts offered) accu (fate_of params parts.prob offered.ecn) offered.word
+  unfolding early_cause is_considered
+  cause-considered e = grind (arith, nat_tests)
+
+-- .. where nothing can pick it
+pub cause-nothing : (picking : Picking) (prob accu : ℕ) (fate : Fate) (word : ℕ) → prob ≡ 0
+    → considered_cause picking prob accu fate word ≡ NoProbability
+unfolding considered_cause
+cause-nothing picking prob accu fate word none = rw none refl
+
+-- .. where it isn't picked: the place of its cause by the sum
+pub place-unpicked : (picking : Picking) (prob accu : ℕ) (fate : Fate) (word : ℕ) → 0 < prob
+    → is_picked picking prob (accu + prob) word ≡ false
+    → place_of_cause (name_of (considered_cause picking prob accu fate word))
+    ≡ (if accumulates picking && nat_lt (accu + prob) never_picked then 7 else 14)
+unfolding considered_cause is_picked
+place-unpicked Derandomized prob accu fate word some unpicked = grind (arith, nat_tests)
+place-unpicked Random prob accu fate word some unpicked = grind (arith, nat_tests)
+
+-- .. where it is picked: by the sum, or by the word
+pub cause-picked : (picking : Picking) (prob accu : ℕ) (fate : Fate) (word : ℕ) → is_picked picking prob (accu + prob) word ≡ true
+    → considered_cause picking prob accu fate word
+    ≡ (if accumulates picking && nat_le always_picked (accu + prob) then PickedBySum accu prob fate else PickedByWord accu prob word fate)
+unfolding considered_cause is_picked
+cause-picked Derandomized prob accu fate word picked = grind (arith, nat_tests)
+cause-picked Random prob accu fate word picked = grind (arith, nat_tests)
+
+-- the place of a picked arrival's cause, by two numbers
+pub place-picked : (by_sum : Bool) (accu prob word : ℕ) (fate : Fate) (first behind : ℕ) → first ≡ (if by_sum then 8 else 11)
+    → (place_of_cause (name_of (PickedBySum accu prob fate)) ≡ 8 + behind)
+    × (place_of_cause (name_of (PickedByWord accu prob word fate)) ≡ 11 + behind)
+    → first + behind ≡ place_of_cause (name_of (if by_sum then PickedBySum accu prob fate else PickedByWord accu prob word fate))
+place-picked true accu prob word fate first behind is places = ap (λ (n : ℕ). n + behind) is ∙ sym places.0
+place-picked false accu prob word fate first behind is places = ap (λ (n : ℕ). n + behind) is ∙ sym places.1
+
+-- ---- What a scaled probability is at most
+
+-- a part of a whole is at most the whole
+pub scaled_below : (prob size whole : ℕ) → size < whole → prob * size / whole ≤ prob
+scaled_below prob size whole less = div-le_of_le-mul whole (grind arith)

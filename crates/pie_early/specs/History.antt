@@ -8,5 +8,5 @@ unfoldable pub accumulated : List EarlyEvent → ℕ
 accumulated events = sum_by prob_of (filter joins (after_last is_clearing events))
 
 -- an early drop that was shown these events holds this accumulated probability
-pub record Shows (events : List EarlyEvent) (held : ℕ) : Type 0 where
-  pub accu : held ≡ accumulated events
+abbrev pub Shows : List EarlyEvent → ℕ → Type 0
+Shows events held = held ≡ accumulated events

@@ -189,7 +189,7 @@ fn counted_as(sizes: Size, params: &RawParams, size: u32, prob: u64) -> u64
 
 /// The same where sizes are scaled.
 #[inline(never)]
-#[tactic(auto, using(std::proofs::lemmas::Bool::Decides::nat_tests, crate::proofs::Scaling::scaled_below))]
+#[tactic(auto, using(std::proofs::lemmas::Bool::Decides::nat_tests, crate::proofs::Laws::scaled_below))]
 fn scaled(params: &RawParams, size: u32, prob: u64) -> u64
     ensures value { result ≡ counted_as Scaled params.now size prob }
     ensures at_most { result ≤ prob }

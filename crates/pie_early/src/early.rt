@@ -55,6 +55,7 @@ impl Model for Early {
 
 impl Early {
     /// Early drop before any arrival, with nothing accumulated.
+    #[tactic(auto, unfolding(crate::specs::History::accumulated))]
     pub fn opened() -> Self
         ensures value { result ≡ 0 }
         ensures shows { Shows [] result }
@@ -116,21 +117,13 @@ impl Early {
     }
 
     /// Sets the accumulated probability to 0, as a tail drop and a reset do (RFC 8033, section 5.4).
+    #[tactic(auto, using(crate::proofs::Laws::shows_cleared))]
     pub fn clear(&mut self)
         ensures value { self.new ≡ 0 }
         ensures shows { (events : List EarlyEvent) →
             Shows events self.old → Shows (events ++ cleared ∷ []) self.new }
     {
         self.accu = 0;
-    }
-
-    /// The accumulated probability in units of `10^-12`.
-    #[inline(always)]
-    pub fn units(&self) -> u64
-        ensures value { result ≡ self.now }
-        ensures bound { result < ALWAYS_PICKED }
-    {
-        self.accu
     }
 
     /// The accumulated probability, below 8.5 (RFC 8033, section 5.4).

@@ -6,7 +6,7 @@ use Rattle.pie_guarantees.proofs.Names.{filter_map-append, sum_by_push, sum_by-c
 use Rattle.pie_guarantees.proofs.Names.{after_call, Held, filter_map-push, with_one, Packet, Waiting, Verdict, Command, Arrive, Depart, SetParams}
 use Rattle.pie_guarantees.proofs.Names.{Answer, Event, Opening, arrival_of, call_of, answer_by, held_after, params_after, bytes_after}
 use Rattle.pie_guarantees.proofs.Names.{effective_moment, waiting_after, count_of, is_dropped_bytes, is_dropped_early, is_dropped_packets, is_marked}
-use Rattle.pie_guarantees.proofs.Names.{is_queued, waiting_next, first-shows, ArrivingPacket, IsLawful, arrival_deed, eqb-false, nat_tests, take}
+use Rattle.pie_guarantees.proofs.Names.{is_queued, waiting_next, first_shows, ArrivingPacket, IsLawful, arrival_deed, eqb-false, nat_tests, take}
 use Rattle.pie_guarantees.proofs.Names.{take-append_seam}
 use Rattle.std.proofs.lemmas.List.{append_cancel_left, length_push}
 use Rattle.std.proofs.lemmas.List.Recursion.{is_sum_by}
@@ -112,7 +112,7 @@ ordered-next opening before event step old =
 
 -- at the opening nothing waits
 none-waits : (opening : Opening) → waiting_after opening [] ≡ []
-none-waits opening = sym (first-shows opening).waiting
+none-waits opening = sym (first_shows opening).waiting
 
 ordered-first : (opening : Opening) → waiting_after opening [] ≡ [] → Ordered opening []
 unfolding packets_departed packets_queued

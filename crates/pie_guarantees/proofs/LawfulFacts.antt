@@ -4,7 +4,7 @@ use Rattle.pie_guarantees.proofs.Names.{AtEachEvent}
 use Rattle.pie_guarantees.proofs.Names.{append-nil, append_assoc, All-head, All-tail, first_bad, deed_of, handed_in, IsTaken, after_call, Held}
 use Rattle.pie_guarantees.proofs.Names.{IsSound, places, place_of, Waiting, Command, Depart, SetParams, Event, Opening, call_of, departure_call}
 use Rattle.pie_guarantees.proofs.Names.{IsLegalAt, has_bad_size, is_too_soon, refusal_by_rule, due_after, held_after, effective_moment, waiting_after}
-use Rattle.pie_guarantees.proofs.Names.{after_command, call_in, waiting_next, at_place, departed-of-legal, held-is, first-shows, first_core}
+use Rattle.pie_guarantees.proofs.Names.{after_command, call_in, waiting_next, at_place, departed-of-legal, held-is, first_shows, first_core}
 use Rattle.pie_guarantees.proofs.Names.{next-core, next-legal, AllAlong, IsLawful, SetsInRange, nat_tests, map, drop, All-cons, All-nil, Place}
 use Rattle.pie_guarantees.proofs.Names.{decision, Answer, answer_by, Sound_call, Sound_opened, cond, is_update, sum_by-cons, updates_in}
 use Rattle.pie_guarantees.proofs.Names.{drop-append_seam, take-append_seam}
@@ -37,7 +37,7 @@ pub record Stands (opening : Opening) (history : List Event) : Type 0 where
 stands-first : (opening : Opening) → Opens.opening_refusal opening.limits opening.moment ≡ None → first_bad opening.params ≡ None → Stands opening []
 stands-first opening good params = record {
   core = first_core opening;
-  shows = first-shows opening;
+  shows = first_shows opening;
   sound = Sound_opened opening.choices.profile opening.choices.elements opening.params opening.moment params
       (let within : opening.moment ≤ Opens.last_moment = grind (arith, good) in omega (arith, within));
 }
@@ -163,7 +163,7 @@ throughout P opening first stays history lawful =
 
 -- what is held at the opening
 pub first-held : (opening : Opening) → (first_core opening).held ≡ held_after opening []
-first-held opening = held-is opening (first_core opening) [] (first-shows opening)
+first-held opening = held-is opening (first_core opening) [] (first_shows opening)
 
 -- the updates of events, the first of which is known
 pub counted-cons : (event : Event) (later : List Event) → updates_in (event ∷ later) ≡ cond (is_update (deed_of event)) 1 0 + updates_in later

@@ -12,18 +12,16 @@ pub use Rattle.std.proofs.lemmas.List.Sums.{sum_by-append, sum_by-cons, sum_by_p
 pub use Rattle.std.proofs.lemmas.Nat.{le-div, mul-le}
 pub use Rattle.std.specs.Int.{int_min}
 pub use Rattle.std.specs.Prelude.{Err, Ok, Result, int_div, negsuc, not, pos, sum_by, ℤ, ⊤, ◌*ℤ◌, ◌+ℤ◌, ◌-ℤ◌, ◌||◌, ◌≤ℤ◌}
-pub use Rattle.pie_aqm.proofs.InRange.{in-range, threshold-holds}
+pub use Rattle.pie_aqm.proofs.Sounds.{in-range, threshold-holds, Sound_call, Sound_opened, next-hold}
 pub use Rattle.pie_aqm.proofs.Places.{filter_map-push, place_of, with_one}
-pub use Rattle.pie_aqm.proofs.Sounds.{Sound_call, Sound_opened, next-hold}
 pub use Rattle.pie_aqm.specs.Calls.{IsTaken, after_call}
 pub use Rattle.pie_aqm.specs.Held.{Held, IsSound}
 unfoldable pub use Rattle.pie_aqm.specs.History.{held_of}
 pub use Rattle.pie_aqm.specs.Places.{Place, places}
 pub use Rattle.pie_aqm.specs.Steps.{anew, bytes_with, choice, chosen, is_calm, judged, now_at, offered}
 unfoldable pub use Rattle.pie_aqm.specs.Steps.{verdict}
-pub use Rattle.pie_book.proofs.CoreFacts.{answer-fits, at_place, departed-of-legal, held-is}
+pub use Rattle.pie_book.proofs.CoreFacts.{answer_fits, at_place, departed-of-legal, first_shows, held-is, next-core, next-legal}
 unfoldable pub use Rattle.pie_book.proofs.Examples.{worked}
-pub use Rattle.pie_book.proofs.LegalFacts.{first-shows, first_core, next-core, next-legal}
 pub use Rattle.pie_book.specs.Decision.{arrival_of, call_of, departure_call}
 pub use Rattle.pie_book.specs.Decision.{IsLegal, IsLegalAt, answer_by, answer_to_departure, decision, has_bad_size, is_too_soon, refusal_by_rule}
 pub use Rattle.pie_book.specs.Decision.{refusal_with}
@@ -38,7 +36,7 @@ pub use Rattle.pie_guarantees.specs.{burst_begins, burst_goes_on, burst_opening,
 pub use Rattle.pie_book.specs.Estimates.{average_after, due_after}
 unfoldable pub use Rattle.pie_book.specs.Estimates.{held_after}
 pub use Rattle.pie_book.specs.Statistics.{is_dropped_early, is_marked, is_queued}
-pub use Rattle.pie_book.specs.Core.{after_command, answer_in, call_in, waiting_next}
+pub use Rattle.pie_book.specs.Core.{after_command, answer_in, call_in, first_core, waiting_next}
 pub use Rattle.pie_book.specs.Types.{ArrivingPacket, DroppedBytes, DroppedPackets, Empty}
 pub use Rattle.pie_book.specs.Types.{Refusal, Reset, Verdict}
 pub use Rattle.pie_control.proofs.Bounds.{bounded_of-below, decay-below, int_div-below}

@@ -1,4 +1,2 @@
 mod Examples
 pub mod Laws
-pub mod Averages
-pub mod Steps

@@ -2,9 +2,7 @@ pub mod Departures
 pub mod Cycles
 pub mod Average
 pub mod Estimate
-pub mod Step
 unfoldable pub use Departures.*
 unfoldable pub use Cycles.*
 unfoldable pub use Average.*
 unfoldable pub use Estimate.*
-unfoldable pub use Step.*

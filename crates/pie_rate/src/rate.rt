@@ -96,12 +96,4 @@ impl Rate {
     {
         self.raw.begun.is_some()
     }
-
-    /// The estimate as plain numbers.
-    #[inline(always)]
-    pub fn raw(&self) -> RawRate
-        ensures { result ≡ self.now }
-    {
-        self.raw
-    }
 }

@@ -1,5 +1,5 @@
 use Rattle.pie_early.proofs.Names.{sym, ◌∙◌}
-use Rattle.pie_early.proofs.Causes.{cause-considered}
+use Rattle.pie_early.proofs.Laws.{cause-considered}
 use Rattle.pie_early.proofs.decision.cause.Goals as goal
 
 pub returns-clause-cause : goal.returns-clause-cause

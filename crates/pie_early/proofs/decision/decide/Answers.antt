@@ -1,6 +1,6 @@
 use Rattle.pie_early.proofs.Names.{◌∙◌, ap, arith, sym, name_of, place_of_cause, fate_of}
 use Rattle.pie_event.specs.declared.cause.Cause.{Cause}
-use Rattle.pie_early.proofs.Causes.{cause-considered, cause-nothing, cause-picked, place-picked, place-unpicked}
+use Rattle.pie_early.proofs.Laws.{cause-considered, cause-nothing, cause-picked, place-picked, place-unpicked}
 use Rattle.pie_early.proofs.decision.decide.Goals as goal
 
 pub returns-then-prob-eq0-clause-place : goal.returns-then-prob-eq0-clause-place

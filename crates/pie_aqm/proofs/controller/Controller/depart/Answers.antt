@@ -1,8 +1,7 @@
 use Rattle.std.proofs.Common.{◌≡◌, arith}
 use Rattle.pie_aqm.specs.{Depart, after_call}
-use Rattle.pie_aqm.proofs.InRange.{threshold-holds}
+use Rattle.pie_aqm.proofs.Sounds.{threshold-holds, Sound_call, stays_sound}
 use Rattle.pie_aqm.proofs.Laws.{Shows_call, moved, uncapped}
-use Rattle.pie_aqm.proofs.Sounds.{Sound_call, stays_sound}
 use Rattle.pie_aqm.proofs.controller.Controller.depart.Goals as goal
 
 pub invariant_of-self : goal.invariant_of-self

@@ -1,5 +1,5 @@
 use Rattle.std.proofs.Common.{rules}
-use Rattle.pie_aqm.proofs.InRange.{in-range}
+use Rattle.pie_aqm.proofs.Sounds.{in-range}
 use Rattle.pie_aqm.proofs.raw.RawController.update.Goals as goal
 
 pub update-is_calm-requires-clause-params : goal.update-is_calm-requires-clause-params

@@ -1,6 +1,6 @@
-use Rattle.pie_book.proofs.Names.{◌≡◌, refl, bytes_of, now_at}
-use Rattle.std.proofs.Common.{rules}
-use Rattle.pie_aqm.specs.Steps.{delay_answered}
+use Rattle.std.proofs.Common.{◌≡◌, refl, rules}
+use Rattle.pie_book.specs.{bytes_of}
+use Rattle.pie_aqm.specs.Steps.{now_at, delay_answered}
 use Rattle.pie_book.specs.Statistics.{age_of_oldest}
 use Rattle.pie_book.proofs.deciding_core.Core.arrive.Goals as goal
 

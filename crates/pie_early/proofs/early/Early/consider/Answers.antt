@@ -1,8 +1,7 @@
 -- The decision by the registers' numbers is that by the registers.
 use Rattle.pie_early.proofs.Names.{◌≡◌, accu_after, choice_of, counted}
 use Rattle.pie_early.specs.declared.decision.Decision.{Decision}
-use Rattle.pie_early.proofs.Arrivals.{accu_below, shows_arrival}
-use Rattle.pie_early.proofs.Picking.{grown, picked}
+use Rattle.pie_early.proofs.Laws.{accu_below, shows_arrival, grown, picked}
 use Rattle.pie_early.proofs.early.Early.consider.Goals as goal
 
 pub invariant_of-self : goal.invariant_of-self

@@ -1,6 +1,6 @@
 use Rattle.std.proofs.Common.{◌≡◌, ap, ◌∙◌}
 use Rattle.pie_rate.specs.Average.{average}
-use Rattle.pie_rate.proofs.Averages.{average_zero}
+use Rattle.pie_rate.proofs.Laws.{average_zero}
 use Rattle.pie_rate.proofs.rate.Rate.average.Goals as goal
 
 pub returns-clause-zero : goal.returns-clause-zero

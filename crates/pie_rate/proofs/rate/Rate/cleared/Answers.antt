@@ -1,4 +1,4 @@
-use Rattle.pie_rate.proofs.Steps.{nothing_shown}
+use Rattle.pie_rate.proofs.Laws.{nothing_shown}
 use Rattle.pie_rate.proofs.rate.Rate.cleared.Goals as goal
 
 pub returns-clause-shows : goal.returns-clause-shows

@@ -1,7 +1,7 @@
 use Rattle.std.proofs.Common.{rules, sym, subst, ◌<◌, ◌^◌}
 use Rattle.pie_rate.specs.Departures.{departure}
 use Rattle.pie_rate.specs.Estimate.{Estimate, IsWithin}
-use Rattle.pie_rate.proofs.Steps.{shows_after, within_after}
+use Rattle.pie_rate.proofs.Laws.{shows_after, within_after}
 use Rattle.pie_rate.proofs.rate.Rate.departed.Goals as goal
 
 pub invariant_of-self : goal.invariant_of-self

@@ -1,8 +1,16 @@
 -- What worked histories compute with, and events whose answer the command cannot have, which no run makes. Worked histories are rows of tests/rows,
 -- which tests/shared/reference.py reckons by looking back.
-use Rattle.std.specs.Prelude.{⊤, ℕ, ◌≡◌, List, [], ◌∷◌, true, false, map}
+use Rattle.std.specs.Prelude.{⊤, ℕ, ◌≡◌, List, [], ◌∷◌, true, false, map, Ok, Err}
 use Rattle.std.proofs.Common.{refl}
 use Rattle.pie_params.specs.Profile.{default_profile}
+use Rattle.pie_params.specs.Elements.{usual}
+use Rattle.pie_event.specs.declared.profile.Profile.TheVariants.{One}
+use Rattle.pie_event.specs.declared.opening.Mode.{Mode}
+use Rattle.pie_event.specs.declared.opening.Mode.TheVariants.{Bounded, Rolling}
+use Rattle.pie_event.specs.declared.opening.Opening.{Opening}
+use Rattle.pie_event.specs.declared.refusal.Refusal.TheVariants.{HistoryFull, Size, Exhausted}
+use Rattle.pie_book.specs.Decision.{IsLegalAt, decision, refusal_by_rule}
+use Rattle.pie_book.specs.Run.{Step, asked, folded, without_folds, answers, before_full}
 use Rattle.pie_book.specs.{Packet, Arrive, Depart, Update, Reset, SetParams, Answer, Enqueued, Marked}
 use Rattle.pie_book.specs.{DroppedEarly, DroppedBytes, DroppedPackets, Empty, Left, Updated, Done}
 use Rattle.pie_book.specs.{registers_after, answers_from, progress_after, largest_queue, largest_delay, stats_after, waited, held_after}
@@ -51,3 +59,41 @@ fitting : (map (fits (Arrive 1 (packet 7 60) 0)) all_answers ≡ true ∷ true �
     × (map (fits (SetParams 1 default_profile)) all_answers ≡ false ∷ false ∷ false ∷ false ∷ false ∷ false ∷ false ∷ false ∷ true ∷ [])
 unfolding all_answers
 fitting = (refl, refl, refl, refl, refl)
+
+-- ---- what laws alone speak of: runs of steps, and events that are not legal
+
+abbrev opened : Mode → Opening
+opened mode = record {
+  moment = 0;
+  limits = record { packets = 4; tail = 2; events = 100 };
+  params = default_profile;
+  choices = record { mode = mode; profile = One; elements = usual };
+}
+
+abbrev arrives : ℕ → Step
+arrives tag = asked 1 (Arrive tag (packet tag 100) 0)
+
+unfolded : without_folds (arrives 1 ∷ folded 1 ∷ asked 1 (Depart 2) ∷ folded 0 ∷ [])
+    ≡ record { caller = 1; command = Arrive 1 (packet 1 100) 0 } ∷ record { caller = 1; command = Depart 2 } ∷ []
+unfolding without_folds
+unfolded = refl
+
+-- a fold in time makes room in a bounded book; a rolling one needs none
+fold_in_time : (answers (opened Bounded) (arrives 1 ∷ arrives 2 ∷ arrives 3 ∷ []) ≡ Ok Enqueued ∷ Ok Enqueued ∷ Err HistoryFull ∷ [])
+    × (answers (opened Bounded) (arrives 1 ∷ folded 1 ∷ arrives 2 ∷ arrives 3 ∷ []) ≡ Ok Enqueued ∷ Ok Enqueued ∷ Ok Enqueued ∷ [])
+    × (answers (opened Rolling) (arrives 1 ∷ arrives 2 ∷ arrives 3 ∷ []) ≡ Ok Enqueued ∷ Ok Enqueued ∷ Ok Enqueued ∷ [])
+unfolding worked
+fold_in_time = (refl, refl, refl)
+
+-- two answers stand before the first that says that the tail is full; with none that does, all of them do
+counted_before_full : (before_full (Ok Enqueued ∷ Ok Enqueued ∷ Err HistoryFull ∷ Ok Empty ∷ []) ≡ 2)
+    × (before_full (Err Size ∷ Err Exhausted ∷ Ok Done ∷ []) ≡ 3)
+counted_before_full = (refl, refl)
+
+-- the first packet cannot have been marked
+wrong_mark : IsLegalAt (opened Bounded) (record {
+  before = [];
+  event = record { caller = 1; command = Arrive 1 (packet 1 100) 0; answer = Marked };
+}) → ⊥
+unfolding worked
+wrong_mark legal = let answered : Marked ≡ Enqueued = legal.answered in cc

@@ -22,9 +22,9 @@ pub use Rattle.pie_event.specs.declared.resume_refusal.EndRefusal.{EndRefusal}
 pub use Rattle.pie_event.specs.declared.resume_refusal.QueueRefusal.{QueueRefusal}
 pub use Rattle.pie_event.specs.declared.resume_refusal.ResumeRefusal.{ResumeRefusal}
 pub use Rattle.pie_event.specs.declared.stats.Stats.{Stats}
-pub use Rattle.pie_excerpt.specs.declared.reading.Later.{Later}
 pub use Rattle.pie_excerpt.specs.declared.resume.Resume.{Resume}
 pub use Rattle.pie_params.specs.Range.{first_bad}
+pub use Rattle.pie_params.specs.declared.raw.RawParams.{RawParams}
 pub use Rattle.pie_queue.specs.declared.packet.Packet.{Packet}
 pub use Rattle.pie_queue.specs.declared.packet.Waiting.{Waiting}
 pub use Rattle.pie_rate.specs.declared.raw.RawCycle.{RawCycle}
@@ -32,11 +32,10 @@ pub use Rattle.pie_rate.specs.declared.raw.RawRate.{RawRate}
 pub use Rattle.pie_record.specs.Answer.{counted, flag}
 pub use Rattle.pie_record.specs.Fault.{IsOfInput, IsWrite, fault_at, is_device}
 pub use Rattle.pie_record.specs.Field.{and_then, is_kind, most_u128, most_u64, number_at}
-unfoldable pub use Rattle.pie_record.specs.Field.{packet_at, params_at}
-pub use Rattle.pie_record.specs.FirstRecord.{first_fields}
-unfoldable pub use Rattle.pie_record.specs.Field.{number}
+unfoldable pub use Rattle.pie_record.specs.Field.{number, numbers_at, packet_at, params_at}
 pub use Rattle.pie_record.specs.FirstRecord.{checked_opening}
-pub use Rattle.pie_record.specs.ReadBack.{LimitsFit, NineFit}
+unfoldable pub use Rattle.pie_record.specs.FirstRecord.{chosen_at}
+pub use Rattle.pie_record.specs.ReadBack.{AllSmall, LimitsFit, NineFit}
 pub use Rattle.pie_record.specs.Text.{IsPlainWord, rows_setup}
 pub use Rattle.pie_record.specs.Text.{HasField, Row, records_of, text_of}
 unfoldable pub use Rattle.pie_record.specs.Text.{rows_text}

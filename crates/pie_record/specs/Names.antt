@@ -2,11 +2,11 @@
 pub use Rattle.std.specs.Fmt.{decimal}
 unfoldable pub use Rattle.std.specs.Fmt.{digits}
 pub use Rattle.std.specs.Io.KnownBytes.{Appends, append_known}
-pub use Rattle.std.specs.List.{cons_option, filter_map, flat_map, last_or}
+pub use Rattle.std.specs.List.{cons_option, filter_map, find, flat_map, last_or}
 pub use Rattle.std.specs.Option.{ok_or, option_and_then, option_or}
 pub use Rattle.std.specs.Prelude.{All, Bool, Err, IfErr, IfOk, IfSome, List, None, Ok, OnOk, Option, Result, Some, Vec, [], codes, cond, count_by}
-pub use Rattle.std.specs.Prelude.{drop, false, if◌then◌else◌, length, map, min, nat_le, nat_lt, not, option_map, refl, suc, true, zero, ℕ, ⊤, ◌&&◌}
-pub use Rattle.std.specs.Prelude.{◌++◌, ◌+◌, ◌-◌, ◌<◌, ◌==◌, ◌^◌, ◌||◌, ◌∷◌, ◌≡◌, ◌≤◌, ◌⊎◌}
+pub use Rattle.std.specs.Prelude.{drop, false, get_or, if◌then◌else◌, length, map, min, nat_le, nat_lt, not, option_map, refl, suc, true, zero, ℕ, ⊤}
+pub use Rattle.std.specs.Prelude.{◌&&◌, ◌++◌, ◌+◌, ◌-◌, ◌<◌, ◌==◌, ◌^◌, ◌||◌, ◌∷◌, ◌≡◌, ◌≤◌, ◌⊎◌}
 pub use Rattle.std.specs.Str.{all_ascii_digits, bytes_eq}
 pub use Rattle.std.specs.Str.Parse.{digits_value, digits_value_after}
 pub use Rattle.csv.specs.Machine.{Read, ends_at_end, field_after, fields_after, is_end, step}

@@ -1,6 +1,6 @@
 -- What the files of this folder take from below, in one place.
-pub use Rattle.std.proofs.Common.{Bool, List, [], add-one, ap, append_assoc, arith, drop, false, if◌then◌else◌, length, map, refl, subst, suc}
-pub use Rattle.std.proofs.Common.{sym, take, true, zero, ℕ, ◌++◌, ◌+◌, ◌-◌, ◌<◌, ◌==◌, ◌^◌, ◌∙◌, ◌∷◌, ◌≡◌, ◌≤◌}
+pub use Rattle.std.proofs.Common.{Bool, List, [], add-one, ap, append_assoc, arith, drop, false, if◌then◌else◌, length, map, refl, subst, suc, sym}
+pub use Rattle.std.proofs.Common.{take, true, zero, ℕ, ◌++◌, ◌+◌, ◌-◌, ◌<◌, ◌==◌, ◌^◌, ◌∙◌, ◌∷◌, ◌≡◌, ◌≤◌}
 pub use Rattle.std.proofs.KnownBytes.{Appends-nil, Appends-trans, Keeps-refl, append_known-grown}
 pub use Rattle.std.proofs.lemmas.Bool.{eqb-true}
 pub use Rattle.std.proofs.lemmas.Bool.Decides.{nat_tests}
@@ -8,15 +8,14 @@ pub use Rattle.std.proofs.lemmas.List.{append-nil}
 pub use Rattle.std.proofs.lemmas.List.Concat.{flat_map-append}
 pub use Rattle.std.proofs.lemmas.List.Elements.{All-cons, All-head, All-tail}
 pub use Rattle.std.specs.Prelude.{decimal, unwrap_or, ◌&&◌, ◌||◌}
-pub use Rattle.pie_excerpt.specs.{All, Appends, BeginsWell, CoreView, Draft, EndRefusal, Err, Event, ExcerptView, Flaw}
-pub use Rattle.pie_excerpt.specs.{HasField, IfSome, IsWritten, None, Ok, Opening, Option, Packet, QueueRefusal, RawCycle, Result}
-pub use Rattle.pie_excerpt.specs.{Resume, ResumeFits, ResumeRefusal, ResumingView, Row, SetterFits, Some, Standing, TraceFault, Waiting}
-pub use Rattle.pie_excerpt.specs.{WaitingFits, and_then, append_known, are_plain, are_registers, begun_at, begun_by, begun_with, checked_opening}
-pub use Rattle.pie_excerpt.specs.{choices_of, chosen_row, codes, core_by, core_of, cycle_bytes, cycle_start, draft_of, ecn_word, end_refusal}
-pub use Rattle.pie_excerpt.specs.{ended_by, event_row, excerpt_rows, fields_of, fields_read, first_bad, flag, held_numbers, is_device}
-pub use Rattle.pie_excerpt.specs.{is_kind, is_resumed, measuring, missing, most_u128, most_u64, nat_le, needs_quotes, number_at, numbers_fault, onto}
-pub use Rattle.pie_excerpt.specs.{opened_numbers, opening_row, part_rows, placed_numbers, queue_refusal, queued_after, queued_by}
-pub use Rattle.pie_excerpt.specs.{records_of, resume_of_excerpt, resume_refusal, resume_with, resumed_by, rows_setup, setter_at}
+pub use Rattle.pie_excerpt.specs.{All, Appends, BeginsWell, CoreView, Draft, EndRefusal, Err, Event, ExcerptView, Flaw, HasField, IfSome, IsWritten}
+pub use Rattle.pie_excerpt.specs.{None, Ok, Opening, Option, Packet, QueueRefusal, RawCycle, Result, Resume, ResumeFits, ResumeRefusal, ResumingView}
+pub use Rattle.pie_excerpt.specs.{Row, SetterFits, Some, Standing, TraceFault, Waiting, WaitingFits, and_then, append_known, are_plain, are_registers}
+pub use Rattle.pie_excerpt.specs.{begun_at, begun_by, begun_with, checked_opening, choices_of, chosen_row, codes, core_by, core_of, cycle_bytes}
+pub use Rattle.pie_excerpt.specs.{cycle_start, draft_of, ecn_word, end_refusal, ended_by, event_row, excerpt_rows, fields_of, fields_read, first_bad}
+pub use Rattle.pie_excerpt.specs.{flag, held_numbers, is_device, is_kind, is_resumed, measuring, missing, most_u128, most_u64, nat_le, needs_quotes}
+pub use Rattle.pie_excerpt.specs.{number_at, numbers_fault, onto, opened_numbers, opening_row, part_rows, placed_numbers, queue_refusal, queued_after}
+pub use Rattle.pie_excerpt.specs.{queued_by, records_of, resume_of_excerpt, resume_refusal, resume_with, resumed_by, rows_setup, setter_at}
 pub use Rattle.pie_excerpt.specs.{setter_field, setter_of, standing_row, text_of, with_packet}
 pub use Rattle.pie_excerpt.specs.Beginning.{Beginning}
 unfoldable pub use Rattle.pie_excerpt.specs.{chosen_at, core_from, field_at, later_at, number, numbers_at, packet_at, params_at, queued_of}
@@ -34,8 +33,7 @@ pub use Rattle.pie_record.proofs.OpeningBack.{numbers_row}
 unfoldable pub use Rattle.pie_record.specs.FirstRecord.{draft_at, limits_at, which_of}
 pub use Rattle.pie_record.specs.Write.{nine_of}
 pub use Rattle.pie_record.specs.FirstRecord.{Checked}
-pub use Rattle.pie_record.specs.Text.{TakesRow, Took}
-pub use Rattle.pie_record.specs.Text.{records_left}
+pub use Rattle.pie_record.specs.Text.{TakesRow, Took, records_left}
 pub use Rattle.pie_record.specs.declared.first_record.FirstKind.{FirstKind}
 pub use Rattle.pie_text.proofs.Laws.{All-none, decimal_plain, decimal_plain_long, plain_append, row-added, text-none, text-onto, text-plain}
 pub use Rattle.pie_text.specs.Plain.{ending}

@@ -27,13 +27,10 @@ pub use Rattle.pie_event.specs.declared.opening.Limits.{Limits}
 pub use Rattle.pie_params.specs.declared.elements.Decay.{Decay}
 pub use Rattle.pie_params.specs.declared.elements.Decay.TheVariants.{Half, Zero}
 pub use Rattle.pie_record.proofs.Laws.{and_after, back_ecn, back_u32, back_u64, decimal-some, has-all, kind-first, number-back, number-then, ok-same}
-pub use Rattle.pie_record.proofs.Laws.{chosen-read, long-draft, numbers-back, packet-read, params-back, records_left-written, rows_text-cons, tested}
-pub use Rattle.pie_record.proofs.Laws.{word-has}
-pub use Rattle.pie_record.proofs.OpeningBack.{numbers_row}
+pub use Rattle.pie_record.proofs.Laws.{chosen-read, long-draft, numbers-back, packet-read, params-back, records_of-first, tested, word-has}
 unfoldable pub use Rattle.pie_record.specs.FirstRecord.{draft_at, limits_at, which_of}
-pub use Rattle.pie_record.specs.Write.{nine_of}
 pub use Rattle.pie_record.specs.FirstRecord.{Checked}
-pub use Rattle.pie_record.specs.Text.{TakesRow, Took, records_left}
+pub use Rattle.pie_record.specs.Text.{Took}
 pub use Rattle.pie_record.specs.declared.first_record.FirstKind.{FirstKind}
 pub use Rattle.pie_text.proofs.Laws.{All-none, decimal_plain, decimal_plain_long, plain_append, row-added, text-none, text-onto, text-plain}
 pub use Rattle.pie_text.specs.Plain.{ending}

@@ -1,4 +1,3 @@
 mod Names
 pub mod RowFacts
-mod Examples
 pub mod BackFacts

@@ -1,47 +1,36 @@
 -- What the files of this folder take from below, in one place.
-pub use Rattle.std.proofs.Common.{Bool, List, [], add-one, ap, append_assoc, arith, drop, false, if◌then◌else◌, length, map, not, refl, subst, suc}
-pub use Rattle.std.proofs.Common.{sym, take, true, zero, ℕ, ◌++◌, ◌+◌, ◌-◌, ◌<◌, ◌==◌, ◌^◌, ◌∙◌, ◌∷◌, ◌≡◌, ◌≤◌}
+pub use Rattle.std.proofs.Common.{Bool, List, [], add-one, ap, append_assoc, arith, drop, false, if◌then◌else◌, length, map, refl, subst, suc, sym}
+pub use Rattle.std.proofs.Common.{take, true, zero, ℕ, ◌++◌, ◌+◌, ◌-◌, ◌<◌, ◌==◌, ◌^◌, ◌∙◌, ◌∷◌, ◌≡◌, ◌≤◌}
 pub use Rattle.std.proofs.KnownBytes.{Appends-nil, Appends-trans, Keeps-refl, append_known-grown}
 pub use Rattle.std.proofs.lemmas.Bool.{eqb-true}
 pub use Rattle.std.proofs.lemmas.Bool.Decides.{nat_tests}
 pub use Rattle.std.proofs.lemmas.List.{append-nil}
 pub use Rattle.std.proofs.lemmas.List.Concat.{flat_map-append}
 pub use Rattle.std.proofs.lemmas.List.Elements.{All-cons, All-head, All-tail}
-unfoldable pub use Rattle.std.specs.Fmt.{digits}
-pub use Rattle.std.specs.Prelude.{decimal, nat_lt, unwrap_or, ◌&&◌, ◌||◌}
-pub use Rattle.pie_excerpt.specs.{All, Appends, BeginsWell, ControllerFits, CoreView, CycleFits, Draft, EndRefusal, Err, Event, ExcerptView, Flaw}
-pub use Rattle.pie_excerpt.specs.{HasField, IfSome, IsWritten, Later, None, Ok, Opening, Option, Packet, QueueAt, QueueRefusal, RawCycle, Result}
-pub use Rattle.pie_excerpt.specs.{Resume, ResumeFits, ResumeRefusal, ResumingView, Row, SetterFits, Some, Standing, StatsFit, TraceFault, Waiting}
-pub use Rattle.pie_excerpt.specs.{WaitingFits, and_then, append_known, are_plain, are_registers, begun_at, begun_by, begun_with, checked_opening}
-pub use Rattle.pie_excerpt.specs.{choices_of, chosen_row, codes, core_by, core_of, cycle_bytes, cycle_start, draft_of, ecn_word, end_refusal}
-pub use Rattle.pie_excerpt.specs.{ended_by, event_row, excerpt_rows, fields_of, fields_read, first_bad, first_fields, flag, held_numbers, is_device}
-pub use Rattle.pie_excerpt.specs.{is_kind, is_resumed, measuring, missing, most_u128, most_u64, nat_le, needs_quotes, number_at, numbers_fault, onto}
-pub use Rattle.pie_excerpt.specs.{opened_numbers, opening_row, or_fault, part_rows, placed_numbers, queue_refusal, queued_after, queued_by}
-pub use Rattle.pie_excerpt.specs.{records_of, resume_in, resume_of_excerpt, resume_refusal, resume_with, resumed_by, rows_setup, setter_at}
-pub use Rattle.pie_excerpt.specs.{setter_field, setter_of, standing_row, text_of, with_packet, ⊤}
+pub use Rattle.std.specs.Prelude.{decimal, unwrap_or, ◌&&◌, ◌||◌}
+pub use Rattle.pie_excerpt.specs.{All, Appends, BeginsWell, CoreView, Draft, EndRefusal, Err, Event, ExcerptView, Flaw, HasField, IfSome, IsWritten}
+pub use Rattle.pie_excerpt.specs.{None, Ok, Opening, Option, Packet, QueueRefusal, RawCycle, Result, Resume, ResumeFits, ResumeRefusal, ResumingView}
+pub use Rattle.pie_excerpt.specs.{Row, SetterFits, Some, Standing, TraceFault, Waiting, WaitingFits, and_then, append_known, are_plain, are_registers}
+pub use Rattle.pie_excerpt.specs.{begun_at, begun_by, begun_with, checked_opening, choices_of, chosen_row, codes, core_by, core_of, cycle_bytes}
+pub use Rattle.pie_excerpt.specs.{cycle_start, draft_of, ecn_word, end_refusal, ended_by, event_row, excerpt_rows, fields_of, fields_read, first_bad}
+pub use Rattle.pie_excerpt.specs.{flag, held_numbers, is_device, is_kind, is_resumed, measuring, missing, most_u128, most_u64, nat_le, needs_quotes}
+pub use Rattle.pie_excerpt.specs.{number_at, numbers_fault, onto, opened_numbers, opening_row, part_rows, placed_numbers, queue_refusal, queued_after}
+pub use Rattle.pie_excerpt.specs.{queued_by, records_of, resume_of_excerpt, resume_refusal, resume_with, resumed_by, rows_setup, setter_at}
+pub use Rattle.pie_excerpt.specs.{setter_field, setter_of, standing_row, text_of, with_packet}
 pub use Rattle.pie_excerpt.specs.Beginning.{Beginning}
-unfoldable pub use Rattle.pie_excerpt.specs.{core_from, field_at, later_at, number, numbers_from, packet_at, params_at, queued_of, queued_row}
-unfoldable pub use Rattle.pie_excerpt.specs.{resume_of, resume_row, resumed_of, rows_text, waiting_after, with_queue}
+unfoldable pub use Rattle.pie_excerpt.specs.{chosen_at, core_from, field_at, later_at, number, numbers_at, packet_at, params_at, queued_of}
+unfoldable pub use Rattle.pie_excerpt.specs.{queued_row, resume_of, resume_row, resumed_of, rows_text, waiting_after, with_queue}
 unfoldable pub use Rattle.csv.specs.Reading.{strip_bom}
-unfoldable pub use Rattle.csv.specs.Writing.{fields_text, is_blank}
 pub use Rattle.pie_aqm.specs.Held.{Held}
 unfoldable pub use Rattle.pie_aqm.specs.History.{Shows, held_of}
-pub use Rattle.pie_event.specs.Opening.{are_in_range}
 pub use Rattle.pie_event.specs.declared.opening.Limits.{Limits}
-pub use Rattle.pie_event.specs.declared.opening.Mode.TheVariants.{Rolling}
-pub use Rattle.pie_event.specs.declared.profile.Profile.TheVariants.{Two}
 pub use Rattle.pie_params.specs.declared.elements.Decay.{Decay}
 pub use Rattle.pie_params.specs.declared.elements.Decay.TheVariants.{Half, Zero}
-pub use Rattle.pie_params.specs.declared.elements.Delay.TheVariants.{Stamp}
-pub use Rattle.pie_params.specs.declared.elements.Picking.TheVariants.{Random}
-pub use Rattle.pie_params.specs.declared.elements.Size.TheVariants.{Scaled}
-pub use Rattle.pie_params.specs.declared.elements.Step.TheVariants.{Uncapped}
-pub use Rattle.pie_queue.specs.declared.ecn.Ecn.TheVariants.{Ect0}
 pub use Rattle.pie_record.proofs.Laws.{and_after, back_ecn, back_u32, back_u64, decimal-some, has-all, kind-first, number-back, number-then, ok-same}
-pub use Rattle.pie_record.proofs.Laws.{packet-read, params-back, records_left-written, rows_text-cons, tested, three-back, word-has}
+pub use Rattle.pie_record.proofs.Laws.{chosen-read, long-draft, numbers-back, packet-read, params-back, records_of-first, tested, word-has}
+unfoldable pub use Rattle.pie_record.specs.FirstRecord.{draft_at, limits_at, which_of}
 pub use Rattle.pie_record.specs.FirstRecord.{Checked}
-pub use Rattle.pie_record.specs.Text.{TakesRow, Took}
-pub use Rattle.pie_record.specs.Text.{records_left}
+pub use Rattle.pie_record.specs.Text.{Took}
 pub use Rattle.pie_record.specs.declared.first_record.FirstKind.{FirstKind}
 pub use Rattle.pie_text.proofs.Laws.{All-none, decimal_plain, decimal_plain_long, plain_append, row-added, text-none, text-onto, text-plain}
 pub use Rattle.pie_text.specs.Plain.{ending}

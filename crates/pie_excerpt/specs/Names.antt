@@ -7,7 +7,6 @@ pub use Rattle.std.specs.Prelude.{map, nat_le, option_map, suc, take, true, zero
 pub use Rattle.csv.specs.Records.{fields_of}
 unfoldable pub use Rattle.csv.specs.Records.{field_at}
 pub use Rattle.csv.specs.Writing.{needs_quotes}
-pub use Rattle.pie_aqm.specs.declared.raw.RawController.{RawController}
 pub use Rattle.pie_book.specs.Core.{CoreView, Shows}
 pub use Rattle.pie_book.specs.Excerpt.{ExcerptView}
 unfoldable pub use Rattle.pie_book.specs.History.{waiting_after}
@@ -15,34 +14,23 @@ pub use Rattle.pie_book.specs.Standing.{ResumingView, StandsFor, begun_with, cor
 pub use Rattle.pie_book.specs.declared.standing.Standing.{Standing}
 pub use Rattle.pie_event.specs.Opening.{opening_refusal}
 pub use Rattle.pie_event.specs.Ranges.{CommandFits, StatsFit}
-pub use Rattle.pie_event.specs.declared.command.Event.{Event}
-pub use Rattle.pie_event.specs.declared.opening.Choices.{Choices}
-pub use Rattle.pie_event.specs.declared.opening.Opening.{Opening}
-pub use Rattle.pie_event.specs.declared.resume_refusal.EndRefusal.{EndRefusal}
-pub use Rattle.pie_event.specs.declared.resume_refusal.QueueRefusal.{QueueRefusal}
-pub use Rattle.pie_event.specs.declared.resume_refusal.ResumeRefusal.{ResumeRefusal}
-pub use Rattle.pie_event.specs.declared.stats.Stats.{Stats}
-pub use Rattle.pie_excerpt.specs.declared.reading.Later.{Later}
+pub use Rattle.pie_event.specs.declared.{command.Event.Event, opening.Choices.Choices, opening.Opening.Opening, resume_refusal.EndRefusal.EndRefusal}
+pub use Rattle.pie_event.specs.declared.{resume_refusal.QueueRefusal.QueueRefusal, resume_refusal.ResumeRefusal.ResumeRefusal, stats.Stats.Stats}
 pub use Rattle.pie_excerpt.specs.declared.resume.Resume.{Resume}
 pub use Rattle.pie_params.specs.Range.{first_bad}
-pub use Rattle.pie_queue.specs.declared.packet.Packet.{Packet}
-pub use Rattle.pie_queue.specs.declared.packet.Waiting.{Waiting}
-pub use Rattle.pie_rate.specs.declared.raw.RawCycle.{RawCycle}
-pub use Rattle.pie_rate.specs.declared.raw.RawRate.{RawRate}
+pub use Rattle.pie_params.specs.declared.raw.RawParams.{RawParams}
+pub use Rattle.pie_queue.specs.declared.{packet.Packet.Packet, packet.Waiting.Waiting}
+pub use Rattle.pie_rate.specs.declared.{raw.RawCycle.RawCycle, raw.RawRate.RawRate}
 pub use Rattle.pie_record.specs.Answer.{counted, flag}
 pub use Rattle.pie_record.specs.Fault.{IsOfInput, IsWrite, fault_at, is_device}
 pub use Rattle.pie_record.specs.Field.{and_then, is_kind, most_u128, most_u64, number_at}
-unfoldable pub use Rattle.pie_record.specs.Field.{packet_at, params_at}
-pub use Rattle.pie_record.specs.FirstRecord.{first_fields}
-unfoldable pub use Rattle.pie_record.specs.Field.{number}
+unfoldable pub use Rattle.pie_record.specs.Field.{number, numbers_at, packet_at, params_at}
 pub use Rattle.pie_record.specs.FirstRecord.{checked_opening}
-pub use Rattle.pie_record.specs.ReadBack.{LimitsFit, NineFit}
-pub use Rattle.pie_record.specs.Text.{IsPlainWord, rows_setup}
-pub use Rattle.pie_record.specs.Text.{HasField, Row, records_of, text_of}
+unfoldable pub use Rattle.pie_record.specs.FirstRecord.{chosen_at}
+pub use Rattle.pie_record.specs.ReadBack.{AllSmall, LimitsFit, NineFit}
+pub use Rattle.pie_record.specs.Text.{rows_setup, HasField, Row, records_of, text_of}
 unfoldable pub use Rattle.pie_record.specs.Text.{rows_text}
 pub use Rattle.pie_record.specs.Words.{ecn_word, mode_word}
 pub use Rattle.pie_record.specs.Write.{chosen_row, decay_row, event_row, nine_of}
-pub use Rattle.pie_record.specs.declared.fault.Flaw.{Flaw}
-pub use Rattle.pie_record.specs.declared.fault.TraceFault.{TraceFault}
-pub use Rattle.pie_record.specs.declared.first_record.Draft.{Draft}
+pub use Rattle.pie_record.specs.declared.{fault.Flaw.Flaw, fault.TraceFault.TraceFault, first_record.Draft.Draft}
 pub use Rattle.pie_text.specs.Plain.{are_plain, onto}

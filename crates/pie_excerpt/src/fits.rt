@@ -1,7 +1,8 @@
 //! The numbers that are written are those that the types of their fields hold. These functions do nothing: their contracts say it of values in
 //! hand.
-ghost use Rattle.std.specs.Prelude.{◌≡◌, ◌<◌};
-ghost use Rattle.pie_excerpt.specs.{None, first_bad, StatsFit, NineFit, CycleFits, ResumeFits, SetterFits, WaitingFits};
+ghost use Rattle.std.specs.Prelude.{◌≡◌, ◌<◌, ◌∷◌, []};
+ghost use Rattle.pie_excerpt.specs.{None, first_bad, StatsFit, AllSmall, NineFit, ResumeFits, SetterFits, WaitingFits, cycle_bytes, cycle_start};
+ghost use Rattle.pie_excerpt.specs.{measuring};
 
 use crate::resume::Resume;
 use pie_book::Stats;
@@ -27,7 +28,7 @@ fn nine_fit(params: RawParams)
 
 /// A cycle of the departure rate, or none.
 fn cycle_fits(cycle: Option<RawCycle>)
-    ensures { CycleFits cycle }
+    ensures { AllSmall (measuring cycle ∷ cycle_start cycle ∷ cycle_bytes cycle ∷ []) }
 {
     match cycle {
         Some(cycle) => {

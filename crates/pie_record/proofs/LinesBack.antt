@@ -14,8 +14,10 @@ use Rattle.pie_record.specs.{EventFits, TellEach, Row, request_of, word_said, co
 use Rattle.pie_record.specs.{Stats, answer_fields, counted, flag, folded_row, refused_row, shown_row, tallied_row, All, and_then, lines_from, ◌≤◌}
 use Rattle.pie_record.specs.{drop, map, first_bad, RawParams, CommandFits, ParamsFit, arrival_at, asked_at, change_at, change_to, command_length}
 use Rattle.pie_record.specs.{most_u16, params_at, NineFit, alone, command_request, fold_request, request_by, request_for, nine_of, BadChange, Request}
+use Rattle.pie_record.specs.{command_word}
 use Rattle.pie_record.proofs.FieldFacts.{and_after, back_ecn, back_u32, back_u64, field-read, number-then, one-way, no-flaw, packet-read, tested}
 use Rattle.pie_record.proofs.FieldFacts.{Says, numbers-back, read-as, Has, HasAll, has-all, ok-same, ParamsRead, params-back, params-read, word-has}
+use Rattle.pie_record.proofs.FieldFacts.{found}
 use Rattle.pie_record.proofs.HistoryFacts.{read-all}
 use Rattle.pie_record.proofs.NumberFacts.{number-back}
 use Rattle.pie_record.specs.declared.command.Asked.TheVariants as asked
@@ -59,7 +61,18 @@ pub nine-of-fits : (params : RawParams) → ParamsFit params → NineFit params
 nine-of-fits params fits = search rules
 
 fits-of-nine : (params : RawParams) → NineFit params → first_bad params ≡ None → ParamsFit params
-fits-of-nine params nine good = search rules
+fits-of-nine params nine good = record {
+  target = nine.0;
+  t_update = nine.1.0;
+  max_burst = nine.1.1.0;
+  alpha = nine.1.1.1.0;
+  beta = nine.1.1.1.1.0;
+  mean_pkt = nine.1.1.1.1.1.0;
+  limit_bytes = nine.1.1.1.1.1.1.0;
+  mark_ecnth = nine.1.1.1.1.1.1.1.0;
+  dq_threshold = nine.1.1.1.1.1.1.1.1.0;
+  in_range = good;
+}
 
 -- ---- the fields of a command that was read
 
@@ -117,26 +130,14 @@ command-read row k asks e =
     by kind.Reset caller moment who when few small e = short caller (Reset moment) (who, (when, tt)) (few, small) e
     by kind.Params caller moment who when few small e = change-read row caller moment asks who when few small e
 
--- the word of a kind of command
-abbrev word_for : CommandKind → List ℕ
-word_for kind.Arrive = codes "arrive"
-word_for kind.Depart = codes "depart"
-word_for kind.Update = codes "update"
-word_for kind.Reset = codes "reset"
-word_for kind.Params = codes "params"
-
-kind-has : (row : Row) (k : CommandKind) → command_kind row ≡ Some k → Has row 0 (word_for k)
+kind-has : (row : Row) (k : CommandKind) → command_kind row ≡ Some k → Has row 0 (command_word k)
 unfolding command_kind
 kind-has row k e =
-    one-way _ _ _ _ e (this kind.Arrive) (λ e. one-way _ _ _ _ e (this kind.Depart) (λ e. one-way _ _ _ _ e (this kind.Update) (λ e.
-    one-way _ _ _ _ e (this kind.Reset) (λ e. one-way _ _ _ _ e (this kind.Params) (λ none. cc)))))
-  where
-    this : (one : CommandKind) → is_kind row (word_for one) ≡ true → (let found : Option CommandKind = Some one in found) ≡ Some k
-        → Has row 0 (word_for k)
-    this one is e = let one_is : one ≡ k = cc in subst (λ (o : CommandKind). Has row 0 (word_for o)) one_is (word-has row (word_for one) is)
+    let all : List CommandKind = kind.Arrive ∷ kind.Depart ∷ kind.Update ∷ kind.Reset ∷ kind.Params ∷ [] in
+    word-has row (command_word k) (found (λ kind. is_kind row (command_word kind)) all k e)
 
 -- a record of a command begins with its word, is as long as its kind says, and is of that kind, whatever follows
-pub asked-shape : (asks : Asked) (more : Row) → (asked_fields asks ≡ word_for (asked_kind asks) ∷ drop 1 (asked_fields asks))
+pub asked-shape : (asks : Asked) (more : Row) → (asked_fields asks ≡ command_word (asked_kind asks) ∷ drop 1 (asked_fields asks))
     × (command_length (asked_kind asks) ≡ length (asked_fields asks)) × (command_kind (asked_fields asks ++ more) ≡ Some (asked_kind asks))
 unfolding command_kind field_at command_fields
 asked-shape (asked.Command caller (Arrive moment packet word)) more = (refl, refl, refl)
@@ -154,8 +155,8 @@ written-as row k asks known long says =
     let shape = asked-shape asks [] in
     let whole = long ∙ ap command_length read.kind ∙ shape.1 ∙ ap length shape.0 in
     record {
-      is = has-all row 0 (word_for k ∷ drop 1 (asked_fields asks)) (omega (arith, whole)) (kind-has row k known, read.has)
-          ∙ ap (λ (o : CommandKind). word_for o ∷ drop 1 (asked_fields asks)) read.kind ∙ sym shape.0;
+      is = has-all row 0 (command_word k ∷ drop 1 (asked_fields asks)) (omega (arith, whole)) (kind-has row k known, read.has)
+          ∙ ap (λ (o : CommandKind). command_word o ∷ drop 1 (asked_fields asks)) read.kind ∙ sym shape.0;
       fits = read.fits;
     }
 
@@ -249,7 +250,7 @@ back_u16 n fits = number-back most_u16 n fits (omega arith)
 
 params-behind : (a b c : List ℕ) (params : RawParams) (more : Row) → NineFit params
     → params_at (a ∷ b ∷ c ∷ (map decimal (nine_of params) ++ more)) 3 ≡ Ok params
-unfolding params_at field_at
+unfolding params_at numbers_at field_at
 params-behind a b c params more fits = params-back params more fits
 
 -- .. whatever fields follow
@@ -398,20 +399,11 @@ record AnswerBack (row : Row) (kind : CommandKind) (answer : Answer) : Type 0 wh
 answer-back : (asks : Asked) (answer : Answer) → CanHave asks answer → AnswerFits answer
     → AnswerBack (asked_fields asks ++ answer_fields answer) (asked_kind asks) answer
 unfolding answer_at verdict_of departure_at update_at packet_at field_at command_fields answer_fields
-answer-back (asked.Command caller (Arrive moment packet word)) Enqueued can f = record { long = refl; reads = refl }
-answer-back (asked.Command caller (Arrive moment packet word)) Marked can f = record { long = refl; reads = refl }
-answer-back (asked.Command caller (Arrive moment packet word)) DroppedEarly can f = record { long = refl; reads = refl }
-answer-back (asked.Command caller (Arrive moment packet word)) DroppedBytes can f = record { long = refl; reads = refl }
-answer-back (asked.Command caller (Arrive moment packet word)) DroppedPackets can f = record { long = refl; reads = refl }
-answer-back (asked.Command caller (Depart moment)) Empty can f = record { long = refl; reads = refl }
 answer-back (asked.Command caller (Depart moment)) (Left packet) can f =
     record { long = refl; reads = rw (back_u64 packet.tag f.tag, back_u32 packet.size f.size, back_ecn packet.ecn) refl }
 answer-back (asked.Command caller (Update moment)) (Updated delay prob burst) can f =
     record { long = refl; reads = rw (back_u64 delay f.0, back_u64 prob f.1, back_u64 burst f.2) refl }
-answer-back (asked.Command caller (Reset moment)) Done can f = record { long = refl; reads = refl }
-answer-back (asked.Command caller (SetParams moment params)) Done can f = record { long = refl; reads = refl }
-answer-back (asked.BadParams change) Done can f = record { long = refl; reads = refl }
-answer-back asks answer can f = cc
+answer-back _ answer can f = first_of (search rules, cc)
 
 line-back : (version : Version) (asks : Asked) (answer : Answer) → AskedFits asks → CanHave asks answer → AnswerFits answer
     → line_of version (asked_fields asks ++ answer_fields answer) ≡ Ok (line_for asks answer)

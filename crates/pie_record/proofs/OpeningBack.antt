@@ -1,6 +1,6 @@
 -- The record of an opening is read back as that opening, and a text of it and of records that each tell a line as that opening and those lines.
 use Rattle.std.proofs.Common.{sym, ap, ◌∙◌, arith, subst}
-use Rattle.std.proofs.lemmas.Bool.{and_parts}
+use Rattle.std.proofs.lemmas.Bool.{and_parts, ne_eqb}
 use Rattle.std.proofs.lemmas.Bool.Decides.{nat_tests}
 use Rattle.std.proofs.lemmas.List.{length-map}
 use Rattle.std.proofs.lemmas.List.Elements.{All-cons, All-head, All-nil, All-tail}
@@ -17,7 +17,7 @@ use Rattle.pie_record.specs.{is_usual_decay, is_usual_delay, is_usual_size, nine
 use Rattle.pie_record.specs.{Step, Choices, Limits, OpenRefusal, Option, Err, Checked, checked_opening, refused_opening, ◌≤◌, length, All, Event}
 use Rattle.pie_record.specs.{Line, Version, HasField, rows_text, command_kind, line_of, kind_word, version_of, Coming, after_opening, coming_after}
 use Rattle.pie_record.specs.{coming_from, fault_from, history_opening, history_version, lines_from, Begins, EventFits, TellEach, TellsHistory}
-use Rattle.pie_record.specs.{event_row, written_rows, drop}
+use Rattle.pie_record.specs.{event_row, written_rows, drop, numbers_at, ◌==◌}
 use Rattle.pie_record.specs.declared.history_record.Line.TheVariants.{Made}
 use Rattle.pie_record.proofs.FieldFacts.{back_u32, back_u64, params-back}
 use Rattle.pie_record.proofs.HistoryFacts.{told_by-line}
@@ -48,23 +48,28 @@ are_default-true p e =
 
 -- ---- the numbers of an opening, and its parameters or nothing
 
-abbrev numbers_row : ℕ → Limits → Row → Row
+abbrev pub numbers_row : ℕ → Limits → Row → Row
 numbers_row moment limits params = map decimal (moment ∷ limits.packets ∷ limits.tail ∷ limits.events ∷ []) ++ params
 
 -- what they say
-abbrev drafted : ℕ → Limits → RawParams → Choices → Result Draft Flaw
+abbrev pub drafted : ℕ → Limits → RawParams → Choices → Result Draft Flaw
 drafted moment limits params choices = Ok (record { moment = moment; limits = limits; params = params; choices = choices })
 
-params-behind : (a b c d : List ℕ) (params : RawParams) → NineFit params → params_at (a ∷ b ∷ c ∷ d ∷ map decimal (nine_of params)) 4 ≡ Ok params
-unfolding params_at field_at
-params-behind a b c d params fits = params-back params [] fits
+params-behind : (a b c d : List ℕ) (params : RawParams) (more : Row) → NineFit params
+    → params_at (a ∷ b ∷ c ∷ d ∷ (map decimal (nine_of params) ++ more)) 4 ≡ Ok params
+unfolding params_at numbers_at field_at
+params-behind a b c d params more fits = params-back params more fits
 
--- they read so wherever they begin: the fields before them are passed over by computing
-long-draft : (choices : Choices) (moment : ℕ) (limits : Limits) (params : RawParams) → moment < 2 ^ 64 → LimitsFit limits → NineFit params
-    → draft_at (numbers_row moment limits (map decimal (nine_of params))) 0 choices ≡ drafted moment limits params choices
+longer : (a b c d e : List ℕ) (more : Row) → (length (a ∷ b ∷ c ∷ d ∷ e ∷ more) == 4) ≡ false
+longer a b c d e more = ne_eqb (length (a ∷ b ∷ c ∷ d ∷ e ∷ more)) 4 (λ same. omega (arith, same))
+
+-- they read so wherever they begin, whatever follows: the fields before them are passed over by computing
+pub long-draft : (choices : Choices) (moment : ℕ) (limits : Limits) (params : RawParams) (more : Row) → moment < 2 ^ 64 → LimitsFit limits
+    → NineFit params
+    → draft_at (numbers_row moment limits (map decimal (nine_of params) ++ more)) 0 choices ≡ drafted moment limits params choices
 unfolding draft_at limits_at field_at
-long-draft choices moment limits params small fits nine =
-    rw (back_u64 _ small, back_u32 _ fits.packets, back_u32 _ fits.tail, back_u64 _ fits.events, params-behind _ _ _ _ params nine) refl
+long-draft choices moment limits params more small fits nine =
+    rw (back_u64 _ small, back_u32 _ fits.packets, back_u32 _ fits.tail, back_u64 _ fits.events, longer, params-behind _ _ _ _ params more nine) refl
 
 -- where they are short, the parameters are the defaults
 abbrev params_row : RawParams → Bool → Row
@@ -77,7 +82,8 @@ unfolding draft_at limits_at field_at
 draft-back choices moment limits params true same small fits set =
     rw (back_u64 moment small, back_u32 limits.packets fits.packets, back_u32 limits.tail fits.tail, back_u64 limits.events fits.events)
     (ap (λ (p : RawParams). drafted moment limits p choices) (sym (are_default-true params same)))
-draft-back choices moment limits params false other small fits set = long-draft choices moment limits params small fits (nine-of-fits params set)
+draft-back choices moment limits params false other small fits set =
+    long-draft choices moment limits params [] small fits (nine-of-fits params set)
 
 -- a draft that is accepted opens what it says, where a record of this kind may have its limits
 accepted-draft : (kind : FirstKind) (moment : ℕ) (limits : Limits) (params : RawParams) (choices : Choices) → opening_refusal limits moment ≡ None
@@ -104,7 +110,7 @@ held-earlier _ _ limits e = e
 earlier-read : (profile : Profile) (mode : Mode) (moment : ℕ) (limits : Limits) (params : RawParams) (short : Bool)
     → opening_of (earlier_row profile mode ++ numbers_row moment limits (params_row params short))
     ≡ opening_read (earlier_kind profile mode) (draft_at (numbers_row moment limits (params_row params short)) 0 (chosen profile mode))
-unfolding opening_of first_kind version_one_fields version_two_fields profile_of which_of draft_at limits_at params_at field_at
+unfolding opening_of first_kind version_one_fields version_two_fields profile_of which_of draft_at limits_at params_at numbers_at field_at
 earlier-read One Bounded moment limits params true = refl
 earlier-read One Rolling moment limits params true = refl
 earlier-read Two Bounded moment limits params true = refl
@@ -154,7 +160,7 @@ size-back Unscaled = refl
 size-back Scaled = refl
 
 -- where these words stand in a record, they are read
-chosen-read : (row : Row) (c : Choices) (told : Bool) (place : ℕ) → field_at row 1 ≡ Some (profile_number c.profile)
+pub chosen-read : (row : Row) (c : Choices) (told : Bool) (place : ℕ) → field_at row 1 ≡ Some (profile_number c.profile)
     → field_at row 2 ≡ Some (delay_word c.elements.delay) → field_at row 3 ≡ Some (picking_word c.elements.picking)
     → field_at row 4 ≡ Some (step_word c.elements.step) → field_at row 5 ≡ Some (size_word c.elements.size)
     → decay_at row 6 told ≡ Ok c.elements.decay → field_at row place ≡ Some (mode_word c.mode) → chosen_at row told place ≡ draft_at row (place + 1) c
@@ -169,7 +175,7 @@ decaying c decay = record c { elements = record c.elements { decay = decay } }
 three-read : (word : List ℕ) (c : Choices) (moment : ℕ) (limits : Limits) (params : RawParams) (short : Bool)
     → first_fields (word ∷ (chosen_row c ++ numbers_row moment limits (params_row params short))) kinds.Open3
     ≡ draft_at (numbers_row moment limits (params_row params short)) 0 c
-unfolding version_three_fields draft_at limits_at params_at field_at which_of
+unfolding version_three_fields draft_at limits_at params_at numbers_at field_at which_of
 three-read word c moment limits params short = by c.elements.decay short
   where
     row : Decay → Bool → Row
@@ -181,13 +187,6 @@ three-read word c moment limits params short = by c.elements.decay short
     by Zero false = chosen-read (row Zero false) (decaying c Zero) false 6 refl refl refl refl refl refl refl
     by Half true = chosen-read (row Half true) (decaying c Half) true 7 refl refl refl refl refl refl refl
     by Half false = chosen-read (row Half false) (decaying c Half) true 7 refl refl refl refl refl refl refl
-
--- the long form is read back behind any word
-pub three-back : (word : List ℕ) (c : Choices) (moment : ℕ) (limits : Limits) (params : RawParams) → moment < 2 ^ 64 → LimitsFit limits → NineFit params
-    → first_fields (word ∷ (chosen_row c ++ (map decimal (moment ∷ limits.packets ∷ limits.tail ∷ limits.events ∷ []) ++ map decimal (nine_of params))))
-    kinds.Open3 ≡ Ok (record { moment = moment; limits = limits; params = params; choices = c })
-three-back word c moment limits params small fits nine =
-    three-read word c moment limits params false ∙ long-draft c moment limits params small fits nine
 
 -- ---- an opening
 
@@ -229,22 +228,15 @@ pub checked : (kind : FirstKind) (draft : Draft) (opening : Opening) → checked
     → Checked draft opening
 checked kind draft opening = by (first_bad draft.params) refl
   where
-    inner : (why : Option OpenRefusal) → opening_refusal draft.limits draft.moment ≡ why → first_bad draft.params ≡ None
-        → refused_opening why draft ≡ Ok opening → Checked draft opening
-    inner None p q e = record { same = cc; accepted = p; in_range = q }
-    inner (Some open_refusal.BadLimits) p q e = cc
-    inner (Some open_refusal.Moment) p q e = cc
-    inner (Some open_refusal.Memory) p q e = cc
-
-    held : (holds : Bool) → first_bad draft.params ≡ None
-        → (if holds then refused_opening (opening_refusal draft.limits draft.moment) draft else Err (fault.Opening open_fault.Limits)) ≡ Ok opening
-        → Checked draft opening
-    held true q e = inner (opening_refusal draft.limits draft.moment) refl q e
-    held false q e = cc
+    held : (holds : Bool) (why : Option OpenRefusal) → first_bad draft.params ≡ None → opening_refusal draft.limits draft.moment ≡ why
+        → (if holds then refused_opening why draft else Err (fault.Opening open_fault.Limits)) ≡ Ok opening → Checked draft opening
+    held true None good accepted e = record { same = cc; accepted = accepted; in_range = good }
+    held true (Some open_refusal.Memory) good accepted e = cc
+    held _ _ good accepted e = cc
 
     by : (bad : Option Field) → first_bad draft.params ≡ bad → checked_opening kind bad draft ≡ Ok opening → Checked draft opening
-    by (Some field) q e = cc
-    by None q e = held (holds_limits kind draft.limits) q e
+    by (Some field) good e = cc
+    by None good e = held (holds_limits kind draft.limits) (opening_refusal draft.limits draft.moment) good refl e
 
 -- ---- rows that tell lines
 
@@ -253,12 +245,11 @@ pub coming-told : (version : Version) (most number : ℕ) (rows : List Row) (lin
     → coming_from version most number rows ≡ record { lines = lines; fault = None }
 unfolding TellEach lines_from fault_from
 coming-told version most number [] [] within tells = refl
-coming-told version most number [] (line ∷ lines) within tells = absurd tells
-coming-told version most number (row ∷ rows) [] within tells = absurd tells
 coming-told version most number (row ∷ rows) (line ∷ lines) within tells =
     rw (told_by-line version most number row line (omega arith) tells.0)
     (ap (λ (c : Coming). let more : Coming = record { lines = line ∷ c.lines; fault = c.fault } in more)
     (coming-told version most (number + 1) rows lines (omega arith) tells.1))
+coming-told version most number _ _ within tells = absurd tells
 
 -- a row that tells a line has a field
 pub told-field : (version : Version) (row : Row) (line : Line) → line_of version row ≡ Ok line → HasField row

@@ -2,11 +2,11 @@
 pub use Rattle.std.specs.Fmt.{decimal}
 unfoldable pub use Rattle.std.specs.Fmt.{digits}
 pub use Rattle.std.specs.Io.KnownBytes.{Appends, append_known}
-pub use Rattle.std.specs.List.{cons_option, filter_map, flat_map, last_or}
+pub use Rattle.std.specs.List.{cons_option, filter_map, find, flat_map, last_or}
 pub use Rattle.std.specs.Option.{ok_or, option_and_then, option_or}
 pub use Rattle.std.specs.Prelude.{All, Bool, Err, IfErr, IfOk, IfSome, List, None, Ok, OnOk, Option, Result, Some, Vec, [], codes, cond, count_by}
-pub use Rattle.std.specs.Prelude.{drop, false, if◌then◌else◌, length, map, min, nat_le, nat_lt, not, option_map, refl, suc, true, zero, ℕ, ⊤, ◌&&◌}
-pub use Rattle.std.specs.Prelude.{◌++◌, ◌+◌, ◌-◌, ◌<◌, ◌==◌, ◌^◌, ◌||◌, ◌∷◌, ◌≡◌, ◌≤◌, ◌⊎◌}
+pub use Rattle.std.specs.Prelude.{drop, false, get_or, if◌then◌else◌, length, map, min, nat_le, nat_lt, not, option_map, refl, suc, true, zero, ℕ, ⊤}
+pub use Rattle.std.specs.Prelude.{◌&&◌, ◌++◌, ◌+◌, ◌-◌, ◌<◌, ◌==◌, ◌^◌, ◌||◌, ◌∷◌, ◌≡◌, ◌≤◌, ◌⊎◌}
 pub use Rattle.std.specs.Str.{all_ascii_digits, bytes_eq}
 pub use Rattle.std.specs.Str.Parse.{digits_value, digits_value_after}
 pub use Rattle.csv.specs.Machine.{Read, ends_at_end, field_after, fields_after, is_end, step}
@@ -19,21 +19,20 @@ unfoldable pub use Rattle.csv.specs.Records.{field_at}
 pub use Rattle.csv.specs.Writing.{default_writer, fields_written, has_written, needs_quotes, read_back, row_text, with_flexible, writer_pending}
 pub use Rattle.csv.specs.Writing.{writer_setup, writer_under}
 unfoldable pub use Rattle.csv.specs.Writing.{escaped, fields_text, is_blank}
-pub use Rattle.csv.specs.declared.parser.State.{State}
-pub use Rattle.csv.specs.declared.reader.Reader.{Reader}
+pub use Rattle.csv.specs.declared.{parser.State.State, reader.Reader.Reader}
 pub use Rattle.pie_event.specs.Deed.{fits}
 pub use Rattle.pie_event.specs.Opening.{are_of_version_two, opening_refusal}
 pub use Rattle.pie_event.specs.Ranges.{AnswerFits, CommandFits, PacketFits, ParamsFit, RegistersFit, StatsFit}
-pub use Rattle.pie_event.specs.declared.{command.Answer.Answer, command.Command.Command, command.Event.Event, opening.Mode.Mode}
-pub use Rattle.pie_event.specs.declared.{opening.Opening.Opening, profile.Profile.Profile, registers.Registers.Registers, stats.Stats.Stats}
-pub use Rattle.pie_event.specs.declared.{opening.Choices.Choices, opening.Limits.Limits, refusal.OpenRefusal.OpenRefusal}
+pub use Rattle.pie_event.specs.declared.{command.Answer.Answer, command.Command.Command, command.Event.Event, opening.Choices.Choices}
+pub use Rattle.pie_event.specs.declared.{opening.Limits.Limits, opening.Mode.Mode, opening.Opening.Opening, profile.Profile.Profile}
+pub use Rattle.pie_event.specs.declared.{refusal.OpenRefusal.OpenRefusal, registers.Registers.Registers, stats.Stats.Stats}
 pub use Rattle.pie_event.specs.declared.command.Answer.TheVariants.{Done, DroppedBytes, DroppedEarly, DroppedPackets, Empty, Enqueued, Left, Marked}
 pub use Rattle.pie_event.specs.declared.command.Answer.TheVariants.{Updated}
 pub use Rattle.pie_event.specs.declared.command.Command.TheVariants.{Arrive, Depart, Reset, SetParams, Update}
 pub use Rattle.pie_event.specs.declared.opening.Mode.TheVariants.{Bounded, Rolling}
-pub use Rattle.pie_params.specs.declared.{elements.Elements.Elements, raw.RawParams.RawParams, elements.Decay.Decay, elements.Delay.Delay}
-pub use Rattle.pie_params.specs.declared.{elements.Picking.Picking, elements.Size.Size, elements.Step.Step, raw.Field.Field}
-pub use Rattle.pie_queue.specs.declared.{packet.Packet.Packet, ecn.Ecn.Ecn}
+pub use Rattle.pie_params.specs.declared.{elements.Decay.Decay, elements.Delay.Delay, elements.Elements.Elements, elements.Picking.Picking}
+pub use Rattle.pie_params.specs.declared.{elements.Size.Size, elements.Step.Step, raw.Field.Field, raw.RawParams.RawParams}
+pub use Rattle.pie_queue.specs.declared.{ecn.Ecn.Ecn, packet.Packet.Packet}
 pub use Rattle.pie_params.specs.Elements.{accumulates, is_capped, usual}
 pub use Rattle.pie_params.specs.Profile.{default_profile}
 pub use Rattle.pie_params.specs.Range.{first_bad}

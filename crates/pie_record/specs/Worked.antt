@@ -3,12 +3,11 @@ use Rattle.pie_record.specs.Names.{⊤, digits, records_from, strip_bom, field_a
 use Rattle.pie_record.specs.Answer.{answer_fields}
 use Rattle.pie_record.specs.Clock.{clock_at, clock_in}
 use Rattle.pie_record.specs.Command.{arrival_at, change_at, command_at, command_kind}
-use Rattle.pie_record.specs.Field.{ecn_of, packet_at, params_at, number}
+use Rattle.pie_record.specs.Field.{ecn_of, numbers_at, packet_at, params_at, number}
 use Rattle.pie_record.specs.FirstRecord.{chosen_at, draft_at, elements_at, first_kind, limits_at, profile_of, version_of, version_one_fields}
 use Rattle.pie_record.specs.FirstRecord.{version_three_fields, version_two_fields, which_of, opening_of}
 use Rattle.pie_record.specs.HistoryLines.{after_opening, event_count, fault_from, history_opening, history_version, latest_clock, lines_from, told_by}
-use Rattle.pie_record.specs.HistoryLines.{answer_at, departure_at, event_line, line_of, note_line, numbers_at, registers_at, shown_line, update_at}
-use Rattle.pie_record.specs.HistoryLines.{verdict_of}
+use Rattle.pie_record.specs.HistoryLines.{answer_at, departure_at, event_line, line_of, note_line, registers_at, shown_line, update_at, verdict_of}
 use Rattle.pie_record.specs.Text.{rows_text}
 use Rattle.pie_record.specs.Write.{command_fields, opening_row}
 

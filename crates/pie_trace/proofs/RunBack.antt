@@ -13,6 +13,7 @@ use Rattle.pie_trace.proofs.Names.{progress_after, RunEnd, end_of, fault_of, fir
 use Rattle.pie_trace.proofs.Names.{AreLegal, CanBeMade, map, Shows, Three, end_left, le-ltb, ◌≢◌, field_at, fault_from}
 use Rattle.std.proofs.lemmas.List.Concat.{flat_map-append}
 use Rattle.pie_event.specs.Ranges.{CommandFits, ParamsFit}
+use Rattle.pie_record.specs.Field.{and_then}
 use Rattle.pie_record.specs.FirstRecord.{opening_by}
 use Rattle.pie_record.specs.ReadBack.{TextsAreReadBack}
 use Rattle.pie_trace.specs.History.{Begun, going_on, text_in, end_in, fault_in}
@@ -24,7 +25,7 @@ use Rattle.pie_trace.specs.Reply.{answered, shown, tallied}
 use Rattle.pie_record.specs.declared.history_record.Line.TheVariants.{Note, Made}
 use Rattle.pie_audit.specs.Finding.{event_in, events_of}
 use Rattle.pie_audit.specs.Text.{text_finding, IsFound, TellsPart, excerpt_lines, whole_finding, excerpt_fault, fault_after}
-use Rattle.pie_excerpt.specs.Beginning.{or_fault, Beginning, BeginsWell, GoesOn, resumed_of, is_resumed}
+use Rattle.pie_excerpt.specs.Beginning.{Beginning, BeginsWell, GoesOn, resumed_of, is_resumed}
 use Rattle.pie_audit.specs.Legal.{EventsAreLines}
 use Rattle.pie_trace.specs.Resumed.{going_by, progress_resumed, resumed_end, resumed_fault, resumed_text, resumed_within, within_most}
 use Rattle.std.proofs.lemmas.List.{take-append-drop}
@@ -457,7 +458,7 @@ whole-clean told clean held most (row ∷ rows) end few sound ended = by (most =
     found events = Ok (Clean events)
 
     opened : Result Opening TraceFault → Result Begun TraceFault
-    opened o = or_fault o (λ opening. Ok (record { version = version_of row; opening = opening; read = 1; left = rows }))
+    opened o = and_then o (λ opening. Ok (record { version = version_of row; opening = opening; read = 1; left = rows }))
 
     by : (none : Bool) (o : Result Opening TraceFault) → (most == 0) ≡ none → opening_of row ≡ o
         → fault_in most (if none then Err fault.TooLong else opened o) ≡ None → end_in [] (opened o) ≡ Some end
@@ -501,7 +502,7 @@ within most rows b e = by (resumed_of rows) refl e
         let same : c ≡ b = cc in
         subst (λ (it : Beginning). Within most rows it) same (record { begun = is; few = grind (arith, nat_tests) })
 
-    by : (read : Result Beginning TraceFault) → resumed_of rows ≡ read → or_fault read (within_most most) ≡ Ok b → Within most rows b
+    by : (read : Result Beginning TraceFault) → resumed_of rows ≡ read → and_then read (within_most most) ≡ Ok b → Within most rows b
     by (Ok c) is e = so c is (nat_lt most c.read) refl e
     by (Err why) is e = cc
 
@@ -564,11 +565,11 @@ resumed-whole law most rows opening past end few goes fit sound ended = by (resu
     found events = IsFound (resumed_text most past rows) opening past (Clean events)
 
     by : (read : Result Beginning TraceFault) → resumed_within most rows ≡ read
-        → fault_in most (or_fault read (λ begun. Ok (going_by begun))) ≡ None → found end.events
+        → fault_in most (and_then read (λ begun. Ok (going_by begun))) ≡ None → found end.events
     by (Err why) is e = cc
     by (Ok b) is e =
         let at = within most rows b is in
-        let here : end_in past (or_fault (resumed_of rows) (λ begun. Ok (going_by begun))) ≡ Some end = ended in
+        let here : end_in past (and_then (resumed_of rows) (λ begun. Ok (going_by begun))) ≡ Some end = ended in
         let is-end : Some (end_left Three b.opening (going_on past) 0 b.left) ≡ Some end = rw at.begun at here in
         let same : end_left Three b.opening (going_on past) 0 b.left ≡ end = cc in
         subst (λ (r : RunEnd). found r.events) same

@@ -19,12 +19,12 @@ pub use Rattle.pie_event.specs.declared.refusal.FoldRefusal.{FoldRefusal}
 pub use Rattle.pie_event.specs.declared.refusal.Refusal.{Refusal}
 pub use Rattle.pie_event.specs.declared.registers.Registers.{Registers}
 pub use Rattle.pie_event.specs.declared.stats.Stats.{Stats}
-pub use Rattle.pie_excerpt.specs.Beginning.{Beginning, GoesOn, is_resumed, or_fault, resumed_of}
+pub use Rattle.pie_excerpt.specs.Beginning.{Beginning, GoesOn, is_resumed, resumed_of}
 pub use Rattle.pie_excerpt.specs.Rows.{queued_row}
 pub use Rattle.pie_record.specs.Answer.{code_of}
 unfoldable pub use Rattle.pie_record.specs.Answer.{answer_fields, folded_row, refused_row, shown_row, tallied_row}
 pub use Rattle.pie_record.specs.Fault.{IsRead, IsTold, IsWrite, closed, fault_at, is_device}
-pub use Rattle.pie_record.specs.Field.{is_kind}
+pub use Rattle.pie_record.specs.Field.{and_then, is_kind}
 unfoldable pub use Rattle.pie_record.specs.FirstRecord.{first_kind, version_of}
 pub use Rattle.pie_record.specs.HistoryLines.{Coming, coming_after, event_count, events_in, fault_from, history_lines, lines_from, told_by}
 unfoldable pub use Rattle.pie_record.specs.HistoryLines.{after_opening, history_opening, history_version}

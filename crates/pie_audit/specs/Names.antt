@@ -29,7 +29,7 @@ pub use Rattle.pie_excerpt.specs.Written.{IsWritten, excerpt_rows, part_rows}
 pub use Rattle.pie_params.specs.Range.{first_bad}
 pub use Rattle.pie_record.specs.Fault.{IsOfInput, IsWrite, is_device}
 unfoldable pub use Rattle.pie_record.specs.FirstRecord.{version_of, opening_of}
-pub use Rattle.pie_record.specs.HistoryLines.{Coming, LinesView, coming_after, coming_from, history_lines, later_fault}
+pub use Rattle.pie_record.specs.HistoryLines.{Coming, LinesView, coming_after, coming_from}
 unfoldable pub use Rattle.pie_record.specs.HistoryLines.{event_count, fault_from, history_opening, latest_clock, lines_from}
 pub use Rattle.pie_record.specs.ReadBack.{EventFits, TellsHistory}
 unfoldable pub use Rattle.pie_record.specs.ReadBack.{TellEach}

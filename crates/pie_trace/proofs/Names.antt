@@ -11,7 +11,7 @@ pub use Rattle.pie_trace.specs.{Answer, Appends, Ask, BadParams, Begins, BookVie
 pub use Rattle.pie_trace.specs.{FoldRefusal, HasField, IfErr, IfOk, IfSome, IsAt, IsRead, IsTold, IsWrite, Line, migrates, moves_on, None, Ok, OnOk}
 pub use Rattle.pie_trace.specs.{One, Opening, Option, Progress, Refusal, Registers, Replies, Request, Result, Rolling, Row, Show, Shows, Some, Stats}
 pub use Rattle.pie_trace.specs.{Tally, TellTheSame, Tells, TellsHistory, Three, TraceFault, Two, Version, after, append_known, closed, code_of}
-pub use Rattle.pie_trace.specs.{coming_after, end_at, end_left, event_count, events_in, fault_at, fault_from, fields_of, fold_outcome, history_row}
+pub use Rattle.pie_trace.specs.{end_at, end_left, event_count, events_in, fault_at, fault_from, fields_of, fold_outcome, history_row}
 pub use Rattle.pie_trace.specs.{is_device, is_kind, last_events, later_rows, let_go, line_told, lines_from, lines_left, rows_left, migrated_text}
 pub use Rattle.pie_trace.specs.{migrated_version, opening_refusal, outcome, partial_of, progress_at_end, queued_row, records_of, refused}
 pub use Rattle.pie_trace.specs.{refused_count, reply, reply_to_command, reply_to_fold, request_in, start, stats_after, text_of, told_by}

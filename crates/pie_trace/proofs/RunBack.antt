@@ -590,8 +590,8 @@ resumed-clean law most rows opening past b few goes fit e =
 -- ---- one without a fault
 
 pub resumed-whole : Below → (most : ℕ) (rows : List Row) (opening : Opening) (past : List Event) (end : RunEnd) → most ≤ 2 ^ 32
-    → GoesOn rows opening past → All (λ event. CommandFits event.command) past → resumed_fault most rows ≡ None → resumed_end most past rows ≡ Some end
-    → IsFound (resumed_text most past rows) opening past (Clean end.events)
+    → GoesOn rows opening past → All (λ event. CommandFits event.command) past → resumed_fault most rows ≡ None
+    → resumed_end most past rows ≡ Some end → IsFound (resumed_text most past rows) opening past (Clean end.events)
 unfolding resumed_fault resumed_end
 resumed-whole law most rows opening past end few goes fit sound ended = by (resumed_within most rows) refl sound ended
   where
@@ -675,9 +675,6 @@ behind-queue count (packet ∷ waiting) [] after left is = cc
 behind-queue count (packet ∷ waiting) (row ∷ before) after left is =
     behind-queue count waiting before after left (let rest : before ++ (lost_row count ∷ after) ≡ map queued_row waiting ++ left = cc in rest)
 
-some-none : (why : TraceFault) → (let found : Option TraceFault = Some why in found) ≢ None
-some-none why = λ e. cc
-
 -- what pie_excerpt promises of all beginnings
 module _ (again : (row : Row) (rows : List Row) (begun : Beginning) → resumed_of (row ∷ rows) ≡ Ok begun
     → take begun.read (row ∷ rows) ≡ row ∷ map queued_row begun.core.waiting)
@@ -711,7 +708,7 @@ module _ (again : (row : Row) (rows : List Row) (begun : Beginning) → resumed_
   lost-part-is-fault count before after = by (resumed_of (before ++ (lost_row count ∷ after))) refl
     where
       by : (r : Result Beginning TraceFault) → resumed_of (before ++ (lost_row count ∷ after)) ≡ r → fault_after r ≢ None
-      by (Err why) is = some-none why
+      by (Err why) is = λ e. cc
       by (Ok begun) is = let has = begun-left count before after begun is in λ e.
           lost-later Three (2 ^ 32) (begun.read + 1) count has.before has.after
           (ap (λ (rs : List Row). fault_from Three (2 ^ 32) (begun.read + 1) rs) (sym has.is) ∙ e)

@@ -1,8 +1,8 @@
 -- What the files of this folder take from below, in one place.
-pub use Rattle.std.proofs.Common.{Bool, List, [], ap, append_assoc, arith, cond, eq-eqb, false, inl, inr, length, length-append, map, not, refl}
+pub use Rattle.std.proofs.Common.{Bool, List, [], ap, append_assoc, arith, cond, false, inl, inr, length, length-append, map, not, refl}
 pub use Rattle.std.proofs.Common.{rules, subst, sym, take, true, ℕ, ◌&&◌, ◌++◌, ◌+◌, ◌-◌, ◌<◌, ◌==◌, ◌^◌, ◌∙◌, ◌∷◌, ◌≡◌, ◌≤◌}
 pub use Rattle.std.proofs.KnownBytes.{Appends-nil}
-pub use Rattle.std.proofs.lemmas.Bool.{and_parts, eqb-true}
+pub use Rattle.std.proofs.lemmas.Bool.{and_parts}
 pub use Rattle.std.proofs.lemmas.Bool.Decides.{nat_tests}
 pub use Rattle.std.proofs.lemmas.List.{append-nil, length-map, map-append}
 pub use Rattle.std.proofs.lemmas.List.Elements.{All-append, All-cons, All-head, All-map, All-nil, All-tail, filter_map-append}
@@ -11,18 +11,16 @@ pub use Rattle.std.proofs.lemmas.List.Sums.{sum_by-append, sum_by_push}
 pub use Rattle.std.specs.List.{cons_option}
 pub use Rattle.std.specs.Option.{option_or}
 pub use Rattle.std.specs.Prelude.{if◌then◌else◌, ◌||◌}
-pub use Rattle.pie_audit.specs.{All, Answer, Appends, AreLegal, AuditorView, Audits, Beginning, BeginsAt, BeginsBy, BegunBy, CanBeMade, Ce, Clean}
-pub use Rattle.pie_audit.specs.{Coming, Command, CoreView, Depart, Differs, Done, DroppedBytes, DroppedEarly, DroppedPackets, Ecn, Ect0, Ect1, Empty}
-pub use Rattle.pie_audit.specs.{Enqueued, Err, Event, EventFits, FaultedBy, FindsAfter, FindsBy, FindsEither, Follows, FollowsFrom, GoesOn, Going}
-pub use Rattle.pie_audit.specs.{HasField, HeardOn, IfErr, IfOk, IfSome, IsFirstWrong, IsFound, IsLegal, IsLegalAt, IsToldBy, IsWrite, IsWrong, Left}
-pub use Rattle.pie_audit.specs.{Line, LinePlace, LinesAt, LinesRead, LinesView, Made, Marked, None, NotEct, Note, Ok, OnOk, Opening, Option, Packet}
-pub use Rattle.pie_audit.specs.{ParamsFit, Result, Row, Setter, Shows, Some, Standing, TakesRow, TellsHistory, TellsPart, TellsSetter, TextToldBy}
-pub use Rattle.pie_audit.specs.{Three, ToldBy, TraceFault, Unmakeable, Updated, active_after, after_line, codes, coming_after, coming_by, coming_from}
-pub use Rattle.pie_audit.specs.{counted_with, decision, differs, differs_at, event_in, event_row, fault_after, fault_by, fields_of, filter_map, find}
-pub use Rattle.pie_audit.specs.{finding_after, finding_by, is_active_after, is_device, is_resumed, is_same_answer, is_same_ecn, is_same_packet}
-pub use Rattle.pie_audit.specs.{is_some, judged, lines_after, min, nat_lt, next_number, number_of, opening_refusal, option_map, part_rows, records_of}
-pub use Rattle.pie_audit.specs.{refusal_by_rule, sets_after, sets_probability, setter_at, setter_by, setter_told, setter_with, start_after}
-pub use Rattle.pie_audit.specs.{text_finding, written_rows, ⊤}
+pub use Rattle.pie_audit.specs.{All, Answer, Appends, AreLegal, AuditorView, Audits, Beginning, BeginsAt, BeginsBy, BegunBy, CanBeMade, Clean, Coming}
+pub use Rattle.pie_audit.specs.{Command, CoreView, Differs, Err, Event, EventFits, FaultedBy, FindsAfter, FindsBy, Follows, FollowsFrom, GoesOn}
+pub use Rattle.pie_audit.specs.{Going, HasField, HeardOn, IfErr, IfOk, IfSome, IsFirstWrong, IsFound, IsLegal, IsLegalAt, IsToldBy, IsWrite, IsWrong}
+pub use Rattle.pie_audit.specs.{Line, LinePlace, LinesAt, LinesRead, LinesView, Made, None, Note, Ok, OnOk, Opening, Option, ParamsFit, Result, Row}
+pub use Rattle.pie_audit.specs.{Setter, Shows, Some, Standing, TakesRow, TellsHistory, TellsPart, TellsSetter, TextToldBy, Three, ToldBy, TraceFault}
+pub use Rattle.pie_audit.specs.{Unmakeable, active_after, after_line, coming_after, coming_by, coming_from, counted_with, decision, differs}
+pub use Rattle.pie_audit.specs.{differs_at, event_in, event_row, fault_after, fault_by, fields_of, filter_map, find, finding_after, finding_by}
+pub use Rattle.pie_audit.specs.{is_active_after, is_device, is_resumed, is_same_answer, is_some, lines_after, min, nat_lt, next_number}
+pub use Rattle.pie_audit.specs.{number_of, opening_refusal, option_map, part_rows, records_of, refusal_by_rule, sets_after, sets_probability}
+pub use Rattle.pie_audit.specs.{setter_at, setter_by, setter_told, setter_with, start_after, text_finding, written_rows, ⊤}
 pub use Rattle.pie_audit.specs.declared.auditor.Finding.{Finding}
 pub use Rattle.pie_audit.specs.Start.{Start}
 unfoldable pub use Rattle.pie_audit.specs.{TellEach, agrees, event_count, events_of, excerpt_fault, excerpt_lines, finding, first_difference}
@@ -30,21 +28,15 @@ unfoldable pub use Rattle.pie_audit.specs.{history_opening, line_places, opening
 pub use Rattle.pie_aqm.specs.Places.{Place, after}
 unfoldable pub use Rattle.pie_aqm.specs.Places.{places}
 pub use Rattle.pie_book.specs.Decision.{refusal_with}
-pub use Rattle.pie_book.specs.Estimates.{due_after}
-unfoldable pub use Rattle.pie_book.specs.History.{effective_moment}
 unfoldable pub use Rattle.pie_book.specs.Registers.{registers_after}
 pub use Rattle.pie_book.specs.Run.{refused_or}
 pub use Rattle.pie_event.specs.Setter.{setter_from}
 pub use Rattle.pie_event.specs.declared.opening.Limits.{Limits}
-pub use Rattle.pie_event.specs.declared.opening.Mode.TheVariants.{Bounded}
-pub use Rattle.pie_event.specs.declared.profile.Profile.TheVariants.{One}
 pub use Rattle.pie_event.specs.declared.refusal.Refusal.{Refusal}
 pub use Rattle.pie_event.specs.declared.registers.Registers.{Registers}
 pub use Rattle.pie_excerpt.specs.Beginning.{BeginsWell}
 unfoldable pub use Rattle.pie_excerpt.specs.Rows.{queued_row, resume_row}
 pub use Rattle.pie_excerpt.specs.Written.{begun_at, resume_of_excerpt, resume_with}
-pub use Rattle.pie_params.specs.Elements.{usual}
-pub use Rattle.pie_params.specs.Profile.{default_profile}
 pub use Rattle.pie_queue.specs.declared.packet.Waiting.{Waiting}
 pub use Rattle.pie_record.specs.Fault.{closed}
 pub use Rattle.pie_record.specs.HistoryLines.{Gives, is_event}

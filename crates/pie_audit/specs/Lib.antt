@@ -9,7 +9,6 @@ pub mod Start
 pub mod Following
 pub mod Lines
 pub mod Told
-pub mod Worked
 unfoldable pub use Names.*
 unfoldable pub use Finding.*
 unfoldable pub use Auditor.*
@@ -21,4 +20,3 @@ unfoldable pub use Start.*
 unfoldable pub use Following.*
 unfoldable pub use Lines.*
 unfoldable pub use Told.*
-unfoldable pub use Worked.*

@@ -17,10 +17,8 @@ pub use Rattle.pie_book.specs.declared.standing.Standing.{Standing}
 pub use Rattle.pie_event.specs.Opening.{opening_refusal}
 pub use Rattle.pie_event.specs.Ranges.{CommandFits, ParamsFit}
 pub use Rattle.pie_event.specs.declared.command.Answer.{Answer}
-pub use Rattle.pie_event.specs.declared.command.Answer.TheVariants.{Done, DroppedBytes, DroppedEarly, DroppedPackets, Empty, Enqueued, Left, Marked}
-pub use Rattle.pie_event.specs.declared.command.Answer.TheVariants.{Updated}
 pub use Rattle.pie_event.specs.declared.command.Command.{Command}
-pub use Rattle.pie_event.specs.declared.command.Command.TheVariants.{Arrive, Depart, Reset, Update}
+pub use Rattle.pie_event.specs.declared.command.Command.TheVariants.{Arrive, Reset, Update}
 pub use Rattle.pie_event.specs.declared.command.Event.{Event}
 pub use Rattle.pie_event.specs.declared.opening.Opening.{Opening}
 pub use Rattle.pie_event.specs.declared.refusal.OpenRefusal.TheVariants.{Memory}
@@ -29,18 +27,13 @@ pub use Rattle.pie_excerpt.specs.Beginning.{Beginning, GoesOn, is_resumed}
 unfoldable pub use Rattle.pie_excerpt.specs.Beginning.{resumed_of}
 pub use Rattle.pie_excerpt.specs.Written.{IsWritten, excerpt_rows, part_rows}
 pub use Rattle.pie_params.specs.Range.{first_bad}
-pub use Rattle.pie_queue.specs.declared.ecn.Ecn.{Ecn}
-pub use Rattle.pie_queue.specs.declared.ecn.Ecn.TheVariants.{Ce, Ect0, Ect1, NotEct}
-pub use Rattle.pie_queue.specs.declared.packet.Packet.{Packet}
 pub use Rattle.pie_record.specs.Fault.{IsOfInput, IsWrite, is_device}
-unfoldable pub use Rattle.pie_record.specs.FirstRecord.{version_of}
-pub use Rattle.pie_record.specs.HistoryLines.{Coming, LinesView, coming_after, coming_from, history_lines, later_fault}
+unfoldable pub use Rattle.pie_record.specs.FirstRecord.{version_of, opening_of}
+pub use Rattle.pie_record.specs.HistoryLines.{Coming, LinesView, coming_after, coming_from}
 unfoldable pub use Rattle.pie_record.specs.HistoryLines.{event_count, fault_from, history_opening, latest_clock, lines_from}
-unfoldable pub use Rattle.pie_record.specs.FirstRecord.{opening_of}
 pub use Rattle.pie_record.specs.ReadBack.{EventFits, TellsHistory}
 unfoldable pub use Rattle.pie_record.specs.ReadBack.{TellEach}
-pub use Rattle.pie_record.specs.Text.{TakesRow}
-pub use Rattle.pie_record.specs.Text.{HasField, Row, records_of}
+pub use Rattle.pie_record.specs.Text.{TakesRow, HasField, Row, records_of}
 unfoldable pub use Rattle.pie_record.specs.Text.{rows_text}
 pub use Rattle.pie_record.specs.Write.{event_row, written_rows}
 pub use Rattle.pie_record.specs.declared.fault.TraceFault.{TraceFault}

@@ -4,7 +4,8 @@ use Rattle.pie_commands.proofs.Names.{IfOk, IfSome, Result, Ok, Err, Appends, Te
 use Rattle.pie_commands.proofs.Names.{finding_line, End, Done, Fault, Unable, Failed, EndsEither, EndsAudit, EndsBy, EndsMigrate}
 use Rattle.pie_commands.proofs.Names.{EndsRun, TellsFound, audit_ends, end_found, end_of, run_ends, run_ends_by, status_of}
 use Rattle.pie_trace.specs.declared.run.RunEnd.{RunEnd}
-use Rattle.pie_trace.specs.Resumed.{RunsBy, RunsEither}
+use Rattle.pie_trace.specs.Pass.{Comes}
+use Rattle.pie_trace.specs.Resumed.{RunsEither, run_by}
 use Rattle.pie_trace.specs.Migrate.{history_events, history_fault, migrated_text}
 use Rattle.pie_record.specs.Text.{Row}
 use Rattle.pie_excerpt.specs.Beginning.{is_resumed}
@@ -47,17 +48,14 @@ if-known None P all = tt
 if-known (Some text) P all = all text
 
 pub run-unable : (kind : Bool) (rows : List Row) (before now : Option (List ℕ)) → now ≡ before → run_ends_by kind rows Unable before now
-run-unable false rows before now same = same
-run-unable true rows before now same = same
+run-unable kind rows before now same = same
 
 -- ---- `pie run` and `pie migrate`
 
-run-told : (kind : Bool) (rows : List Row) (given : Result RunEnd TraceFault) (before now : Option (List ℕ)) → RunsBy kind (2 ^ 32) rows given before now
-    → run_ends_by kind rows (end_of given) before now
-run-told false rows (Ok end) before now ran = (ran.0, ran.2)
-run-told false rows (Err why) before now ran = ran
-run-told true rows (Ok end) before now ran = (ran.0, ran.2)
-run-told true rows (Err why) before now ran = ran
+run-told : (kind : Bool) (rows : List Row) (given : Result RunEnd TraceFault) (before now : Option (List ℕ))
+    → Comes (run_by kind (2 ^ 32) rows) given before now → run_ends_by kind rows (end_of given) before now
+run-told kind rows (Ok end) before now ran = (ran.0, ran.2)
+run-told kind rows (Err why) before now ran = ran
 
 pub EndsRun-told : (known : Option (List ℕ)) (given : Result RunEnd TraceFault) (before now : Option (List ℕ))
     → IfSome known (λ text. RunsEither (2 ^ 32) (records_of text) given before now) → IfSome known (λ text. EndsRun text (end_of given) before now)

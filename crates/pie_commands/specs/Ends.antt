@@ -6,9 +6,9 @@ use Rattle.pie_record.specs.declared.fault.TraceFault.{TraceFault}
 use Rattle.pie_record.specs.declared.fault.TraceFault.TheVariants as trace_fault
 use Rattle.pie_record.specs.Fault.{is_device}
 use Rattle.pie_trace.specs.declared.run.RunEnd.{RunEnd}
-use Rattle.pie_trace.specs.History.{fault_of, history_text}
 use Rattle.pie_trace.specs.Migrate.{history_fault, migrated_text}
-use Rattle.pie_trace.specs.Resumed.{WritesExcerpt, resumed_fault}
+use Rattle.pie_trace.specs.Pass.{Writes}
+use Rattle.pie_trace.specs.Resumed.{run_by}
 use Rattle.pie_record.specs.Text.{Row, records_of}
 use Rattle.pie_excerpt.specs.Beginning.{is_resumed}
 use Rattle.pie_audit.specs.declared.auditor.Finding.{Finding}
@@ -64,8 +64,7 @@ run_ends found writes Failed before now = ⊥
 -- .. a trace of these records, from its opening on; or one that goes on from the middle of a history, where what is written is as whatever history it
 -- goes on after has it
 abbrev pub run_ends_by : Bool → List Row → End → Option (List ℕ) → Option (List ℕ) → Type 0
-run_ends_by false rows = run_ends (fault_of (2 ^ 32) rows) (λ before now. Appends before now (history_text (2 ^ 32) rows))
-run_ends_by true rows = run_ends (resumed_fault (2 ^ 32) rows) (WritesExcerpt (2 ^ 32) rows)
+run_ends_by kind rows = let run = run_by kind (2 ^ 32) rows in run_ends run.found (Writes run)
 
 -- .. the trace being this input
 abbrev pub EndsRun : List ℕ → End → Option (List ℕ) → Option (List ℕ) → Type 0

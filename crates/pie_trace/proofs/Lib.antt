@@ -2,5 +2,4 @@ mod Names
 pub mod RunFacts
 pub mod Examples
 pub mod MigrateFacts
-pub mod MigrateLaws
 pub mod RunBack

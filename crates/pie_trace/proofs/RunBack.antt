@@ -18,9 +18,8 @@ use Rattle.pie_record.specs.FirstRecord.{opening_by}
 use Rattle.pie_record.specs.ReadBack.{TextsAreReadBack}
 use Rattle.pie_trace.specs.History.{Begun, going_on, text_in, end_in, fault_in}
 use Rattle.pie_trace.proofs.RunFacts.{before_fault-later, first-one, flawed-record, long-record, requests_of-cons, whole-opened, first_fault-here}
-use Rattle.pie_trace.proofs.RunFacts.{first_fault-later, progress_after-request, one-value, part-opened}
+use Rattle.pie_trace.proofs.RunFacts.{first_fault-later, progress_after-request, part-opened}
 use Rattle.pie_trace.specs.Laws.{Held}
-use Rattle.pie_trace.proofs.MigrateFacts.{first-word, told_rows-line, told_rows-none}
 use Rattle.pie_trace.specs.Reply.{answered, shown, tallied}
 use Rattle.pie_record.specs.declared.history_record.Line.TheVariants.{Note, Made}
 use Rattle.pie_audit.specs.Finding.{event_in, events_of}
@@ -37,6 +36,8 @@ use Rattle.pie_event.specs.declared.refusal.Refusal.TheVariants as refusal
 use Rattle.pie_record.specs.declared.fault.TraceFault.TheVariants as fault
 use Rattle.pie_record.specs.declared.trace_record.Request.TheVariants as request
 use Rattle.pie_record.specs.declared.history_record.Line.TheVariants as line
+use Rattle.pie_trace.proofs.Names.{kind-first, is_kind, codes, told_by}
+use Rattle.pie_record.specs.declared.first_record.FirstKind.TheVariants as kind
 
 -- how far a run has come
 pub record Sound (opening : Opening) (progress : Progress) : Type 0 where
@@ -229,6 +230,20 @@ pub record Written (kind : FirstKind) (rest : Row) (rows : List Row) (opening : 
   pub told : TellEach (version_of (kind_word kind ∷ rest)) rows lines
   pub few : length rows < 2 ^ 32
 
+pub told_rows-line : (version : Version) (most number : ℕ) (row : Row) (rows : List Row) (line : Line) → told_by version most number row ≡ Ok line
+    → told_rows version most number (row ∷ rows) ≡ row ∷ told_rows version most (number + 1) rows
+unfolding told_rows
+told_rows-line version most number row rows line tells = rw tells refl
+
+pub told_rows-failed : (version : Version) (most number : ℕ) (row : Row) (rows : List Row) (why : TraceFault)
+    → told_by version most number row ≡ Err why → told_rows version most number (row ∷ rows) ≡ []
+unfolding told_rows
+told_rows-failed version most number row rows why tells = rw tells refl
+
+pub told_rows-none : (version : Version) (most number : ℕ) → told_rows version most number [] ≡ []
+unfolding told_rows
+told_rows-none version most number = refl
+
 -- records that each tell a line are all told
 all-told : (version : Version) (most number : ℕ) (rows : List Row) (lines : List Line) → number + length rows ≤ most + 1
     → TellEach version rows lines → told_rows version most number rows ≡ rows
@@ -250,6 +265,25 @@ module _ (texts : TextsAreReadBack) (kind : FirstKind) (rest : Row) (rows : List
   written-kept w = let few = w.few in all-told (version_of (kind_word kind ∷ rest)) (2 ^ 32) 2 rows lines (omega arith) w.told
 
 -- ---- the first record
+
+-- the kind of a first record is its first field
+pub first-word : (row : Row) (is : FirstKind) → first_kind row ≡ Some is → row ≡ kind_word is ∷ drop 1 row
+unfolding first_kind
+first-word row is = by (is_kind row (codes "open")) (is_kind row (codes "rolling")) (is_kind row (codes "open2"))
+    (is_kind row (codes "open3")) refl refl refl refl
+  where
+    so : (k : FirstKind) → is_kind row (kind_word k) ≡ true → Some k ≡ Some is → row ≡ kind_word is ∷ drop 1 row
+    so k there e = let same : k ≡ is = cc in rw (← same) (kind-first row (kind_word k) there)
+
+    by : (a b c d : Bool) → is_kind row (codes "open") ≡ a → is_kind row (codes "rolling") ≡ b → is_kind row (codes "open2") ≡ c
+        → is_kind row (codes "open3") ≡ d
+        → (if a then Some kind.Open else if b then Some kind.Rolling else if c then Some kind.Open2 else if d then Some kind.Open3 else None)
+        ≡ Some is → row ≡ kind_word is ∷ drop 1 row
+    by true b c d p q r s e = so kind.Open p e
+    by false true c d p q r s e = so kind.Rolling q e
+    by false false true d p q r s e = so kind.Open2 r e
+    by false false false true p q r s e = so kind.Open3 s e
+    by false false false false p q r s e = cc
 
 pub record Opened (row : Row) (opening : Opening) : Type 0 where
   pub begins : Begins row
@@ -445,7 +479,7 @@ before-all version most number (row ∷ rows) e = by (record_fault version most 
         (later (sym (first_fault-later version most number row rows r) ∙ e))
 
 pub whole-clean : ReadBack → LegalIsClean → Held → (most : ℕ) (rows : List Row) (end : RunEnd) → most ≤ 2 ^ 32 → fault_of most rows ≡ None
-    → end_of rows ≡ Some end → text_finding (records_of (history_text most rows)) ≡ Ok (Clean end.events)
+    → end_of most rows ≡ Some end → text_finding (records_of (history_text most rows)) ≡ Ok (Clean end.events)
 unfolding fault_of end_of
 whole-clean told clean held most [] end few sound ended = cc
 whole-clean told clean held most (row ∷ rows) end few sound ended = by (most == 0) (opening_of row) refl refl sound ended
@@ -461,7 +495,8 @@ whole-clean told clean held most (row ∷ rows) end few sound ended = by (most =
     opened o = and_then o (λ opening. Ok (record { version = version_of row; opening = opening; read = 1; left = rows }))
 
     by : (none : Bool) (o : Result Opening TraceFault) → (most == 0) ≡ none → opening_of row ≡ o
-        → fault_in most (if none then Err fault.TooLong else opened o) ≡ None → end_in [] (opened o) ≡ Some end
+        → fault_in most (if none then Err fault.TooLong else opened o) ≡ None
+        → end_in [] (if none then Err fault.TooLong else opened o) ≡ Some end
         → text_finding (records_of (history_text most (row ∷ rows))) ≡ Ok (Clean end.events)
     by true o z opens e f = cc
     by false (Err why) z opens e f = cc
@@ -532,7 +567,7 @@ pub resumed-clean : Below → (most : ℕ) (rows : List Row) (opening : Opening)
     → IsFound (resumed_text most past rows) opening past (Clean (length (progress_resumed most past b).history))
 resumed-clean law most rows opening past b few goes fit e =
     let at = within most rows b e in
-    let same = one-value (resumed_of rows) goes.beginning b goes.resumed at.begun in
+    let same : goes.beginning ≡ b = cc in
     let opened : b.opening ≡ opening = subst (λ (it : Beginning). it.opening ≡ opening) same goes.opened in
     let shows : Shows opening b.core past = subst (λ (it : Beginning). Shows opening it.core past) same goes.shown in
     let legal : IsLegal b.opening past = subst (λ (o : Opening). IsLegal o past) (sym opened) shows.legal in
@@ -556,21 +591,19 @@ resumed-clean law most rows opening past b few goes fit e =
 -- ---- one without a fault
 
 pub resumed-whole : Below → (most : ℕ) (rows : List Row) (opening : Opening) (past : List Event) (end : RunEnd) → most ≤ 2 ^ 32
-    → GoesOn rows opening past → All (λ event. CommandFits event.command) past → resumed_fault most rows ≡ None → resumed_end past rows ≡ Some end
-    → IsFound (resumed_text most past rows) opening past (Clean end.events)
+    → GoesOn rows opening past → All (λ event. CommandFits event.command) past → resumed_fault most rows ≡ None
+    → resumed_end most past rows ≡ Some end → IsFound (resumed_text most past rows) opening past (Clean end.events)
 unfolding resumed_fault resumed_end
-resumed-whole law most rows opening past end few goes fit sound ended = by (resumed_within most rows) refl sound
+resumed-whole law most rows opening past end few goes fit sound ended = by (resumed_within most rows) refl sound ended
   where
     found : ℕ → Type 0
     found events = IsFound (resumed_text most past rows) opening past (Clean events)
 
     by : (read : Result Beginning TraceFault) → resumed_within most rows ≡ read
-        → fault_in most (and_then read (λ begun. Ok (going_by begun))) ≡ None → found end.events
-    by (Err why) is e = cc
-    by (Ok b) is e =
-        let at = within most rows b is in
-        let here : end_in past (and_then (resumed_of rows) (λ begun. Ok (going_by begun))) ≡ Some end = ended in
-        let is-end : Some (end_left Three b.opening (going_on past) 0 b.left) ≡ Some end = rw at.begun at here in
+        → fault_in most (and_then read (λ begun. Ok (going_by begun))) ≡ None
+        → end_in past (and_then read (λ begun. Ok (going_by begun))) ≡ Some end → found end.events
+    by (Err why) is e f = cc
+    by (Ok b) is e f =
         let same : end_left Three b.opening (going_on past) 0 b.left ≡ end = cc in
         subst (λ (r : RunEnd). found r.events) same
         (subst (λ (rest : List Row). found (length (progress_after b.opening (going_on past) (steps_of (requests_of Three rest))).history))
@@ -643,9 +676,6 @@ behind-queue count (packet ∷ waiting) [] after left is = cc
 behind-queue count (packet ∷ waiting) (row ∷ before) after left is =
     behind-queue count waiting before after left (let rest : before ++ (lost_row count ∷ after) ≡ map queued_row waiting ++ left = cc in rest)
 
-some-none : (why : TraceFault) → (let found : Option TraceFault = Some why in found) ≢ None
-some-none why = λ e. cc
-
 -- what pie_excerpt promises of all beginnings
 module _ (again : (row : Row) (rows : List Row) (begun : Beginning) → resumed_of (row ∷ rows) ≡ Ok begun
     → take begun.read (row ∷ rows) ≡ row ∷ map queued_row begun.core.waiting)
@@ -679,7 +709,7 @@ module _ (again : (row : Row) (rows : List Row) (begun : Beginning) → resumed_
   lost-part-is-fault count before after = by (resumed_of (before ++ (lost_row count ∷ after))) refl
     where
       by : (r : Result Beginning TraceFault) → resumed_of (before ++ (lost_row count ∷ after)) ≡ r → fault_after r ≢ None
-      by (Err why) is = some-none why
+      by (Err why) is = λ e. cc
       by (Ok begun) is = let has = begun-left count before after begun is in λ e.
           lost-later Three (2 ^ 32) (begun.read + 1) count has.before has.after
           (ap (λ (rs : List Row). fault_from Three (2 ^ 32) (begun.read + 1) rs) (sym has.is) ∙ e)

@@ -25,11 +25,9 @@ pub use Rattle.pie_record.specs.Answer.{code_of}
 unfoldable pub use Rattle.pie_record.specs.Answer.{answer_fields, folded_row, refused_row, shown_row, tallied_row}
 pub use Rattle.pie_record.specs.Fault.{IsRead, IsTold, IsWrite, closed, fault_at, is_device}
 pub use Rattle.pie_record.specs.Field.{and_then, is_kind}
-unfoldable pub use Rattle.pie_record.specs.FirstRecord.{first_kind, version_of}
+unfoldable pub use Rattle.pie_record.specs.FirstRecord.{first_kind, version_of, opening_of}
 pub use Rattle.pie_record.specs.HistoryLines.{Coming, coming_after, event_count, events_in, fault_from, history_lines, lines_from, told_by}
-unfoldable pub use Rattle.pie_record.specs.HistoryLines.{after_opening, history_opening, history_version}
-unfoldable pub use Rattle.pie_record.specs.HistoryLines.{line_of, shown_line}
-unfoldable pub use Rattle.pie_record.specs.FirstRecord.{opening_of}
+unfoldable pub use Rattle.pie_record.specs.HistoryLines.{after_opening, history_opening, history_version, line_of, shown_line}
 pub use Rattle.pie_record.specs.ReadBack.{Begins, TellsHistory}
 pub use Rattle.pie_record.specs.Text.{HasField, Row, records_of, text_of}
 unfoldable pub use Rattle.pie_record.specs.Text.{rows_text}

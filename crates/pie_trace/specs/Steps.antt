@@ -1,9 +1,9 @@
 -- What the run of a trace comes to, and how far it has come.
 use Rattle.std.specs.Prelude.{◌≡◌, ◌+◌, cond}
-use Rattle.pie_trace.specs.Names.{ℕ, List, length, Some, None, Ok, Appends, Opening, BookView, Tells, opening_refusal, Progress, Request, Version}
+use Rattle.pie_trace.specs.Names.{ℕ, List, length, Some, None, Ok, Opening, BookView, Tells, opening_refusal, Progress, Request, Version}
 use Rattle.pie_trace.specs.Names.{Row, text_of, request_of}
 use Rattle.pie_trace.specs.declared.run.RunEnd.{RunEnd}
-use Rattle.pie_trace.specs.History.{end_left, end_of, fault_of, first_fault, history_text, text_left}
+use Rattle.pie_trace.specs.History.{end_left, first_fault, text_left}
 use Rattle.pie_trace.specs.Pass.{Pass}
 use Rattle.pie_trace.specs.Reply.{Reply, after, history_row, is_refused, reply}
 
@@ -33,17 +33,10 @@ Replies version number request old new refused refused_then text =
 
 -- what the run of these records comes to, the first with this number, before which the book stood so and so many were refused, whatever history the
 -- book tells: their first fault, what the run ends with, and what is written of them, up to the first that has a fault
-abbrev pub runs_on : Version → ℕ → Opening → ℕ → BookView → ℕ → List Row → Pass RunEnd
+abbrev pub runs_on : Version → ℕ → Opening → ℕ → BookView → ℕ → List Row → Pass Progress RunEnd
 runs_on version most opening number book refused rows = record {
   found = first_fault version most number rows;
-  gives = λ end. (from : Progress) → IsAt book opening from → end ≡ end_left version opening from refused rows;
-  writes = λ before now. (from : Progress) → IsAt book opening from → Appends before now (text_left version most opening number from rows);
-}
-
--- what the run of a whole trace comes to
-abbrev pub whole_run : ℕ → List Row → Pass RunEnd
-whole_run most rows = record {
-  found = fault_of most rows;
-  gives = λ end. end_of rows ≡ Some end;
-  writes = λ before now. Appends before now (history_text most rows);
+  may_follow = IsAt book opening;
+  gives = λ from. Some (end_left version opening from refused rows);
+  text = λ from. text_left version most opening number from rows;
 }

@@ -63,7 +63,7 @@ pub fn resumed_runs_go_on_as_the_whole()
 ///
 /// It does nothing: its contract is the law (this project's own).
 pub fn runs_are_clean()
-    ensures whole { (most : ℕ) (rows : List Row) (end : RunEnd) → most ≤ 2 ^ 32 → fault_of most rows ≡ None → end_of rows ≡ Some end
+    ensures whole { (most : ℕ) (rows : List Row) (end : RunEnd) → most ≤ 2 ^ 32 → fault_of most rows ≡ None → end_of most rows ≡ Some end
         → text_finding (records_of (history_text most rows)) ≡ Ok (Clean end.events) }
     ensures up_to_fault { (most : ℕ) (row : Row) (rows : List Row) (opening : Opening) → 0 < most → most ≤ 2 ^ 32 → opening_of row ≡ Ok opening
         → text_finding (records_of (history_text most (row ∷ rows)))
@@ -81,7 +81,7 @@ pub fn runs_are_clean()
 /// It does nothing: its contract is the law (this project's own).
 pub fn resumed_runs_are_clean()
     ensures whole { (most : ℕ) (rows : List Row) (opening : Opening) (past : List Event) (end : RunEnd) → most ≤ 2 ^ 32 → GoesOn rows opening past
-        → All (λ event. CommandFits event.command) past → resumed_fault most rows ≡ None → resumed_end past rows ≡ Some end
+        → All (λ event. CommandFits event.command) past → resumed_fault most rows ≡ None → resumed_end most past rows ≡ Some end
         → IsFound (resumed_text most past rows) opening past (Clean end.events) }
     ensures up_to_fault { (most : ℕ) (rows : List Row) (opening : Opening) (past : List Event) (begun : Beginning) → most ≤ 2 ^ 32
         → GoesOn rows opening past → All (λ event. CommandFits event.command) past → resumed_within most rows ≡ Ok begun
@@ -122,6 +122,7 @@ pub fn migrated_histories_are_read_back()
 /// What was migrated is migrated to itself.
 ///
 /// It does nothing: its contract is the law (this project's own).
+#[tactic(auto, using(crate::proofs::MigrateFacts::migrated_twice))]
 pub fn migrating_again_changes_nothing()
     ensures { (rows : List Row) → migrated_text (2 ^ 32) (records_of (migrated_text (2 ^ 32) rows)) ≡ migrated_text (2 ^ 32) rows }
 {
@@ -133,6 +134,7 @@ pub fn migrating_again_changes_nothing()
 /// a fault, both are the text of the records before it.
 ///
 /// It does nothing: its contract is the law (this project's own).
+#[tactic(auto, using(crate::proofs::MigrateFacts::run_migrated))]
 pub fn migrated_runs_are_runs_of_version_two()
     ensures { (most : ℕ) (row : Row) (rows : List Row) → most ≤ 2 ^ 32
         → migrated_text (2 ^ 32) (records_of (history_text most (row ∷ rows))) ≡ history_text most (first_in_two row ∷ rows) }

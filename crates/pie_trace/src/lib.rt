@@ -7,7 +7,7 @@
 //! `Write` or `Memory`: Ok exactly where the text has no fault (clause `ends`, with the numbers, registers and statistics of the
 //! run), and else its first fault (`faults`); what was written is the history text (`writes`). They end over a reader that
 //! never ends. Of a trace that goes on from the middle of a history (`either`): for every history that comes to the numbers and packets with
-//! which it begins, what a run of the whole would write and tell from there on, where its tail is empty (`excerpt_run`).
+//! which it begins, what a run of the whole would write and tell from there on, where its tail is empty (`run_by`).
 //!
 //! `history_texts_are_read_back`: what a run writes is read back as the same opening and events.
 //!

@@ -1,4 +1,4 @@
-use Rattle.pie_trace.proofs.MigrateLaws.{migrated-tells, migrated-version, same-told}
+use Rattle.pie_trace.proofs.MigrateFacts.{migrated-tells, migrated-version, same-told}
 use Rattle.pie_trace.proofs.law.migrated_histories_are_read_back.Goals as goal
 
 pub returns : goal.returns

@@ -1,6 +1,5 @@
 mod Names
 mod Examples
-pub mod HeldFacts
 pub mod RecordFacts
 pub mod WordFacts
 pub mod ReportFacts

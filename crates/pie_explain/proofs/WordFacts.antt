@@ -1,7 +1,6 @@
 -- A number is written with zeros before it.
-use Rattle.std.proofs.Common.{◌≡◌, ◌-◌, ◌==◌, true, ℕ, [], length, arith, refl, append-nil}
+use Rattle.std.proofs.Common.{◌≡◌, ◌-◌, ℕ, [], length, arith, refl, append-nil}
 use Rattle.std.specs.Prelude.{false}
-use Rattle.std.proofs.lemmas.Bool.Decides.{nat_tests}
 use Rattle.std.specs.Fmt.{char_count, decimal, format_spec, padded_integral}
 use Rattle.pie_units.specs.Utc.{with_zeros}
 

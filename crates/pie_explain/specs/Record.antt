@@ -87,15 +87,13 @@ head_fields told =
 abbrev pub packet_fields : Option Packet → List (List ℕ)
 packet_fields packet = number_field (option_map (λ p. p.tag) packet) ∷ number_field (option_map (λ p. p.size) packet) ∷ []
 
--- what a controller holds: what mostly changes from one event to the next, how much waits and how long, and what often stays as it is
-abbrev pub moving_fields : ℕ → ℕ → ℕ → List (List ℕ)
-moving_fields bytes packets delay = decimal bytes ∷ decimal packets ∷ decimal delay ∷ []
-
+-- what a controller holds: how much waits and how long, which mostly changes from one event to the next, and what often stays as it is
 abbrev pub steady_fields : ℕ → ℕ → ℕ → List (List ℕ)
 steady_fields prob accu burst = decimal prob ∷ decimal accu ∷ decimal burst ∷ []
 
 abbrev pub held_fields : Registers → ℕ → List (List ℕ)
-held_fields held delay = moving_fields held.bytes held.packets delay ++ steady_fields held.prob held.accu held.burst
+held_fields held delay =
+    decimal held.bytes ∷ decimal held.packets ∷ decimal delay ∷ steady_fields held.prob held.accu held.burst
 
 -- what became of the event, what decided it, and the numbers that it met
 abbrev pub met_fields : Explanation → List (List ℕ)

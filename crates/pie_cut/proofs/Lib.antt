@@ -1,8 +1,6 @@
 mod Names
-mod PlaceFacts
-mod TextFacts
+mod TempFacts
+pub mod TextFacts
 mod PartFacts
-mod SegmentFacts
 mod Examples
-mod JoinedFacts
-mod ChainText
+pub mod JoinedFacts

@@ -30,16 +30,14 @@ pub use Rattle.pie_excerpt.specs.Rows.{queued_row}
 unfoldable pub use Rattle.pie_excerpt.specs.Rows.{resume_row}
 pub use Rattle.pie_excerpt.specs.Written.{IsWritten, part_rows, resume_with}
 pub use Rattle.pie_queue.specs.declared.packet.Waiting.{Waiting}
-pub use Rattle.pie_record.specs.Clock.{clock_row}
 pub use Rattle.pie_record.specs.Fault.{is_device}
 pub use Rattle.pie_record.specs.HistoryLines.{Coming, events_in, history_lines, latest_clock}
 unfoldable pub use Rattle.pie_record.specs.HistoryLines.{event_count}
 pub use Rattle.pie_record.specs.ReadBack.{EventFits}
 pub use Rattle.pie_record.specs.Text.{Row, records_of, text_of}
 unfoldable pub use Rattle.pie_record.specs.Text.{rows_text}
-pub use Rattle.pie_record.specs.Write.{change_event, event_row}
+pub use Rattle.pie_record.specs.Write.{change_event, line_rows}
 pub use Rattle.pie_record.specs.declared.clock.Clock.{Clock}
 pub use Rattle.pie_record.specs.declared.fault.TraceFault.{TraceFault}
-pub use Rattle.pie_record.specs.declared.history_reader.Course.TheVariants.{Going}
 pub use Rattle.pie_record.specs.declared.history_record.Line.{Line}
 pub use Rattle.pie_record.specs.declared.history_record.Line.TheVariants.{Made, Note, Unmakeable}

@@ -10,7 +10,7 @@ pub use Rattle.pie_explain.specs.{Start, TraceFault, answered, append_known, eve
 pub use Rattle.pie_explain.specs.{is_whole, latest_clock, moment_of, nat_lt, no_event, option_map, picks, setter_after, setter_by, setter_told}
 pub use Rattle.pie_explain.specs.{told_after, told_at, told_if, told_unless, told_unless_differs, with_after}
 unfoldable pub use Rattle.pie_explain.specs.{explanation, explanations_since}
-pub use Rattle.pie_explain.specs.Names.{Selection, Explanation}
+pub use Rattle.pie_explain.specs.Names.{Explanation, Selection}
 pub use Rattle.pie_record.specs.declared.clock.Clock.{Clock}
 pub use Rattle.pie_audit.proofs.AuditorFacts.{event_count-append, few-events, is-since, made-count, none-before, none_of}
 pub use Rattle.pie_audit.proofs.LegalFacts.{event_count-push, line_places-push, place_of}

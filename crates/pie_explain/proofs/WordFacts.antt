@@ -1,10 +1,87 @@
--- A number is written with zeros before it.
-use Rattle.std.proofs.Common.{◌≡◌, ◌-◌, ℕ, [], length, arith, refl, append-nil}
-use Rattle.std.specs.Prelude.{false}
+-- What is written: numbers with zeros before them, records put together from their fields, and reports.
+use Rattle.std.proofs.Common.{List, [], ap, append-nil, append_assoc, arith, codes, length, refl, sym, ℕ, ◌++◌, ◌-◌, ◌∙◌, ◌∷◌, ◌≡◌}
+use Rattle.std.specs.Prelude.{Err, Ok, OnOk, Result, false}
 use Rattle.std.specs.Fmt.{char_count, decimal, format_spec, padded_integral}
 use Rattle.pie_units.specs.Utc.{with_zeros}
+use Rattle.pie_explain.specs.declared.explanation.Explained.{Explained}
+use Rattle.pie_explain.specs.Record.{active_field, line_of, most_fields, onto, record_of}
+use Rattle.std.specs.List.{flat_map}
+use Rattle.std.proofs.lemmas.List.Concat.{flat_map-append}
+use Rattle.pie_explain.specs.declared.form.Form.{Form}
+use Rattle.pie_explain.specs.Output.{header, pages, said, said_of}
+use Rattle.pie_explain.specs.Report.{Grows}
+
+-- ==== A number is written with zeros before it
 
 pub padded : (width n : ℕ) → padded_integral (format_spec 32 0 4 width 18446744073709551615) false [] (decimal n) ≡ with_zeros width n
 unfolding padded_integral char_count
 padded width n =
     let same : width - length (decimal n) - 0 - 0 ≡ width - length (decimal n) = omega arith in rw (same, append-nil (decimal n)) refl
+
+-- ==== A record is put together
+
+-- fields before the last, which stands at the end of the line
+line-onto : (fields : List (List ℕ)) (last : List ℕ) → line_of (fields ++ last ∷ []) ≡ onto fields (last ++ codes "\n")
+line-onto [] last = refl
+line-onto (f ∷ []) last = append_assoc f (codes ",") (last ++ codes "\n")
+line-onto (f ∷ (g ∷ fs)) last =
+    ap (λ (l : List ℕ). f ++ codes "," ++ l) (line-onto (g ∷ fs) last) ∙ append_assoc f (codes ",") (onto (g ∷ fs) (last ++ codes "\n"))
+
+-- fields before a text are those before its front, and then its rest
+pub onto-append : (fields : List (List ℕ)) (front rest : List ℕ) → onto fields front ++ rest ≡ onto fields (front ++ rest)
+onto-append [] front rest = refl
+onto-append (f ∷ fs) front rest = append_assoc f (44 ∷ onto fs front) rest ∙ ap (λ (l : List ℕ). f ++ (44 ∷ l)) (onto-append fs front rest)
+
+-- where all fields but the last were written, and then the last of them
+pub last-written : {A E : Type 0} (result : Result A E) (all : Explained) (old with_most new : List ℕ)
+    → with_most ≡ old ++ onto (most_fields all) []
+    → OnOk result (new ≡ with_most ++ (active_field all.after.active ++ codes "\n"))
+    → OnOk result (new ≡ old ++ line_of (record_of all))
+last-written (Err why) all old with_most new most-is is = tt
+last-written (Ok done) all old with_most new most-is is =
+    let last : List ℕ = active_field all.after.active ++ codes "\n" in
+    is ∙ ap (λ (l : List ℕ). l ++ last) most-is ∙ append_assoc old (onto (most_fields all) []) last
+    ∙ ap (λ (l : List ℕ). old ++ l) (onto-append (most_fields all) [] last ∙ sym (line-onto (most_fields all) (active_field all.after.active)))
+
+-- .. or the last and the time of day
+pub wall-written : {A E : Type 0} (result : Result A E) (all : Explained) (wall old with_most with_active with_wall new : List ℕ)
+    → with_most ≡ old ++ onto (most_fields all) []
+    → with_active ≡ with_most ++ (active_field all.after.active ++ codes ",")
+    → with_wall ≡ with_active ++ wall
+    → OnOk result (new ≡ with_wall ++ codes "\n")
+    → OnOk result (new ≡ old ++ line_of (record_of all ++ wall ∷ []))
+wall-written (Err why) all wall old with_most with_active with_wall new most-is active-is wall-is is = tt
+wall-written (Ok done) all wall old with_most with_active with_wall new most-is active-is wall-is is =
+    let most : List ℕ = onto (most_fields all) [] in
+    let active : List ℕ = active_field all.after.active in
+    let rest : List ℕ = active ++ (44 ∷ (wall ++ codes "\n")) in
+    is ∙ ap (λ (l : List ℕ). l ++ codes "\n") (wall-is ∙ ap (λ (l : List ℕ). l ++ wall) (active-is
+    ∙ ap (λ (l : List ℕ). l ++ (active ++ codes ",")) most-is))
+    ∙ flat old most active wall
+    ∙ ap (λ (l : List ℕ). old ++ l) (onto-append (most_fields all) [] rest ∙ sym (line-onto (most_fields all ++ active ∷ []) wall))
+  where
+    flat : (old most active wall : List ℕ) → (((old ++ most) ++ (active ++ codes ",")) ++ wall) ++ codes "\n"
+        ≡ old ++ (most ++ (active ++ (44 ∷ (wall ++ codes "\n"))))
+    flat old most active wall = simp append_assoc
+
+-- ==== Explanations one by one, as a report
+
+said-push : (form : Form) (all : List Explained) (told : Explained) → said form (all ++ told ∷ []) ≡ said form all ++ said_of form told
+unfolding said
+said-push form all told = flat_map-append (said_of form) all (told ∷ [])
+    ∙ ap (λ (text : List ℕ). flat_map (said_of form) all ++ text) (append-nil (said_of form told))
+
+said-none : (form : Form) → said form [] ≡ []
+unfolding said
+said-none form = refl
+
+pub pages-none : (form : Form) → pages form [] ≡ header form
+pages-none form = ap (λ (text : List ℕ). header form ++ text) (said-none form) ∙ append-nil (header form)
+
+pub pages-told : (form : Form) (all : List Explained) (told : Explained) (old now : List ℕ) → now ≡ old ++ said_of form told
+    → Grows (pages form all) (pages form (all ++ told ∷ [])) old now
+pages-told form all told old now is = record {
+  more = said_of form told;
+  grown = is;
+  turned = rw (said-push form all told) (sym (append_assoc (header form) (said form all) (said_of form told)));
+}

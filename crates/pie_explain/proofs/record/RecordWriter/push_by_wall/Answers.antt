@@ -1,7 +1,7 @@
 use Rattle.std.proofs.Common.{◌++◌, ap, List, ℕ, ◌∙◌}
 use Rattle.std.specs.Prelude.{Option}
 use Rattle.pie_explain.specs.Record.{wall_field}
-use Rattle.pie_explain.proofs.RecordFacts.{wall-written}
+use Rattle.pie_explain.proofs.WordFacts.{wall-written}
 use Rattle.pie_explain.proofs.record.RecordWriter.push_by_wall.Goals as goal
 
 pub returns : goal.returns

@@ -1,6 +1,6 @@
 -- What is written: numbers with zeros before them, records put together from their fields, and reports.
 use Rattle.std.proofs.Common.{List, [], ap, append-nil, append_assoc, arith, codes, length, refl, sym, ℕ, ◌++◌, ◌-◌, ◌∙◌, ◌∷◌, ◌≡◌}
-use Rattle.std.specs.Prelude.{Err, Ok, OnOk, Result, false}
+use Rattle.std.specs.Prelude.{false}
 use Rattle.std.specs.Fmt.{char_count, decimal, format_spec, padded_integral}
 use Rattle.pie_units.specs.Utc.{with_zeros}
 use Rattle.pie_explain.specs.declared.explanation.Explained.{Explained}
@@ -21,7 +21,7 @@ padded width n =
 -- ==== A record is put together
 
 -- fields before the last, which stands at the end of the line
-line-onto : (fields : List (List ℕ)) (last : List ℕ) → line_of (fields ++ last ∷ []) ≡ onto fields (last ++ codes "\n")
+pub line-onto : (fields : List (List ℕ)) (last : List ℕ) → line_of (fields ++ last ∷ []) ≡ onto fields (last ++ codes "\n")
 line-onto [] last = refl
 line-onto (f ∷ []) last = append_assoc f (codes ",") (last ++ codes "\n")
 line-onto (f ∷ (g ∷ fs)) last =
@@ -32,37 +32,16 @@ pub onto-append : (fields : List (List ℕ)) (front rest : List ℕ) → onto fi
 onto-append [] front rest = refl
 onto-append (f ∷ fs) front rest = append_assoc f (44 ∷ onto fs front) rest ∙ ap (λ (l : List ℕ). f ++ (44 ∷ l)) (onto-append fs front rest)
 
--- where all fields but the last were written, and then the last of them
-pub last-written : {A E : Type 0} (result : Result A E) (all : Explained) (old with_most new : List ℕ)
-    → with_most ≡ old ++ onto (most_fields all) []
-    → OnOk result (new ≡ with_most ++ (active_field all.after.active ++ codes "\n"))
-    → OnOk result (new ≡ old ++ line_of (record_of all))
-last-written (Err why) all old with_most new most-is is = tt
-last-written (Ok done) all old with_most new most-is is =
-    let last : List ℕ = active_field all.after.active ++ codes "\n" in
-    is ∙ ap (λ (l : List ℕ). l ++ last) most-is ∙ append_assoc old (onto (most_fields all) []) last
-    ∙ ap (λ (l : List ℕ). old ++ l) (onto-append (most_fields all) [] last ∙ sym (line-onto (most_fields all) (active_field all.after.active)))
-
--- .. or the last and the time of day
-pub wall-written : {A E : Type 0} (result : Result A E) (all : Explained) (wall old with_most with_active with_wall new : List ℕ)
-    → with_most ≡ old ++ onto (most_fields all) []
-    → with_active ≡ with_most ++ (active_field all.after.active ++ codes ",")
-    → with_wall ≡ with_active ++ wall
-    → OnOk result (new ≡ with_wall ++ codes "\n")
-    → OnOk result (new ≡ old ++ line_of (record_of all ++ wall ∷ []))
-wall-written (Err why) all wall old with_most with_active with_wall new most-is active-is wall-is is = tt
-wall-written (Ok done) all wall old with_most with_active with_wall new most-is active-is wall-is is =
-    let most : List ℕ = onto (most_fields all) [] in
+-- a record, and the time of day behind it
+pub wall-line : (all : Explained) (wall old : List ℕ)
+    → ((old ++ onto (most_fields all) (active_field all.after.active ++ codes ",")) ++ wall) ++ codes "\n"
+    ≡ old ++ line_of (record_of all ++ wall ∷ [])
+wall-line all wall old =
+    let most = most_fields all in
     let active : List ℕ = active_field all.after.active in
-    let rest : List ℕ = active ++ (44 ∷ (wall ++ codes "\n")) in
-    is ∙ ap (λ (l : List ℕ). l ++ codes "\n") (wall-is ∙ ap (λ (l : List ℕ). l ++ wall) (active-is
-    ∙ ap (λ (l : List ℕ). l ++ (active ++ codes ",")) most-is))
-    ∙ flat old most active wall
-    ∙ ap (λ (l : List ℕ). old ++ l) (onto-append (most_fields all) [] rest ∙ sym (line-onto (most_fields all ++ active ∷ []) wall))
-  where
-    flat : (old most active wall : List ℕ) → (((old ++ most) ++ (active ++ codes ",")) ++ wall) ++ codes "\n"
-        ≡ old ++ (most ++ (active ++ (44 ∷ (wall ++ codes "\n"))))
-    flat old most active wall = simp append_assoc
+    append_assoc (old ++ onto most (active ++ codes ",")) wall (codes "\n") ∙ append_assoc old (onto most (active ++ codes ",")) (wall ++ codes "\n")
+    ∙ ap (λ (l : List ℕ). old ++ l) (onto-append most (active ++ codes ",") (wall ++ codes "\n")
+    ∙ ap (λ (l : List ℕ). onto most l) (append_assoc active (codes ",") (wall ++ codes "\n")) ∙ sym (line-onto (most ++ active ∷ []) wall))
 
 -- ==== Explanations one by one, as a report
 

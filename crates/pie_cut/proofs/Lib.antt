@@ -1,5 +1,4 @@
 mod Names
-mod TempFacts
 pub mod TextFacts
 mod PartFacts
 mod Examples

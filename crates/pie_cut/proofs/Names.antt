@@ -18,7 +18,7 @@ pub use Rattle.pie_cut.specs.{IsText, IsWritten, JoinsBy, Limits, Line, LinePlac
 pub use Rattle.pie_cut.specs.{Setter, Shows, Some, Standing, Start, TraceFault, Unmakeable, Waiting, WaitingFits, append_known, are_in_range}
 pub use Rattle.pie_cut.specs.{chosen_at, chosen_by, coming_by, cons_option, end_place, first_place, flat_map, from_opening, has_begun, history_lines}
 pub use Rattle.pie_cut.specs.{is_past, is_past_at, is_reached_at, is_resumed, is_some, kept, latest_clock, lines_told, met_at, met_by, min, moment_in}
-pub use Rattle.pie_cut.specs.{number_of, number_told, opening_refusal, part_rows, past_by, place_after, queued_row, reached_by, records_of}
+pub use Rattle.pie_cut.specs.{next_number, number_told, opening_refusal, part_rows, past_by, place_after, queued_row, reached_by, records_of}
 pub use Rattle.pie_cut.specs.{resume_with, segment, set_by_after, start_after, text_of, up_to, waiting_after, whole_lines, within}
 unfoldable pub use Rattle.pie_cut.specs.{chosen, event_count, events_of, excerpt_lines, finding, first_difference, line_places, resume_row, rows_text}
 pub use Rattle.pie_audit.proofs.LegalFacts.{all-made, difference_here, event_count-push, first_difference-push, legal-clean, legal-of-clean}

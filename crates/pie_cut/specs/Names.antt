@@ -5,9 +5,9 @@ pub use Rattle.std.specs.Option.{is_some}
 pub use Rattle.std.specs.Prelude.{All, Bool, Err, IfErr, IfSome, List, None, Ok, OnOk, Option, Result, Some, [], false, length, map, min, true, ℕ}
 pub use Rattle.pie_audit.specs.Auditor.{AuditorView, Audits}
 pub use Rattle.pie_audit.specs.Begun.{BegunBy}
-pub use Rattle.pie_audit.specs.Finding.{LinePlace, number_of}
+pub use Rattle.pie_audit.specs.Finding.{LinePlace}
 unfoldable pub use Rattle.pie_audit.specs.Finding.{events_of, finding, first_difference, line_places}
-pub use Rattle.pie_audit.specs.Following.{Follows}
+pub use Rattle.pie_audit.specs.Following.{Follows, next_number}
 pub use Rattle.pie_audit.specs.Setters.{setter_after, setter_by}
 pub use Rattle.pie_audit.specs.Start.{Start, from_opening, setter_told, start_after}
 pub use Rattle.pie_audit.specs.Text.{FindsEither, IsFound, whole_finding}

@@ -9,7 +9,6 @@
 #![tactic(auto)]
 
 mod alike;
-mod beginning;
 mod cutter;
 pub mod fault;
 pub mod joined;

@@ -74,14 +74,11 @@ abbrev pub active_field : Bool → List ℕ
 active_field true = codes "1"
 active_field false = codes "0"
 
--- when an event was handed in, and when it was
-abbrev pub moment_fields : ℕ → ℕ → List (List ℕ)
-moment_fields handed effective = decimal handed ∷ decimal effective ∷ []
-
--- the event and when it was
+-- the event, when it was handed in, and when it was
 abbrev pub head_fields : Explanation → List (List ℕ)
 head_fields told =
-    decimal told.number ∷ kind_word told.event.command ∷ decimal told.event.caller ∷ moment_fields (handed_in told.event.command) told.moment
+    decimal told.number ∷ kind_word told.event.command ∷ decimal told.event.caller ∷ decimal (handed_in told.event.command)
+    ∷ decimal told.moment ∷ []
 
 -- the tag and the size of that packet
 abbrev pub packet_fields : Option Packet → List (List ℕ)

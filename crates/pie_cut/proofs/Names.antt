@@ -7,11 +7,11 @@ pub use Rattle.std.proofs.lemmas.List.{append-nil, length-map}
 pub use Rattle.std.proofs.lemmas.Option.{IfSome_then, same_Some}
 pub use Rattle.std.proofs.lemmas.Result.{on_ok_weaker}
 pub use Rattle.std.proofs.lemmas.List.Concat.{flat_map-append}
-pub use Rattle.std.proofs.lemmas.List.Elements.{All-append, All-cons, All-head, All-nil, All-tail, filter_map-append}
+pub use Rattle.std.proofs.lemmas.List.Elements.{All-append, All-cons, All-head, All-map, All-nil, All-tail, filter_map-append}
 pub use Rattle.std.proofs.lemmas.List.Folds.{find-append}
 pub use Rattle.std.specs.List.{filter_map, find}
 pub use Rattle.std.specs.Option.{option_or}
-pub use Rattle.std.specs.Prelude.{max, nat_le, nat_lt, not, slice_get, ◌&&◌, ◌||◌, ◌⊎◌}
+pub use Rattle.std.specs.Prelude.{nat_le, nat_lt, not, slice_get, ◌&&◌, ◌||◌, ◌⊎◌}
 pub use Rattle.pie_cut.specs.{All, Appends, AreSegments, AuditorView, Audits, BeginningsTell, BeginsWith, BegunBy, Clean, Clock, Coming, CoreView}
 pub use Rattle.pie_cut.specs.{Differs, EndView, Err, Event, EventFits, Finding, GoesOn, IfSome, IsCut, IsFound, IsInSegments, IsLegal, IsShort}
 pub use Rattle.pie_cut.specs.{IsText, IsWritten, JoinsBy, Limits, Line, LinePlace, Made, None, Note, Ok, OnOk, Opening, Option, Result, Row, Segments}
@@ -21,18 +21,13 @@ pub use Rattle.pie_cut.specs.{is_past, is_past_at, is_reached_at, is_resumed, is
 pub use Rattle.pie_cut.specs.{next_number, number_told, opening_refusal, part_rows, past_by, place_after, queued_row, reached_by, records_of}
 pub use Rattle.pie_cut.specs.{resume_with, segment, set_by_after, start_after, text_of, up_to, waiting_after, whole_lines, within}
 unfoldable pub use Rattle.pie_cut.specs.{chosen, event_count, events_of, excerpt_lines, finding, first_difference, line_places, resume_row, rows_text}
-pub use Rattle.pie_audit.proofs.LegalFacts.{all-made, difference_here, event_count-push, first_difference-push, legal-clean, legal-of-clean}
-pub use Rattle.pie_audit.proofs.LegalFacts.{line_places-push, made-events}
+pub use Rattle.pie_audit.proofs.LegalFacts.{all-made, event_count-push, legal-clean, made-events}
 pub use Rattle.pie_audit.proofs.AuditorFacts.{event_count-append, few-events, made-count, none_of}
 pub use Rattle.pie_audit.specs.Begun.{WholeBegun}
 pub use Rattle.pie_audit.specs.Finding.{agrees, event_in, finding_by}
-pub use Rattle.pie_audit.specs.Lines.{HeardOn}
 pub use Rattle.pie_audit.specs.Text.{FindsAfter, FindsBy, TellsPart, lines_after}
-pub use Rattle.pie_book.specs.History.{effective_moment}
-pub use Rattle.pie_book.specs.Standing.{resume_refusal}
 pub use Rattle.pie_cut.specs.declared.joined.Joined.{Joined}
 pub use Rattle.pie_cut.specs.declared.joined.Joint.{Joint}
-pub use Rattle.pie_cut.specs.declared.joined.Joint.TheVariants.{Follows, Gap, Unlike}
 pub use Rattle.pie_cut.specs.declared.span.Met.{Met}
 pub use Rattle.pie_cut.specs.declared.span.Span.{Span}
 pub use Rattle.pie_event.specs.Ranges.{CommandFits}

@@ -14,7 +14,6 @@ pub mod fault;
 pub mod joined;
 mod last;
 mod law;
-mod meeting;
 mod part;
 mod segments;
 pub mod span;

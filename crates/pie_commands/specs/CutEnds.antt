@@ -9,10 +9,9 @@ use Rattle.pie_excerpt.specs.Beginning.{is_resumed}
 use Rattle.pie_cut.specs.declared.fault.CutFault.{CutFault}
 use Rattle.pie_cut.specs.declared.fault.CutFault.TheVariants as fault
 use Rattle.pie_cut.specs.declared.span.Span.{Span}
-use Rattle.pie_cut.specs.Answer.{CutsEither}
+use Rattle.pie_cut.specs.Answer.{CutsEither, TextTold}
 use Rattle.pie_cut.specs.Last.{LastEither}
 use Rattle.pie_cut.specs.Segment.{IsInSegments, every_answer}
-use Rattle.pie_cut.specs.Told.{TextTold}
 use Rattle.pie_units.specs.declared.when.When.{When}
 use Rattle.pie_units.specs.declared.when.WhenFault.{WhenFault}
 use Rattle.pie_options.specs.Words.{number_given}

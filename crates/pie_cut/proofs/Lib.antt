@@ -1,8 +1,5 @@
 mod Names
-mod PlaceFacts
-mod TextFacts
+pub mod TextFacts
 mod PartFacts
-mod SegmentFacts
 mod Examples
-mod JoinedFacts
-mod ChainText
+pub mod JoinedFacts

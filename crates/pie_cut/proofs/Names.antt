@@ -1,42 +1,33 @@
 -- What the files of this folder take from below, in one place.
-pub use Rattle.std.proofs.Common.{Bool, List, [], add-one, ap, append_assoc, arith, cond, false, if◌then◌else◌, length, length-append, map, refl}
-pub use Rattle.std.proofs.Common.{rules, subst, suc, sym, take, true, zero, ℕ, ◌*◌, ◌++◌, ◌+◌, ◌-◌, ◌<◌, ◌^◌, ◌∙◌, ◌∷◌, ◌≡◌, ◌≤◌}
+pub use Rattle.std.proofs.Common.{Bool, List, [], add-one, ap, append_assoc, arith, cond, false, if◌then◌else◌, inl, inr, length, length-append, map}
+pub use Rattle.std.proofs.Common.{refl, rules, subst, suc, sym, take, true, zero, ℕ, ◌*◌, ◌++◌, ◌+◌, ◌-◌, ◌<◌, ◌^◌, ◌∙◌, ◌∷◌, ◌≡◌, ◌≤◌}
 pub use Rattle.std.proofs.KnownBytes.{Appends-nil, Appends-trans}
 pub use Rattle.std.proofs.lemmas.Bool.Decides.{nat_tests}
 pub use Rattle.std.proofs.lemmas.List.{append-nil, length-map}
 pub use Rattle.std.proofs.lemmas.Option.{IfSome_then, same_Some}
 pub use Rattle.std.proofs.lemmas.Result.{on_ok_weaker}
 pub use Rattle.std.proofs.lemmas.List.Concat.{flat_map-append}
-pub use Rattle.std.proofs.lemmas.List.Elements.{All-append, All-cons, All-head, All-nil, All-tail, filter-append, filter_map-append}
+pub use Rattle.std.proofs.lemmas.List.Elements.{All-append, All-cons, All-head, All-map, All-nil, All-tail, filter_map-append}
 pub use Rattle.std.proofs.lemmas.List.Folds.{find-append}
-pub use Rattle.std.specs.List.{filter, filter_map, find}
+pub use Rattle.std.specs.List.{filter_map, find}
 pub use Rattle.std.specs.Option.{option_or}
-pub use Rattle.std.specs.Prelude.{max, nat_le, nat_lt, not, slice_get, ◌&&◌, ◌||◌}
-pub use Rattle.pie_cut.specs.{All, Appends, AreSegments, AuditorView, Audits, BeginningsTell, BeginsAt, BeginsWith, BegunBy, Clean, Clock, Coming}
-pub use Rattle.pie_cut.specs.{CoreView, Differs, EndView, Err, Event, EventFits, Finding, GoesOn, IfSome, IsCut, IsFound, IsInSegments, IsLegal}
-pub use Rattle.pie_cut.specs.{IsText, IsWritten, JoinsBy, Limits, Line, LinePlace, Made, None, Note, Ok, OnOk, Opening, Option, Result, Row}
-pub use Rattle.pie_cut.specs.{Segments, Setter, Shows, Some, Standing, Start, TraceFault, Unmakeable, Waiting, WaitingFits, append_known}
-pub use Rattle.pie_cut.specs.{are_in_range, change_event, chosen_at, chosen_by, clock_row, coming_by, cons_option, event_row, flat_map, from_opening}
-pub use Rattle.pie_cut.specs.{has_begun, history_lines, is_device, is_past, is_past_at, is_reached_at, is_resumed, is_some, kept, latest_clock}
-pub use Rattle.pie_cut.specs.{line_text, met_at, met_by, min, moment_in, number_of, number_told, opening_refusal, part_rows, past_by, place_after}
-pub use Rattle.pie_cut.specs.{queued_row, reached_by, records_of, resume_with, segment, setter_after, setter_by, setter_told, start_after, text_of}
-pub use Rattle.pie_cut.specs.{up_to, waiting_after, whole_lines, within, end_place, first_place}
-unfoldable pub use Rattle.pie_cut.specs.{chosen, event_count, events_of, excerpt_lines, finding, first_difference, line_places, resume_row}
-unfoldable pub use Rattle.pie_cut.specs.{rows_text}
-unfoldable pub use Rattle.csv.specs.Reading.{strip_bom}
-pub use Rattle.pie_aqm.specs.Held.{Held}
-pub use Rattle.pie_audit.proofs.LegalFacts.{all-made, difference_here, event_count-push, first_difference-push, legal-clean, legal-of-clean}
-pub use Rattle.pie_audit.proofs.LegalFacts.{line_places-push, made-events}
-pub use Rattle.pie_audit.proofs.AuditorFacts.{event_count-append, few-events, made-count, none-before, none_of}
-pub use Rattle.pie_audit.specs.Begun.{FaultedBy, WholeBegun}
-pub use Rattle.pie_audit.specs.Finding.{event_in}
-pub use Rattle.pie_audit.specs.Lines.{HeardOn}
-pub use Rattle.pie_audit.specs.Text.{FindsBy, TellsPart, lines_after}
-pub use Rattle.pie_book.specs.History.{effective_moment}
-pub use Rattle.pie_book.specs.Standing.{resume_refusal}
+pub use Rattle.std.specs.Prelude.{nat_le, nat_lt, not, slice_get, ◌&&◌, ◌||◌, ◌⊎◌}
+pub use Rattle.pie_cut.specs.{All, Appends, AreSegments, AuditorView, Audits, BeginningsTell, BeginsWith, BegunBy, Clean, Clock, Coming, CoreView}
+pub use Rattle.pie_cut.specs.{Differs, EndView, Err, Event, EventFits, Finding, GoesOn, IfSome, IsCut, IsFound, IsInSegments, IsLegal, IsShort}
+pub use Rattle.pie_cut.specs.{IsText, IsWritten, JoinsBy, Limits, Line, LinePlace, Made, None, Note, Ok, OnOk, Opening, Option, Result, Row, Segments}
+pub use Rattle.pie_cut.specs.{Setter, Shows, Some, Standing, Start, TraceFault, Unmakeable, Waiting, WaitingFits, append_known, are_in_range}
+pub use Rattle.pie_cut.specs.{chosen_at, chosen_by, coming_by, cons_option, end_place, first_place, flat_map, from_opening, has_begun, history_lines}
+pub use Rattle.pie_cut.specs.{is_past, is_past_at, is_reached_at, is_resumed, is_some, kept, latest_clock, lines_told, met_at, met_by, min, moment_in}
+pub use Rattle.pie_cut.specs.{next_number, number_told, opening_refusal, part_rows, past_by, place_after, queued_row, reached_by, records_of}
+pub use Rattle.pie_cut.specs.{resume_with, segment, set_by_after, start_after, text_of, up_to, waiting_after, whole_lines, within}
+unfoldable pub use Rattle.pie_cut.specs.{chosen, event_count, events_of, excerpt_lines, finding, first_difference, line_places, resume_row, rows_text}
+pub use Rattle.pie_audit.proofs.LegalFacts.{all-made, event_count-push, legal-clean, made-events}
+pub use Rattle.pie_audit.proofs.AuditorFacts.{event_count-append, few-events, made-count, none_of}
+pub use Rattle.pie_audit.specs.Begun.{WholeBegun}
+pub use Rattle.pie_audit.specs.Finding.{agrees, event_in, finding_by}
+pub use Rattle.pie_audit.specs.Text.{FindsAfter, FindsBy, TellsPart, lines_after}
 pub use Rattle.pie_cut.specs.declared.joined.Joined.{Joined}
 pub use Rattle.pie_cut.specs.declared.joined.Joint.{Joint}
-pub use Rattle.pie_cut.specs.declared.joined.Joint.TheVariants.{Follows, Gap, Unlike}
 pub use Rattle.pie_cut.specs.declared.span.Met.{Met}
 pub use Rattle.pie_cut.specs.declared.span.Span.{Span}
 pub use Rattle.pie_event.specs.Ranges.{CommandFits}
@@ -46,10 +37,10 @@ unfoldable pub use Rattle.pie_excerpt.specs.Beginning.{resumed_of}
 pub use Rattle.pie_excerpt.specs.Fits.{ResumeFits}
 pub use Rattle.pie_excerpt.specs.declared.resume.Resume.{Resume}
 pub use Rattle.pie_record.proofs.Laws.{LineFits, event_count-cons, latest_clock-none, latest_clock-push, line-again, lines-fit, lines_from-failed}
-pub use Rattle.pie_record.proofs.Laws.{lines_from-line, lines_from-none, records_left-written, told-field, told-read}
-pub use Rattle.pie_record.specs.HistoryLines.{after_opening, clock_told, history_version, is_event, lines_from}
+pub use Rattle.pie_record.proofs.Laws.{lines_from-line, lines_from-none, told-field, told-read}
+pub use Rattle.pie_record.specs.HistoryLines.{after_opening, clock_told, coming_from, events_in, history_version, is_event, lines_from}
 unfoldable pub use Rattle.pie_record.specs.ReadBack.{TellEach}
 pub use Rattle.pie_record.specs.Text.{HasField}
-pub use Rattle.pie_record.specs.Write.{line_rows, without_notes}
+pub use Rattle.pie_record.specs.Write.{line_rows, told_alone, without_notes}
 pub use Rattle.pie_record.specs.declared.version.Version.{Version}
 pub use Rattle.pie_record.specs.declared.version.Version.TheVariants.{Three}

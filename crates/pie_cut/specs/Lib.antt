@@ -1,13 +1,11 @@
 pub mod Names
 pub mod Excerpt
-pub mod Told
 pub mod Answer
 pub mod Segment
 pub mod Last
 pub mod Joined
 unfoldable pub use Names.*
 unfoldable pub use Excerpt.*
-unfoldable pub use Told.*
 unfoldable pub use Answer.*
 unfoldable pub use Segment.*
 unfoldable pub use Last.*

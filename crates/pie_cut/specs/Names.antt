@@ -5,9 +5,9 @@ pub use Rattle.std.specs.Option.{is_some}
 pub use Rattle.std.specs.Prelude.{All, Bool, Err, IfErr, IfSome, List, None, Ok, OnOk, Option, Result, Some, [], false, length, map, min, true, ℕ}
 pub use Rattle.pie_audit.specs.Auditor.{AuditorView, Audits}
 pub use Rattle.pie_audit.specs.Begun.{BegunBy}
-pub use Rattle.pie_audit.specs.Finding.{LinePlace, number_of}
+pub use Rattle.pie_audit.specs.Finding.{LinePlace}
 unfoldable pub use Rattle.pie_audit.specs.Finding.{events_of, finding, first_difference, line_places}
-pub use Rattle.pie_audit.specs.Following.{Follows}
+pub use Rattle.pie_audit.specs.Following.{Follows, next_number}
 pub use Rattle.pie_audit.specs.Setters.{setter_after, setter_by}
 pub use Rattle.pie_audit.specs.Start.{Start, from_opening, setter_told, start_after}
 pub use Rattle.pie_audit.specs.Text.{FindsEither, IsFound, whole_finding}
@@ -30,16 +30,14 @@ pub use Rattle.pie_excerpt.specs.Rows.{queued_row}
 unfoldable pub use Rattle.pie_excerpt.specs.Rows.{resume_row}
 pub use Rattle.pie_excerpt.specs.Written.{IsWritten, part_rows, resume_with}
 pub use Rattle.pie_queue.specs.declared.packet.Waiting.{Waiting}
-pub use Rattle.pie_record.specs.Clock.{clock_row}
 pub use Rattle.pie_record.specs.Fault.{is_device}
 pub use Rattle.pie_record.specs.HistoryLines.{Coming, events_in, history_lines, latest_clock}
 unfoldable pub use Rattle.pie_record.specs.HistoryLines.{event_count}
 pub use Rattle.pie_record.specs.ReadBack.{EventFits}
 pub use Rattle.pie_record.specs.Text.{Row, records_of, text_of}
 unfoldable pub use Rattle.pie_record.specs.Text.{rows_text}
-pub use Rattle.pie_record.specs.Write.{change_event, event_row}
+pub use Rattle.pie_record.specs.Write.{change_event, line_rows}
 pub use Rattle.pie_record.specs.declared.clock.Clock.{Clock}
 pub use Rattle.pie_record.specs.declared.fault.TraceFault.{TraceFault}
-pub use Rattle.pie_record.specs.declared.history_reader.Course.TheVariants.{Going}
 pub use Rattle.pie_record.specs.declared.history_record.Line.{Line}
 pub use Rattle.pie_record.specs.declared.history_record.Line.TheVariants.{Made, Note, Unmakeable}

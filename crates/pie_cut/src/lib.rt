@@ -9,13 +9,11 @@
 #![tactic(auto)]
 
 mod alike;
-mod beginning;
 mod cutter;
 pub mod fault;
 pub mod joined;
 mod last;
 mod law;
-mod meeting;
 mod part;
 mod segments;
 pub mod span;

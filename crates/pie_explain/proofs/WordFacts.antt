@@ -1,11 +1,66 @@
--- A number is written with zeros before it.
-use Rattle.std.proofs.Common.{◌≡◌, ◌-◌, ◌==◌, true, ℕ, [], length, arith, refl, append-nil}
+-- What is written: numbers with zeros before them, records put together from their fields, and reports.
+use Rattle.std.proofs.Common.{List, [], ap, append-nil, append_assoc, arith, codes, length, refl, sym, ℕ, ◌++◌, ◌-◌, ◌∙◌, ◌∷◌, ◌≡◌}
 use Rattle.std.specs.Prelude.{false}
-use Rattle.std.proofs.lemmas.Bool.Decides.{nat_tests}
 use Rattle.std.specs.Fmt.{char_count, decimal, format_spec, padded_integral}
 use Rattle.pie_units.specs.Utc.{with_zeros}
+use Rattle.pie_explain.specs.declared.explanation.Explained.{Explained}
+use Rattle.pie_explain.specs.Record.{active_field, line_of, most_fields, onto, record_of}
+use Rattle.std.specs.List.{flat_map}
+use Rattle.std.proofs.lemmas.List.Concat.{flat_map-append}
+use Rattle.pie_explain.specs.declared.form.Form.{Form}
+use Rattle.pie_explain.specs.Output.{header, pages, said, said_of}
+use Rattle.pie_explain.specs.Report.{Grows}
+
+-- ==== A number is written with zeros before it
 
 pub padded : (width n : ℕ) → padded_integral (format_spec 32 0 4 width 18446744073709551615) false [] (decimal n) ≡ with_zeros width n
 unfolding padded_integral char_count
 padded width n =
     let same : width - length (decimal n) - 0 - 0 ≡ width - length (decimal n) = omega arith in rw (same, append-nil (decimal n)) refl
+
+-- ==== A record is put together
+
+-- fields before the last, which stands at the end of the line
+pub line-onto : (fields : List (List ℕ)) (last : List ℕ) → line_of (fields ++ last ∷ []) ≡ onto fields (last ++ codes "\n")
+line-onto [] last = refl
+line-onto (f ∷ []) last = append_assoc f (codes ",") (last ++ codes "\n")
+line-onto (f ∷ (g ∷ fs)) last =
+    ap (λ (l : List ℕ). f ++ codes "," ++ l) (line-onto (g ∷ fs) last) ∙ append_assoc f (codes ",") (onto (g ∷ fs) (last ++ codes "\n"))
+
+-- fields before a text are those before its front, and then its rest
+pub onto-append : (fields : List (List ℕ)) (front rest : List ℕ) → onto fields front ++ rest ≡ onto fields (front ++ rest)
+onto-append [] front rest = refl
+onto-append (f ∷ fs) front rest = append_assoc f (44 ∷ onto fs front) rest ∙ ap (λ (l : List ℕ). f ++ (44 ∷ l)) (onto-append fs front rest)
+
+-- a record, and the time of day behind it
+pub wall-line : (all : Explained) (wall old : List ℕ)
+    → ((old ++ onto (most_fields all) (active_field all.after.active ++ codes ",")) ++ wall) ++ codes "\n"
+    ≡ old ++ line_of (record_of all ++ wall ∷ [])
+wall-line all wall old =
+    let most = most_fields all in
+    let active : List ℕ = active_field all.after.active in
+    append_assoc (old ++ onto most (active ++ codes ",")) wall (codes "\n") ∙ append_assoc old (onto most (active ++ codes ",")) (wall ++ codes "\n")
+    ∙ ap (λ (l : List ℕ). old ++ l) (onto-append most (active ++ codes ",") (wall ++ codes "\n")
+    ∙ ap (λ (l : List ℕ). onto most l) (append_assoc active (codes ",") (wall ++ codes "\n")) ∙ sym (line-onto (most ++ active ∷ []) wall))
+
+-- ==== Explanations one by one, as a report
+
+said-push : (form : Form) (all : List Explained) (told : Explained) → said form (all ++ told ∷ []) ≡ said form all ++ said_of form told
+unfolding said
+said-push form all told = flat_map-append (said_of form) all (told ∷ [])
+    ∙ ap (λ (text : List ℕ). flat_map (said_of form) all ++ text) (append-nil (said_of form told))
+
+said-none : (form : Form) → said form [] ≡ []
+unfolding said
+said-none form = refl
+
+pub pages-none : (form : Form) → pages form [] ≡ header form
+pages-none form = ap (λ (text : List ℕ). header form ++ text) (said-none form) ∙ append-nil (header form)
+
+pub pages-told : (form : Form) (all : List Explained) (told : Explained) (old now : List ℕ) → now ≡ old ++ said_of form told
+    → Grows (pages form all) (pages form (all ++ told ∷ [])) old now
+pages-told form all told old now is = record {
+  more = said_of form told;
+  grown = is;
+  turned = rw (said-push form all told) (sym (append_assoc (header form) (said form all) (said_of form told)));
+}

@@ -41,13 +41,10 @@ answer_since choice start opening lines None =
 
 -- an answer says what the audit of the text answers: its fault, or its first difference; or there is none
 abbrev pub IsAsAudited : Result Finding TraceFault → Result ℕ ExplainFault → Type 0
-IsAsAudited audited (Ok explained) = (events : ℕ) × (audited ≡ Ok (Clean events))
 IsAsAudited audited (Err (Trace why)) = is_device why ≡ false → audited ≡ Err why
 IsAsAudited audited (Err (Differs event)) = audited ≡ Ok (finding.Differs event)
-IsAsAudited audited (Err (Earlier event before)) = (events : ℕ) × (audited ≡ Ok (Clean events))
 IsAsAudited audited (Err (NoEvent event events)) = audited ≡ Ok (Clean events)
-IsAsAudited audited (Err (NoTag tag)) = (events : ℕ) × (audited ≡ Ok (Clean events))
-IsAsAudited audited (Err NoneWithin) = (events : ℕ) × (audited ≡ Ok (Clean events))
+IsAsAudited audited other = (events : ℕ) × (audited ≡ Ok (Clean events))
 
 -- ---- how far explaining has come
 

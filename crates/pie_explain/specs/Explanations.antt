@@ -1,9 +1,9 @@
 -- What there is to say of the events of a history's lines.
 use Rattle.std.specs.Prelude.{◌+◌, ◌∷◌, ◌++◌, if◌then◌else◌}
 use Rattle.pie_explain.specs.Names.{ℕ, Bool, true, false, List, [], Option, Some, None, option_map, filter_map, Opening, Line, Made, event_count}
-use Rattle.pie_explain.specs.Names.{latest_clock, events_of, first_difference, Explained, Explanation, Selection, Setter, picks, explanation, moment_of}
-use Rattle.pie_explain.specs.Names.{with_after, setter_after, setter_by, setter_told, nat_lt, Start}
-use Rattle.pie_audit.specs.Finding.{LinePlace, line_places}
+use Rattle.pie_explain.specs.Names.{latest_clock, events_of, first_difference, Explained, Explanation, Selection, Setter, picks, explanation}
+use Rattle.pie_explain.specs.Names.{moment_of, with_after, setter_after, setter_by, setter_told, nat_lt, Start}
+use Rattle.pie_audit.specs.Finding.{LinePlace, line_places, number_of}
 
 -- an explanation where this holds
 abbrev pub told_if : Bool → Explanation → Option Explanation
@@ -42,10 +42,11 @@ explanations opening choice lines = filter_map (told_at opening choice) (line_pl
 abbrev pub as_told : Start → Explained → Explained
 as_told start one = record one { told = record one.told { set_by = setter_told start one.told.set_by } }
 
--- .. where it is of an event of the text
-abbrev pub told_since : Start → Explained → Option Explained
-told_since start one = if nat_lt start.events one.told.number then Some (as_told start one) else None
+-- what there is to say at a place, where it is of an event of the text
+abbrev pub told_since : Start → Opening → Selection → LinePlace → Option Explained
+told_since start opening choice place =
+    if nat_lt start.events (number_of place) then option_map (as_told start) (told_at opening choice place) else None
 
 -- what there is to say of the chosen events of a history of these lines, of those that a text has which begins so
 unfoldable pub explanations_since : Start → Opening → Selection → List Line → List Explained
-explanations_since start opening choice lines = filter_map (told_since start) (explanations opening choice lines)
+explanations_since start opening choice lines = filter_map (told_since start opening choice) (line_places lines)

@@ -74,28 +74,23 @@ abbrev pub active_field : Bool → List ℕ
 active_field true = codes "1"
 active_field false = codes "0"
 
--- when an event was handed in, and when it was
-abbrev pub moment_fields : ℕ → ℕ → List (List ℕ)
-moment_fields handed effective = decimal handed ∷ decimal effective ∷ []
-
--- the event and when it was
+-- the event, when it was handed in, and when it was
 abbrev pub head_fields : Explanation → List (List ℕ)
 head_fields told =
-    decimal told.number ∷ kind_word told.event.command ∷ decimal told.event.caller ∷ moment_fields (handed_in told.event.command) told.moment
+    decimal told.number ∷ kind_word told.event.command ∷ decimal told.event.caller ∷ decimal (handed_in told.event.command)
+    ∷ decimal told.moment ∷ []
 
 -- the tag and the size of that packet
 abbrev pub packet_fields : Option Packet → List (List ℕ)
 packet_fields packet = number_field (option_map (λ p. p.tag) packet) ∷ number_field (option_map (λ p. p.size) packet) ∷ []
 
--- what a controller holds: what mostly changes from one event to the next, how much waits and how long, and what often stays as it is
-abbrev pub moving_fields : ℕ → ℕ → ℕ → List (List ℕ)
-moving_fields bytes packets delay = decimal bytes ∷ decimal packets ∷ decimal delay ∷ []
-
+-- what a controller holds: how much waits and how long, which mostly changes from one event to the next, and what often stays as it is
 abbrev pub steady_fields : ℕ → ℕ → ℕ → List (List ℕ)
 steady_fields prob accu burst = decimal prob ∷ decimal accu ∷ decimal burst ∷ []
 
 abbrev pub held_fields : Registers → ℕ → List (List ℕ)
-held_fields held delay = moving_fields held.bytes held.packets delay ++ steady_fields held.prob held.accu held.burst
+held_fields held delay =
+    decimal held.bytes ∷ decimal held.packets ∷ decimal delay ∷ steady_fields held.prob held.accu held.burst
 
 -- what became of the event, what decided it, and the numbers that it met
 abbrev pub met_fields : Explanation → List (List ℕ)

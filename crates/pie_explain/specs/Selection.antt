@@ -27,13 +27,10 @@ is_to (Some (Moment last)) moment time = nat_le moment last
 is_to (Some (Unix last)) moment (Some time) = nat_le time last
 is_to (Some (Unix last)) moment None = false
 
--- it is wanted
-abbrev pub is_within : Selection → ℕ → Option ℕ → Bool
-is_within choice moment time = is_from choice.from moment time && is_to choice.to moment time
-
 -- the event with this number and this effective moment is explained, where this is the last record before it that tells the time of day
 abbrev pub picks : Selection → ℕ → ℕ → Option Clock → Event → Bool
-picks choice number moment clock event = chooses choice.which number event && is_within choice moment (time_of clock moment)
+picks choice number moment clock event = chooses choice.which number event
+    && (is_from choice.from moment (time_of clock moment) && is_to choice.to moment (time_of clock moment))
 
 -- every moment is wanted
 abbrev pub is_whole : Selection → Bool

@@ -78,8 +78,6 @@ pub fn moment_of(core: &Core, event: &Event) -> u64
 }
 
 impl Explained {
-    ghost use Rattle.pie_book.specs.Estimates.{delay_after};
-    ghost use Rattle.pie_book.specs.Registers.{registers_after};
     ghost use Rattle.pie_explain.specs.Explanation.{explanation, with_after};
 
     /// What there is to say of an event with this number that a core is about to decide, where `set_by` is what last set the probability, and
@@ -93,10 +91,8 @@ impl Explained {
         set_by: Setter,
         clock: Option<Clock>,
     ) -> Explained
-        ensures told { (opening : Opening) (history : List Event) → Shows opening core.now history
+        ensures { (opening : Opening) (history : List Event) → Shows opening core.now history
             → result.told ≡ explanation opening history number event.now set_by clock }
-        ensures held { (opening : Opening) (history : List Event) → Shows opening core.now history
-            → (result.after ≡ registers_after opening history) × (result.delay ≡ delay_after opening history) }
     {
         let before = core.registers();
         let now = moment_of(core, event);

@@ -9,7 +9,7 @@ ghost use Rattle.pie_audit.specs.Text.{judged};
 /// probability before it, gives exactly the
 /// explanations that the whole history gives after those of these events (`rest`). One that doesn't tell it gives the same, but for what set
 /// the probability as long as no event of the text did (`untold`). It does nothing: its contract is the law.
-#[tactic(auto, using(crate::proofs::LineFacts::since_opening, crate::proofs::LineFacts::rest_said, crate::proofs::LineFacts::as_untold))]
+#[tactic(auto, using(crate::proofs::ExplainFacts::since_opening, crate::proofs::ExplainFacts::rest_said, crate::proofs::ExplainFacts::as_untold))]
 pub fn excerpts_are_explained_as_the_whole()
     ensures whole { (opening : Opening) (choice : Selection) (lines : List Line)
         → explanations_since from_opening opening choice lines ≡ explanations opening choice lines }
@@ -25,6 +25,7 @@ pub fn excerpts_are_explained_as_the_whole()
 /// What is answered of a text says what its audit finds: its fault, its first difference, or that there is none.
 ///
 /// It does nothing: its contract is the law.
+#[tactic(auto, using(crate::proofs::ExplainFacts::since_audited))]
 pub fn explaining_is_auditing()
     ensures { (start : Start) (choice : Selection) (opening : Opening) (lines : List Line) (fault : Option TraceFault)
         → IsAsAudited (judged opening lines fault) (answer_since choice start opening lines fault) }

@@ -55,7 +55,7 @@ pub fn is_to(last: Option<When>, moment: u64, time: Option<u64>) -> bool
 
 impl Selection {
     ghost use Rattle.std.specs.Prelude.{None};
-    ghost use Rattle.pie_explain.specs.Selection.{is_whole, is_within, picks};
+    ghost use Rattle.pie_explain.specs.Selection.{is_whole, picks};
 
     /// These events, at every moment.
     pub fn of(which: Which) -> Selection
@@ -68,19 +68,14 @@ impl Selection {
         }
     }
 
-    /// Whether a moment with this time of day is wanted.
-    fn is_within(self, moment: u64, time: Option<u64>) -> bool
-        ensures { result ≡ is_within self moment time }
-    {
-        is_from(self.from, moment, time) && is_to(self.to, moment, time)
-    }
-
     /// Whether the event with this number and this effective moment is explained, where this is the last record before it that tells the
     /// time of day.
     pub(crate) fn picks(self, number: u64, moment: u64, clock: Option<Clock>, event: &Event) -> bool
         ensures { result ≡ picks self number moment clock event.now }
     {
-        self.which.chooses(number, event) && self.is_within(moment, time_of(clock, moment))
+        let time = time_of(clock, moment);
+        self.which.chooses(number, event)
+            && (is_from(self.from, moment, time) && is_to(self.to, moment, time))
     }
 
     /// Whether every moment is wanted.

@@ -25,5 +25,5 @@ returns c = λ opening lines audits number.
     let shows : Shows opening c.core-core.result.now (events_of lines) = rw c.core-core.ensures (audits.agrees c.requires).shows in
     let picked : picks c.args.choice c.args.number c.moment_of-moment.result c.clock-clock.result c.args.event.now
     ≡ true = search rules in
-    rw (c.begin.ensures.told opening (events_of lines) shows) (told-next c.args.choice c.args.follower.now.set_by c.args.event.now c.requires audits
+    rw (c.begin.ensures opening (events_of lines) shows) (told-next c.args.choice c.args.follower.now.set_by c.args.event.now c.requires audits
     number (c.moment_of-moment.ensures opening (events_of lines) shows) c.clock-clock.ensures picked)

@@ -1,5 +1,5 @@
 use Rattle.std.proofs.lemmas.Result.{on_ok_weaker}
-use Rattle.pie_explain.proofs.ReportFacts.{pages-told}
+use Rattle.pie_explain.proofs.WordFacts.{pages-told}
 use Rattle.pie_explain.proofs.report.FormReport.tell.Goals as goal
 
 pub returns : goal.returns

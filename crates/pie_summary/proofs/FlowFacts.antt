@@ -1,9 +1,11 @@
 -- The flows of events with one more.
 use Rattle.pie_summary.proofs.Names.{◌≡◌, ℕ, suc, zero, Bool, true, false, cond, not, List, [], ◌∷◌, ◌++◌, map, filter, refl, sym, ap, ◌∙◌, subst}
 use Rattle.pie_summary.proofs.Names.{append-nil, length, ◌<◌, ◌+◌, Option, Some, None, if◌then◌else◌, cons_option, filter_map, values_of, eqb-true}
-use Rattle.pie_summary.proofs.Names.{eq-eqb, map_push, filter_map-append, Explained, Flow, FlowSums, added_up, flow_sums, is_of, together, HasFlows}
-use Rattle.pie_summary.proofs.Names.{distinct, first_of, flows_in, in_order, placed, sums_beside}
+use Rattle.pie_summary.proofs.Names.{eq-eqb, map_push, filter_map-append, Explained, Flow, FlowSums, added_up, flow_sums, is_of, HasFlows}
+use Rattle.pie_summary.proofs.Names.{distinct, first_of, flows_in, in_order, placed, sums_beside, digits, greatest, greatest-push, kept}
+use Rattle.pie_summary.proofs.Names.{max, min, noted_of, replicate, sum, ◌-◌}
 use Rattle.std.proofs.Common.{◌||◌, arith, nat_eq, take, true≢false}
+use Rattle.std.specs.Fmt.{char_count, format_spec, padded_integral}
 use Rattle.std.specs.Prelude.{slice_index_or}
 use Rattle.std.specs.Cmp.{nat_eq_equiv}
 use Rattle.std.specs.List.{AllByRecursion, IsDistinct, list_any}
@@ -15,9 +17,57 @@ use Rattle.std.proofs.lemmas.List.Folds.{list_any-append}
 use Rattle.std.proofs.lemmas.List.Sums.{fold_push}
 use Rattle.std.proofs.lemmas.Map.Keys.{IsDistinct-push}
 use Rattle.indexmap.specs.IndexMap.{insert_entry}
-use Rattle.pie_summary.specs.FlowSums.{flow_in, is_this}
+use Rattle.pie_summary.specs.FlowSums.{flow_in, is_this, numbers_of}
 use Rattle.pie_summary.specs.Flows.{flow_of, is_among, precedes, with_new}
-use Rattle.pie_summary.proofs.FlowSumsFacts.{added-push}
+use Rattle.pie_summary.proofs.SumsFacts.{sum-push}
+
+-- ---- numbers of flows
+
+-- a greatest number with one more
+greatest-more : (number : FlowSums → ℕ) (all : List FlowSums) (one : FlowSums)
+    → greatest (greatest (map number all) ∷ number one ∷ []) ≡ greatest (map number (all ++ one ∷ []))
+unfolding greatest
+greatest-more number all one =
+    ap (max (greatest (map number all))) (omega arith) ∙ sym (ap greatest (map_push number all one) ∙ greatest-push (map number all) (number one))
+
+sum-more : (number : FlowSums → ℕ) (all : List FlowSums) (one : FlowSums)
+    → kept (sum (kept (sum (map number all)) ∷ number one ∷ [])) ≡ kept (sum (map number (all ++ one ∷ [])))
+sum-more number all one = sum-push number all one (two (kept (sum (map number all))) (number one)) refl refl
+  where
+    two : (n more : ℕ) → kept (sum (n ∷ more ∷ [])) ≡ min (n + more) 18446744073709551615
+    two n more = omega arith
+
+pub added-push : (all : List FlowSums) (one : FlowSums) → added_up (added_up all ∷ one ∷ []) ≡ added_up (all ++ one ∷ [])
+unfolding added_up
+added-push all one = λ i. record {
+  arrivals = sum-more (λ n. n.arrivals) all one i;
+  bytes = sum-more (λ n. n.bytes) all one i;
+  queued = sum-more (λ n. n.queued) all one i;
+  marked = sum-more (λ n. n.marked) all one i;
+  early = sum-more (λ n. n.early) all one i;
+  no_bytes = sum-more (λ n. n.no_bytes) all one i;
+  no_packets = sum-more (λ n. n.no_packets) all one i;
+  left = sum-more (λ n. n.left) all one i;
+  carried = sum-more (λ n. n.carried) all one i;
+  waited = sum-more (λ n. n.waited) all one i;
+  greatest_wait = greatest-more (λ n. n.greatest_wait) all one i;
+  held = sum-more (λ n. n.held) all one i;
+}
+
+-- of events with one more
+pub flow_sums-push : (shown : List Explained) (one : Explained)
+    → added_up (flow_sums shown ∷ numbers_of (noted_of one) ∷ []) ≡ flow_sums (shown ++ one ∷ [])
+flow_sums-push shown one =
+    added-push (map (λ e. numbers_of (noted_of e)) shown) (numbers_of (noted_of one))
+    ∙ ap added_up (sym (map_push (λ (e : Explained). numbers_of (noted_of e)) shown one))
+
+-- a number in eight hexadecimal digits at the least
+pub eight_digits : (n : ℕ) → padded_integral (format_spec 32 0 4 8 18446744073709551615) false [] (digits 16 false n)
+    ≡ replicate (8 - length (digits 16 false n)) 48 ++ digits 16 false n
+unfolding padded_integral char_count
+eight_digits n =
+    let same : 8 - length (digits 16 false n) - 0 - 0 ≡ 8 - length (digits 16 false n) = omega arith in
+    rw (same, append-nil (digits 16 false n)) refl
 
 -- ---- numbers, each once
 
@@ -219,7 +269,7 @@ abbrev beside : List Flow → List Flow → List Flow
 beside some flows = filter (λ one. not (is_among some one)) flows
 
 pub beside-more : (some flows : List Flow) (one : Flow) → is_among some one ≡ false
-    → together (sums_beside some flows) one.sums ≡ sums_beside some (flows ++ one ∷ [])
+    → added_up (sums_beside some flows ∷ one.sums ∷ []) ≡ sums_beside some (flows ++ one ∷ [])
 beside-more some flows one e =
     added-push (map (λ f. f.sums) (beside some flows)) one.sums
     ∙ ap added_up (sym (map_push (λ (f : Flow). f.sums) (beside some flows) one))

@@ -7,6 +7,4 @@ pub mod SumsFacts
 pub mod PeriodFacts
 pub mod WrittenFacts
 pub mod LiveFacts
-pub mod NotedFacts
-pub mod FlowSumsFacts
 pub mod FlowFacts

@@ -7,10 +7,11 @@ use Rattle.pie_summary.proofs.Names.{meter_of, reached, sums_of, waits_of}
 use Rattle.std.specs.Prelude.{◌&&◌}
 use Rattle.std.proofs.lemmas.Nat.{div-mul-add}
 use Rattle.pie_summary.specs.Live.{Awaits, IsSet, Spans, is_first, periods_begun}
+use Rattle.pie_summary.specs.Sums.{meter_in}
 use Rattle.pie_summary.specs.Words.{wait_99}
 use Rattle.pie_summary.proofs.CountFacts.{kept-more}
 use Rattle.pie_summary.proofs.PeriodFacts.{last_events-push, last_period-push, since-begun, some-events, under-way}
-use Rattle.pie_summary.proofs.SumsFacts.{place_of, places-push, reached-later, reached-none}
+use Rattle.pie_summary.proofs.SumsFacts.{noted-moment, place_of, places-push, reached-later, reached-none}
 
 -- ---- periods
 
@@ -71,7 +72,7 @@ awaits-same period shown one holds same =
 -- .. and one with which another begins: its number and its ends, the count of periods, and what it has of the event
 pub awaits-new : (old : LivePeriod) (shown : List Explained) (one : Explained) (number start end begun : ℕ) (meter : Meter) (waits : List ℕ)
     → Holds old shown → number ≡ period_at (length_of old) one → starts (number_in old) number ≡ true
-    → begun ≡ kept (old.begun + 1) → meter ≡ record (meter_of []) { first = one.told.moment; since = one.told.moment } → waits ≡ ranges_of []
+    → begun ≡ kept (old.begun + 1) → meter ≡ record (meter_of [] []) { first = one.told.moment; since = one.told.moment } → waits ≡ ranges_of []
     → Spans (record old { number = number; start = start; end = end; begun = begun; meter = meter; waits = waits })
     → Awaits (record old { number = number; start = start; end = end; begun = begun; meter = meter; waits = waits }) shown one
 unfolding waits_of
@@ -86,7 +87,7 @@ awaits-new old shown one number start end begun meter waits holds number-is star
           ∙ ap (λ (b : Bool). min (periods_begun every shown + cond b 1 0) 18446744073709551615)
           (sym (ap (λ (b : Option ℕ). starts b (period_at every one)) (sym holds.number) ∙ starts-here))
           ∙ sym (begun-push every shown one);
-      meter = empty ∙ reached-none [] one one.told.moment refl refl ∙ ap (λ (before : List Explained). reached before one) none;
+      meter = empty ∙ reached-none [] one one.told.moment (noted-moment one) refl ∙ ap (λ (before : List Explained). reached before one) none;
       waits = cleared ∙ ap waits_of none;
       spans = spans;
     }
@@ -101,20 +102,20 @@ clock-same set = λ i. if sym set.told i == 1 then Some (record { moment = sym s
 -- an event that is counted in a period that awaits it
 pub holds-taken : (period : LivePeriod) (shown : List Explained) (one : Explained) (meter : Meter) (waits : List ℕ)
     → Awaits period shown one
-    → meter ≡ meter_of (since (length_of period) (Some (period_at (length_of period) one)) shown ++ one ∷ [])
+    → meter ≡ meter_in (since (length_of period) (Some (period_at (length_of period) one)) shown ++ one ∷ [])
     → waits ≡ waits_of (since (length_of period) (Some (period_at (length_of period) one)) shown ++ one ∷ [])
     → Holds (record period { meter = meter; waits = waits }) (shown ++ one ∷ [])
 holds-taken period shown one meter waits awaits meter-is waits-is = record {
   number = awaits.number;
   begun = awaits.begun;
-  meter = meter-is ∙ ap meter_of (sym (last_events-push (length_of period) shown one));
+  meter = meter-is ∙ ap meter_in (sym (last_events-push (length_of period) shown one));
   waits = waits-is ∙ ap waits_of (sym (last_events-push (length_of period) shown one));
   spans = awaits.spans;
 }
 
 -- ---- its record
 
-pub said-live : (by_wall : Bool) (all : List Explained) (meter : Meter) (waits : List ℕ) (most : ℕ) → meter ≡ meter_of all → waits ≡ waits_of all
+pub said-live : (by_wall : Bool) (all : List Explained) (meter : Meter) (waits : List ℕ) (most : ℕ) → meter ≡ meter_in all → waits ≡ waits_of all
     → most ≡ wait_99 waits meter → record_of by_wall meter most ≡ said_of (if by_wall then CsvByWall else Csv) all
 unfolding sums_of
 said-live true all meter waits most is waits-are most-is = λ i. record_of true (is i) ((most-is ∙ (λ j. wait_99 (waits-are j) (is j))) i)

@@ -2,7 +2,7 @@
 use Rattle.pie_summary.proofs.Names.{◌≡◌, ◌≤◌, ◌<◌, ◌+◌, ◌/◌, ◌%◌, ◌==◌, arith, ℕ, suc, Bool, true, false, List, [], ◌∷◌, ◌++◌, append-nil, length}
 use Rattle.pie_summary.proofs.Names.{map, refl, subst, sym, ap, ◌∙◌, max, min, slice_index, Option, Some, None, unwrap_or, if◌then◌else◌, cons_option}
 use Rattle.pie_summary.proofs.Names.{filter_map, sum, eq-eqb, eqb-true, map_push, filter_map-append, sum_by_push, greatest, last_or, greatest-push}
-use Rattle.pie_summary.proofs.Names.{last_or-push, Explained, Bounds, kept, bounds_of, peak_of, total_in, total_of}
+use Rattle.pie_summary.proofs.Names.{last_or-push, Bounds, kept, bounds_of, peak_of, total_in, total_of}
 use Rattle.std.proofs.lemmas.Bool.{false≢true}
 use Rattle.std.proofs.lemmas.List.{length_push}
 use Rattle.pie_summary.specs.declared.spans.Peak.{Peak}
@@ -13,8 +13,8 @@ use Rattle.pie_summary.proofs.CountFacts.{kept-more}
 -- ---- numbers of events, where a list of numbers has its step
 
 -- .. of some of them
-pub some-of-push : {S : Type 0} (of : List ℕ → S) (number : Explained → Option ℕ) (shown : List Explained) (one : Explained) {read : Option ℕ}
-    {old now : S} → ((numbers : List ℕ) → old ≡ of numbers → now ≡ of (numbers ++ cons_option read [])) → read ≡ number one
+pub some-of-push : {S X : Type 0} (of : List ℕ → S) (number : X → Option ℕ) (shown : List X) (one : X) {read : Option ℕ} {old now : S}
+    → ((numbers : List ℕ) → old ≡ of numbers → now ≡ of (numbers ++ cons_option read [])) → read ≡ number one
     → old ≡ of (filter_map number shown) → now ≡ of (filter_map number (shown ++ one ∷ []))
 some-of-push of number shown one step is old-is =
     step (filter_map number shown) old-is
@@ -22,7 +22,7 @@ some-of-push of number shown one step is old-is =
     ∙ ap of (sym (filter_map-append number shown (one ∷ [])))
 
 -- .. of each
-pub each-of-push : {S : Type 0} (of : List ℕ → S) (number : Explained → ℕ) (shown : List Explained) (one : Explained) {read : ℕ} {old now : S}
+pub each-of-push : {S X : Type 0} (of : List ℕ → S) (number : X → ℕ) (shown : List X) (one : X) {read : ℕ} {old now : S}
     → ((numbers : List ℕ) → old ≡ of numbers → now ≡ of (numbers ++ read ∷ [])) → read ≡ number one
     → old ≡ of (map number shown) → now ≡ of (map number (shown ++ one ∷ []))
 each-of-push of number shown one step is old-is =

@@ -23,7 +23,7 @@ pub mod sums;
 mod words;
 
 pub use by_flow::ByFlow;
-pub use flow::{Flow, FlowTable};
+pub use flow::Flow;
 pub use flow_period::FlowPeriod;
 pub use flow_sums::FlowSums;
 pub use flow_words::Name;

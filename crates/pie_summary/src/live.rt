@@ -10,7 +10,7 @@ ghost use Rattle.pie_explain.specs.declared.explanation.Explained.{Explained};
 
 use crate::meter::Meter;
 use crate::noted::Noted;
-use crate::ranges::{RANGES, clear_counts, count_some, most_of};
+use crate::ranges::{RANGES, clear_counts, count_some};
 use crate::record::{NAMES, push_record};
 use pie_explain::time_of;
 use pie_page::LongRow;
@@ -189,7 +189,7 @@ impl LivePeriod {
         requires { line.old ≡ [] }
         ensures { (shown : List Explained) → Holds self.now shown → line.new ≡ said_of (form_in self.now) (last_events (length_of self.now) shown) }
     {
-        let most = most_of(&self.waits, self.meter.answers[5], self.meter.greatest_wait);
+        let most = self.meter.wait_99(&self.waits);
         push_record(line, self.wall == 1, &self.meter, most);
     }
 }

@@ -3,18 +3,19 @@ ghost use Rattle.std.specs.Prelude.{◌≡◌, ◌+◌, ◌-◌, ◌^◌, ◌<�
 ghost use Rattle.std.specs.Prelude.{slice_set, unwrap_or, if◌then◌else◌};
 ghost use Rattle.std.specs.List.{cons_option};
 ghost use Rattle.pie_aqm.specs.Places.{greatest};
-ghost use Rattle.pie_explain.specs.declared.explanation.Explained.{Explained};
 ghost use Rattle.pie_summary.specs.Counts.{kept};
-ghost use Rattle.pie_summary.specs.Live.{noted_of};
+ghost use Rattle.pie_summary.specs.declared.noted.Noted.{Noted};
 ghost use Rattle.pie_summary.specs.Spans.{counted_some};
 ghost use Rattle.pie_summary.specs.Sums.{awaiting, excess_within, meter_of, timed_by};
+ghost use Rattle.pie_summary.specs.Words.{wait_99};
 
 use crate::noted::Noted;
+use crate::ranges::{RANGES, end_within, first_up_to};
 use crate::spans::{Bounds, Peak, Total, raise};
 
 /// The numbers of a record, each over all events of a period. How many events there are, and how many packets left, the answers say.
 #[repr(C)]
-#[derive(Clone, Copy, Debug)]
+#[derive(Clone, Copy, Debug, Default)]
 pub struct Meter {
     /// How many events have each answer: queued, marked, dropped early, in bytes, in packets, a packet that left, none that did, an
     /// update, and a reset or new parameters.
@@ -127,30 +128,12 @@ impl Meter {
     /// No event yet, and the first at this moment.
     #[tactic(auto, unfolding(crate::specs::Sums::meter_of, pie_aqm::specs::Places::greatest, pie_aqm::specs::Places::last_or, pie_aqm::specs::Places::places))]
     pub(crate) fn begun(moment: u64) -> Meter
-        ensures { result ≡ record (meter_of []) { first = moment; since = moment } }
+        ensures { result ≡ record (meter_of [] []) { first = moment; since = moment } }
     {
         Meter {
-            answers: [0; 9],
-            causes: [0; 15],
             first: moment,
-            last: 0,
             since: moment,
-            arrivals: 0,
-            arrived: Total::NONE,
-            waits: Total::NONE,
-            greatest_wait: 0,
-            delays: Peak::NONE,
-            probs: Peak::NONE,
-            turned_on: Bounds::NONE,
-            turned_off: Bounds::NONE,
-            timed: 0,
-            time: 0,
-            carried: 0,
-            above: 0,
-            longer: 0,
-            late: 0,
-            target: 0,
-            burst: 0,
+            ..Meter::default()
         }
     }
 
@@ -168,12 +151,23 @@ impl Meter {
         }
     }
 
+    /// The wait that at most a hundredth of the packets that left exceeded, or up to a tenth more; no more than the greatest.
+    pub(crate) fn wait_99(&self, waits: &[u64; RANGES]) -> u64
+        ensures { result ≡ wait_99 waits.now self.now }
+    {
+        let left = self.answers[5];
+        match first_up_to(waits, left - left / 100) {
+            Some(range) => end_within(range, self.greatest_wait),
+            None => self.greatest_wait,
+        }
+    }
+
     /// Takes the event that it awaits. Where it is compiled, what its kind has none of costs nothing.
     #[inline(always)]
     pub(crate) fn take(&mut self, noted: &Noted)
         requires { noted.now.answer < 9 }
-        ensures { (shown : List Explained) (one : Explained) → noted.now ≡ noted_of one → self.old ≡ awaiting shown one
-            → self.new ≡ meter_of (shown ++ one ∷ []) }
+        ensures { (shown : List Noted) (times : List ℕ) → self.old ≡ awaiting shown noted.now times
+            → self.new ≡ meter_of (shown ++ noted.now ∷ []) times }
     {
         count(&mut self.answers, noted.answer);
         count_cause(&mut self.causes, noted.cause);

@@ -4,8 +4,9 @@ ghost use Rattle.pie_explain.specs.declared.explanation.Explained.{Explained};
 ghost use Rattle.pie_summary.specs.Period.{Keeps, begins, period_of, since, starts};
 ghost use Rattle.pie_summary.specs.Summary.{HoldsSums};
 
+use crate::noted::noted_of;
 use crate::ranges::{RANGES, clear_counts, count_some};
-use crate::sums::{Sums, where_left};
+use crate::sums::Sums;
 use pie_explain::Explained;
 use std::alloc::{AllocError, Global};
 
@@ -87,8 +88,8 @@ impl Period {
         let number = period_of(every, told.told.moment);
         self.begin(number);
         self.number = Some(number);
-        self.sums.take(told);
-        let wait = where_left(told.told.event.answer, told.told.waited);
-        count_some(&mut self.waits, wait);
+        let noted = noted_of(told);
+        self.sums.take(told, &noted);
+        count_some(&mut self.waits, noted.wait);
     }
 }

@@ -49,7 +49,7 @@ fn range_apart(number: u64) -> u64
 }
 
 /// The first place up to which so many are counted.
-fn first_up_to(counts: &[u64; RANGES], rank: u64) -> Option<usize>
+pub(crate) fn first_up_to(counts: &[u64; RANGES], rank: u64) -> Option<usize>
     ensures first { result ≡ first_up_to counts.now rank }
     ensures within { IfSome result (λ place. place < 1720) }
 {
@@ -66,7 +66,7 @@ fn first_up_to(counts: &[u64; RANGES], rank: u64) -> Option<usize>
 
 /// The greatest number of a range, or a greatest number of all where it is less.
 #[tactic(auto, unfolding(crate::specs::Ranges::range_end))]
-fn end_within(range: usize, greatest: u64) -> u64
+pub(crate) fn end_within(range: usize, greatest: u64) -> u64
     requires { range < 1720 }
     ensures { result ≡ min (range_end range) greatest }
 {
@@ -104,15 +104,5 @@ pub(crate) fn count_some(counts: &mut [u64; RANGES], number: Option<u64>)
 {
     if let Some(number) = number {
         count_number(counts, number);
-    }
-}
-
-/// The wait that at most a hundredth of so many exceeded, or up to a tenth more; no more than the greatest.
-pub(crate) fn most_of(counts: &[u64; RANGES], count: u64, greatest: u64) -> u64
-    ensures { result ≡ end_within (first_up_to counts.now (count - count / 100)) greatest }
-{
-    match first_up_to(counts, count - count / 100) {
-        Some(range) => end_within(range, greatest),
-        None => greatest,
     }
 }

@@ -1,4 +1,4 @@
-use Rattle.pie_summary.proofs.Names.{◌∙◌, ap, sym, FlowSums, together}
+use Rattle.pie_summary.proofs.Names.{◌∙◌, ◌∷◌, [], ap, sym, FlowSums, added_up}
 use Rattle.pie_summary.proofs.FlowFacts.{beside-more, beside-same}
 use Rattle.pie_summary.proofs.flow.with_beside.Goals as goal
 
@@ -8,5 +8,5 @@ returns-then-is_among c = λ flows same.
 
 pub returns-else-is_among : goal.returns-else-is_among
 returns-else-is_among c = λ flows same.
-    c.plus.ensures ∙ ap (λ (s : FlowSums). together s c.args.one.now.sums) same
+    c.plus.ensures ∙ ap (λ (s : FlowSums). added_up (s ∷ c.args.one.now.sums ∷ [])) same
     ∙ beside-more c.args.some.now flows c.args.one.now (sym c.is_among.ensures ∙ c.if-is_among.false)

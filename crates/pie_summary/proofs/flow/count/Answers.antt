@@ -1,10 +1,10 @@
 use Rattle.pie_summary.proofs.Names.{filter, is_of}
 use Rattle.pie_summary.proofs.FlowFacts.{flow-taken}
-use Rattle.pie_summary.proofs.flow.FlowTable.count.Goals as goal
+use Rattle.pie_summary.proofs.flow.count.Goals as goal
 
 pub returns-in-Ok : goal.returns-in-Ok
 returns-in-Ok c = λ shown has is.
-    flow-taken c.args.flow shown c.args.told.now c.args.self.now.rows.entries _
+    flow-taken c.args.flow shown c.args.told.now c.args.rows.now.entries _
     (record { number = c.args.flow; sums = c.with-sums.result }) has is
     (λ i. record {
       number = c.args.flow;

@@ -1,6 +1,6 @@
 use Rattle.pie_summary.proofs.Names.{◌∙◌, ap, values_of, flows_in}
 use Rattle.pie_summary.proofs.FlowFacts.{values-rows}
-use Rattle.pie_summary.proofs.flow.FlowTable.flows.Goals as goal
+use Rattle.pie_summary.proofs.flow.flows_of.Goals as goal
 
 pub returns : goal.returns
 returns c = λ shown has.

@@ -1,10 +1,9 @@
 -- What is kept of a period that is summed up as it goes, with one more event.
 use Rattle.pie_summary.proofs.Names.{◌≡◌, ◌≤◌, ◌<◌, ◌+◌, ◌*◌, ◌-◌, ◌/◌, ◌==◌, arith, ℕ, Bool, true, false, cond, not, List, [], ◌∷◌, ◌++◌, refl}
-use Rattle.pie_summary.proofs.Names.{sym, ap, ◌∙◌, nat_le, nat_lt, min, count_by, Option, Some, None, if◌then◌else◌, eq-eqb, ne_eqb, nat_tests}
+use Rattle.pie_summary.proofs.Names.{sym, ap, ◌∙◌, min, count_by, Option, Some, None, if◌then◌else◌, eq-eqb, ne_eqb}
 use Rattle.pie_summary.proofs.Names.{sum_by_push, Place, places, time_of, Explained, Csv, CsvByWall, LivePeriod, Meter, kept, Holds, clock_of}
 use Rattle.pie_summary.proofs.Names.{length_of, number_in, last_events, last_period, period_at, since, starts, ranges_of, record_of, said_of}
 use Rattle.pie_summary.proofs.Names.{meter_of, reached, sums_of, waits_of}
-use Rattle.std.specs.Prelude.{◌&&◌}
 use Rattle.std.proofs.lemmas.Nat.{div-mul-add}
 use Rattle.pie_summary.specs.Live.{Awaits, IsSet, Spans, is_first, periods_begun}
 use Rattle.pie_summary.specs.Sums.{meter_in}
@@ -42,9 +41,6 @@ pub not-started : (period : LivePeriod) (p : ℕ) → (period.begun ≡ 0 → �
 not-started period p some is =
     ap (λ (n : Option ℕ). starts n p) (known-number period.begun period.number some)
     ∙ ap not (eq-eqb period.number p (sym is))
-
-pub both-ends : (start end moment : ℕ) → (nat_le start moment && nat_lt moment end) ≡ true → (start ≤ moment) × (moment < end)
-both-ends start end moment is = grind (arith, nat_tests, is)
 
 -- an event in the period that is under way
 pub awaits-same : (period : LivePeriod) (shown : List Explained) (one : Explained) → Holds period shown

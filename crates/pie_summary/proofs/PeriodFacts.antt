@@ -1,9 +1,14 @@
 -- The last events of a list with one more.
 use Rattle.pie_summary.proofs.Names.{◌≡◌, ◌==◌, ℕ, Bool, true, false, not, List, [], ◌∷◌, ◌++◌, map, refl, sym, ap, ◌∙◌, Option, Some, None, eq-eqb}
+use Rattle.pie_summary.proofs.Names.{Err, Ok, OnOk, Result, Place, places}
 use Rattle.pie_summary.proofs.Names.{eqb-true, map_push, last_or, last_or-push, Explained, last_events, last_period, period_at, since, starts}
 use Rattle.std.proofs.Common.{◌⊎◌, inl, inr, arith, length}
 use Rattle.std.proofs.lemmas.List.{length_push}
 use Rattle.pie_early.proofs.Laws.{after_last-push_no, after_last-push_yes}
+use Rattle.std.specs.List.{flat_map}
+use Rattle.std.proofs.lemmas.List.{flat_map_more}
+use Rattle.pie_aqm.proofs.Places.{place_of, places-push}
+use Rattle.pie_explain.specs.Report.{Grows}
 use Rattle.pie_summary.specs.Period.{is_elsewhere}
 
 -- a list is empty, or has a last element
@@ -72,3 +77,19 @@ some-events every period shown is empty = by_end (ends-of shown)
     by_end (inr (front, last, whole)) =
         let nothing = ap length (sym (last_events-push every front last) ∙ ap (last_events every) (sym whole) ∙ empty) in
         omega (arith, nothing, length_push (since every (Some (period_at every last)) front) last)
+
+-- ---- what is written of events with one more, and at their end
+
+pub written-push : (header : List ℕ) (at : Place Explained → List ℕ) (shown : List Explained) (one : Explained) (text : List ℕ)
+    → text ≡ at (place_of shown one)
+    → header ++ flat_map at (places (shown ++ one ∷ [])) ≡ (header ++ flat_map at (places shown)) ++ text
+written-push header at shown one text is =
+    ap (λ ps. header ++ flat_map at ps) (places-push shown one)
+    ∙ sym (flat_map_more at header (places shown) (place_of shown one))
+    ∙ ap (λ (more : List ℕ). (header ++ flat_map at (places shown)) ++ more) (sym is)
+
+pub written-end : {E : Type 0} (result : Result (Unit {0}) E) (so_far said page now text : List ℕ) → text ≡ said
+    → OnOk result (now ≡ page ++ text) → OnOk result (Grows so_far (so_far ++ said) page now)
+written-end (Ok done) so_far said page now text is wrote =
+    record { more = text; grown = wrote; turned = ap (λ (t : List ℕ). so_far ++ t) (sym is) }
+written-end (Err why) so_far said page now text is wrote = tt

@@ -43,20 +43,14 @@ up-to-more : (counts : List ℕ) (place : ℕ) → place < length counts
     → sum (take (place + 1) counts) ≡ sum (take place counts) + slice_index counts place
 up-to-more counts place within = sum_by_more (λ (n : ℕ). n) counts place 0 within
 
--- a search over a range goes on behind its first place, or ends there
-goes-on : (test : ℕ → Bool) (place count : ℕ) → place < count → test place ≡ false
-    → find test (range_with_len place (count - place)) ≡ find test (range_with_len (place + 1) (count - (place + 1)))
-goes-on test place count within fails = longer (count - (place + 1)) (count - place) (omega arith)
+-- a search over a range ends at its first place, or goes on behind it
+search-step : (test : ℕ → Bool) (place count : ℕ) → place < count → find test (range_with_len place (count - place))
+    ≡ (if test place then Some place else find test (range_with_len (place + 1) (count - (place + 1))))
+search-step test place count within = longer (count - (place + 1)) (count - place) (omega arith)
   where
-    longer : (rest all : ℕ) → all ≡ suc rest → find test (range_with_len place all) ≡ find test (range_with_len (place + 1) rest)
-    longer rest all is = rw (is, fails) refl
-
-ends-here : (test : ℕ → Bool) (place count : ℕ) → place < count → test place ≡ true
-    → find test (range_with_len place (count - place)) ≡ Some place
-ends-here test place count within holds = longer (count - (place + 1)) (count - place) (omega arith)
-  where
-    longer : (rest all : ℕ) → all ≡ suc rest → find test (range_with_len place all) ≡ Some place
-    longer rest all is = rw (is, holds) refl
+    longer : (rest all : ℕ) → all ≡ suc rest
+        → find test (range_with_len place all) ≡ (if test place then Some place else find test (range_with_len (place + 1) rest))
+    longer rest all is = rw is refl
 
 -- what a search for a rank has left from a place on
 abbrev pub from_place : List ℕ → ℕ → ℕ → Option ℕ
@@ -68,7 +62,8 @@ search-ends counts rank place missing within left enough so_far =
     let more = up-to-more counts place within in
     let reached : rank ≤ sum (take (place + 1) counts) = omega (arith, more, left, enough) in
     let holds : nat_le rank (sum (take (place + 1) counts)) ≡ true = grind (arith, nat_tests, reached) in
-    sym (so_far ∙ ends-here (λ p. nat_le rank (sum (take (p + 1) counts))) place (length counts) within holds)
+    sym (so_far ∙ search-step (λ p. nat_le rank (sum (take (p + 1) counts))) place (length counts) within
+    ∙ ap (λ b. if b then Some place else from_place counts rank (place + 1)) holds)
 
 pub search-goes-on : (counts : List ℕ) (rank place missing : ℕ) → place < length counts → missing ≡ rank - sum (take place counts)
     → slice_index counts place < missing → first_up_to counts rank ≡ from_place counts rank place
@@ -76,8 +71,11 @@ pub search-goes-on : (counts : List ℕ) (rank place missing : ℕ) → place < 
 search-goes-on counts rank place missing within left short so_far =
     let more = up-to-more counts place within in
     let misses : sum (take (place + 1) counts) < rank = omega (arith, more, left, short) in
-    let fails : nat_le rank (sum (take (place + 1) counts)) ≡ false = grind (arith, nat_tests, misses) in
-    (omega (arith, more, left), so_far ∙ goes-on (λ p. nat_le rank (sum (take (p + 1) counts))) place (length counts) within fails)
+    let fails : nat_le rank (sum (take (place + 1) counts)) ≡ false = grind (arith, nat_tests, misses) in (
+      omega (arith, more, left),
+      so_far ∙ search-step (λ p. nat_le rank (sum (take (p + 1) counts))) place (length counts) within
+          ∙ ap (λ b. if b then Some place else from_place counts rank (place + 1)) fails,
+    )
 
 -- of no number all ranges are empty
 pub no_ranges : replicate 1720 0 ≡ ranges_of []
@@ -85,11 +83,11 @@ unfolding ranges_of
 no_ranges = none-counted range_of 0 1720
 
 -- one more number in its range
-pub ranges-push : (at : ℕ) (numbers : List ℕ) (number : ℕ) (old held read : List ℕ) (count : ℕ) → old ≡ ranges_of numbers → held ≡ old → read ≡ old
+pub ranges_push : (at : ℕ) (numbers : List ℕ) (number : ℕ) (old held read : List ℕ) (count : ℕ) → old ≡ ranges_of numbers → held ≡ old → read ≡ old
     → count ≡ min (slice_index read at + 1) 18446744073709551615 → at ≡ range_of number → at < 1720
     → slice_set held at count ≡ ranges_of (numbers ++ number ∷ [])
 unfolding ranges_of
-ranges-push at numbers number old held read count is held-is read-is count-is here within =
+ranges_push at numbers number old held read count is held-is read-is count-is here within =
     ap (λ (xs : List ℕ). slice_set xs at count) held-is
     ∙ ap (λ (n : ℕ). slice_set old at n) (count-is ∙ ap (λ (xs : List ℕ). min (slice_index xs at + 1) 18446744073709551615) read-is)
     ∙ counted-push range_of 1720 at numbers number old is here within

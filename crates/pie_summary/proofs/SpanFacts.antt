@@ -42,10 +42,10 @@ first-push (first ∷ numbers) number = later (length numbers)
 count-push : (numbers : List ℕ) (number : ℕ) → kept (kept (length numbers) + 1) ≡ kept (length (numbers ++ number ∷ []))
 count-push numbers number = kept-more (length numbers) 1 18446744073709551615 ∙ ap kept (sym (length_push numbers number))
 
-pub bounds-push : (numbers : List ℕ) (number : ℕ) (old : Bounds) (count first : ℕ) → old ≡ bounds_of numbers
+pub bounds_push : (numbers : List ℕ) (number : ℕ) (old : Bounds) (count first : ℕ) → old ≡ bounds_of numbers
     → count ≡ kept (old.count + 1) → first ≡ held_or old.count old.first number
     → record { count = count; first = first; last = number } ≡ bounds_of (numbers ++ number ∷ [])
-bounds-push numbers number old count first is count-is first-is = λ i. record {
+bounds_push numbers number old count first is count-is first-is = λ i. record {
   count = (count-is ∙ ap (λ (s : Bounds). kept (s.count + 1)) is ∙ count-push numbers number) i;
   first = (first-is ∙ ap (λ (s : Bounds). held_or s.count s.first number) is ∙ first-push numbers number) i;
   last = sym (last_or-push 0 numbers number) i;
@@ -57,24 +57,29 @@ unfolding last_or greatest
 last-from number [] = omega arith
 last-from number (first ∷ numbers) = let rest = last-from first numbers in omega (arith, rest)
 
-pub peak-push : (numbers : List ℕ) (number : ℕ) (old : Peak) (most : ℕ) → old ≡ peak_of numbers → most ≡ max old.greatest number
+pub peak_push : (numbers : List ℕ) (number : ℕ) (old : Peak) (most : ℕ) → old ≡ peak_of numbers → most ≡ max old.greatest number
     → record { greatest = most; last = number } ≡ peak_of (numbers ++ number ∷ [])
-peak-push numbers number old most is most-is = λ i. record {
+peak_push numbers number old most is most-is = λ i. record {
   greatest = (most-is ∙ ap (λ (s : Peak). max s.greatest number) is ∙ sym (greatest-push numbers number)) i;
   last = sym (last_or-push 0 numbers number) i;
 }
 
 -- .. where it is the last one again
-pub peak-same : (numbers : List ℕ) (number : ℕ) (old : Peak) → old ≡ peak_of numbers → old.last ≡ number → old ≡ peak_of (numbers ++ number ∷ [])
-peak-same numbers number old is same =
+pub peak_same : (numbers : List ℕ) (number : ℕ) (old : Peak) → old ≡ peak_of numbers → old.last ≡ number → old ≡ peak_of (numbers ++ number ∷ [])
+peak_same numbers number old is same =
     let below : old.last ≤ max 0 old.greatest = subst (λ (p : Peak). p.last ≤ max 0 p.greatest) (sym is) (last-from 0 numbers) in
     let most : old.greatest ≡ max old.greatest number = omega (arith, below, same) in
-    (λ i. record { greatest = most i; last = same i }) ∙ peak-push numbers number old (max old.greatest number) is refl
+    (λ i. record { greatest = most i; last = same i }) ∙ peak_push numbers number old (max old.greatest number) is refl
 
 pub count-some : (numbers : List ℕ) (read : Option ℕ) (old now : ℕ) → now ≡ counted_some old read → old ≡ kept (length numbers)
     → now ≡ kept (length (numbers ++ cons_option read []))
 count-some numbers None old now is old-is = is ∙ old-is ∙ ap (λ (ns : List ℕ). kept (length ns)) (sym (append-nil numbers))
 count-some numbers (Some number) old now is old-is = is ∙ ap (λ (n : ℕ). kept (n + 1)) old-is ∙ count-push numbers number
+
+-- .. and the greatest
+pub greatest-some : (numbers : List ℕ) (read : Option ℕ) → max (greatest numbers) (unwrap_or read 0) ≡ greatest (numbers ++ cons_option read [])
+greatest-some numbers None = omega arith ∙ ap greatest (sym (append-nil numbers))
+greatest-some numbers (Some number) = sym (greatest-push numbers number)
 
 -- .. and the last of some, or another
 pub since-push : (before : ℕ) (numbers : List ℕ) (read : Option ℕ)

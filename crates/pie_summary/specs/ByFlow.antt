@@ -1,14 +1,12 @@
 -- What is written for sums by flow of the explained events.
-use Rattle.std.specs.Prelude.{ℕ, ◌≡◌, Bool, true, false, List, [], ◌++◌}
+use Rattle.std.specs.Prelude.{ℕ, ◌≡◌, List, ◌++◌}
 use Rattle.std.specs.List.{flat_map}
-use Rattle.pie_aqm.specs.Places.{Place, places}
+use Rattle.pie_aqm.specs.Places.{places}
 use Rattle.pie_explain.specs.declared.explanation.Explained.{Explained}
 use Rattle.pie_explain.specs.declared.form.Form.{Form}
 use Rattle.pie_explain.specs.Output.{header_of}
 use Rattle.pie_summary.specs.declared.by_flow.ByFlow.{ByFlow}
-use Rattle.pie_summary.specs.declared.flow.Flow.{Flow}
 use Rattle.pie_summary.specs.declared.flow_period.FlowPeriod.{FlowPeriod}
-use Rattle.pie_summary.specs.declared.spans.Span.{Span}
 use Rattle.pie_summary.specs.Flows.{HasFlows, flows_of}
 use Rattle.pie_summary.specs.FlowWords.{flow_names, flows_said}
 use Rattle.pie_summary.specs.Period.{Keeps, at_end, last_events}

@@ -1,5 +1,5 @@
 -- A period that is summed up as it goes: the numbers of a summary's record, kept in as much memory as they take.
-use Rattle.std.specs.Prelude.{ℕ, ◌≡◌, ◌≤◌, ◌<◌, ◌==◌, Bool, true, false, ◌&&◌, nat_le, nat_lt, List, [], ◌∷◌, ◌++◌, Option, Some, None, count_by}
+use Rattle.std.specs.Prelude.{ℕ, ◌≡◌, ◌≤◌, ◌<◌, ◌==◌, Bool, List, [], ◌∷◌, ◌++◌, Option, Some, None, count_by}
 use Rattle.std.specs.Prelude.{if◌then◌else◌}
 use Rattle.pie_aqm.specs.Places.{Place, places}
 use Rattle.pie_record.specs.declared.clock.Clock.{Clock}
@@ -61,10 +61,6 @@ pub record IsSet (before after : LivePeriod) : Type 0 where
   pub told : after.told ≡ before.told
   pub clock_moment : after.clock_moment ≡ before.clock_moment
   pub clock_unix : after.clock_unix ≡ before.clock_unix
-
--- a moment is in the period that is under way
-abbrev pub is_within : LivePeriod → ℕ → Bool
-is_within period moment = nat_le period.start moment && nat_lt moment period.end
 
 -- the form of the records: with a time of day, or without
 abbrev pub form_in : LivePeriod → Form

@@ -18,7 +18,7 @@ use Rattle.pie_summary.specs.declared.noted.Noted.{Noted}
 use Rattle.pie_summary.specs.declared.sums.Sums.{Sums}
 use Rattle.pie_summary.specs.Counts.{counts_of, kept}
 use Rattle.pie_summary.specs.Ranges.{ranges_of}
-use Rattle.pie_summary.specs.Spans.{bounds_of, moment_at, peak_of, span_of, time_at, total_of}
+use Rattle.pie_summary.specs.Spans.{bounds_of, peak_of, span_of, time_at, total_of}
 
 -- ---- of one event
 

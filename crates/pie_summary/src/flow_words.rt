@@ -2,7 +2,7 @@
 ghost use Rattle.std.specs.Prelude.{◌≡◌, ◌++◌, OnOk, string_bytes};
 ghost use Rattle.pie_summary.specs.Record.{last_fields, number_fields};
 ghost use Rattle.pie_summary.specs.FlowWords.{amount_words, each_said, flow_record, flow_said, flow_words, flows_said, head_said, mean_wait};
-ghost use Rattle.pie_summary.specs.FlowWords.{name_field, name_words, others_said, parts_said, total_words, wait_words};
+ghost use Rattle.pie_summary.specs.FlowWords.{name_field, others_said, parts_said, total_words, wait_words};
 
 use crate::flow::{Flow, first_of, sums_beside};
 use crate::flow_sums::FlowSums;
@@ -39,46 +39,28 @@ pub(crate) const NAMES: &str =
     "first_moment,last_moment,flow,arrivals,arrived_bytes,enqueue,mark,early,bytes,packets,left,carried_bytes,\
     greatest_wait,mean_wait,byte_microseconds";
 
-/// A flow's number in eight hexadecimal digits.
-#[derive(Clone, Copy)]
-struct Number(u32);
-
-impl Display for Number {
+impl Display for Name {
     ghost use Rattle.std.specs.Prelude.{Some};
-    ghost use Rattle.pie_summary.specs.FlowWords.{flow_text};
+    ghost use Rattle.pie_summary.specs.FlowWords.{name_words};
 
-    ghost output = { λ flow. Some (flow_text flow.0) };
+    ghost output = { λ name. Some (name_words name) };
 
-    #[tactic(auto, using(crate::proofs::FlowFacts::eight_digits), unfolding(crate::specs::FlowWords::flow_text))]
+    #[tactic(auto, using(crate::proofs::FlowFacts::eight_digits), unfolding(crate::specs::FlowWords::flow_text, crate::specs::FlowWords::name_words))]
     fn fmt<W: fmt::Write>(&self, f: &mut fmt::Formatter<W>) -> fmt::Result {
-        let number = self.0;
-        write!(f, "0x{number:08x}")
-    }
-}
-
-/// What a row is of, in words.
-#[tactic(auto, unfolding(crate::specs::FlowWords::name_words))]
-fn push_name(page: &mut String, name: Name) -> Written
-    ensures { OnOk result (string_bytes page.new ≡ string_bytes page.old ++ name_words name) }
-{
-    match name {
-        Name::Of(flow) => {
-            let flow = Number(flow);
-            write!(page, "flow {flow}")
+        match *self {
+            Name::Of(flow) => write!(f, "flow 0x{flow:08x}"),
+            Name::Others(count) => write!(f, "the other {count} flows"),
         }
-        Name::Others(count) => write!(page, "the other {count} flows"),
     }
 }
 
-/// What a row is of, as a field.
+/// What a row is of, as a field: a flow's number in eight hexadecimal digits.
+#[tactic(auto, using(crate::proofs::FlowFacts::eight_digits), unfolding(crate::specs::FlowWords::flow_text))]
 fn push_field(page: &mut String, name: Name) -> Written
     ensures { OnOk result (string_bytes page.new ≡ string_bytes page.old ++ name_field name) }
 {
     match name {
-        Name::Of(flow) => {
-            let flow = Number(flow);
-            write!(page, "{flow}")
-        }
+        Name::Of(flow) => write!(page, "0x{flow:08x}"),
         Name::Others(_) => write!(page, "others"),
     }
 }
@@ -97,11 +79,9 @@ fn push_amount(page: &mut String, name: Name, total: &FlowSums, sums: &FlowSums)
         count: sums.held,
         all: total.held,
     };
-    write!(page, "  ")?;
-    push_name(page, name)?;
     write!(
         page,
-        ": {arrivals} arrivals, {bytes} bytes, {of_bytes} of all; {of_queue} of the queue\n"
+        "  {name}: {arrivals} arrivals, {bytes} bytes, {of_bytes} of all; {of_queue} of the queue\n"
     )
 }
 

@@ -2,7 +2,7 @@
 ghost use Rattle.std.specs.Prelude.{◌≡◌, ◌<◌, ◌++◌, ◌∷◌, [], ℕ, List, not, if◌then◌else◌};
 ghost use Rattle.std.specs.List.{cons_option};
 ghost use Rattle.pie_explain.specs.Selection.{time_of};
-ghost use Rattle.pie_summary.specs.Live.{Awaits, Holds, IsSet, clock_of, form_in, is_within, length_of, noted_of, number_in};
+ghost use Rattle.pie_summary.specs.Live.{Awaits, Holds, IsSet, clock_of, form_in, length_of, noted_of, number_in};
 ghost use Rattle.pie_summary.specs.Period.{last_events, starts};
 ghost use Rattle.pie_summary.specs.Summary.{header, said_of};
 ghost use Rattle.pie_summary.specs.Sums.{timed_by};
@@ -67,14 +67,6 @@ impl LivePeriod {
         }
     }
 
-    /// Whether a moment is in the period under way.
-    #[inline(always)]
-    fn is_within(&self, moment: u64) -> bool
-        ensures { result ≡ is_within self.now moment }
-    {
-        self.start <= moment && moment < self.end
-    }
-
     /// Whether no event was in the period with this number, or one in another after them.
     fn begins(&self, number: u64) -> bool
         ensures { result ≡ starts (number_in self.now) number }
@@ -106,7 +98,7 @@ impl LivePeriod {
         ensures settings { IsSet self.old self.new }
         ensures awaits { (shown : List Explained) (one : Explained) → one.told.moment ≡ moment → Holds self.old shown → Awaits self.new shown one }
     {
-        if self.is_within(moment) {
+        if self.start <= moment && moment < self.end {
             return;
         }
         self.turn(moment);

@@ -1,8 +1,7 @@
 //! The numbers of a period that is summed up as it goes, in memory that its owner has: what the record of a summary is made of, and no more.
 ghost use Rattle.std.specs.Prelude.{◌≡◌, ◌+◌, ◌-◌, ◌^◌, ◌<◌, ◌++◌, ◌∷◌, [], ℕ, List, length, min, nat_lt, slice_index};
-ghost use Rattle.std.specs.Prelude.{slice_set, unwrap_or, if◌then◌else◌};
+ghost use Rattle.std.specs.Prelude.{slice_set, if◌then◌else◌};
 ghost use Rattle.std.specs.List.{cons_option};
-ghost use Rattle.pie_aqm.specs.Places.{greatest};
 ghost use Rattle.pie_summary.specs.Counts.{kept};
 ghost use Rattle.pie_summary.specs.declared.noted.Noted.{Noted};
 ghost use Rattle.pie_summary.specs.Spans.{counted_some};
@@ -93,26 +92,6 @@ fn count_some(count: &mut u64, number: Option<u64>)
     }
 }
 
-/// The greatest of some numbers, with one more or none.
-#[inline(always)]
-fn raise_some(most: &mut u64, number: Option<u64>)
-    ensures { (numbers : List ℕ) → most.old ≡ greatest numbers → most.new ≡ greatest (numbers ++ cons_option number []) }
-{
-    if let Some(number) = number {
-        raise(most, number);
-    }
-}
-
-/// Puts a number in the place of another, where there is one.
-#[inline(always)]
-fn set_some(held: &mut u64, number: Option<u64>)
-    ensures { held.new ≡ unwrap_or number held.old }
-{
-    if let Some(number) = number {
-        *held = number;
-    }
-}
-
 /// Adds as much of an excess as lies within so long, where there is one.
 #[inline(always)]
 fn add_excess(late: &mut u64, excess: Option<u64>, since: u64)
@@ -175,11 +154,11 @@ impl Meter {
         count_some(&mut self.longer, noted.excess);
         let since = noted.moment.saturating_sub(self.since);
         add_excess(&mut self.late, noted.excess, since);
-        set_some(&mut self.since, noted.left);
+        self.since = noted.left.unwrap_or(self.since);
         count_some(&mut self.arrivals, noted.arrived);
         self.arrived.take_some(noted.arrived);
         self.waits.take_some(noted.wait);
-        raise_some(&mut self.greatest_wait, noted.wait);
+        raise(&mut self.greatest_wait, noted.wait.unwrap_or(0));
         self.delays.take_some(noted.delay);
         self.probs.take(noted.prob);
         self.turned_on.take_some(noted.turned_on);

@@ -58,6 +58,7 @@ impl Period {
     /// # Errors
     ///
     /// `AllocError` where there is none.
+    #[tactic(auto, using(crate::proofs::RangeFacts::no_ranges), unfolding(crate::specs::Sums::waits_of))]
     pub(crate) fn empty(alloc: Global) -> Result<Period, AllocError>
         ensures { IfOk result (λ period. (period.number ≡ None) × HoldsSums period []) }
     {

@@ -89,6 +89,7 @@ pub(crate) fn clear_counts(counts: &mut [u64; RANGES])
 }
 
 /// Takes one more number.
+#[tactic(auto, using(crate::proofs::RangeFacts::ranges_push))]
 #[inline(always)]
 pub(crate) fn count_number(counts: &mut [u64; RANGES], number: u64)
     ensures { (numbers : List ℕ) → counts.old ≡ ranges_of numbers → counts.new ≡ ranges_of (numbers ++ number ∷ []) }

@@ -61,6 +61,7 @@ impl Bounds {
     ghost use Rattle.pie_summary.specs.Spans.{bounds_of};
 
     /// Takes one more number.
+    #[tactic(auto, using(crate::proofs::SpanFacts::bounds_push))]
     #[inline(never)]
     pub(crate) fn take(&mut self, number: u64)
         ensures { (numbers : List ℕ) → self.old ≡ bounds_of numbers → self.new ≡ bounds_of (numbers ++ number ∷ []) }
@@ -87,6 +88,7 @@ impl Peak {
     ghost use Rattle.pie_summary.specs.Spans.{peak_of};
 
     /// Takes one more number. Most are the number before, which is none greater than the greatest.
+    #[tactic(auto, using(crate::proofs::SpanFacts::peak_push, crate::proofs::SpanFacts::peak_same))]
     #[inline(always)]
     pub(crate) fn take(&mut self, number: u64)
         ensures { (numbers : List ℕ) → self.old ≡ peak_of numbers → self.new ≡ peak_of (numbers ++ number ∷ []) }

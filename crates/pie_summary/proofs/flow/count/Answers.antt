@@ -9,4 +9,4 @@ returns-in-Ok c = λ shown has is.
     (λ i. record {
       number = c.args.flow;
       sums = c.with-sums.ensures (filter (is_of c.args.flow) shown) (c.sums_of.ensures shown has) i;
-    }) c.in-Ok.ensures.entries
+    }) c.in-Ok.ensures.entries c.in-Ok.ensures.updates.0 c.insert.ensures.unique

@@ -1,7 +1,7 @@
 use Rattle.pie_summary.proofs.Names.{last_events}
 use Rattle.pie_summary.specs.ByFlow.{flows_so_far, said_by_flow}
 use Rattle.pie_summary.specs.FlowWords.{flows_said}
-use Rattle.pie_summary.proofs.WrittenFacts.{written-end}
+use Rattle.pie_summary.proofs.PeriodFacts.{written-end}
 use Rattle.pie_summary.proofs.by_flow.ByFlowReport.end.Goals as goal
 
 pub returns : goal.returns

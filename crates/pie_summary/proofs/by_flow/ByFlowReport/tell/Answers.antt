@@ -2,7 +2,7 @@ use Rattle.pie_summary.proofs.Names.{[], if◌then◌else◌, ◌∙◌, flow_he
 use Rattle.pie_summary.specs.ByFlow.{said_by_flow}
 use Rattle.pie_summary.specs.FlowWords.{flows_said}
 use Rattle.pie_summary.specs.Period.{at_end}
-use Rattle.pie_summary.proofs.WrittenFacts.{written-push}
+use Rattle.pie_summary.proofs.PeriodFacts.{written-push}
 use Rattle.pie_summary.proofs.by_flow.ByFlowReport.tell.Goals as goal
 
 pub returns : goal.returns

@@ -1,8 +1,8 @@
 use Rattle.pie_summary.proofs.Names.{◌≡◌, ◌-◌, ◌∷◌, [], ◌++◌, ◌∙◌, ap, map, sym, List, ℕ, filter_map, refl, slice_index, sum, unwrap_or, length}
-use Rattle.pie_summary.proofs.Names.{filter_map-append, greatest, last_or, places, Meter, kept, bounds_of, peak_of, total_of, late_at, meter_of}
+use Rattle.pie_summary.proofs.Names.{filter_map-append, max, greatest, last_or, places, Meter, kept, bounds_of, peak_of, total_of, late_at, meter_of}
 use Rattle.pie_summary.specs.Sums.{excess_within, moments_of}
 use Rattle.pie_summary.proofs.CountFacts.{counted-among, counted-push}
-use Rattle.pie_summary.proofs.SpanFacts.{count-some, each-of-push, since-push, some-of-push}
+use Rattle.pie_summary.proofs.SpanFacts.{count-some, each-of-push, greatest-some, since-push, some-of-push}
 use Rattle.pie_summary.proofs.SumsFacts.{last-push, place_of, places-push, sum-push}
 use Rattle.pie_summary.proofs.meter.Meter.take.Goals as goal
 
@@ -22,13 +22,15 @@ returns c = λ shown times same.
       causes = (c.count_cause.ensures ∙ counted-among (λ one. one.cause) 15 n.cause shown n old.causes (ap (λ (m : Meter). m.causes) same) refl) i;
       first = ap (λ (m : Meter). m.first) same i;
       last = last-push (λ one. one.moment) shown n i;
-      since = (c.set_some.ensures ∙ ap (unwrap_or n.left) since-is ∙ since-push first (filter_map (λ one. one.left) shown) n.left
+      since = (c.unwrap_or-self.ensures ∙ ap (unwrap_or n.left) since-is ∙ since-push first (filter_map (λ one. one.left) shown) n.left
           ∙ ap (last_or first) (sym (filter_map-append (λ one. one.left) shown (n ∷ [])))) i;
       arrivals = some-of-push count (λ one. one.arrived) shown n (λ numbers. count-some numbers _ _ _ c.count_some-2.ensures) refl
           (ap (λ (m : Meter). m.arrivals) same) i;
       arrived = some-of-push total_of (λ one. one.arrived) shown n c.take_some.ensures refl (ap (λ (m : Meter). m.arrived) same) i;
       waits = some-of-push total_of (λ one. one.wait) shown n c.take_some-2.ensures refl (ap (λ (m : Meter). m.waits) same) i;
-      greatest_wait = some-of-push greatest (λ one. one.wait) shown n c.raise_some.ensures refl (ap (λ (m : Meter). m.greatest_wait) same) i;
+      greatest_wait = some-of-push greatest (λ one. one.wait) shown n
+          (λ numbers held. c.raise.ensures ∙ (λ j. max (held j) (c.unwrap_or.ensures j)) ∙ greatest-some numbers n.wait) refl
+          (ap (λ (m : Meter). m.greatest_wait) same) i;
       delays = some-of-push peak_of (λ one. one.delay) shown n c.take_some-3.ensures refl (ap (λ (m : Meter). m.delays) same) i;
       probs = each-of-push peak_of (λ one. one.prob) shown n c.take.ensures refl (ap (λ (m : Meter). m.probs) same) i;
       turned_on = some-of-push bounds_of (λ one. one.turned_on) shown n c.take_some-4.ensures refl (ap (λ (m : Meter). m.turned_on) same) i;

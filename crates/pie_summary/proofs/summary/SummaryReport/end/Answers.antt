@@ -1,6 +1,6 @@
 use Rattle.pie_summary.proofs.Names.{last_events, said_of}
 use Rattle.pie_summary.specs.Summary.{said, summaries}
-use Rattle.pie_summary.proofs.WrittenFacts.{written-end}
+use Rattle.pie_summary.proofs.PeriodFacts.{written-end}
 use Rattle.pie_summary.proofs.summary.SummaryReport.end.Goals as goal
 
 pub returns : goal.returns

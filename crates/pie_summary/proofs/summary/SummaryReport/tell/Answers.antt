@@ -1,6 +1,6 @@
 use Rattle.pie_summary.proofs.Names.{[], if◌then◌else◌, ◌++◌, ◌∙◌, ap, append_assoc, begins, header, noted}
 use Rattle.pie_summary.specs.Summary.{said, written_at}
-use Rattle.pie_summary.proofs.WrittenFacts.{written-push}
+use Rattle.pie_summary.proofs.PeriodFacts.{written-push}
 use Rattle.pie_summary.proofs.summary.SummaryReport.tell.Goals as goal
 
 pub returns : goal.returns

@@ -95,9 +95,9 @@ abbrev pub sums_found : Option Flow → FlowSums
 sums_found (Some row) = row.sums
 sums_found None = added_up []
 
-pub found-is : (flow : ℕ) (shown : List Explained) (rows : List (ℕ × Flow)) → HasFlows rows shown
+pub found_is : (flow : ℕ) (shown : List Explained) (rows : List (ℕ × Flow)) → HasFlows rows shown
     → sums_found (lookup (nat_eq flow) rows) ≡ flow_sums (filter (is_of flow) shown)
-found-is flow shown rows has = ap sums_found (has.found flow) ∙ known (filter (is_of flow) shown)
+found_is flow shown rows has = ap sums_found (has.found flow) ∙ known (filter (is_of flow) shown)
   where
     known : (all : List Explained) → sums_found (row_of flow all) ≡ flow_sums all
     known [] = refl
@@ -189,10 +189,10 @@ take-placed (suc m) (x ∷ flows) one = by (precedes one x) (take-placed m flows
     by true rest = ap (λ (fs : List Flow). one ∷ fs) (take-twice m x flows)
     by false rest = ap (λ (fs : List Flow). x ∷ fs) rest
 
-pub none-first : (m : ℕ) → [] ≡ first_of m []
+pub none_first : (m : ℕ) → [] ≡ first_of m []
 unfolding in_order
-none-first zero = refl
-none-first (suc m) = refl
+none_first zero = refl
+none_first (suc m) = refl
 
 pub first_of-push : (m : ℕ) (flows : List Flow) (one : Flow) → take m (placed (first_of m flows) one) ≡ first_of m (flows ++ one ∷ [])
 unfolding in_order
@@ -203,18 +203,18 @@ first_of-push m flows one = take-placed m (in_order flows) one ∙ ap (take m) (
 abbrev beside : List Flow → List Flow → List Flow
 beside some flows = filter (λ one. not (is_among some one)) flows
 
-pub beside-more : (some flows : List Flow) (one : Flow) → is_among some one ≡ false
+pub beside_more : (some flows : List Flow) (one : Flow) → is_among some one ≡ false
     → added_up (sums_beside some flows ∷ one.sums ∷ []) ≡ sums_beside some (flows ++ one ∷ [])
-beside-more some flows one e =
+beside_more some flows one e =
     added-push (map (λ f. f.sums) (beside some flows)) one.sums
     ∙ ap added_up (sym (map_push (λ (f : Flow). f.sums) (beside some flows) one))
     ∙ ap (λ (fs : List Flow). added_up (map (λ f. f.sums) fs))
     (sym (filter-append (λ f. not (is_among some f)) flows (one ∷ [])
     ∙ ap (λ (b : Bool). beside some flows ++ cond (not b) (one ∷ []) []) e))
 
-pub beside-same : (some flows : List Flow) (one : Flow) → is_among some one ≡ true
+pub beside_same : (some flows : List Flow) (one : Flow) → is_among some one ≡ true
     → sums_beside some flows ≡ sums_beside some (flows ++ one ∷ [])
-beside-same some flows one e =
+beside_same some flows one e =
     ap (λ (fs : List Flow). added_up (map (λ f. f.sums) fs))
     (sym (filter-append (λ f. not (is_among some f)) flows (one ∷ [])
     ∙ ap (λ (b : Bool). beside some flows ++ cond (not b) (one ∷ []) []) e ∙ append-nil (beside some flows)))

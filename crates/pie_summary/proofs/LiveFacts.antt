@@ -10,7 +10,7 @@ use Rattle.pie_summary.specs.Sums.{meter_in}
 use Rattle.pie_summary.specs.Words.{wait_99}
 use Rattle.pie_summary.proofs.CountFacts.{kept-more}
 use Rattle.pie_summary.proofs.PeriodFacts.{last_events-push, last_period-push, since-begun, some-events, under-way}
-use Rattle.pie_summary.proofs.SumsFacts.{noted-moment, place_of, places-push, reached-later, reached-none}
+use Rattle.pie_summary.proofs.SumsFacts.{noted-moment, place_of, places-push, reached_later, reached_none}
 
 -- ---- periods
 
@@ -56,7 +56,7 @@ awaits-same period shown one holds same =
       number = holds.number ∙ last ∙ sym (last_period-push every shown one);
       begun = holds.begun ∙ small (count_by (is_first every) (places shown))
           ∙ ap (λ (b : Bool). min (periods_begun every shown + cond b 1 0) 18446744073709551615) (sym none_more) ∙ sym (begun-push every shown one);
-      meter = holds.meter ∙ reached-later (last_events every shown) one (some-events every p shown last)
+      meter = holds.meter ∙ reached_later (last_events every shown) one (some-events every p shown last)
           ∙ ap (λ (before : List Explained). reached before one) goes_on;
       waits = holds.waits ∙ ap waits_of goes_on;
       spans = holds.spans;
@@ -83,7 +83,7 @@ awaits-new old shown one number start end begun meter waits holds number-is star
           ∙ ap (λ (b : Bool). min (periods_begun every shown + cond b 1 0) 18446744073709551615)
           (sym (ap (λ (b : Option ℕ). starts b (period_at every one)) (sym holds.number) ∙ starts-here))
           ∙ sym (begun-push every shown one);
-      meter = empty ∙ reached-none [] one one.told.moment (noted-moment one) refl ∙ ap (λ (before : List Explained). reached before one) none;
+      meter = empty ∙ reached_none [] one one.told.moment (noted-moment one) refl ∙ ap (λ (before : List Explained). reached before one) none;
       waits = cleared ∙ ap waits_of none;
       spans = spans;
     }
@@ -111,8 +111,8 @@ holds-taken period shown one meter waits awaits meter-is waits-is = record {
 
 -- ---- its record
 
-pub said-live : (by_wall : Bool) (all : List Explained) (meter : Meter) (waits : List ℕ) (most : ℕ) → meter ≡ meter_in all → waits ≡ waits_of all
+pub said_live : (by_wall : Bool) (all : List Explained) (meter : Meter) (waits : List ℕ) (most : ℕ) → meter ≡ meter_in all → waits ≡ waits_of all
     → most ≡ wait_99 waits meter → record_of by_wall meter most ≡ said_of (if by_wall then CsvByWall else Csv) all
 unfolding sums_of
-said-live true all meter waits most is waits-are most-is = λ i. record_of true (is i) ((most-is ∙ (λ j. wait_99 (waits-are j) (is j))) i)
-said-live false all meter waits most is waits-are most-is = λ i. record_of false (is i) ((most-is ∙ (λ j. wait_99 (waits-are j) (is j))) i)
+said_live true all meter waits most is waits-are most-is = λ i. record_of true (is i) ((most-is ∙ (λ j. wait_99 (waits-are j) (is j))) i)
+said_live false all meter waits most is waits-are most-is = λ i. record_of false (is i) ((most-is ∙ (λ j. wait_99 (waits-are j) (is j))) i)

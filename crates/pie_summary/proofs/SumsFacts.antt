@@ -43,16 +43,16 @@ noted-moment one = by one.told.event.answer
     by _ = refl
 
 -- where there are events before it the first moment is known
-pub reached-later : (shown : List Explained) (one : Explained) → (shown ≡ [] → ⊥) → meter_in shown ≡ reached shown one
+pub reached_later : (shown : List Explained) (one : Explained) → (shown ≡ [] → ⊥) → meter_in shown ≡ reached shown one
 unfolding meter_of
-reached-later [] one some = absurd (some refl)
-reached-later (first ∷ rest) one some = refl
+reached_later [] one some = absurd (some refl)
+reached_later (first ∷ rest) one some = refl
 
-pub reached-none : (shown : List Explained) (one : Explained) (moment : ℕ) → (noted_of one).moment ≡ moment → kept (length (map moment_at shown)) ≡ 0
+pub reached_none : (shown : List Explained) (one : Explained) (moment : ℕ) → (noted_of one).moment ≡ moment → kept (length (map moment_at shown)) ≡ 0
     → record (meter_of [] []) { first = moment; since = moment } ≡ reached shown one
 unfolding last_or
-reached-none [] one moment at none = λ i. record (meter_of [] []) { first = sym at i; since = sym at i }
-reached-none (first ∷ rest) one moment at none = absurd (omega (arith, none))
+reached_none [] one moment at none = λ i. record (meter_of [] []) { first = sym at i; since = sym at i }
+reached_none (first ∷ rest) one moment at none = absurd (omega (arith, none))
 
 -- .. has noted the times of the events before
 pub noted-times : (shown : List Explained) (one : Explained) {meter : Meter} → meter ≡ reached shown one
@@ -61,21 +61,21 @@ unfolding meter_of
 noted-times shown one is = is ∙ ap (λ (m : Meter). timed_by m (filter_map time_at shown)) (sym is)
 
 -- the first of these times stays, where there is one or none more is told
-pub times-kept : (meter : Meter) (times : List ℕ) (read : Option ℕ) → meter ≡ timed_by meter times → (meter.timed ≡ 0 → read ≡ None)
+pub times_kept : (meter : Meter) (times : List ℕ) (read : Option ℕ) → meter ≡ timed_by meter times → (meter.timed ≡ 0 → read ≡ None)
     → meter ≡ timed_by meter (times ++ cons_option read [])
-times-kept meter [] read is none =
+times_kept meter [] read is none =
     is ∙ ap (λ (r : Option ℕ). timed_by meter (cons_option r [])) (sym (none (ap (λ (m : Meter). m.timed) is)))
-times-kept meter (time ∷ times) read is none =
+times_kept meter (time ∷ times) read is none =
     is ∙ (λ i. record meter { timed = some (length times) (length (times ++ cons_option read [])) i; time = time })
   where
     some : (n m : ℕ) → min (suc n) 1 ≡ min (suc m) 1
     some n m = omega arith
 
 -- .. and else it is noted
-pub time-noted : (meter : Meter) (times : List ℕ) (time : ℕ) → meter ≡ timed_by meter times → meter.timed ≡ 0
+pub time_noted : (meter : Meter) (times : List ℕ) (time : ℕ) → meter ≡ timed_by meter times → meter.timed ≡ 0
     → record meter { timed = 1; time = time } ≡ timed_by meter (times ++ time ∷ [])
-time-noted meter [] time is none = refl
-time-noted meter (first ∷ times) time is none =
+time_noted meter [] time is none = refl
+time_noted meter (first ∷ times) time is none =
     let some : meter.timed ≡ min (suc (length times)) 1 = ap (λ (m : Meter). m.timed) is in absurd (omega (arith, some, none))
 
 -- .. and has then taken it

@@ -2,7 +2,6 @@
 ghost use Rattle.std.specs.Prelude.{◌≡◌, ◌++◌, [], OnOk, if◌then◌else◌};
 ghost use Rattle.pie_explain.specs.declared.explanation.Explained.{Explained};
 ghost use Rattle.pie_summary.specs.FlowWords.{flows_said};
-ghost use Rattle.pie_summary.specs.Period.{begins};
 
 use crate::flow::{Flow, flows_of};
 use crate::flow_period::FlowPeriod;
@@ -29,10 +28,13 @@ pub struct ByFlow {
     pub most: u64,
 }
 
-/// Writes these flows onto the page.
-fn push_said(page: &mut Page, by_flow: &ByFlow, span: &Span, flows: &[Flow]) -> Written
-    ensures { OnOk result (page.new ≡ page.old ++ flows_said by_flow.now.form span.now by_flow.now.most flows.now) }
+/// Writes the flows of a period onto the page, where its events have come to their end.
+fn push_ended(page: &mut Page, by_flow: &ByFlow, ends: bool, span: &Span, flows: &[Flow]) -> Written
+    ensures { OnOk result (page.new ≡ page.old ++ (if ends then flows_said by_flow.now.form span.now by_flow.now.most flows.now else [])) }
 {
+    if !ends {
+        return Ok(());
+    }
     let mut text = page.words();
     push_flows(
         page.allocator(),
@@ -43,16 +45,6 @@ fn push_said(page: &mut Page, by_flow: &ByFlow, span: &Span, flows: &[Flow]) -> 
         flows,
     )?;
     page.put(text)
-}
-
-/// Writes the flows of a period, where the next event is in another one.
-fn push_ended(page: &mut Page, by_flow: &ByFlow, ends: bool, span: &Span, flows: &[Flow]) -> Written
-    ensures { OnOk result (page.new ≡ page.old ++ (if ends then flows_said by_flow.now.form span.now by_flow.now.most flows.now else [])) }
-{
-    if !ends {
-        return Ok(());
-    }
-    push_said(page, by_flow, span, flows)
 }
 
 impl Report for ByFlow {
@@ -79,6 +71,6 @@ impl Report for ByFlow {
     }
 
     fn end(&self, state: &FlowPeriod, page: &mut Page) -> Written {
-        push_said(page, self, &state.span, flows_of(&state.rows))
+        push_ended(page, self, true, &state.span, flows_of(&state.rows))
     }
 }

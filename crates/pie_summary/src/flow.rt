@@ -19,6 +19,7 @@ pub struct Flow {
 }
 
 /// What the events of this flow come to.
+#[tactic(auto, using(crate::proofs::FlowFacts::found_is))]
 fn sums_of(rows: &IndexMap<u32, Flow>, flow: u32) -> FlowSums
     ensures { (shown : List Explained) → HasFlows rows.now.entries shown → result ≡ flow_sums (filter (is_of flow) shown) }
 {
@@ -57,6 +58,7 @@ pub(crate) fn take(rows: &mut IndexMap<u32, Flow>, told: &Explained) -> Result<(
 }
 
 /// All flows, in the order in which they first came.
+#[tactic(auto, using(crate::proofs::FlowFacts::rows_listed))]
 pub(crate) fn flows_of(rows: &IndexMap<u32, Flow>) -> &[Flow]
     ensures { (shown : List Explained) → HasFlows rows.now.entries shown → result.now ≡ flows_of shown }
 {
@@ -104,6 +106,7 @@ fn place(first: &mut Vec<Flow>, most: usize, one: &Flow) -> Result<(), AllocErro
 /// # Errors
 ///
 /// `AllocError` where there is no memory for them.
+#[tactic(auto, using(crate::proofs::FlowFacts::none_first))]
 pub(crate) fn first_of(alloc: Global, flows: &[Flow], most: usize) -> Result<Vec<Flow>, AllocError>
     ensures { IfOk result (λ first. first.items ≡ first_of most flows.now) }
 {
@@ -125,6 +128,7 @@ fn is_among(some: &[Flow], one: &Flow) -> bool
 }
 
 /// With the numbers of one more flow, where it is none of these.
+#[tactic(auto, using(crate::proofs::FlowFacts::beside_more, crate::proofs::FlowFacts::beside_same))]
 fn with_beside(sums: FlowSums, some: &[Flow], one: &Flow) -> FlowSums
     ensures { (flows : List Flow) → sums ≡ sums_beside some.now flows → result ≡ sums_beside some.now (flows ++ one.now ∷ []) }
 {

@@ -102,6 +102,7 @@ impl FlowSums {
     }
 
     /// With one more event.
+    #[tactic(auto, using(crate::proofs::FlowFacts::flow_sums_push))]
     pub(crate) fn with(self, all: &Explained) -> FlowSums
         ensures { (shown : List Explained) → self ≡ flow_sums shown → result ≡ flow_sums (shown ++ all.now ∷ []) }
     {

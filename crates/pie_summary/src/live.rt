@@ -177,6 +177,7 @@ impl LivePeriod {
     }
 
     /// Adds the record of the period under way to an empty line.
+    #[tactic(auto, using(crate::proofs::LiveFacts::said_live))]
     pub fn put_record(&self, line: &mut LongRow)
         requires { line.old ≡ [] }
         ensures { (shown : List Explained) → Holds self.now shown → line.new ≡ said_of (form_in self.now) (last_events (length_of self.now) shown) }

@@ -118,6 +118,7 @@ impl Meter {
 
     /// Notes the time of day of an event, where it is the first that has one.
     #[inline(always)]
+    #[tactic(auto, using(crate::proofs::SumsFacts::time_noted, crate::proofs::SumsFacts::times_kept))]
     pub(crate) fn note_time(&mut self, time: Option<u64>)
         ensures { (times : List ℕ) → self.old ≡ timed_by self.old times → self.new ≡ timed_by self.old (times ++ cons_option time []) }
     {

@@ -7,6 +7,7 @@ ghost use Rattle.pie_summary.specs.Ranges.{end_within, first_up_to, range_end, r
 pub const RANGES: usize = 1720;
 
 /// The range of a number that has at most so many digits more than two.
+#[tactic(auto, using(crate::proofs::RangeFacts::shorter))]
 fn range_within(digits: u8, number: u64) -> u64
     requires fits { number < 100 * 10 ^ digits }
     ensures place { result ≡ range_within digits number }

@@ -1,6 +1,5 @@
 //! Summaries of the explained events, and between them the words for each packet that was lost or marked.
 ghost use Rattle.std.specs.Prelude.{◌≡◌, ◌++◌, [], OnOk, if◌then◌else◌};
-ghost use Rattle.pie_summary.specs.Period.{begins};
 ghost use Rattle.pie_summary.specs.Record.{record_of};
 ghost use Rattle.pie_summary.specs.Words.{words};
 ghost use Rattle.pie_summary.specs.Summary.{clock_for, is_lost_or_marked, noted, said};
@@ -48,10 +47,13 @@ fn push_as_record(page: &mut Page, by_wall: bool, meter: &Meter, most: u64) -> W
     page.push(line.as_bytes())
 }
 
-/// Writes the numbers of a period onto the page.
-fn push_said(page: &mut Page, form: Form, period: &Period) -> Written
-    ensures { OnOk result (page.new ≡ page.old ++ said form period.now.sums period.now.waits.value) }
+/// Writes a summary of the events of a period onto the page, where they have come to their end.
+fn push_ended(page: &mut Page, form: Form, period: &Period, ends: bool) -> Written
+    ensures { OnOk result (page.new ≡ page.old ++ (if ends then said form period.now.sums period.now.waits.value else [])) }
 {
+    if !ends {
+        return Ok(());
+    }
     let sums = &period.sums;
     let most = sums.meter.wait_99(&period.waits);
     match form {
@@ -60,17 +62,6 @@ fn push_said(page: &mut Page, form: Form, period: &Period) -> Written
         Form::Csv => push_as_record(page, false, &sums.meter, most),
         Form::CsvByWall => push_as_record(page, true, &sums.meter, most),
     }
-}
-
-/// Writes a summary of the events of a period, where the next event is in another one.
-fn push_ended(page: &mut Page, form: Form, period: &Period, next: u64) -> Written
-    ensures { OnOk result (page.new ≡ page.old ++ (if begins period.now.number next
-        then said form period.now.sums period.now.waits.value else [])) }
-{
-    if !begins(period.number, next) {
-        return Ok(());
-    }
-    push_said(page, form, period)
 }
 
 /// Whether an event lost or marked a packet.
@@ -121,14 +112,14 @@ impl Report for Summary {
     }
 
     fn tell(&self, state: &mut Period, told: &Explained, page: &mut Page) -> Written {
-        let next = period_of(self.every, told.told.moment);
-        push_ended(page, self.form, state, next)?;
+        let ends = begins(state.number, period_of(self.every, told.told.moment));
+        push_ended(page, self.form, state, ends)?;
         push_noted(page, self, told)?;
         state.take(self.every, told);
         Ok(())
     }
 
     fn end(&self, state: &Period, page: &mut Page) -> Written {
-        push_said(page, self.form, state)
+        push_ended(page, self.form, state, true)
     }
 }

@@ -10,6 +10,6 @@ returns c = λ all kept.
     let span = c.args.state.now.span in
     let last = last_events by_flow.every all in
     let flows = c.flows_of.ensures last kept.kept.flows in
-    written-end c.push_said.result (flows_so_far by_flow all) (said_by_flow by_flow last) c.args.page.now c.push_said.new.page
+    written-end c.push_ended.result (flows_so_far by_flow all) (said_by_flow by_flow last) c.args.page.now c.push_ended.new.page
     (flows_said by_flow.form span by_flow.most c.flows_of.result.now)
-    (λ i. flows_said by_flow.form (kept.kept.span i) by_flow.most (flows i)) c.push_said.ensures
+    (λ i. flows_said by_flow.form (kept.kept.span i) by_flow.most (flows i)) c.push_ended.ensures

@@ -8,15 +8,14 @@ returns c = λ all kept.
     let summary = c.args.self.now in
     let period = c.args.state.now in
     let one = c.args.told.now in
-    let next = c.period_of-next in
-    let said_at_end = if begins period.number next.result then said summary.form period.sums period.waits.value else [] in (
+    let ends = c.begins-ends.ensures ∙ (λ i. begins (kept.last i) (c.period_of.ensures i)) in
+    let said_at_end = if c.begins-ends.result then said summary.form period.sums period.waits.value else [] in (
       c.take.ensures all kept,
       record {
         more = said_at_end ++ noted summary one;
         grown = c.in_ok-push_noted.ensures ∙ ap (λ page. page ++ noted summary one) c.in_ok-push_ended.ensures
             ∙ append_assoc c.args.page.now said_at_end (noted summary one);
         turned = written-push (header summary.form) (written_at summary) all one (said_at_end ++ noted summary one)
-            (λ i. (if begins (kept.last i) (next.ensures i) then said summary.form (kept.kept.sums i) (kept.kept.waits i) else [])
-            ++ noted summary one);
+            (λ i. (if ends i then said summary.form (kept.kept.sums i) (kept.kept.waits i) else []) ++ noted summary one);
       },
     )

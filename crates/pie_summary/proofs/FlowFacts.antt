@@ -194,9 +194,9 @@ unfolding in_order
 none_first zero = refl
 none_first (suc m) = refl
 
-pub first_of-push : (m : ℕ) (flows : List Flow) (one : Flow) → take m (placed (first_of m flows) one) ≡ first_of m (flows ++ one ∷ [])
+pub first_of_push : (m : ℕ) (flows : List Flow) (one : Flow) → take m (placed (first_of m flows) one) ≡ first_of m (flows ++ one ∷ [])
 unfolding in_order
-first_of-push m flows one = take-placed m (in_order flows) one ∙ ap (take m) (sym (fold_push placed [] flows one))
+first_of_push m flows one = take-placed m (in_order flows) one ∙ ap (take m) (sym (fold_push placed [] flows one))
 
 -- ---- the others
 

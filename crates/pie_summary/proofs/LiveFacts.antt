@@ -5,12 +5,13 @@ use Rattle.pie_summary.proofs.Names.{sum_by_push, Place, places, time_of, Explai
 use Rattle.pie_summary.proofs.Names.{length_of, number_in, last_events, last_period, period_at, since, starts, ranges_of, record_of, said_of}
 use Rattle.pie_summary.proofs.Names.{meter_of, reached, sums_of, waits_of}
 use Rattle.std.proofs.lemmas.Nat.{div-mul-add}
+use Rattle.pie_summary.proofs.Names.{cons_option, timed_by}
 use Rattle.pie_summary.specs.Live.{Awaits, IsSet, Spans, is_first, periods_begun}
 use Rattle.pie_summary.specs.Sums.{meter_in}
 use Rattle.pie_summary.specs.Words.{wait_99}
 use Rattle.pie_summary.proofs.CountFacts.{kept-more}
-use Rattle.pie_summary.proofs.PeriodFacts.{last_events-push, last_period-push, since-begun, some-events, under-way}
-use Rattle.pie_summary.proofs.SumsFacts.{noted-moment, place_of, places-push, reached_later, reached_none}
+use Rattle.pie_summary.proofs.PeriodFacts.{last_events-push, last_period-push, since_begun, some-events, under-way}
+use Rattle.pie_summary.proofs.SumsFacts.{noted-moment, times_kept, place_of, places-push, reached_later, reached_none}
 
 -- ---- periods
 
@@ -75,7 +76,7 @@ unfolding waits_of
 awaits-new old shown one number start end begun meter waits holds number-is started begun-is empty cleared spans =
     let every : Option ℕ = length_of old in
     let starts-here : starts (number_in old) (period_at every one) ≡ true = ap (starts (number_in old)) (sym number-is) ∙ started in
-    let none : [] ≡ since every (Some (period_at every one)) shown = sym (since-begun every (period_at every one) shown (number_in old) holds.number
+    let none : [] ≡ since every (Some (period_at every one)) shown = sym (since_begun every (period_at every one) shown (number_in old) holds.number
     starts-here) in
     record {
       number = known-number begun number (λ e. omega (arith, e, begun-is)) ∙ ap Some number-is ∙ sym (last_period-push every shown one);
@@ -91,6 +92,14 @@ awaits-new old shown one number start end begun meter waits holds number-is star
 -- a time of day that isn't told
 pub untold : (period : LivePeriod) (moment : ℕ) → (period.told ≡ 1 → ⊥) → time_of (clock_of period) moment ≡ None
 untold period moment none = rw (ne_eqb period.told 1 none) refl
+
+-- .. and one that is noted, or none where none is told, is the first that there was
+pub clock_kept : (period : LivePeriod) (times : List ℕ) (moment : ℕ) → period.told ≡ period.meter.timed → period.meter ≡ timed_by period.meter times
+    → period ≡ record period { meter = timed_by period.meter (times ++ cons_option (time_of (clock_of period) moment) []) }
+clock_kept period times moment same is = λ i. record period {
+  meter = times_kept period.meter times (time_of (clock_of period) moment) is
+      (λ none. untold period moment (λ told. omega (arith, told, none, same))) i;
+}
 
 pub clock-same : {before after : LivePeriod} → IsSet before after → clock_of before ≡ clock_of after
 clock-same set = λ i. if sym set.told i == 1 then Some (record { moment = sym set.clock_moment i; unix = sym set.clock_unix i }) else None

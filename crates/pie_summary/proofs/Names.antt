@@ -25,7 +25,7 @@ pub use Rattle.pie_summary.specs.ByFlow.{HoldsFlows, flow_header}
 pub use Rattle.pie_summary.specs.Counts.{kept}
 pub use Rattle.pie_summary.specs.FlowSums.{flow_sums, is_of}
 unfoldable pub use Rattle.pie_summary.specs.FlowSums.{added_up}
-pub use Rattle.pie_summary.specs.Flows.{HasFlows, first_of, flows_in, placed, sums_beside}
+pub use Rattle.pie_summary.specs.Flows.{HasFlows, first_of, placed, sums_beside}
 unfoldable pub use Rattle.pie_summary.specs.Flows.{distinct, in_order}
 pub use Rattle.pie_summary.specs.Live.{Holds, clock_of, length_of, number_in}
 pub use Rattle.pie_summary.specs.Period.{begins, last_events, last_period, period_at, period_of, since, starts}

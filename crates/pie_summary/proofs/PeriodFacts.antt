@@ -51,14 +51,14 @@ under-way (Some before) period same = ap Some (eqb-true before period (twice (be
     twice false e = sym e
 
 -- .. so the last events before it are those in its period
-pub since-same : (every : Option ℕ) (period : ℕ) (shown : List Explained) (before : Option ℕ) → before ≡ last_period every shown
+pub since_same : (every : Option ℕ) (period : ℕ) (shown : List Explained) (before : Option ℕ) → before ≡ last_period every shown
     → starts before period ≡ false → since every (Some period) shown ≡ last_events every shown
-since-same every period shown before is same = ap (λ p. since every p shown) (sym (under-way before period same) ∙ is)
+since_same every period shown before is same = ap (λ p. since every p shown) (sym (under-way before period same) ∙ is)
 
 -- .. and of one that begins it none are
-pub since-begun : (every : Option ℕ) (period : ℕ) (shown : List Explained) (before : Option ℕ) → before ≡ last_period every shown
+pub since_begun : (every : Option ℕ) (period : ℕ) (shown : List Explained) (before : Option ℕ) → before ≡ last_period every shown
     → starts before period ≡ true → since every (Some period) shown ≡ []
-since-begun every period shown before is begun = by_end (ends-of shown)
+since_begun every period shown before is begun = by_end (ends-of shown)
   where
     by_end : Ends shown → since every (Some period) shown ≡ []
     by_end (inl none) = rw none refl

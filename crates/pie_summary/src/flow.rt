@@ -91,6 +91,7 @@ fn place_for(flows: &[Flow], one: &Flow) -> usize
 }
 
 /// Puts one more flow among the first so many of others, where it is one of these.
+#[tactic(auto, using(crate::proofs::FlowFacts::first_of_push))]
 fn place(first: &mut Vec<Flow>, most: usize, one: &Flow) -> Result<(), AllocError>
     ensures { (flows : List Flow) → first.old.items ≡ first_of most flows
         → OnOk result (first.new.items ≡ first_of most (flows ++ one.now ∷ [])) }

@@ -40,6 +40,7 @@ impl FlowPeriod {
     }
 
     /// Forgets the events before one that is in this period, where they are in another.
+    #[tactic(auto, using(crate::proofs::PeriodFacts::since_same))]
     fn begin(&mut self, period: u64)
         ensures { (shown : List Explained) (every : Option ℕ) → Keeps (HoldsFlows self.old) every self.old.number shown
             → HoldsFlows self.new (since every (Some period) shown) }

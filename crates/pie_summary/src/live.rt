@@ -121,6 +121,7 @@ impl LivePeriod {
     /// Notes the time of day of an event at this moment, where it is the first that has one. Where as many are noted as are told, none or
     /// one, there is nothing to do.
     #[inline(always)]
+    #[tactic(auto, using(crate::proofs::LiveFacts::clock_kept))]
     fn note_time(&mut self, moment: u64)
         ensures settings { IsSet self.old self.new }
         ensures noted { (times : List ℕ) → self.old.meter ≡ timed_by self.old.meter times → self.new ≡ record self.old {

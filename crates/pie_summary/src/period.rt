@@ -71,6 +71,7 @@ impl Period {
     }
 
     /// Forgets the events before one that is in this period, where they are in another.
+    #[tactic(auto, using(crate::proofs::PeriodFacts::since_begun, crate::proofs::PeriodFacts::since_same), unfolding(crate::specs::Sums::waits_of))]
     fn begin(&mut self, period: u64)
         ensures { (shown : List Explained) (every : Option ℕ) → Keeps (HoldsSums self.old) every self.old.number shown
             → HoldsSums self.new (since every (Some period) shown) }

@@ -117,14 +117,14 @@ explained opening history made before after number set_by day held left moment =
   cause = refl;
   waited = ap (λ (at : ℕ). wait_of (deed_of made) at (waiting_after opening history)) (sym moment);
   clock = refl;
-  meets = record {
-    moment = sym moment;
-    was = ap (λ (h : Held). h.active) (sym held);
-    is = ap (λ (h : Held). h.active) (sym left);
-    held = ap (λ (h : Held). h.params.target) (sym held);
-    last = ap (λ (h : Held). h.control.last) (sym held);
-    prob = ap (λ (h : Held). h.control.prob) (sym left);
-    burst = ap (λ (h : Held). h.control.burst) (sym left);
-    target = ap (λ (h : Held). h.params.target) (sym left);
+  meets = λ i. record {
+    moment = sym moment i;
+    was = ap (λ (h : Held). h.active) (sym held) i;
+    is = ap (λ (h : Held). h.active) (sym left) i;
+    held = ap (λ (h : Held). h.params.target) (sym held) i;
+    last = ap (λ (h : Held). h.control.last) (sym held) i;
+    prob = ap (λ (h : Held). h.control.prob) (sym left) i;
+    burst = ap (λ (h : Held). h.control.burst) (sym left) i;
+    target = ap (λ (h : Held). h.params.target) (sym left) i;
   };
 }

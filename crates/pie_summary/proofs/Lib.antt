@@ -5,8 +5,5 @@ mod Examples
 pub mod SpanFacts
 pub mod SumsFacts
 pub mod PeriodFacts
-pub mod WrittenFacts
 pub mod LiveFacts
-pub mod NotedFacts
-pub mod FlowSumsFacts
 pub mod FlowFacts

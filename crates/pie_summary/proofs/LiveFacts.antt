@@ -1,16 +1,17 @@
 -- What is kept of a period that is summed up as it goes, with one more event.
 use Rattle.pie_summary.proofs.Names.{◌≡◌, ◌≤◌, ◌<◌, ◌+◌, ◌*◌, ◌-◌, ◌/◌, ◌==◌, arith, ℕ, Bool, true, false, cond, not, List, [], ◌∷◌, ◌++◌, refl}
-use Rattle.pie_summary.proofs.Names.{sym, ap, ◌∙◌, nat_le, nat_lt, min, count_by, Option, Some, None, if◌then◌else◌, eq-eqb, ne_eqb, nat_tests}
+use Rattle.pie_summary.proofs.Names.{sym, ap, ◌∙◌, min, count_by, Option, Some, None, if◌then◌else◌, eq-eqb, ne_eqb}
 use Rattle.pie_summary.proofs.Names.{sum_by_push, Place, places, time_of, Explained, Csv, CsvByWall, LivePeriod, Meter, kept, Holds, clock_of}
 use Rattle.pie_summary.proofs.Names.{length_of, number_in, last_events, last_period, period_at, since, starts, ranges_of, record_of, said_of}
 use Rattle.pie_summary.proofs.Names.{meter_of, reached, sums_of, waits_of}
-use Rattle.std.specs.Prelude.{◌&&◌}
 use Rattle.std.proofs.lemmas.Nat.{div-mul-add}
+use Rattle.pie_summary.proofs.Names.{cons_option, timed_by}
 use Rattle.pie_summary.specs.Live.{Awaits, IsSet, Spans, is_first, periods_begun}
+use Rattle.pie_summary.specs.Sums.{meter_in}
 use Rattle.pie_summary.specs.Words.{wait_99}
 use Rattle.pie_summary.proofs.CountFacts.{kept-more}
-use Rattle.pie_summary.proofs.PeriodFacts.{last_events-push, last_period-push, since-begun, some-events, under-way}
-use Rattle.pie_summary.proofs.SumsFacts.{place_of, places-push, reached-later, reached-none}
+use Rattle.pie_summary.proofs.PeriodFacts.{last_events-push, last_period-push, since_begun, some-events, under-way}
+use Rattle.pie_summary.proofs.SumsFacts.{noted-moment, times_kept, place_of, places-push, reached_later, reached_none}
 
 -- ---- periods
 
@@ -42,9 +43,6 @@ not-started period p some is =
     ap (λ (n : Option ℕ). starts n p) (known-number period.begun period.number some)
     ∙ ap not (eq-eqb period.number p (sym is))
 
-pub both-ends : (start end moment : ℕ) → (nat_le start moment && nat_lt moment end) ≡ true → (start ≤ moment) × (moment < end)
-both-ends start end moment is = grind (arith, nat_tests, is)
-
 -- an event in the period that is under way
 pub awaits-same : (period : LivePeriod) (shown : List Explained) (one : Explained) → Holds period shown
     → starts (number_in period) (period_at (length_of period) one) ≡ false
@@ -59,7 +57,7 @@ awaits-same period shown one holds same =
       number = holds.number ∙ last ∙ sym (last_period-push every shown one);
       begun = holds.begun ∙ small (count_by (is_first every) (places shown))
           ∙ ap (λ (b : Bool). min (periods_begun every shown + cond b 1 0) 18446744073709551615) (sym none_more) ∙ sym (begun-push every shown one);
-      meter = holds.meter ∙ reached-later (last_events every shown) one (some-events every p shown last)
+      meter = holds.meter ∙ reached_later (last_events every shown) one (some-events every p shown last)
           ∙ ap (λ (before : List Explained). reached before one) goes_on;
       waits = holds.waits ∙ ap waits_of goes_on;
       spans = holds.spans;
@@ -71,14 +69,14 @@ awaits-same period shown one holds same =
 -- .. and one with which another begins: its number and its ends, the count of periods, and what it has of the event
 pub awaits-new : (old : LivePeriod) (shown : List Explained) (one : Explained) (number start end begun : ℕ) (meter : Meter) (waits : List ℕ)
     → Holds old shown → number ≡ period_at (length_of old) one → starts (number_in old) number ≡ true
-    → begun ≡ kept (old.begun + 1) → meter ≡ record (meter_of []) { first = one.told.moment; since = one.told.moment } → waits ≡ ranges_of []
+    → begun ≡ kept (old.begun + 1) → meter ≡ record (meter_of [] []) { first = one.told.moment; since = one.told.moment } → waits ≡ ranges_of []
     → Spans (record old { number = number; start = start; end = end; begun = begun; meter = meter; waits = waits })
     → Awaits (record old { number = number; start = start; end = end; begun = begun; meter = meter; waits = waits }) shown one
 unfolding waits_of
 awaits-new old shown one number start end begun meter waits holds number-is started begun-is empty cleared spans =
     let every : Option ℕ = length_of old in
     let starts-here : starts (number_in old) (period_at every one) ≡ true = ap (starts (number_in old)) (sym number-is) ∙ started in
-    let none : [] ≡ since every (Some (period_at every one)) shown = sym (since-begun every (period_at every one) shown (number_in old) holds.number
+    let none : [] ≡ since every (Some (period_at every one)) shown = sym (since_begun every (period_at every one) shown (number_in old) holds.number
     starts-here) in
     record {
       number = known-number begun number (λ e. omega (arith, e, begun-is)) ∙ ap Some number-is ∙ sym (last_period-push every shown one);
@@ -86,7 +84,7 @@ awaits-new old shown one number start end begun meter waits holds number-is star
           ∙ ap (λ (b : Bool). min (periods_begun every shown + cond b 1 0) 18446744073709551615)
           (sym (ap (λ (b : Option ℕ). starts b (period_at every one)) (sym holds.number) ∙ starts-here))
           ∙ sym (begun-push every shown one);
-      meter = empty ∙ reached-none [] one one.told.moment refl refl ∙ ap (λ (before : List Explained). reached before one) none;
+      meter = empty ∙ reached_none [] one one.told.moment (noted-moment one) refl ∙ ap (λ (before : List Explained). reached before one) none;
       waits = cleared ∙ ap waits_of none;
       spans = spans;
     }
@@ -95,27 +93,35 @@ awaits-new old shown one number start end begun meter waits holds number-is star
 pub untold : (period : LivePeriod) (moment : ℕ) → (period.told ≡ 1 → ⊥) → time_of (clock_of period) moment ≡ None
 untold period moment none = rw (ne_eqb period.told 1 none) refl
 
+-- .. and one that is noted, or none where none is told, is the first that there was
+pub clock_kept : (period : LivePeriod) (times : List ℕ) (moment : ℕ) → period.told ≡ period.meter.timed → period.meter ≡ timed_by period.meter times
+    → period ≡ record period { meter = timed_by period.meter (times ++ cons_option (time_of (clock_of period) moment) []) }
+clock_kept period times moment same is = λ i. record period {
+  meter = times_kept period.meter times (time_of (clock_of period) moment) is
+      (λ none. untold period moment (λ told. omega (arith, told, none, same))) i;
+}
+
 pub clock-same : {before after : LivePeriod} → IsSet before after → clock_of before ≡ clock_of after
 clock-same set = λ i. if sym set.told i == 1 then Some (record { moment = sym set.clock_moment i; unix = sym set.clock_unix i }) else None
 
 -- an event that is counted in a period that awaits it
 pub holds-taken : (period : LivePeriod) (shown : List Explained) (one : Explained) (meter : Meter) (waits : List ℕ)
     → Awaits period shown one
-    → meter ≡ meter_of (since (length_of period) (Some (period_at (length_of period) one)) shown ++ one ∷ [])
+    → meter ≡ meter_in (since (length_of period) (Some (period_at (length_of period) one)) shown ++ one ∷ [])
     → waits ≡ waits_of (since (length_of period) (Some (period_at (length_of period) one)) shown ++ one ∷ [])
     → Holds (record period { meter = meter; waits = waits }) (shown ++ one ∷ [])
 holds-taken period shown one meter waits awaits meter-is waits-is = record {
   number = awaits.number;
   begun = awaits.begun;
-  meter = meter-is ∙ ap meter_of (sym (last_events-push (length_of period) shown one));
+  meter = meter-is ∙ ap meter_in (sym (last_events-push (length_of period) shown one));
   waits = waits-is ∙ ap waits_of (sym (last_events-push (length_of period) shown one));
   spans = awaits.spans;
 }
 
 -- ---- its record
 
-pub said-live : (by_wall : Bool) (all : List Explained) (meter : Meter) (waits : List ℕ) (most : ℕ) → meter ≡ meter_of all → waits ≡ waits_of all
+pub said_live : (by_wall : Bool) (all : List Explained) (meter : Meter) (waits : List ℕ) (most : ℕ) → meter ≡ meter_in all → waits ≡ waits_of all
     → most ≡ wait_99 waits meter → record_of by_wall meter most ≡ said_of (if by_wall then CsvByWall else Csv) all
 unfolding sums_of
-said-live true all meter waits most is waits-are most-is = λ i. record_of true (is i) ((most-is ∙ (λ j. wait_99 (waits-are j) (is j))) i)
-said-live false all meter waits most is waits-are most-is = λ i. record_of false (is i) ((most-is ∙ (λ j. wait_99 (waits-are j) (is j))) i)
+said_live true all meter waits most is waits-are most-is = λ i. record_of true (is i) ((most-is ∙ (λ j. wait_99 (waits-are j) (is j))) i)
+said_live false all meter waits most is waits-are most-is = λ i. record_of false (is i) ((most-is ∙ (λ j. wait_99 (waits-are j) (is j))) i)

@@ -17,16 +17,15 @@ unfoldable pub use Rattle.pie_aqm.specs.Places.{greatest, last_or, places}
 unfoldable pub use Rattle.pie_event.specs.CauseName.{word_of_cause}
 pub use Rattle.pie_event.specs.Verdict.{answer_of}
 pub use Rattle.pie_event.specs.declared.command.Answer.{Answer}
-pub use Rattle.pie_event.specs.declared.command.Answer.TheVariants.{Done, Empty, Left, Updated}
+pub use Rattle.pie_event.specs.declared.command.Answer.TheVariants.{Done, Left, Updated}
 pub use Rattle.pie_explain.specs.Selection.{time_of}
 pub use Rattle.pie_explain.specs.declared.explanation.Explained.{Explained}
 pub use Rattle.pie_explain.specs.declared.form.Form.TheVariants.{Csv, CsvByWall}
 pub use Rattle.pie_summary.specs.ByFlow.{HoldsFlows, flow_header}
 pub use Rattle.pie_summary.specs.Counts.{kept}
-pub use Rattle.pie_summary.specs.FlowSums.{flow_sums, is_of, together}
+pub use Rattle.pie_summary.specs.FlowSums.{flow_sums, is_of}
 unfoldable pub use Rattle.pie_summary.specs.FlowSums.{added_up}
-unfoldable pub use Rattle.pie_summary.specs.FlowWords.{flow_text}
-pub use Rattle.pie_summary.specs.Flows.{HasFlows, first_of, flows_in, placed, sums_beside}
+pub use Rattle.pie_summary.specs.Flows.{HasFlows, first_of, placed, sums_beside}
 unfoldable pub use Rattle.pie_summary.specs.Flows.{distinct, in_order}
 pub use Rattle.pie_summary.specs.Live.{Holds, clock_of, length_of, number_in}
 pub use Rattle.pie_summary.specs.Period.{begins, last_events, last_period, period_at, period_of, since, starts}
@@ -36,8 +35,8 @@ unfoldable pub use Rattle.pie_summary.specs.Record.{record_of}
 pub use Rattle.pie_summary.specs.Spans.{bounds_of, moment_at, peak_of, span_of, time_at, total_in, total_of}
 pub use Rattle.pie_summary.specs.Summary.{HoldsSums, said_of}
 unfoldable pub use Rattle.pie_summary.specs.Summary.{header, noted}
-pub use Rattle.pie_summary.specs.Sums.{cause_of, cause_place, late_at, reached, size_in, timed_by, wait_in}
-unfoldable pub use Rattle.pie_summary.specs.Sums.{meter_of, sums_of, waits_of}
+pub use Rattle.pie_summary.specs.Sums.{cause_of, late_at, noted_of, reached, size_in, timed_by, wait_in}
+unfoldable pub use Rattle.pie_summary.specs.Sums.{meter_of, noted_by, sums_of, waits_of}
 unfoldable pub use Rattle.pie_summary.specs.Words.{cause_words}
 pub use Rattle.pie_summary.specs.declared.flow.Flow.{Flow}
 pub use Rattle.pie_summary.specs.declared.flow_sums.FlowSums.{FlowSums}

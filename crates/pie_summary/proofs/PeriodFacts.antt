@@ -1,9 +1,14 @@
 -- The last events of a list with one more.
 use Rattle.pie_summary.proofs.Names.{◌≡◌, ◌==◌, ℕ, Bool, true, false, not, List, [], ◌∷◌, ◌++◌, map, refl, sym, ap, ◌∙◌, Option, Some, None, eq-eqb}
+use Rattle.pie_summary.proofs.Names.{Err, Ok, OnOk, Result, Place, places}
 use Rattle.pie_summary.proofs.Names.{eqb-true, map_push, last_or, last_or-push, Explained, last_events, last_period, period_at, since, starts}
 use Rattle.std.proofs.Common.{◌⊎◌, inl, inr, arith, length}
 use Rattle.std.proofs.lemmas.List.{length_push}
 use Rattle.pie_early.proofs.Laws.{after_last-push_no, after_last-push_yes}
+use Rattle.std.specs.List.{flat_map}
+use Rattle.std.proofs.lemmas.List.{flat_map_more}
+use Rattle.pie_aqm.proofs.Places.{place_of, places-push}
+use Rattle.pie_explain.specs.Report.{Grows}
 use Rattle.pie_summary.specs.Period.{is_elsewhere}
 
 -- a list is empty, or has a last element
@@ -46,14 +51,14 @@ under-way (Some before) period same = ap Some (eqb-true before period (twice (be
     twice false e = sym e
 
 -- .. so the last events before it are those in its period
-pub since-same : (every : Option ℕ) (period : ℕ) (shown : List Explained) (before : Option ℕ) → before ≡ last_period every shown
+pub since_same : (every : Option ℕ) (period : ℕ) (shown : List Explained) (before : Option ℕ) → before ≡ last_period every shown
     → starts before period ≡ false → since every (Some period) shown ≡ last_events every shown
-since-same every period shown before is same = ap (λ p. since every p shown) (sym (under-way before period same) ∙ is)
+since_same every period shown before is same = ap (λ p. since every p shown) (sym (under-way before period same) ∙ is)
 
 -- .. and of one that begins it none are
-pub since-begun : (every : Option ℕ) (period : ℕ) (shown : List Explained) (before : Option ℕ) → before ≡ last_period every shown
+pub since_begun : (every : Option ℕ) (period : ℕ) (shown : List Explained) (before : Option ℕ) → before ≡ last_period every shown
     → starts before period ≡ true → since every (Some period) shown ≡ []
-since-begun every period shown before is begun = by_end (ends-of shown)
+since_begun every period shown before is begun = by_end (ends-of shown)
   where
     by_end : Ends shown → since every (Some period) shown ≡ []
     by_end (inl none) = rw none refl
@@ -72,3 +77,19 @@ some-events every period shown is empty = by_end (ends-of shown)
     by_end (inr (front, last, whole)) =
         let nothing = ap length (sym (last_events-push every front last) ∙ ap (last_events every) (sym whole) ∙ empty) in
         omega (arith, nothing, length_push (since every (Some (period_at every last)) front) last)
+
+-- ---- what is written of events with one more, and at their end
+
+pub written-push : (header : List ℕ) (at : Place Explained → List ℕ) (shown : List Explained) (one : Explained) (text : List ℕ)
+    → text ≡ at (place_of shown one)
+    → header ++ flat_map at (places (shown ++ one ∷ [])) ≡ (header ++ flat_map at (places shown)) ++ text
+written-push header at shown one text is =
+    ap (λ ps. header ++ flat_map at ps) (places-push shown one)
+    ∙ sym (flat_map_more at header (places shown) (place_of shown one))
+    ∙ ap (λ (more : List ℕ). (header ++ flat_map at (places shown)) ++ more) (sym is)
+
+pub written-end : {E : Type 0} (result : Result (Unit {0}) E) (so_far said page now text : List ℕ) → text ≡ said
+    → OnOk result (now ≡ page ++ text) → OnOk result (Grows so_far (so_far ++ said) page now)
+written-end (Ok done) so_far said page now text is wrote =
+    record { more = text; grown = wrote; turned = ap (λ (t : List ℕ). so_far ++ t) (sym is) }
+written-end (Err why) so_far said page now text is wrote = tt

@@ -1,10 +1,10 @@
 -- Ranges of numbers.
 use Rattle.pie_summary.proofs.Names.{◌≡◌, ◌+◌, ◌-◌, ◌*◌, ◌/◌, ◌<◌, ◌≤◌, arith, ℕ, lit≤, suc, zero, Bool, true, false, List, [], ◌∷◌, ◌++◌, length}
-use Rattle.pie_summary.proofs.Names.{refl, sym, ap, ◌∙◌, if◌then◌else◌, min, nat_le, nat_lt, slice_index, slice_set, take, Option, Some, find, replicate}
-use Rattle.pie_summary.proofs.Names.{range_with_len, sum, nat_tests, first_up_to, range_of, ranges_of}
+use Rattle.pie_summary.proofs.Names.{refl, sym, ap, ◌∙◌, if◌then◌else◌, min, nat_le, nat_lt, slice_index, slice_set, take, Option, Some, find}
+use Rattle.pie_summary.proofs.Names.{replicate, range_with_len, sum, nat_tests, first_up_to, range_of, ranges_of}
 use Rattle.std.proofs.Common.{◌^◌}
 use Rattle.std.proofs.lemmas.List.Sums.{sum_by_more}
-use Rattle.std.proofs.Math.Nat.{div-div-eq-div-mul, pow-suc}
+use Rattle.std.proofs.Math.Nat.{div-div-eq-div-mul, one-le-pow, pow-suc}
 use Rattle.pie_summary.specs.Ranges.{range_within}
 use Rattle.pie_summary.proofs.CountFacts.{counted-push, none-counted}
 
@@ -15,68 +15,42 @@ shorter digits number some few = less (10 ^ (digits - 1)) (10 ^ digits) (ap (λ 
     less : (power longer : ℕ) → longer ≡ power * 10 → number < 100 * longer → number / 10 < 100 * power
     less power longer is below = omega (arith, is, below)
 
--- the range of a number of two digits and so many more: the two, and 90 for each other
-pub range_at : (digits more number : ℕ) → more ≤ digits → 10 * 10 ^ more ≤ number → number < 100 * 10 ^ more
-    → range_within digits number ≡ number / 10 ^ more + 90 * more
-range_at zero zero number within from to = omega arith
-range_at (suc digits) zero number within from to = two (range_within digits (number / 10))
+-- the range of a number of two digits and so many more, which this power of 10 parts from the two: the two, and 90 for each other
+pub range_at : (digits more number power : ℕ) → more ≤ digits → power ≡ 10 ^ more → 10 * power ≤ number → number < 100 * power
+    → range_within digits number ≡ number / power + 90 * more
+range_at zero zero number power within is from to = omega (arith, ap (λ p. number / p) is)
+range_at (suc digits) zero number power within is from to = two (range_within digits (number / 10)) (ap (λ p. number / p) is)
   where
-    two : (longer : ℕ) → (if nat_lt number 100 then number else longer + 90) ≡ number / 1 + 90 * 0
-    two longer = grind (arith, nat_tests)
-range_at zero (suc more) number within from to = absurd (omega arith)
-range_at (suc digits) (suc more) number within from to =
-    let power = 10 ^ more in
-    let longer : 10 ^ suc more ≡ power * 10 = pow-suc 10 more in
-    let some : 1 ≤ power = power_some more in
-    let low : 10 * power ≤ number / 10 = least power (10 ^ suc more) longer from in
-    let high : number / 10 < 100 * power = most power (10 ^ suc more) longer to in
-    let rest : range_within digits (number / 10) ≡ number / 10 / power + 90 * more = range_at digits more (number / 10) (omega arith) low high in
-    let divided : number / 10 / power ≡ number / 10 ^ suc more =
-    div-div-eq-div-mul number 10 power ∙ ap (λ (p : ℕ). number / p) (turned power (10 ^ suc more) longer) in
-    many power (range_within digits (number / 10)) some low ∙ ap (λ (n : ℕ). n + 90) (rest ∙ ap (λ (n : ℕ). n + 90 * more) divided)
-    ∙ one_more (number / 10 ^ suc more)
+    two : (longer : ℕ) → number / power ≡ number / 1 → (if nat_lt number 100 then number else longer + 90) ≡ number / power + 90 * 0
+    two longer whole = grind (arith, nat_tests)
+range_at zero (suc more) number power within is from to = absurd (omega arith)
+range_at (suc digits) (suc more) number power within is from to =
+    by (10 ^ more) (is ∙ pow-suc 10 more) (one-le-pow more 10 (lit≤ tt)) (range_at digits more (number / 10) (10 ^ more) (omega arith) refl)
   where
-    power_some : (k : ℕ) → 1 ≤ 10 ^ k
-    power_some zero = lit≤ tt
-    power_some (suc k) = let step = pow-suc 10 k in let below = power_some k in grow (10 ^ k) (10 ^ suc k) step below
+    by : (less : ℕ) → power ≡ less * 10 → 1 ≤ less
+        → (10 * less ≤ number / 10 → number / 10 < 100 * less → range_within digits (number / 10) ≡ number / 10 / less + 90 * more)
+        → range_within (suc digits) number ≡ number / power + 90 * suc more
+    by less parts some rest =
+        let divided : number / 10 / less ≡ number / power = div-div-eq-div-mul number 10 less ∙ ap (λ (p : ℕ). number / p) (omega arith) in
+        longer (range_within digits (number / 10)) ∙ ap (λ (n : ℕ). n + 90) (rest (omega (arith, parts, from)) (omega (arith, parts, to)))
+        ∙ omega (arith, divided)
       where
-        grow : (p q : ℕ) → q ≡ p * 10 → 1 ≤ p → 1 ≤ q
-        grow p q is some = omega (arith, is, some)
-
-    least : (p q : ℕ) → q ≡ p * 10 → 10 * q ≤ number → 10 * p ≤ number / 10
-    least p q is below = omega (arith, is, below)
-
-    most : (p q : ℕ) → q ≡ p * 10 → number < 100 * q → number / 10 < 100 * p
-    most p q is above = omega (arith, is, above)
-
-    turned : (p q : ℕ) → q ≡ p * 10 → 10 * p ≡ q
-    turned p q is = omega (arith, is)
-
-    many : (p longer : ℕ) → 1 ≤ p → 10 * p ≤ number / 10 → (if nat_lt number 100 then number else longer + 90) ≡ longer + 90
-    many p longer some low = grind (arith, nat_tests)
-
-    one_more : (n : ℕ) → n + 90 * more + 90 ≡ n + 90 * suc more
-    one_more n = omega arith
+        longer : (short : ℕ) → (if nat_lt number 100 then number else short + 90) ≡ short + 90
+        longer short = grind (arith, nat_tests)
 
 -- so many are counted up to one more place
 up-to-more : (counts : List ℕ) (place : ℕ) → place < length counts
     → sum (take (place + 1) counts) ≡ sum (take place counts) + slice_index counts place
 up-to-more counts place within = sum_by_more (λ (n : ℕ). n) counts place 0 within
 
--- a search over a range goes on behind its first place, or ends there
-goes-on : (test : ℕ → Bool) (place count : ℕ) → place < count → test place ≡ false
-    → find test (range_with_len place (count - place)) ≡ find test (range_with_len (place + 1) (count - (place + 1)))
-goes-on test place count within fails = longer (count - (place + 1)) (count - place) (omega arith)
+-- a search over a range ends at its first place, or goes on behind it
+search-step : (test : ℕ → Bool) (place count : ℕ) → place < count → find test (range_with_len place (count - place))
+    ≡ (if test place then Some place else find test (range_with_len (place + 1) (count - (place + 1))))
+search-step test place count within = longer (count - (place + 1)) (count - place) (omega arith)
   where
-    longer : (rest all : ℕ) → all ≡ suc rest → find test (range_with_len place all) ≡ find test (range_with_len (place + 1) rest)
-    longer rest all is = rw (is, fails) refl
-
-ends-here : (test : ℕ → Bool) (place count : ℕ) → place < count → test place ≡ true
-    → find test (range_with_len place (count - place)) ≡ Some place
-ends-here test place count within holds = longer (count - (place + 1)) (count - place) (omega arith)
-  where
-    longer : (rest all : ℕ) → all ≡ suc rest → find test (range_with_len place all) ≡ Some place
-    longer rest all is = rw (is, holds) refl
+    longer : (rest all : ℕ) → all ≡ suc rest
+        → find test (range_with_len place all) ≡ (if test place then Some place else find test (range_with_len (place + 1) rest))
+    longer rest all is = rw is refl
 
 -- what a search for a rank has left from a place on
 abbrev pub from_place : List ℕ → ℕ → ℕ → Option ℕ
@@ -88,7 +62,8 @@ search-ends counts rank place missing within left enough so_far =
     let more = up-to-more counts place within in
     let reached : rank ≤ sum (take (place + 1) counts) = omega (arith, more, left, enough) in
     let holds : nat_le rank (sum (take (place + 1) counts)) ≡ true = grind (arith, nat_tests, reached) in
-    sym (so_far ∙ ends-here (λ p. nat_le rank (sum (take (p + 1) counts))) place (length counts) within holds)
+    sym (so_far ∙ search-step (λ p. nat_le rank (sum (take (p + 1) counts))) place (length counts) within
+    ∙ ap (λ b. if b then Some place else from_place counts rank (place + 1)) holds)
 
 pub search-goes-on : (counts : List ℕ) (rank place missing : ℕ) → place < length counts → missing ≡ rank - sum (take place counts)
     → slice_index counts place < missing → first_up_to counts rank ≡ from_place counts rank place
@@ -96,8 +71,11 @@ pub search-goes-on : (counts : List ℕ) (rank place missing : ℕ) → place < 
 search-goes-on counts rank place missing within left short so_far =
     let more = up-to-more counts place within in
     let misses : sum (take (place + 1) counts) < rank = omega (arith, more, left, short) in
-    let fails : nat_le rank (sum (take (place + 1) counts)) ≡ false = grind (arith, nat_tests, misses) in
-    (omega (arith, more, left), so_far ∙ goes-on (λ p. nat_le rank (sum (take (p + 1) counts))) place (length counts) within fails)
+    let fails : nat_le rank (sum (take (place + 1) counts)) ≡ false = grind (arith, nat_tests, misses) in (
+      omega (arith, more, left),
+      so_far ∙ search-step (λ p. nat_le rank (sum (take (p + 1) counts))) place (length counts) within
+          ∙ ap (λ b. if b then Some place else from_place counts rank (place + 1)) fails,
+    )
 
 -- of no number all ranges are empty
 pub no_ranges : replicate 1720 0 ≡ ranges_of []
@@ -105,11 +83,11 @@ unfolding ranges_of
 no_ranges = none-counted range_of 0 1720
 
 -- one more number in its range
-pub ranges-push : (at : ℕ) (numbers : List ℕ) (number : ℕ) (old held read : List ℕ) (count : ℕ) → old ≡ ranges_of numbers → held ≡ old → read ≡ old
+pub ranges_push : (at : ℕ) (numbers : List ℕ) (number : ℕ) (old held read : List ℕ) (count : ℕ) → old ≡ ranges_of numbers → held ≡ old → read ≡ old
     → count ≡ min (slice_index read at + 1) 18446744073709551615 → at ≡ range_of number → at < 1720
     → slice_set held at count ≡ ranges_of (numbers ++ number ∷ [])
 unfolding ranges_of
-ranges-push at numbers number old held read count is held-is read-is count-is here within =
+ranges_push at numbers number old held read count is held-is read-is count-is here within =
     ap (λ (xs : List ℕ). slice_set xs at count) held-is
     ∙ ap (λ (n : ℕ). slice_set old at n) (count-is ∙ ap (λ (xs : List ℕ). min (slice_index xs at + 1) 18446744073709551615) read-is)
     ∙ counted-push range_of 1720 at numbers number old is here within

@@ -2,7 +2,7 @@
 use Rattle.pie_summary.proofs.Names.{◌≡◌, ◌≤◌, ◌<◌, ◌+◌, ◌/◌, ◌%◌, ◌==◌, arith, ℕ, suc, Bool, true, false, List, [], ◌∷◌, ◌++◌, append-nil, length}
 use Rattle.pie_summary.proofs.Names.{map, refl, subst, sym, ap, ◌∙◌, max, min, slice_index, Option, Some, None, unwrap_or, if◌then◌else◌, cons_option}
 use Rattle.pie_summary.proofs.Names.{filter_map, sum, eq-eqb, eqb-true, map_push, filter_map-append, sum_by_push, greatest, last_or, greatest-push}
-use Rattle.pie_summary.proofs.Names.{last_or-push, Explained, Bounds, kept, bounds_of, peak_of, total_in, total_of}
+use Rattle.pie_summary.proofs.Names.{last_or-push, Bounds, kept, bounds_of, peak_of, total_in, total_of}
 use Rattle.std.proofs.lemmas.Bool.{false≢true}
 use Rattle.std.proofs.lemmas.List.{length_push}
 use Rattle.pie_summary.specs.declared.spans.Peak.{Peak}
@@ -13,8 +13,8 @@ use Rattle.pie_summary.proofs.CountFacts.{kept-more}
 -- ---- numbers of events, where a list of numbers has its step
 
 -- .. of some of them
-pub some-of-push : {S : Type 0} (of : List ℕ → S) (number : Explained → Option ℕ) (shown : List Explained) (one : Explained) {read : Option ℕ}
-    {old now : S} → ((numbers : List ℕ) → old ≡ of numbers → now ≡ of (numbers ++ cons_option read [])) → read ≡ number one
+pub some-of-push : {S X : Type 0} (of : List ℕ → S) (number : X → Option ℕ) (shown : List X) (one : X) {read : Option ℕ} {old now : S}
+    → ((numbers : List ℕ) → old ≡ of numbers → now ≡ of (numbers ++ cons_option read [])) → read ≡ number one
     → old ≡ of (filter_map number shown) → now ≡ of (filter_map number (shown ++ one ∷ []))
 some-of-push of number shown one step is old-is =
     step (filter_map number shown) old-is
@@ -22,7 +22,7 @@ some-of-push of number shown one step is old-is =
     ∙ ap of (sym (filter_map-append number shown (one ∷ [])))
 
 -- .. of each
-pub each-of-push : {S : Type 0} (of : List ℕ → S) (number : Explained → ℕ) (shown : List Explained) (one : Explained) {read : ℕ} {old now : S}
+pub each-of-push : {S X : Type 0} (of : List ℕ → S) (number : X → ℕ) (shown : List X) (one : X) {read : ℕ} {old now : S}
     → ((numbers : List ℕ) → old ≡ of numbers → now ≡ of (numbers ++ read ∷ [])) → read ≡ number one
     → old ≡ of (map number shown) → now ≡ of (map number (shown ++ one ∷ []))
 each-of-push of number shown one step is old-is =
@@ -42,10 +42,10 @@ first-push (first ∷ numbers) number = later (length numbers)
 count-push : (numbers : List ℕ) (number : ℕ) → kept (kept (length numbers) + 1) ≡ kept (length (numbers ++ number ∷ []))
 count-push numbers number = kept-more (length numbers) 1 18446744073709551615 ∙ ap kept (sym (length_push numbers number))
 
-pub bounds-push : (numbers : List ℕ) (number : ℕ) (old : Bounds) (count first : ℕ) → old ≡ bounds_of numbers
+pub bounds_push : (numbers : List ℕ) (number : ℕ) (old : Bounds) (count first : ℕ) → old ≡ bounds_of numbers
     → count ≡ kept (old.count + 1) → first ≡ held_or old.count old.first number
     → record { count = count; first = first; last = number } ≡ bounds_of (numbers ++ number ∷ [])
-bounds-push numbers number old count first is count-is first-is = λ i. record {
+bounds_push numbers number old count first is count-is first-is = λ i. record {
   count = (count-is ∙ ap (λ (s : Bounds). kept (s.count + 1)) is ∙ count-push numbers number) i;
   first = (first-is ∙ ap (λ (s : Bounds). held_or s.count s.first number) is ∙ first-push numbers number) i;
   last = sym (last_or-push 0 numbers number) i;
@@ -57,24 +57,29 @@ unfolding last_or greatest
 last-from number [] = omega arith
 last-from number (first ∷ numbers) = let rest = last-from first numbers in omega (arith, rest)
 
-pub peak-push : (numbers : List ℕ) (number : ℕ) (old : Peak) (most : ℕ) → old ≡ peak_of numbers → most ≡ max old.greatest number
+pub peak_push : (numbers : List ℕ) (number : ℕ) (old : Peak) (most : ℕ) → old ≡ peak_of numbers → most ≡ max old.greatest number
     → record { greatest = most; last = number } ≡ peak_of (numbers ++ number ∷ [])
-peak-push numbers number old most is most-is = λ i. record {
+peak_push numbers number old most is most-is = λ i. record {
   greatest = (most-is ∙ ap (λ (s : Peak). max s.greatest number) is ∙ sym (greatest-push numbers number)) i;
   last = sym (last_or-push 0 numbers number) i;
 }
 
 -- .. where it is the last one again
-pub peak-same : (numbers : List ℕ) (number : ℕ) (old : Peak) → old ≡ peak_of numbers → old.last ≡ number → old ≡ peak_of (numbers ++ number ∷ [])
-peak-same numbers number old is same =
+pub peak_same : (numbers : List ℕ) (number : ℕ) (old : Peak) → old ≡ peak_of numbers → old.last ≡ number → old ≡ peak_of (numbers ++ number ∷ [])
+peak_same numbers number old is same =
     let below : old.last ≤ max 0 old.greatest = subst (λ (p : Peak). p.last ≤ max 0 p.greatest) (sym is) (last-from 0 numbers) in
     let most : old.greatest ≡ max old.greatest number = omega (arith, below, same) in
-    (λ i. record { greatest = most i; last = same i }) ∙ peak-push numbers number old (max old.greatest number) is refl
+    (λ i. record { greatest = most i; last = same i }) ∙ peak_push numbers number old (max old.greatest number) is refl
 
 pub count-some : (numbers : List ℕ) (read : Option ℕ) (old now : ℕ) → now ≡ counted_some old read → old ≡ kept (length numbers)
     → now ≡ kept (length (numbers ++ cons_option read []))
 count-some numbers None old now is old-is = is ∙ old-is ∙ ap (λ (ns : List ℕ). kept (length ns)) (sym (append-nil numbers))
 count-some numbers (Some number) old now is old-is = is ∙ ap (λ (n : ℕ). kept (n + 1)) old-is ∙ count-push numbers number
+
+-- .. and the greatest
+pub greatest-some : (numbers : List ℕ) (read : Option ℕ) → max (greatest numbers) (unwrap_or read 0) ≡ greatest (numbers ++ cons_option read [])
+greatest-some numbers None = omega arith ∙ ap greatest (sym (append-nil numbers))
+greatest-some numbers (Some number) = sym (greatest-push numbers number)
 
 -- .. and the last of some, or another
 pub since-push : (before : ℕ) (numbers : List ℕ) (read : Option ℕ)

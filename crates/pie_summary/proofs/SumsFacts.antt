@@ -2,7 +2,11 @@
 use Rattle.pie_summary.proofs.Names.{◌≡◌, ◌+◌, arith, ℕ, suc, List, [], ◌∷◌, ◌++◌, length, map, refl, sym, ap, ◌∙◌, min, Option, None, cons_option}
 use Rattle.pie_summary.proofs.Names.{filter_map, sum, map_push, filter_map-append, sum_by_push, Explained, last_or, Meter, kept, ranges_of, moment_at}
 use Rattle.pie_summary.proofs.Names.{time_at, meter_of, reached, timed_by, wait_in, waits_of}
-use Rattle.pie_summary.specs.Sums.{awaiting}
+use Rattle.pie_summary.proofs.Names.{Answer, Done, Left, Noted, Some, Updated, answer_of, cause_of, noted_by, size_in}
+use Rattle.pie_event.specs.declared.verdict.Verdict.{Verdict}
+use Rattle.pie_event.specs.declared.verdict.Verdict.TheVariants.{Enqueued}
+use Rattle.pie_summary.specs.declared.noted.Met.{Met}
+use Rattle.pie_summary.specs.Sums.{Meets, answer_place, awaiting, meter_in, met_of, noted_of}
 pub use Rattle.pie_aqm.proofs.Places.{last_or-push, place_of, places-push}
 use Rattle.pie_summary.proofs.CountFacts.{kept-more}
 use Rattle.pie_summary.proofs.SpanFacts.{some-of-push}
@@ -16,7 +20,7 @@ sum-push number shown one {read} is read-is old-is =
     is ∙ ap (λ n. min (n + read) 18446744073709551615) old-is ∙ ap (λ n. min (kept (sum (map number shown)) + n) 18446744073709551615) read-is
     ∙ kept-more (sum (map number shown)) (number one) 18446744073709551615 ∙ ap kept (sym grown)
 
-pub last-push : (number : Explained → ℕ) (shown : List Explained) (one : Explained) → number one ≡ last_or 0 (map number (shown ++ one ∷ []))
+pub last-push : {X : Type 0} (number : X → ℕ) (shown : List X) (one : X) → number one ≡ last_or 0 (map number (shown ++ one ∷ []))
 last-push number shown one = sym (ap (last_or 0) (map_push number shown one) ∙ last_or-push 0 (map number shown) (number one))
 
 -- the waits with one more
@@ -28,17 +32,27 @@ waits-push shown one step is old-is = some-of-push ranges_of wait_in shown one s
 
 -- ---- a meter that awaits an event
 
--- where there are events before it the first moment is known
-pub reached-later : (shown : List Explained) (one : Explained) → (shown ≡ [] → ⊥) → meter_of shown ≡ reached shown one
-unfolding meter_of
-reached-later [] one some = absurd (some refl)
-reached-later (first ∷ rest) one some = refl
+-- what is noted of an event has its moment
+pub noted-moment : (one : Explained) → (noted_of one).moment ≡ one.told.moment
+unfolding noted_by
+noted-moment one = by one.told.event.answer
+  where
+    by : (answer : Answer) → (noted_by (met_of one) answer (cause_of one) (size_in one) one.told.waited).moment ≡ one.told.moment
+    by (Left packet) = refl
+    by (Updated delay prob burst) = refl
+    by _ = refl
 
-pub reached-none : (shown : List Explained) (one : Explained) (moment : ℕ) → one.told.moment ≡ moment → kept (length (map moment_at shown)) ≡ 0
-    → record (meter_of []) { first = moment; since = moment } ≡ reached shown one
+-- where there are events before it the first moment is known
+pub reached_later : (shown : List Explained) (one : Explained) → (shown ≡ [] → ⊥) → meter_in shown ≡ reached shown one
+unfolding meter_of
+reached_later [] one some = absurd (some refl)
+reached_later (first ∷ rest) one some = refl
+
+pub reached_none : (shown : List Explained) (one : Explained) (moment : ℕ) → (noted_of one).moment ≡ moment → kept (length (map moment_at shown)) ≡ 0
+    → record (meter_of [] []) { first = moment; since = moment } ≡ reached shown one
 unfolding last_or
-reached-none [] one moment at none = λ i. record (meter_of []) { first = sym at i; since = sym at i }
-reached-none (first ∷ rest) one moment at none = absurd (omega (arith, none))
+reached_none [] one moment at none = λ i. record (meter_of [] []) { first = sym at i; since = sym at i }
+reached_none (first ∷ rest) one moment at none = absurd (omega (arith, none))
 
 -- .. has noted the times of the events before
 pub noted-times : (shown : List Explained) (one : Explained) {meter : Meter} → meter ≡ reached shown one
@@ -47,28 +61,47 @@ unfolding meter_of
 noted-times shown one is = is ∙ ap (λ (m : Meter). timed_by m (filter_map time_at shown)) (sym is)
 
 -- the first of these times stays, where there is one or none more is told
-pub times-kept : (meter : Meter) (times : List ℕ) (read : Option ℕ) → meter ≡ timed_by meter times → (meter.timed ≡ 0 → read ≡ None)
+pub times_kept : (meter : Meter) (times : List ℕ) (read : Option ℕ) → meter ≡ timed_by meter times → (meter.timed ≡ 0 → read ≡ None)
     → meter ≡ timed_by meter (times ++ cons_option read [])
-times-kept meter [] read is none =
+times_kept meter [] read is none =
     is ∙ ap (λ (r : Option ℕ). timed_by meter (cons_option r [])) (sym (none (ap (λ (m : Meter). m.timed) is)))
-times-kept meter (time ∷ times) read is none =
+times_kept meter (time ∷ times) read is none =
     is ∙ (λ i. record meter { timed = some (length times) (length (times ++ cons_option read [])) i; time = time })
   where
     some : (n m : ℕ) → min (suc n) 1 ≡ min (suc m) 1
     some n m = omega arith
 
 -- .. and else it is noted
-pub time-noted : (meter : Meter) (times : List ℕ) (time : ℕ) → meter ≡ timed_by meter times → meter.timed ≡ 0
+pub time_noted : (meter : Meter) (times : List ℕ) (time : ℕ) → meter ≡ timed_by meter times → meter.timed ≡ 0
     → record meter { timed = 1; time = time } ≡ timed_by meter (times ++ time ∷ [])
-time-noted meter [] time is none = refl
-time-noted meter (first ∷ times) time is none =
+time_noted meter [] time is none = refl
+time_noted meter (first ∷ times) time is none =
     let some : meter.timed ≡ min (suc (length times)) 1 = ap (λ (m : Meter). m.timed) is in absurd (omega (arith, some, none))
 
--- an event's own time, where its meter has noted it
-pub awaited : (shown : List Explained) (one : Explained) {time : Option ℕ} {old now : Meter}
-    → ((times : List ℕ) → old ≡ timed_by old times → now ≡ timed_by old (times ++ cons_option time [])) → time ≡ time_at one
-    → old ≡ reached shown one → now ≡ awaiting shown one
-awaited shown one {time} {old} noted is reached-is =
-    noted (filter_map time_at shown) (noted-times shown one reached-is)
-    ∙ (λ i. timed_by (reached-is i) (filter_map time_at shown ++ cons_option (is i) []))
-    ∙ ap (timed_by (reached shown one)) (sym (filter_map-append time_at shown (one ∷ [])))
+-- .. and has then taken it
+pub taken : (shown : List Explained) (one : Explained) {noted : Noted} {time : Option ℕ} {old timed now : Meter} → noted ≡ noted_of one
+    → time ≡ time_at one → ((times : List ℕ) → old ≡ timed_by old times → timed ≡ timed_by old (times ++ cons_option time []))
+    → ((before : List Noted) (times : List ℕ) → timed ≡ awaiting before noted times → now ≡ meter_of (before ++ noted ∷ []) times)
+    → old ≡ reached shown one → now ≡ meter_in (shown ++ one ∷ [])
+unfolding meter_of
+taken shown one is told notes takes reached-is =
+    let before = map noted_of shown in
+    let times = filter_map time_at (shown ++ one ∷ []) in
+    takes before times (notes (filter_map time_at shown) (noted-times shown one reached-is)
+    ∙ (λ i. timed_by (reached-is i) (filter_map time_at shown ++ cons_option (told i) []))
+    ∙ (λ i. awaiting before (sym is i) (sym (filter_map-append time_at shown (one ∷ [])) i)))
+    ∙ (λ i. meter_of (before ++ is i ∷ []) times) ∙ ap (λ all. meter_of all times) (sym (map_push noted_of shown one))
+
+-- ---- what is noted of an event, by what it met and its answer
+
+pub noted-by : (met : Met) (one : Explained) (answer : Answer) (cause : ℕ) (arrived : Option ℕ) → Meets met one → one.told.event.answer ≡ answer
+    → cause_of one ≡ cause → size_in one ≡ arrived → noted_of one ≡ noted_by met answer cause arrived one.told.waited
+noted-by met one answer cause arrived m is cause-is size-is = λ i. noted_by (m i) (is i) (cause-is i) (size-is i) one.told.waited
+
+-- .. of an arrival, whatever became of it
+pub arrival-noted : (met : Met) (verdict : Verdict) (cause size waited : ℕ)
+    → record (noted_by met Done 15 None 0) { answer = answer_place (answer_of verdict); cause = cause; arrived = Some size }
+    ≡ noted_by met (answer_of verdict) cause (Some size) waited
+unfolding noted_by
+arrival-noted met Enqueued cause size waited = refl
+arrival-noted met _ cause size waited = refl

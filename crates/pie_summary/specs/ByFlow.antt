@@ -1,17 +1,15 @@
 -- What is written for sums by flow of the explained events.
-use Rattle.std.specs.Prelude.{ℕ, ◌≡◌, Bool, true, false, List, [], ◌++◌}
+use Rattle.std.specs.Prelude.{ℕ, ◌≡◌, List, ◌++◌}
 use Rattle.std.specs.List.{flat_map}
-use Rattle.pie_aqm.specs.Places.{Place, places}
+use Rattle.pie_aqm.specs.Places.{places}
 use Rattle.pie_explain.specs.declared.explanation.Explained.{Explained}
 use Rattle.pie_explain.specs.declared.form.Form.{Form}
 use Rattle.pie_explain.specs.Output.{header_of}
 use Rattle.pie_summary.specs.declared.by_flow.ByFlow.{ByFlow}
-use Rattle.pie_summary.specs.declared.flow.Flow.{Flow}
 use Rattle.pie_summary.specs.declared.flow_period.FlowPeriod.{FlowPeriod}
-use Rattle.pie_summary.specs.declared.spans.Span.{Span}
 use Rattle.pie_summary.specs.Flows.{HasFlows, flows_of}
 use Rattle.pie_summary.specs.FlowWords.{flow_names, flows_said}
-use Rattle.pie_summary.specs.Period.{Keeps, begins, last_events, last_period, period_at}
+use Rattle.pie_summary.specs.Period.{Keeps, at_end, last_events}
 use Rattle.pie_summary.specs.Spans.{span_of}
 
 -- what stands before the first period: for CSV the header row
@@ -22,20 +20,9 @@ flow_header form = header_of flow_names form
 abbrev pub said_by_flow : ByFlow → List Explained → List ℕ
 said_by_flow by_flow all = flows_said by_flow.form (span_of all) by_flow.most (flows_of all)
 
--- .. of these flows, where their events have come to their end
-abbrev pub ended_by_flow : ByFlow → Bool → Span → List Flow → List ℕ
-ended_by_flow by_flow true span flows = flows_said by_flow.form span by_flow.most flows
-ended_by_flow by_flow false span flows = []
-
--- what is written at an event: sums of the last events before it, where they are in another period
-abbrev pub flows_at : ByFlow → Place Explained → List ℕ
-flows_at by_flow place =
-    ended_by_flow by_flow (begins (last_period by_flow.every place.before) (period_at by_flow.every place.event))
-    (span_of (last_events by_flow.every place.before)) (flows_of (last_events by_flow.every place.before))
-
--- .. at each of these events
+-- what is written before the end: the header, and at each event the flows of the last events before it, where they are in another period
 abbrev pub flows_so_far : ByFlow → List Explained → List ℕ
-flows_so_far by_flow all = flow_header by_flow.form ++ flat_map (flows_at by_flow) (places all)
+flows_so_far by_flow all = flow_header by_flow.form ++ flat_map (at_end by_flow.every (said_by_flow by_flow)) (places all)
 
 -- .. and behind them, sums of the last ones
 abbrev pub flows_whole : ByFlow → List Explained → List ℕ
@@ -44,7 +31,7 @@ flows_whole by_flow all = flows_so_far by_flow all ++ said_by_flow by_flow (last
 -- what a period has of these events: when they were, and their flows
 pub record HoldsFlows (period : FlowPeriod) (all : List Explained) : Type 0 where
   pub span : period.span ≡ span_of all
-  pub flows : HasFlows period.table.rows.entries all
+  pub flows : HasFlows period.rows.entries all
 
 abbrev pub keeps_flows : ByFlow → FlowPeriod → List Explained → Type 0
 keeps_flows by_flow period all = Keeps (HoldsFlows period) by_flow.every period.number all

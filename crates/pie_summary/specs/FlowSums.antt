@@ -1,5 +1,5 @@
 -- The numbers of a flow: which events are of it, and what these come to.
-use Rattle.std.specs.Prelude.{ℕ, ◌+◌, ◌*◌, ◌/◌, ◌^◌, ◌==◌, max, Bool, false, List, map, Option, Some, None, unwrap_or, is_some, if◌then◌else◌}
+use Rattle.std.specs.Prelude.{ℕ, ◌*◌, ◌/◌, ◌^◌, ◌==◌, Bool, false, List, map, Option, Some, None, unwrap_or, is_some, if◌then◌else◌}
 use Rattle.std.specs.List.{sum}
 use Rattle.pie_aqm.specs.Places.{greatest}
 use Rattle.pie_event.specs.declared.command.Command.{Command}
@@ -8,8 +8,9 @@ use Rattle.pie_event.specs.declared.command.Answer.{Answer}
 use Rattle.pie_event.specs.declared.command.Answer.TheVariants.{Left}
 use Rattle.pie_explain.specs.declared.explanation.Explained.{Explained}
 use Rattle.pie_summary.specs.declared.flow_sums.FlowSums.{FlowSums}
+use Rattle.pie_summary.specs.declared.noted.Noted.{Noted}
 use Rattle.pie_summary.specs.Counts.{kept}
-use Rattle.pie_summary.specs.Sums.{answer_of, carried_in, size_in, wait_in}
+use Rattle.pie_summary.specs.Sums.{noted_of}
 
 -- ---- of one event
 
@@ -31,29 +32,25 @@ abbrev pub is_of : ℕ → Explained → Bool
 is_of flow one = is_this flow (flow_in one)
 
 -- 1 of an event whose answer has this place, and 0 of any other
-abbrev pub answered : ℕ → Explained → ℕ
-answered place one = if answer_of one == place then 1 else 0
-
--- how long the packet had waited that left
-abbrev pub waited_in : Explained → ℕ
-waited_in one = unwrap_or (wait_in one) 0
+abbrev pub answered : ℕ → Noted → ℕ
+answered place one = if one.answer == place then 1 else 0
 
 -- what one event counts: its packet arrived, with so many bytes; the verdict on it; it left, with so many bytes, and had waited so long; and what it
 -- had of the queue, its bytes times the microseconds that it had waited
-unfoldable pub numbers_of : Explained → FlowSums
+unfoldable pub numbers_of : Noted → FlowSums
 numbers_of one = record {
-  arrivals = if is_some (size_in one) then 1 else 0;
-  bytes = unwrap_or (size_in one) 0;
+  arrivals = if is_some one.arrived then 1 else 0;
+  bytes = unwrap_or one.arrived 0;
   queued = answered 0 one;
   marked = answered 1 one;
   early = answered 2 one;
   no_bytes = answered 3 one;
   no_packets = answered 4 one;
   left = answered 5 one;
-  carried = carried_in one;
-  waited = waited_in one;
-  greatest_wait = waited_in one;
-  held = kept (carried_in one * (waited_in one / 1000));
+  carried = one.carried;
+  waited = unwrap_or one.wait 0;
+  greatest_wait = unwrap_or one.wait 0;
+  held = kept (one.carried * (unwrap_or one.wait 0 / 1000));
 }
 
 -- ---- of several
@@ -77,21 +74,4 @@ added_up all = record {
 
 -- .. those of these events
 abbrev pub flow_sums : List Explained → FlowSums
-flow_sums all = added_up (map numbers_of all)
-
--- .. two of them
-abbrev pub together : FlowSums → FlowSums → FlowSums
-together some more = record {
-  arrivals = kept (some.arrivals + more.arrivals);
-  bytes = kept (some.bytes + more.bytes);
-  queued = kept (some.queued + more.queued);
-  marked = kept (some.marked + more.marked);
-  early = kept (some.early + more.early);
-  no_bytes = kept (some.no_bytes + more.no_bytes);
-  no_packets = kept (some.no_packets + more.no_packets);
-  left = kept (some.left + more.left);
-  carried = kept (some.carried + more.carried);
-  waited = kept (some.waited + more.waited);
-  greatest_wait = max some.greatest_wait more.greatest_wait;
-  held = kept (some.held + more.held);
-}
+flow_sums all = added_up (map (λ one. numbers_of (noted_of one)) all)

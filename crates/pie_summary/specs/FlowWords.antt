@@ -6,6 +6,7 @@ use Rattle.pie_explain.specs.declared.form.Form.TheVariants.{Text, Csv, TextByWa
 use Rattle.pie_explain.specs.Words.{joined, millis, share}
 use Rattle.pie_summary.specs.declared.flow.Flow.{Flow}
 use Rattle.pie_summary.specs.declared.flow_sums.FlowSums.{FlowSums}
+use Rattle.pie_summary.specs.declared.flow_words.Heading.{Heading}
 use Rattle.pie_summary.specs.declared.flow_words.Name.{Name}
 use Rattle.pie_summary.specs.declared.flow_words.Name.TheVariants as name
 use Rattle.pie_summary.specs.declared.spans.Span.{Span}
@@ -36,12 +37,6 @@ amount_words name total sums =
     joined (codes "  " ∷ name_words name ∷ codes ": " ∷ decimal sums.arrivals ∷ codes " arrivals, " ∷ decimal sums.bytes ∷ codes " bytes, "
     ∷ share sums.bytes total.bytes ∷ codes " of all; " ∷ share sums.held total.held ∷ codes " of the queue\n" ∷ [])
 
--- what became of its packets
-unfoldable pub fate_words : FlowSums → List ℕ
-fate_words sums =
-    joined (codes "    queued " ∷ decimal sums.queued ∷ codes ", marked " ∷ decimal sums.marked ∷ codes ", dropped early " ∷ decimal sums.early
-    ∷ codes ", without room in bytes " ∷ decimal sums.no_bytes ∷ codes ", in packets " ∷ decimal sums.no_packets ∷ codes "\n" ∷ [])
-
 -- the mean wait of the packets that left, rounded down; 0 where none did
 abbrev pub mean_wait : FlowSums → ℕ
 mean_wait sums = sums.waited / max sums.left 1
@@ -52,8 +47,13 @@ wait_words sums =
     joined (codes "    left " ∷ decimal sums.left ∷ codes ", with " ∷ decimal sums.carried ∷ codes " bytes; they had waited at most "
     ∷ millis sums.greatest_wait ∷ codes ",\n    and in the mean " ∷ millis (mean_wait sums) ∷ codes "\n" ∷ [])
 
+-- a flow, with what became of its packets
 unfoldable pub flow_words : Name → FlowSums → FlowSums → List ℕ
-flow_words name total sums = joined (amount_words name total sums ∷ fate_words sums ∷ wait_words sums ∷ [])
+flow_words name total sums =
+    joined (amount_words name total sums
+    ∷ codes "    queued " ∷ decimal sums.queued ∷ codes ", marked " ∷ decimal sums.marked ∷ codes ", dropped early " ∷ decimal sums.early
+    ∷ codes ", without room in bytes " ∷ decimal sums.no_bytes ∷ codes ", in packets " ∷ decimal sums.no_packets ∷ codes "\n"
+    ∷ wait_words sums ∷ [])
 
 -- when the events of the flows were, by times of day or not, how many flows there are, and what arrived
 unfoldable pub total_words : Bool → Span → ℕ → FlowSums → List ℕ
@@ -81,34 +81,35 @@ flow_record by_wall span name sums =
 
 -- ---- in either form
 
--- what stands before the flows
-abbrev pub head_said : Form → Span → ℕ → FlowSums → List ℕ
-head_said Text span count total = total_words false span count total
-head_said TextByWall span count total = total_words true span count total
-head_said Csv span count total = []
-head_said CsvByWall span count total = []
+-- what stands before so many flows
+abbrev pub head_said : Form → Heading → ℕ → List ℕ
+head_said Text heading count = total_words false heading.span count heading.total
+head_said TextByWall heading count = total_words true heading.span count heading.total
+head_said Csv heading count = []
+head_said CsvByWall heading count = []
 
 -- a flow
-abbrev pub flow_said : Form → Span → FlowSums → Name → FlowSums → List ℕ
-flow_said Text span total name sums = flow_words name total sums
-flow_said TextByWall span total name sums = flow_words name total sums
-flow_said Csv span total name sums = flow_record false span name sums
-flow_said CsvByWall span total name sums = flow_record true span name sums
+abbrev pub flow_said : Form → Heading → Name → FlowSums → List ℕ
+flow_said Text heading name sums = flow_words name heading.total sums
+flow_said TextByWall heading name sums = flow_words name heading.total sums
+flow_said Csv heading name sums = flow_record false heading.span name sums
+flow_said CsvByWall heading name sums = flow_record true heading.span name sums
 
 -- .. one after another
-abbrev pub each_said : Form → Span → FlowSums → List Flow → List ℕ
-each_said form span total [] = []
-each_said form span total (flow ∷ flows) = flow_said form span total (name.Of flow.number) flow.sums ++ each_said form span total flows
+abbrev pub each_said : Heading → List Flow → List ℕ
+each_said heading [] = []
+each_said heading (flow ∷ flows) = flow_said heading.form heading (name.Of flow.number) flow.sums ++ each_said heading flows
 
 -- the flows behind the first so many, in one; nothing where there are none
-abbrev pub others_said : Form → Span → FlowSums → ℕ → List Flow → List Flow → List ℕ
-others_said form span total most first flows =
-    if nat_lt most (length flows) then flow_said form span total (name.Others (length flows - most)) (sums_beside first flows) else []
+abbrev pub others_said : Heading → ℕ → List Flow → List Flow → List ℕ
+others_said heading most first flows =
+    if nat_lt most (length flows) then flow_said heading.form heading (name.Others (length flows - most)) (sums_beside first flows) else []
 
-unfoldable pub parts_said : Form → Span → FlowSums → ℕ → List Flow → List Flow → List ℕ
-parts_said form span total most first flows =
-    joined (head_said form span (length flows) total ∷ each_said form span total first ∷ others_said form span total most first flows ∷ [])
+unfoldable pub parts_said : Heading → ℕ → List Flow → List Flow → List ℕ
+parts_said heading most first flows =
+    joined (head_said heading.form heading (length flows) ∷ each_said heading first ∷ others_said heading most first flows ∷ [])
 
 -- the first so many of these flows, and the others
 abbrev pub flows_said : Form → Span → ℕ → List Flow → List ℕ
-flows_said form span most flows = parts_said form span (sums_beside [] flows) most (first_of most flows) flows
+flows_said form span most flows =
+    parts_said (record { form = form; span = span; total = sums_beside [] flows }) most (first_of most flows) flows

@@ -1,7 +1,9 @@
 -- The flows of a list of events, each with its numbers, and those with the most bytes.
-use Rattle.std.specs.Prelude.{ℕ, ◌≡◌, ◌==◌, ◌&&◌, ◌||◌, nat_eq, nat_lt, Bool, false, not, List, [], ◌∷◌, ◌++◌, map, filter, fold, take}
+use Rattle.std.specs.Prelude.{ℕ, ◌≡◌, ◌==◌, ◌&&◌, ◌||◌, nat_eq, nat_lt, Bool, not, List, [], ◌∷◌, map, filter, fold, take, None, Option, Some}
 use Rattle.std.specs.Prelude.{if◌then◌else◌}
 use Rattle.std.specs.List.{IsDistinct, filter_map, list_any}
+use Rattle.std.specs.Map.{keys_of, lookup}
+use Rattle.indexmap.specs.IndexSet.{insert_key}
 use Rattle.pie_explain.specs.declared.explanation.Explained.{Explained}
 use Rattle.pie_summary.specs.declared.flow.Flow.{Flow}
 use Rattle.pie_summary.specs.declared.flow_sums.FlowSums.{FlowSums}
@@ -9,13 +11,9 @@ use Rattle.pie_summary.specs.FlowSums.{added_up, flow_in, flow_sums, is_of}
 
 -- ---- each flow once
 
--- numbers, and one more at their end where it is none of them
-abbrev pub with_new : List ℕ → ℕ → List ℕ
-with_new numbers one = if list_any (nat_eq one) numbers then numbers else numbers ++ one ∷ []
-
 -- each of these numbers once, in the order in which they first come
 unfoldable pub distinct : List ℕ → List ℕ
-distinct numbers = fold with_new [] numbers
+distinct numbers = fold (insert_key nat_eq) [] numbers
 
 -- the flows that have events among these
 abbrev pub flows_in : List Explained → List ℕ
@@ -58,8 +56,13 @@ sums_beside some flows = added_up (map (λ one. one.sums) (filter (λ one. not (
 
 -- ---- what is kept
 
+-- a flow with these events, if there are some
+abbrev pub row_of : ℕ → List Explained → Option Flow
+row_of flow [] = None
+row_of flow (one ∷ all) = Some (record { number = flow; sums = flow_sums (one ∷ all) })
+
 -- these are all flows of the events, by their numbers
 pub record HasFlows (rows : List (ℕ × Flow)) (all : List Explained) : Type 0 where
-  pub are : rows ≡ map (λ flow. (flow, flow_of all flow)) (flows_in all)
-  pub apart : IsDistinct nat_eq (flows_in all)
-  pub others : (flow : ℕ) → list_any (nat_eq flow) (flows_in all) ≡ false → filter (is_of flow) all ≡ []
+  pub keys : keys_of rows ≡ flows_in all
+  pub found : (flow : ℕ) → lookup (nat_eq flow) rows ≡ row_of flow (filter (is_of flow) all)
+  pub apart : IsDistinct nat_eq (keys_of rows)

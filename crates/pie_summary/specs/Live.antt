@@ -1,67 +1,16 @@
 -- A period that is summed up as it goes: the numbers of a summary's record, kept in as much memory as they take.
-use Rattle.std.specs.Prelude.{ℕ, ◌≡◌, ◌≤◌, ◌<◌, ◌-◌, ◌==◌, Bool, true, false, ◌&&◌, nat_le, nat_lt, List, [], ◌∷◌, ◌++◌, Option, Some, None, count_by}
+use Rattle.std.specs.Prelude.{ℕ, ◌≡◌, ◌≤◌, ◌<◌, ◌==◌, Bool, List, [], ◌∷◌, ◌++◌, Option, Some, None, count_by}
 use Rattle.std.specs.Prelude.{if◌then◌else◌}
 use Rattle.pie_aqm.specs.Places.{Place, places}
-use Rattle.pie_event.specs.declared.command.Answer.{Answer}
 use Rattle.pie_record.specs.declared.clock.Clock.{Clock}
 use Rattle.pie_explain.specs.declared.explanation.Explained.{Explained}
 use Rattle.pie_explain.specs.declared.form.Form.{Form}
 use Rattle.pie_explain.specs.declared.form.Form.TheVariants.{Csv, CsvByWall}
 use Rattle.pie_summary.specs.declared.live.LivePeriod.{LivePeriod}
-use Rattle.pie_summary.specs.declared.noted.Met.{Met}
-use Rattle.pie_summary.specs.declared.noted.Noted.{Noted}
 use Rattle.pie_summary.specs.Counts.{kept}
 use Rattle.pie_summary.specs.Period.{last_events, last_period, period_at, period_of, since, starts}
-use Rattle.pie_summary.specs.Sums.{above_by, answer_place, carried_by, cause_of, delay_by, excess_by, meter_of, reached, size_in, turned_at, waits_of}
-use Rattle.pie_summary.specs.Sums.{where_left}
-
--- what a meter takes of an event that met this and left that: by its answer, the place of its cause, the size of the packet that arrived, and how long
--- the one had waited that left
-abbrev pub noted_by : Met → Answer → ℕ → Option ℕ → ℕ → Noted
-noted_by met answer cause arrived waited = record {
-  answer = answer_place answer;
-  cause = cause;
-  moment = met.moment;
-  arrived = arrived;
-  wait = where_left answer waited;
-  left = where_left answer met.moment;
-  excess = excess_by answer waited met.held;
-  delay = delay_by met.was answer;
-  prob = met.prob;
-  turned_on = turned_at true met.was met.is met.moment;
-  turned_off = turned_at false met.was met.is met.moment;
-  carried = carried_by answer;
-  above = above_by met.was answer met.held (met.moment - met.last);
-  target = met.target;
-  burst = met.burst;
-}
-
--- .. as it is explained
-abbrev pub met_of : Explained → Met
-met_of one = record {
-  moment = one.told.moment;
-  was = one.told.before.active;
-  is = one.after.active;
-  held = one.told.before.params.target;
-  last = one.told.before.last;
-  prob = one.after.prob;
-  burst = one.after.burst;
-  target = one.after.params.target;
-}
-
-abbrev pub noted_of : Explained → Noted
-noted_of one = noted_by (met_of one) one.told.event.answer (cause_of one) (size_in one) one.told.waited
-
--- an event met this and left that
-pub record Meets (met : Met) (one : Explained) : Type 0 where
-  pub moment : one.told.moment ≡ met.moment
-  pub was : one.told.before.active ≡ met.was
-  pub is : one.after.active ≡ met.is
-  pub held : one.told.before.params.target ≡ met.held
-  pub last : one.told.before.last ≡ met.last
-  pub prob : one.after.prob ≡ met.prob
-  pub burst : one.after.burst ≡ met.burst
-  pub target : one.after.params.target ≡ met.target
+use Rattle.pie_summary.specs.Sums.{meter_in, reached, waits_of}
+pub use Rattle.pie_summary.specs.Sums.{Meets, noted_of}
 
 -- ---- periods
 
@@ -89,7 +38,7 @@ Spans period = (moment : ℕ) → period.start ≤ moment → moment < period.en
 pub record Holds (period : LivePeriod) (all : List Explained) : Type 0 where
   pub number : number_in period ≡ last_period (length_of period) all
   pub begun : period.begun ≡ periods_begun (length_of period) all
-  pub meter : period.meter ≡ meter_of (last_events (length_of period) all)
+  pub meter : period.meter ≡ meter_in (last_events (length_of period) all)
   pub waits : period.waits ≡ waits_of (last_events (length_of period) all)
   pub spans : Spans period
 
@@ -112,10 +61,6 @@ pub record IsSet (before after : LivePeriod) : Type 0 where
   pub told : after.told ≡ before.told
   pub clock_moment : after.clock_moment ≡ before.clock_moment
   pub clock_unix : after.clock_unix ≡ before.clock_unix
-
--- a moment is in the period that is under way
-abbrev pub is_within : LivePeriod → ℕ → Bool
-is_within period moment = nat_le period.start moment && nat_lt moment period.end
 
 -- the form of the records: with a time of day, or without
 abbrev pub form_in : LivePeriod → Form

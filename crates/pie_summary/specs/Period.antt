@@ -1,7 +1,7 @@
 -- Periods of equal length: which of the explained events are summed up together.
-use Rattle.std.specs.Prelude.{ℕ, ◌≡◌, ◌/◌, ◌==◌, max, Bool, true, false, not, List, [], map, Option, Some, None}
+use Rattle.std.specs.Prelude.{ℕ, ◌≡◌, ◌/◌, ◌==◌, max, if◌then◌else◌, Bool, true, false, not, List, [], map, Option, Some, None}
 use Rattle.std.specs.List.{after_last}
-use Rattle.pie_aqm.specs.Places.{last_or}
+use Rattle.pie_aqm.specs.Places.{Place, last_or}
 use Rattle.pie_explain.specs.declared.explanation.Explained.{Explained}
 
 -- the number of the period in which a moment lies, counted from moment 0, where each lasts so many nanoseconds, 1 at least; 0 where no length
@@ -40,6 +40,11 @@ begins (Some before) period = not (before == period)
 abbrev pub starts : Option ℕ → ℕ → Bool
 starts None period = true
 starts (Some before) period = not (before == period)
+
+-- what is written at an event: what is said of the last events before it, where they are in another period
+abbrev pub at_end : Option ℕ → (List Explained → List ℕ) → Place Explained → List ℕ
+at_end every said place =
+    if begins (last_period every place.before) (period_at every place.event) then said (last_events every place.before) else []
 
 -- where the period with this number, if any, is that of the last of these events, this is so of the last events as far back as they are in it
 pub record Keeps (of : List Explained → Type 0) (every under_way : Option ℕ) (all : List Explained) : Type 0 where

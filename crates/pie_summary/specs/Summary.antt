@@ -13,7 +13,7 @@ use Rattle.pie_record.specs.declared.clock.Clock.{Clock}
 use Rattle.pie_summary.specs.declared.period.Period.{Period}
 use Rattle.pie_summary.specs.declared.summary.Summary.{Summary}
 use Rattle.pie_summary.specs.declared.sums.Sums.{Sums}
-use Rattle.pie_summary.specs.Period.{Keeps, begins, last_events, last_period, period_at}
+use Rattle.pie_summary.specs.Period.{Keeps, at_end, last_events}
 use Rattle.pie_summary.specs.Record.{field_names, record_of}
 use Rattle.pie_summary.specs.Sums.{sums_of, waits_of}
 use Rattle.pie_summary.specs.Words.{wait_99, words}
@@ -32,17 +32,6 @@ said CsvByWall sums ranges = record_of true sums.meter (wait_99 ranges sums.mete
 -- .. of these events
 abbrev pub said_of : Form → List Explained → List ℕ
 said_of form all = said form (sums_of all) (waits_of all)
-
--- .. where these events have come to their end
-abbrev pub ended : Form → Bool → Sums → List ℕ → List ℕ
-ended form true sums ranges = said form sums ranges
-ended form false sums ranges = []
-
--- what is written at an event: a summary of the last events before it, where they are in another period
-abbrev pub ended_at : Summary → Place Explained → List ℕ
-ended_at summary place =
-    ended summary.form (begins (last_period summary.every place.before) (period_at summary.every place.event))
-    (sums_of (last_events summary.every place.before)) (waits_of (last_events summary.every place.before))
 
 -- ---- lost and marked packets
 
@@ -65,7 +54,7 @@ noted summary one = if summary.packets && is_lost_or_marked one then words_by (c
 
 -- what is written at an event: a summary of the events before it, where it is in another period, and then what is said of it by itself
 abbrev pub written_at : Summary → Place Explained → List ℕ
-written_at summary place = ended_at summary place ++ noted summary place.event
+written_at summary place = at_end summary.every (said_of summary.form) place ++ noted summary place.event
 
 -- .. at each of these events
 abbrev pub summaries : Summary → List Explained → List ℕ

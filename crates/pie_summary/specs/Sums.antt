@@ -1,5 +1,6 @@
 -- The numbers of a summary, each over the whole list of the events that were explained.
-use Rattle.std.specs.Prelude.{ℕ, ◌-◌, ◌&&◌, nat_lt, min, if◌then◌else◌, Bool, true, false, List, [], ◌∷◌, ◌++◌, length, map, slice_index, Option, Some, None}
+use Rattle.std.specs.Prelude.{ℕ, ◌-◌, ◌&&◌, nat_lt, min, if◌then◌else◌, Bool, true, false, List, [], ◌∷◌, ◌++◌, length, map, slice_index}
+use Rattle.std.specs.Prelude.{◌≡◌, None, Option, Some}
 use Rattle.std.specs.List.{filter_map, sum}
 use Rattle.std.specs.Option.{option_and}
 use Rattle.pie_event.specs.declared.cause.Cause.{Cause}
@@ -12,10 +13,12 @@ use Rattle.pie_event.specs.declared.command.Answer.TheVariants.{Enqueued, Marked
 use Rattle.pie_event.specs.declared.command.Answer.TheVariants.{Done}
 use Rattle.pie_explain.specs.declared.explanation.Explained.{Explained}
 use Rattle.pie_summary.specs.declared.meter.Meter.{Meter}
+use Rattle.pie_summary.specs.declared.noted.Met.{Met}
+use Rattle.pie_summary.specs.declared.noted.Noted.{Noted}
 use Rattle.pie_summary.specs.declared.sums.Sums.{Sums}
 use Rattle.pie_summary.specs.Counts.{counts_of, kept}
 use Rattle.pie_summary.specs.Ranges.{ranges_of}
-use Rattle.pie_summary.specs.Spans.{bounds_of, moment_at, peak_of, span_of, time_at, total_of}
+use Rattle.pie_summary.specs.Spans.{bounds_of, peak_of, span_of, time_at, total_of}
 
 -- ---- of one event
 
@@ -45,77 +48,92 @@ size_by _ = None
 abbrev pub size_in : Explained → Option ℕ
 size_in all = size_by all.told.event.command
 
--- this number, where a packet left
-abbrev pub where_left : Answer → ℕ → Option ℕ
-where_left (Left packet) number = Some number
-where_left _ number = None
+-- the place of what decided an event
+abbrev pub cause_of : Explained → ℕ
+cause_of all = cause_place all.told.cause
 
--- how long the packet had waited that left
-abbrev pub wait_in : Explained → Option ℕ
-wait_in all = where_left all.told.event.answer all.told.waited
-
--- the moment of an event at which a packet left
-abbrev pub left_at : Explained → Option ℕ
-left_at all = where_left all.told.event.answer all.told.moment
-
--- how much longer than the target the packet had waited that left, where it had waited longer
-abbrev pub excess_by : Answer → ℕ → ℕ → Option ℕ
-excess_by (Left packet) waited target = if nat_lt target waited then Some (waited - target) else None
-excess_by _ waited target = None
-
-abbrev pub excess_in : Explained → Option ℕ
-excess_in all = excess_by all.told.event.answer all.told.waited all.told.before.params.target
-
--- the delay that an update took, where the controller was active before it
-abbrev pub delay_by : Bool → Answer → Option ℕ
-delay_by active (Updated delay prob burst) = if active then Some delay else None
-delay_by active _ = None
-
-abbrev pub delay_in : Explained → Option ℕ
-delay_in all = delay_by all.told.before.active all.told.event.answer
-
--- how many bytes the packet had that left; 0 of any other event
-abbrev pub carried_by : Answer → ℕ
-carried_by (Left packet) = packet.size
-carried_by _ = 0
-
-abbrev pub carried_in : Explained → ℕ
-carried_in all = carried_by all.told.event.answer
-
--- how long it was since the update before, where an update took a delay above the target; 0 of any other event, and while the controller is
--- not active
-abbrev pub above_by : Bool → Answer → ℕ → ℕ → ℕ
-above_by active (Updated delay prob burst) target since = if active && nat_lt target delay then since else 0
-above_by active _ target since = 0
-
-abbrev pub above_in : Explained → ℕ
-above_in all = above_by all.told.before.active all.told.event.answer all.told.before.params.target (all.told.moment - all.told.before.last)
-
--- the moment of an event that turned the controller on, or off, where the controller was active before it or not, and is after it or not
+-- this moment of an event, where it turned the controller on, or off: before it the controller was active or not, and is after it or not
 abbrev pub turned_at : Bool → Bool → Bool → ℕ → Option ℕ
 turned_at true false true moment = Some moment
 turned_at false true false moment = Some moment
 turned_at _ _ _ moment = None
 
-abbrev pub turned_on : Explained → Option ℕ
-turned_on all = turned_at true all.told.before.active all.after.active all.told.moment
+-- what is noted of an event that met this and left that, whatever its kind: by the place of its answer, that of its cause, and the size of the
+-- packet that arrived
+abbrev pub noted_plain : Met → ℕ → ℕ → Option ℕ → Noted
+noted_plain met answer cause arrived = record {
+  answer = answer;
+  cause = cause;
+  moment = met.moment;
+  arrived = arrived;
+  wait = None;
+  left = None;
+  excess = None;
+  delay = None;
+  prob = met.prob;
+  turned_on = turned_at true met.was met.is met.moment;
+  turned_off = turned_at false met.was met.is met.moment;
+  carried = 0;
+  above = 0;
+  target = met.target;
+  burst = met.burst;
+}
 
-abbrev pub turned_off : Explained → Option ℕ
-turned_off all = turned_at false all.told.before.active all.after.active all.told.moment
+-- what a meter takes of it: of a packet that left also how long it had waited, and how much longer than the target, when it left, and its bytes;
+-- and of an update, where the controller was active, its delay, and where that is above the target, how long it was since the update before
+unfoldable pub noted_by : Met → Answer → ℕ → Option ℕ → ℕ → Noted
+noted_by met (Left packet) cause arrived waited = record (noted_plain met 5 cause arrived) {
+  wait = Some waited;
+  left = Some met.moment;
+  excess = if nat_lt met.held waited then Some (waited - met.held) else None;
+  carried = packet.size;
+}
+noted_by met (Updated delay prob burst) cause arrived waited = record (noted_plain met 7 cause arrived) {
+  delay = if met.was then Some delay else None;
+  above = if met.was && nat_lt met.held delay then met.moment - met.last else 0;
+}
+noted_by met answer cause arrived waited = noted_plain met (answer_place answer) cause arrived
 
--- the time of day of an event that turned it on, or off
+-- what an event met and left, as it is explained
+abbrev pub met_of : Explained → Met
+met_of one = record {
+  moment = one.told.moment;
+  was = one.told.before.active;
+  is = one.after.active;
+  held = one.told.before.params.target;
+  last = one.told.before.last;
+  prob = one.after.prob;
+  burst = one.after.burst;
+  target = one.after.params.target;
+}
+
+abbrev pub Meets : Met → Explained → Type 0
+Meets met one = met_of one ≡ met
+
+abbrev pub noted_of : Explained → Noted
+noted_of one = noted_by (met_of one) one.told.event.answer (cause_of one) (size_in one) one.told.waited
+
+-- how long the packet had waited that left
+abbrev pub wait_in : Explained → Option ℕ
+wait_in one = (noted_of one).wait
+
+-- the time of day of an event that turned the controller on, or off
 abbrev pub on_time : Explained → Option ℕ
-on_time all = option_and (turned_on all) (time_at all)
+on_time one = option_and (noted_of one).turned_on (time_at one)
 
 abbrev pub off_time : Explained → Option ℕ
-off_time all = option_and (turned_off all) (time_at all)
+off_time one = option_and (noted_of one).turned_off (time_at one)
 
--- ---- of an event after others
+-- ---- of what was noted of an event after others
+
+-- the moments of events
+abbrev pub moments_of : List Noted → List ℕ
+moments_of all = map (λ one. one.moment) all
 
 -- since when a packet that leaves was the first in the queue, as far as these events tell: the last one before it left then, or, where none did,
 -- the first event was then
-abbrev pub first_since : Place Explained → ℕ
-first_since place = last_or (slice_index (map moment_at (up_to place)) 0) (filter_map left_at place.before)
+abbrev pub first_since : Place Noted → ℕ
+first_since place = last_or (slice_index (moments_of (up_to place)) 0) (filter_map (λ one. one.left) place.before)
 
 -- as much of this excess as lies within so long
 abbrev pub excess_within : Option ℕ → ℕ → ℕ
@@ -123,47 +141,41 @@ excess_within None since = 0
 excess_within (Some excess) since = min excess since
 
 -- how long the packet that left was the first in the queue and had waited longer than the target
-abbrev pub late_at : Place Explained → ℕ
-late_at place = excess_within (excess_in place.event) (moment_at place.event - first_since place)
+abbrev pub late_at : Place Noted → ℕ
+late_at place = excess_within place.event.excess (place.event.moment - first_since place)
 
 -- ---- of a list of events
 
-abbrev pub answer_of : Explained → ℕ
-answer_of all = answer_place all.told.event.answer
-
-abbrev pub cause_of : Explained → ℕ
-cause_of all = cause_place all.told.cause
-
--- the numbers that the record of these events is made of
-unfoldable pub meter_of : List Explained → Meter
-meter_of all = record {
-  answers = counts_of answer_of 9 all;
-  causes = counts_of cause_of 15 all;
-  first = slice_index (map moment_at all) 0;
-  last = last_or 0 (map moment_at all);
-  since = last_or (slice_index (map moment_at all) 0) (filter_map left_at all);
-  arrivals = kept (length (filter_map size_in all));
-  arrived = total_of (filter_map size_in all);
-  waits = total_of (filter_map wait_in all);
-  greatest_wait = greatest (filter_map wait_in all);
-  delays = peak_of (filter_map delay_in all);
-  probs = peak_of (map (λ one. one.after.prob) all);
-  turned_on = bounds_of (filter_map turned_on all);
-  turned_off = bounds_of (filter_map turned_off all);
-  timed = min (length (filter_map time_at all)) 1;
-  time = slice_index (filter_map time_at all) 0;
-  carried = kept (sum (map carried_in all));
-  above = kept (sum (map above_in all));
-  longer = kept (length (filter_map excess_in all));
+-- the numbers that a record is made of, by what was noted of the events and by those times of day that they have
+unfoldable pub meter_of : List Noted → List ℕ → Meter
+meter_of all times = record {
+  answers = counts_of (λ one. one.answer) 9 all;
+  causes = counts_of (λ one. one.cause) 15 all;
+  first = slice_index (moments_of all) 0;
+  last = last_or 0 (moments_of all);
+  since = last_or (slice_index (moments_of all) 0) (filter_map (λ one. one.left) all);
+  arrivals = kept (length (filter_map (λ one. one.arrived) all));
+  arrived = total_of (filter_map (λ one. one.arrived) all);
+  waits = total_of (filter_map (λ one. one.wait) all);
+  greatest_wait = greatest (filter_map (λ one. one.wait) all);
+  delays = peak_of (filter_map (λ one. one.delay) all);
+  probs = peak_of (map (λ one. one.prob) all);
+  turned_on = bounds_of (filter_map (λ one. one.turned_on) all);
+  turned_off = bounds_of (filter_map (λ one. one.turned_off) all);
+  timed = min (length times) 1;
+  time = slice_index times 0;
+  carried = kept (sum (map (λ one. one.carried) all));
+  above = kept (sum (map (λ one. one.above) all));
+  longer = kept (length (filter_map (λ one. one.excess) all));
   late = kept (sum (map late_at (places all)));
-  target = last_or 0 (map (λ one. one.after.params.target) all);
-  burst = last_or 0 (map (λ one. one.after.burst) all);
+  target = last_or 0 (map (λ one. one.target) all);
+  burst = last_or 0 (map (λ one. one.burst) all);
 }
 
 -- .. where one more is the next: the first moment is known that the record will have, and since when the first packet in the queue is that
-abbrev pub reached : List Explained → Explained → Meter
-reached shown one = record (meter_of shown) {
-  first = slice_index (map moment_at (shown ++ one ∷ [])) 0;
+abbrev pub awaiting : List Noted → Noted → List ℕ → Meter
+awaiting shown one times = record (meter_of shown times) {
+  first = slice_index (moments_of (shown ++ one ∷ [])) 0;
   since = first_since (record { before = shown; event = one });
 }
 
@@ -171,14 +183,18 @@ reached shown one = record (meter_of shown) {
 abbrev pub timed_by : Meter → List ℕ → Meter
 timed_by meter times = record meter { timed = min (length times) 1; time = slice_index times 0 }
 
-abbrev pub awaiting : List Explained → Explained → Meter
-awaiting shown one = timed_by (reached shown one) (filter_map time_at (shown ++ one ∷ []))
+-- the numbers of these events, as they are explained, and where one more is the next
+abbrev pub meter_in : List Explained → Meter
+meter_in all = meter_of (map noted_of all) (filter_map time_at all)
+
+abbrev pub reached : List Explained → Explained → Meter
+reached shown one = awaiting (map noted_of shown) (noted_of one) (filter_map time_at shown)
 
 -- the numbers of a summary of these events
 unfoldable pub sums_of : List Explained → Sums
 sums_of all = record {
   span = span_of all;
-  meter = meter_of all;
+  meter = meter_in all;
   on_times = bounds_of (filter_map on_time all);
   off_times = bounds_of (filter_map off_time all);
 }

@@ -18,9 +18,6 @@ use Rattle.pie_summary.specs.Spans.{mean_in, sum_in}
 unfoldable pub row_words : List ℕ → ℕ → ℕ → List ℕ
 row_words name count all = joined (codes "    " ∷ name ∷ codes ": " ∷ decimal count ∷ codes ", " ∷ share count all ∷ codes "\n" ∷ [])
 
-unfoldable pub arrived_words : Meter → List ℕ
-arrived_words meter = joined (codes "  " ∷ decimal meter.arrivals ∷ codes " arrivals, " ∷ decimal (sum_in meter.arrived) ∷ codes " bytes\n" ∷ [])
-
 -- what became of the arrivals
 unfoldable pub verdict_words : List ℕ → ℕ → List ℕ
 verdict_words answers all =
@@ -65,32 +62,12 @@ left_in meter = slice_index meter.answers 5
 abbrev pub wait_99 : List ℕ → Meter → ℕ
 wait_99 ranges meter = end_within (first_up_to ranges (left_in meter - left_in meter / 100)) meter.greatest_wait
 
--- how long the packets that left had waited, with the wait of 99 of 100, and the bytes that they carried
-unfoldable pub left_words : Meter → ℕ → List ℕ
-left_words meter most =
-    joined (codes "  " ∷ decimal (left_in meter) ∷ codes " packets left; they had waited at most " ∷ millis meter.greatest_wait
-    ∷ codes ",\n    and in the mean " ∷ millis (mean_in (left_in meter) meter.waits) ∷ codes "\n    99 of 100 had waited at most " ∷ millis most
-    ∷ codes "\n    they carried " ∷ decimal meter.carried ∷ codes " bytes\n" ∷ [])
-
 -- the delays that the updates took, and the probabilities after the events
 unfoldable pub update_words : Meter → List ℕ
 update_words meter =
     joined (codes "  " ∷ decimal (slice_index meter.answers 7) ∷ codes " updates; the greatest delay was " ∷ millis meter.delays.greatest
     ∷ codes ",\n    and the last " ∷ millis meter.delays.last ∷ codes "\n  the greatest probability was " ∷ per_cent meter.probs.greatest
     ∷ codes ", and the last " ∷ per_cent meter.probs.last ∷ codes "\n" ∷ [])
-
--- what the delays were beside the target, and what was left of the burst allowance
-unfoldable pub target_words : Meter → List ℕ
-target_words meter =
-    joined (codes "  delays were above the target for " ∷ millis meter.above ∷ codes ";\n    at the end it was " ∷ millis meter.target
-    ∷ codes ",\n    and the burst allowance " ∷ millis meter.burst ∷ codes "\n" ∷ [])
-
--- how many of the packets that left had waited longer than the target, and how long at the head of the queue
-unfoldable pub late_words : Meter → List ℕ
-late_words meter =
-    joined (codes "  " ∷ decimal meter.longer ∷ codes " packets, " ∷ share meter.longer (left_in meter)
-    ∷ codes " of those that left, had waited longer than the target,\n" ∷ codes "    at the head of the queue for " ∷ millis meter.late ∷ codes "\n"
-    ∷ [])
 
 -- of two times, one is less than half the other, rounded down
 abbrev pub disagree : ℕ → ℕ → Bool
@@ -100,6 +77,24 @@ disagree one other = nat_lt one (other / 2) || nat_lt other (one / 2)
 unfoldable pub disagree_words : ℕ → ℕ → List ℕ
 disagree_words above late =
     if disagree above late then codes "    the two times disagree: the controller's delay was not what packets waited\n" else []
+
+-- what the delays were beside the target, and what was left of the burst allowance; how many of the packets that left had waited longer than the
+-- target, and how long at the head of the queue
+unfoldable pub above_words : Meter → List ℕ
+above_words meter =
+    joined (codes "  delays were above the target for " ∷ millis meter.above ∷ codes ";\n    at the end it was " ∷ millis meter.target
+    ∷ codes ",\n    and the burst allowance " ∷ millis meter.burst ∷ codes "\n" ∷ codes "  " ∷ decimal meter.longer
+    ∷ codes " packets, " ∷ share meter.longer (left_in meter)
+    ∷ codes " of those that left, had waited longer than the target,\n    at the head of the queue for " ∷ millis meter.late ∷ codes "\n"
+    ∷ disagree_words meter.above meter.late ∷ [])
+
+-- how long the packets that left had waited, with the wait of 99 of 100, and the bytes that they carried; what the updates made, and how long the
+-- delays and the waits were above the target
+unfoldable pub later_words : Meter → ℕ → List ℕ
+later_words meter most =
+    joined (codes "  " ∷ decimal (left_in meter) ∷ codes " packets left; they had waited at most " ∷ millis meter.greatest_wait
+    ∷ codes ",\n    and in the mean " ∷ millis (mean_in (left_in meter) meter.waits) ∷ codes "\n    99 of 100 had waited at most " ∷ millis most
+    ∷ codes "\n    they carried " ∷ decimal meter.carried ∷ codes " bytes\n" ∷ update_words meter ∷ above_words meter ∷ [])
 
 -- when the controller turned on, or off; nothing where it never did
 unfoldable pub turned_words : List ℕ → Bounds → List ℕ
@@ -118,11 +113,8 @@ turning_words by_wall sums =
 -- how many packets arrived, what became of them, and why
 unfoldable pub arrival_words : Meter → List ℕ
 arrival_words meter =
-    joined (arrived_words meter ∷ verdict_words meter.answers meter.arrivals ∷ cause_words meter.causes meter.arrivals ∷ [])
-
-unfoldable pub later_words : Meter → ℕ → List ℕ
-later_words meter most =
-    joined (left_words meter most ∷ update_words meter ∷ target_words meter ∷ late_words meter ∷ disagree_words meter.above meter.late ∷ [])
+    joined (codes "  " ∷ decimal meter.arrivals ∷ codes " arrivals, " ∷ decimal (sum_in meter.arrived) ∷ codes " bytes\n"
+    ∷ verdict_words meter.answers meter.arrivals ∷ cause_words meter.causes meter.arrivals ∷ [])
 
 -- a summary of these numbers, with the wait of 99 of 100, by times of day or not
 unfoldable pub words : Bool → Sums → ℕ → List ℕ

@@ -1,15 +1,14 @@
 //! Sums of the explained events by flow.
-ghost use Rattle.std.specs.Prelude.{◌≡◌, ◌++◌, OnOk};
+ghost use Rattle.std.specs.Prelude.{◌≡◌, ◌++◌, [], OnOk, if◌then◌else◌};
 ghost use Rattle.pie_explain.specs.declared.explanation.Explained.{Explained};
-ghost use Rattle.pie_summary.specs.ByFlow.{ended_by_flow};
 ghost use Rattle.pie_summary.specs.FlowWords.{flows_said};
-ghost use Rattle.pie_summary.specs.Period.{begins};
 
-use crate::flow::Flow;
+use crate::flow::{Flow, flows_of};
 use crate::flow_period::FlowPeriod;
 use crate::flow_words::{NAMES, push_flows};
 use crate::period::{begins, period_of};
 use crate::spans::Span;
+use crate::words::Written;
 use pie_explain::{Explained, Form, Report, push_header};
 use pie_page::Page;
 use std::alloc::AllocError;
@@ -29,15 +28,13 @@ pub struct ByFlow {
     pub most: u64,
 }
 
-/// Writes these flows onto the page.
-fn push_said(
-    page: &mut Page,
-    by_flow: &ByFlow,
-    span: &Span,
-    flows: &[Flow],
-) -> Result<(), AllocError>
-    ensures { OnOk result (page.new ≡ page.old ++ flows_said by_flow.now.form span.now by_flow.now.most flows.now) }
+/// Writes the flows of a period onto the page, where its events have come to their end.
+fn push_ended(page: &mut Page, by_flow: &ByFlow, ends: bool, span: &Span, flows: &[Flow]) -> Written
+    ensures { OnOk result (page.new ≡ page.old ++ (if ends then flows_said by_flow.now.form span.now by_flow.now.most flows.now else [])) }
 {
+    if !ends {
+        return Ok(());
+    }
     let mut text = page.words();
     push_flows(
         page.allocator(),
@@ -48,22 +45,6 @@ fn push_said(
         flows,
     )?;
     page.put(text)
-}
-
-/// Writes the flows of a period, where the next event is in another one.
-fn push_ended(
-    page: &mut Page,
-    by_flow: &ByFlow,
-    ends: bool,
-    span: &Span,
-    flows: &[Flow],
-) -> Result<(), AllocError>
-    ensures { OnOk result (page.new ≡ page.old ++ ended_by_flow by_flow.now ends span.now flows.now) }
-{
-    if !ends {
-        return Ok(());
-    }
-    push_said(page, by_flow, span, flows)
 }
 
 impl Report for ByFlow {
@@ -82,19 +63,14 @@ impl Report for ByFlow {
         Ok(FlowPeriod::empty(page.allocator()))
     }
 
-    fn tell(
-        &self,
-        state: &mut FlowPeriod,
-        told: &Explained,
-        page: &mut Page,
-    ) -> Result<(), AllocError> {
+    fn tell(&self, state: &mut FlowPeriod, told: &Explained, page: &mut Page) -> Written {
         let ends = begins(state.number, period_of(self.every, told.told.moment));
-        push_ended(page, self, ends, &state.span, state.table.flows())?;
+        push_ended(page, self, ends, &state.span, flows_of(&state.rows))?;
         state.take(self.every, told)?;
         Ok(())
     }
 
-    fn end(&self, state: &FlowPeriod, page: &mut Page) -> Result<(), AllocError> {
-        push_said(page, self, &state.span, state.table.flows())
+    fn end(&self, state: &FlowPeriod, page: &mut Page) -> Written {
+        push_ended(page, self, true, &state.span, flows_of(&state.rows))
     }
 }

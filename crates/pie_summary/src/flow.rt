@@ -18,76 +18,51 @@ pub struct Flow {
     pub sums: FlowSums,
 }
 
-/// All flows of the events that were shown.
-#[derive(Drop)]
-pub struct FlowTable {
-    /// Each by its number, in the order in which they first came.
-    pub rows: IndexMap<u32, Flow>,
+/// What the events of this flow come to.
+#[tactic(auto, using(crate::proofs::FlowFacts::found_is))]
+fn sums_of(rows: &IndexMap<u32, Flow>, flow: u32) -> FlowSums
+    ensures { (shown : List Explained) → HasFlows rows.now.entries shown → result ≡ flow_sums (filter (is_of flow) shown) }
+{
+    match rows.get(&flow) {
+        Some(row) => row.sums,
+        None => FlowSums::empty(),
+    }
 }
 
-impl FlowTable {
-    /// Of no event.
-    #[tactic(auto, using(crate::proofs::FlowFacts::none_shown))]
-    pub(crate) fn empty(alloc: Global) -> FlowTable
-        ensures { HasFlows result.rows.entries [] }
-    {
-        FlowTable {
-            rows: IndexMap::new(alloc),
-        }
+/// Takes one more event, which is of this flow.
+fn count(rows: &mut IndexMap<u32, Flow>, flow: u32, told: &Explained) -> Result<(), AllocError>
+    ensures { (shown : List Explained) → HasFlows rows.old.entries shown → Some flow ≡ flow_in told.now
+        → OnOk result (HasFlows rows.new.entries (shown ++ told.now ∷ [])) }
+{
+    let sums = sums_of(rows, flow).with(told);
+    let row = Flow { number: flow, sums };
+    match rows.insert(flow, row) {
+        Ok(_) => Ok(()),
+        Err(_) => Err(AllocError),
     }
+}
 
-    /// Forgets all events.
-    #[tactic(auto, using(crate::proofs::FlowFacts::none_shown))]
-    pub(crate) fn clear(&mut self)
-        ensures { HasFlows self.new.rows.entries [] }
-    {
-        self.rows.clear();
+/// Takes one more event.
+///
+/// # Errors
+///
+/// `AllocError` where it is the first of its flow, and there is no memory for it.
+pub(crate) fn take(rows: &mut IndexMap<u32, Flow>, told: &Explained) -> Result<(), AllocError>
+    ensures { (shown : List Explained) → HasFlows rows.old.entries shown
+        → OnOk result (HasFlows rows.new.entries (shown ++ told.now ∷ [])) }
+{
+    match flow_by(told.told.event.command, told.told.event.answer) {
+        Some(flow) => count(rows, flow, told),
+        None => Ok(()),
     }
+}
 
-    /// What the events of this flow come to.
-    fn sums_of(&self, flow: u32) -> FlowSums
-        ensures { (shown : List Explained) → HasFlows self.now.rows.entries shown → result ≡ flow_sums (filter (is_of flow) shown) }
-    {
-        match self.rows.get(&flow) {
-            Some(row) => row.sums,
-            None => FlowSums::empty(),
-        }
-    }
-
-    /// Takes one more event, which is of this flow.
-    fn count(&mut self, flow: u32, told: &Explained) -> Result<(), AllocError>
-        ensures { (shown : List Explained) → HasFlows self.old.rows.entries shown → Some flow ≡ flow_in told.now
-            → OnOk result (HasFlows self.new.rows.entries (shown ++ told.now ∷ [])) }
-    {
-        let sums = self.sums_of(flow).with(told);
-        let row = Flow { number: flow, sums };
-        match self.rows.insert(flow, row) {
-            Ok(_) => Ok(()),
-            Err(_) => Err(AllocError),
-        }
-    }
-
-    /// Takes one more event.
-    ///
-    /// # Errors
-    ///
-    /// `AllocError` where it is the first of its flow, and there is no memory for it.
-    pub(crate) fn take(&mut self, told: &Explained) -> Result<(), AllocError>
-        ensures { (shown : List Explained) → HasFlows self.old.rows.entries shown
-            → OnOk result (HasFlows self.new.rows.entries (shown ++ told.now ∷ [])) }
-    {
-        match flow_by(told.told.event.command, told.told.event.answer) {
-            Some(flow) => self.count(flow, told),
-            None => Ok(()),
-        }
-    }
-
-    /// All flows, in the order in which they first came.
-    pub(crate) fn flows(&self) -> &[Flow]
-        ensures { (shown : List Explained) → HasFlows self.now.rows.entries shown → result.now ≡ flows_of shown }
-    {
-        self.rows.values().as_slice()
-    }
+/// All flows, in the order in which they first came.
+#[tactic(auto, using(crate::proofs::FlowFacts::rows_listed))]
+pub(crate) fn flows_of(rows: &IndexMap<u32, Flow>) -> &[Flow]
+    ensures { (shown : List Explained) → HasFlows rows.now.entries shown → result.now ≡ flows_of shown }
+{
+    rows.values().as_slice()
 }
 
 /// Whether a flow stands before another: more bytes of it arrived, or as many and its number is less.
@@ -116,6 +91,7 @@ fn place_for(flows: &[Flow], one: &Flow) -> usize
 }
 
 /// Puts one more flow among the first so many of others, where it is one of these.
+#[tactic(auto, using(crate::proofs::FlowFacts::first_of_push))]
 fn place(first: &mut Vec<Flow>, most: usize, one: &Flow) -> Result<(), AllocError>
     ensures { (flows : List Flow) → first.old.items ≡ first_of most flows
         → OnOk result (first.new.items ≡ first_of most (flows ++ one.now ∷ [])) }
@@ -131,6 +107,7 @@ fn place(first: &mut Vec<Flow>, most: usize, one: &Flow) -> Result<(), AllocErro
 /// # Errors
 ///
 /// `AllocError` where there is no memory for them.
+#[tactic(auto, using(crate::proofs::FlowFacts::none_first))]
 pub(crate) fn first_of(alloc: Global, flows: &[Flow], most: usize) -> Result<Vec<Flow>, AllocError>
     ensures { IfOk result (λ first. first.items ≡ first_of most flows.now) }
 {
@@ -152,6 +129,7 @@ fn is_among(some: &[Flow], one: &Flow) -> bool
 }
 
 /// With the numbers of one more flow, where it is none of these.
+#[tactic(auto, using(crate::proofs::FlowFacts::beside_more, crate::proofs::FlowFacts::beside_same))]
 fn with_beside(sums: FlowSums, some: &[Flow], one: &Flow) -> FlowSums
     ensures { (flows : List Flow) → sums ≡ sums_beside some.now flows → result ≡ sums_beside some.now (flows ++ one.now ∷ []) }
 {

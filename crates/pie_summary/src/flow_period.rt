@@ -6,9 +6,10 @@ ghost use Rattle.pie_summary.specs.Flows.{HasFlows};
 ghost use Rattle.pie_summary.specs.Period.{Keeps, since};
 ghost use Rattle.pie_summary.specs.Spans.{span_of};
 
-use crate::flow::FlowTable;
+use crate::flow::{Flow, take};
 use crate::period::{period_of, starts};
 use crate::spans::Span;
+use indexmap::IndexMap;
 use pie_explain::Explained;
 use std::alloc::{AllocError, Global};
 
@@ -19,33 +20,34 @@ pub struct FlowPeriod {
     pub number: Option<u64>,
     /// When these events were.
     pub span: Span,
-    /// Their flows.
-    pub table: FlowTable,
+    /// Their flows, each by its number, in the order in which they first came.
+    pub rows: IndexMap<u32, Flow>,
 }
 
 impl FlowPeriod {
     /// No event yet.
-    #[tactic(auto, unfolding(pie_aqm::specs::Places::last_or))]
+    #[tactic(auto, using(crate::proofs::FlowFacts::none_shown), unfolding(pie_aqm::specs::Places::last_or))]
     pub(crate) fn empty(alloc: Global) -> FlowPeriod
         ensures number { result.number ≡ None }
         ensures span { result.span ≡ span_of [] }
-        ensures flows { HasFlows result.table.rows.entries [] }
+        ensures flows { HasFlows result.rows.entries [] }
     {
         FlowPeriod {
             number: None,
-            span: Span::NONE,
-            table: FlowTable::empty(alloc),
+            span: Span::default(),
+            rows: IndexMap::new(alloc),
         }
     }
 
     /// Forgets the events before one that is in this period, where they are in another.
+    #[tactic(auto, using(crate::proofs::PeriodFacts::since_same))]
     fn begin(&mut self, period: u64)
         ensures { (shown : List Explained) (every : Option ℕ) → Keeps (HoldsFlows self.old) every self.old.number shown
             → HoldsFlows self.new (since every (Some period) shown) }
     {
         if starts(self.number, period) {
-            self.span = Span::NONE;
-            self.table.clear();
+            self.span = Span::default();
+            self.rows.clear();
         }
     }
 
@@ -62,6 +64,6 @@ impl FlowPeriod {
         self.begin(number);
         self.number = Some(number);
         self.span.take(told);
-        self.table.take(told)
+        take(&mut self.rows, told)
     }
 }

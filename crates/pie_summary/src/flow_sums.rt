@@ -1,15 +1,14 @@
 //! The numbers of a flow.
-ghost use Rattle.std.specs.Prelude.{◌≡◌, ◌*◌, ◌/◌, ◌++◌, ◌∷◌, ◌==◌, [], List, if◌then◌else◌, is_some};
+ghost use Rattle.std.specs.Prelude.{◌≡◌, ◌*◌, ◌/◌, ◌++◌, ◌∷◌, [], List, is_some};
 ghost use Rattle.pie_explain.specs.declared.explanation.Explained.{Explained};
-ghost use Rattle.pie_summary.specs.FlowSums.{added_up, flow_by, flow_sums, numbers_of, together};
-ghost use Rattle.pie_summary.specs.Sums.{answer_place};
+ghost use Rattle.pie_summary.specs.FlowSums.{added_up, flow_by, flow_sums, numbers_of};
 
-use crate::sums::{answer_place, carried_by, size_by, where_left};
+use crate::noted::{Noted, noted_of};
 use pie_book::{Answer, Command};
 use pie_explain::Explained;
 
 /// The numbers of a flow, or of several, each over all events that were shown: 2^64 - 1 where a number would be above it.
-#[derive(Clone, Copy, Debug)]
+#[derive(Clone, Copy, Debug, Default)]
 pub struct FlowSums {
     /// How many packets arrived.
     pub arrivals: u64,
@@ -50,35 +49,25 @@ pub(crate) fn flow_by(command: Command, answer: Answer) -> Option<u32>
     }
 }
 
-/// 1 of an answer whose count has this place, and 0 of any other.
-fn answered(answer: Answer, place: usize) -> u64
-    ensures { result ≡ (if answer_place answer == place then 1 else 0) }
-{
-    u64::from(answer_place(answer) == place)
-}
-
-/// What one event counts.
+/// What one event counts, of which a meter takes this.
 #[tactic(auto, unfolding(crate::specs::FlowSums::numbers_of))]
-fn numbers_of(all: &Explained) -> FlowSums
-    ensures { result ≡ numbers_of all.now }
+fn numbers_of(one: &Noted) -> FlowSums
+    ensures { result ≡ numbers_of one.now }
 {
-    let answer = all.told.event.answer;
-    let size = size_by(all.told.event.command);
-    let carried = carried_by(answer);
-    let waited = where_left(answer, all.told.waited).unwrap_or(0);
+    let waited = one.wait.unwrap_or(0);
     FlowSums {
-        arrivals: u64::from(size.is_some()),
-        bytes: size.unwrap_or(0),
-        queued: answered(answer, 0),
-        marked: answered(answer, 1),
-        early: answered(answer, 2),
-        no_bytes: answered(answer, 3),
-        no_packets: answered(answer, 4),
-        left: answered(answer, 5),
-        carried,
+        arrivals: u64::from(one.arrived.is_some()),
+        bytes: one.arrived.unwrap_or(0),
+        queued: u64::from(one.answer == 0),
+        marked: u64::from(one.answer == 1),
+        early: u64::from(one.answer == 2),
+        no_bytes: u64::from(one.answer == 3),
+        no_packets: u64::from(one.answer == 4),
+        left: u64::from(one.answer == 5),
+        carried: one.carried,
         waited,
         greatest_wait: waited,
-        held: carried.saturating_mul(waited / 1000),
+        held: one.carried.saturating_mul(waited / 1000),
     }
 }
 
@@ -88,25 +77,13 @@ impl FlowSums {
     pub(crate) fn empty() -> FlowSums
         ensures { result ≡ added_up [] }
     {
-        FlowSums {
-            arrivals: 0,
-            bytes: 0,
-            queued: 0,
-            marked: 0,
-            early: 0,
-            no_bytes: 0,
-            no_packets: 0,
-            left: 0,
-            carried: 0,
-            waited: 0,
-            greatest_wait: 0,
-            held: 0,
-        }
+        FlowSums::default()
     }
 
     /// Both together.
+    #[tactic(auto, unfolding(crate::specs::FlowSums::added_up, pie_aqm::specs::Places::greatest))]
     pub(crate) fn plus(self, more: &FlowSums) -> FlowSums
-        ensures { result ≡ together self more.now }
+        ensures { result ≡ added_up (self ∷ more.now ∷ []) }
     {
         FlowSums {
             arrivals: self.arrivals.saturating_add(more.arrivals),
@@ -125,9 +102,10 @@ impl FlowSums {
     }
 
     /// With one more event.
+    #[tactic(auto, using(crate::proofs::FlowFacts::flow_sums_push))]
     pub(crate) fn with(self, all: &Explained) -> FlowSums
         ensures { (shown : List Explained) → self ≡ flow_sums shown → result ≡ flow_sums (shown ++ all.now ∷ []) }
     {
-        self.plus(&numbers_of(all))
+        self.plus(&numbers_of(&noted_of(all)))
     }
 }

@@ -1,13 +1,13 @@
 //! Sums by flow in words, and as CSV records.
 ghost use Rattle.std.specs.Prelude.{◌≡◌, ◌++◌, OnOk, string_bytes};
 ghost use Rattle.pie_summary.specs.Record.{last_fields, number_fields};
-ghost use Rattle.pie_summary.specs.FlowWords.{amount_words, each_said, fate_words, flow_record, flow_said, flow_words, flows_said, head_said, mean_wait};
-ghost use Rattle.pie_summary.specs.FlowWords.{name_field, name_words, others_said, parts_said, total_words, wait_words};
+ghost use Rattle.pie_summary.specs.FlowWords.{amount_words, each_said, flow_record, flow_said, flow_words, flows_said, head_said, mean_wait};
+ghost use Rattle.pie_summary.specs.FlowWords.{name_field, others_said, parts_said, total_words, wait_words};
 
 use crate::flow::{Flow, first_of, sums_beside};
 use crate::flow_sums::FlowSums;
 use crate::spans::{Bounds, Span};
-use crate::words::{push_head, push_times};
+use crate::words::{Written, push_head, push_times};
 use pie_explain::{Form, Millis, Share};
 use pie_units::Utc;
 use std::alloc::{AllocError, Global};
@@ -23,62 +23,51 @@ pub enum Name {
     Others(u64),
 }
 
+/// What the rows of some flows have in common.
+#[derive(Clone, Copy, Debug)]
+pub struct Heading {
+    /// How they are written.
+    pub form: Form,
+    /// When the events of all flows were.
+    pub span: Span,
+    /// What all flows come to.
+    pub total: FlowSums,
+}
+
 /// The names of the fields, as the header row has them.
 pub(crate) const NAMES: &str =
     "first_moment,last_moment,flow,arrivals,arrived_bytes,enqueue,mark,early,bytes,packets,left,carried_bytes,\
     greatest_wait,mean_wait,byte_microseconds";
 
-/// A flow's number in eight hexadecimal digits.
-#[derive(Clone, Copy)]
-struct Number(u32);
-
-impl Display for Number {
+impl Display for Name {
     ghost use Rattle.std.specs.Prelude.{Some};
-    ghost use Rattle.pie_summary.specs.FlowWords.{flow_text};
+    ghost use Rattle.pie_summary.specs.FlowWords.{name_words};
 
-    ghost output = { λ flow. Some (flow_text flow.0) };
+    ghost output = { λ name. Some (name_words name) };
 
+    #[tactic(auto, using(crate::proofs::FlowFacts::eight_digits), unfolding(crate::specs::FlowWords::flow_text, crate::specs::FlowWords::name_words))]
     fn fmt<W: fmt::Write>(&self, f: &mut fmt::Formatter<W>) -> fmt::Result {
-        let number = self.0;
-        write!(f, "0x{number:08x}")
-    }
-}
-
-/// What a row is of, in words.
-#[tactic(auto, unfolding(crate::specs::FlowWords::name_words))]
-fn push_name(page: &mut String, name: Name) -> Result<(), AllocError>
-    ensures { OnOk result (string_bytes page.new ≡ string_bytes page.old ++ name_words name) }
-{
-    match name {
-        Name::Of(flow) => {
-            let flow = Number(flow);
-            write!(page, "flow {flow}")
+        match *self {
+            Name::Of(flow) => write!(f, "flow 0x{flow:08x}"),
+            Name::Others(count) => write!(f, "the other {count} flows"),
         }
-        Name::Others(count) => write!(page, "the other {count} flows"),
     }
 }
 
-/// What a row is of, as a field.
-fn push_field(page: &mut String, name: Name) -> Result<(), AllocError>
+/// What a row is of, as a field: a flow's number in eight hexadecimal digits.
+#[tactic(auto, using(crate::proofs::FlowFacts::eight_digits), unfolding(crate::specs::FlowWords::flow_text))]
+fn push_field(page: &mut String, name: Name) -> Written
     ensures { OnOk result (string_bytes page.new ≡ string_bytes page.old ++ name_field name) }
 {
     match name {
-        Name::Of(flow) => {
-            let flow = Number(flow);
-            write!(page, "{flow}")
-        }
+        Name::Of(flow) => write!(page, "0x{flow:08x}"),
         Name::Others(_) => write!(page, "others"),
     }
 }
 
 /// What arrived of a flow, of all bytes that did, and what it had of the queue.
 #[tactic(auto, unfolding(crate::specs::FlowWords::amount_words))]
-fn push_amount(
-    page: &mut String,
-    name: Name,
-    total: &FlowSums,
-    sums: &FlowSums,
-) -> Result<(), AllocError>
+fn push_amount(page: &mut String, name: Name, total: &FlowSums, sums: &FlowSums) -> Written
     ensures { OnOk result (string_bytes page.new ≡ string_bytes page.old ++ amount_words name total.now sums.now) }
 {
     let (arrivals, bytes) = (sums.arrivals, sums.bytes);
@@ -90,24 +79,9 @@ fn push_amount(
         count: sums.held,
         all: total.held,
     };
-    write!(page, "  ")?;
-    push_name(page, name)?;
     write!(
         page,
-        ": {arrivals} arrivals, {bytes} bytes, {of_bytes} of all; {of_queue} of the queue\n"
-    )
-}
-
-/// What became of the packets of a flow.
-#[tactic(auto, unfolding(crate::specs::FlowWords::fate_words))]
-fn push_fate(page: &mut String, sums: &FlowSums) -> Result<(), AllocError>
-    ensures { OnOk result (string_bytes page.new ≡ string_bytes page.old ++ fate_words sums.now) }
-{
-    let (queued, marked, early) = (sums.queued, sums.marked, sums.early);
-    let (no_bytes, no_packets) = (sums.no_bytes, sums.no_packets);
-    write!(
-        page,
-        "    queued {queued}, marked {marked}, dropped early {early}, without room in bytes {no_bytes}, in packets {no_packets}\n"
+        "  {name}: {arrivals} arrivals, {bytes} bytes, {of_bytes} of all; {of_queue} of the queue\n"
     )
 }
 
@@ -120,7 +94,7 @@ fn mean_wait(sums: &FlowSums) -> u64
 
 /// How long the packets of a flow had waited that left.
 #[tactic(auto, unfolding(crate::specs::FlowWords::wait_words))]
-fn push_wait(page: &mut String, sums: &FlowSums) -> Result<(), AllocError>
+fn push_wait(page: &mut String, sums: &FlowSums) -> Written
     ensures { OnOk result (string_bytes page.new ≡ string_bytes page.old ++ wait_words sums.now) }
 {
     let (left, carried) = (sums.left, sums.carried);
@@ -133,16 +107,16 @@ fn push_wait(page: &mut String, sums: &FlowSums) -> Result<(), AllocError>
 
 /// A flow in words.
 #[tactic(auto, unfolding(crate::specs::FlowWords::flow_words))]
-fn push_words(
-    page: &mut String,
-    name: Name,
-    total: &FlowSums,
-    sums: &FlowSums,
-) -> Result<(), AllocError>
+fn push_words(page: &mut String, name: Name, total: &FlowSums, sums: &FlowSums) -> Written
     ensures { OnOk result (string_bytes page.new ≡ string_bytes page.old ++ flow_words name total.now sums.now) }
 {
+    let (queued, marked, early) = (sums.queued, sums.marked, sums.early);
+    let (no_bytes, no_packets) = (sums.no_bytes, sums.no_packets);
     push_amount(page, name, total, sums)?;
-    push_fate(page, sums)?;
+    write!(
+        page,
+        "    queued {queued}, marked {marked}, dropped early {early}, without room in bytes {no_bytes}, in packets {no_packets}\n"
+    )?;
     push_wait(page, sums)
 }
 
@@ -154,7 +128,7 @@ fn push_total(
     span: &Span,
     count: u64,
     total: &FlowSums,
-) -> Result<(), AllocError>
+) -> Written
     ensures { OnOk result (string_bytes page.new ≡ string_bytes page.old ++ total_words by_wall span.now count total.now) }
 {
     let (arrivals, bytes) = (total.arrivals, total.bytes);
@@ -167,7 +141,7 @@ fn push_total(
 }
 
 /// Numbers, each with a comma after it.
-fn push_numbers(page: &mut String, numbers: &[u64]) -> Result<(), AllocError>
+fn push_numbers(page: &mut String, numbers: &[u64]) -> Written
     ensures { OnOk result (string_bytes page.new ≡ string_bytes page.old ++ number_fields numbers.now) }
 {
     match numbers {
@@ -181,7 +155,7 @@ fn push_numbers(page: &mut String, numbers: &[u64]) -> Result<(), AllocError>
 
 /// How long packets had waited longer than the target, and the first time of day, where these are asked for.
 #[tactic(auto, unfolding(crate::specs::Record::last_fields))]
-fn push_last(page: &mut String, by_wall: bool, late: u64, times: &Bounds) -> Result<(), AllocError>
+fn push_last(page: &mut String, by_wall: bool, late: u64, times: &Bounds) -> Written
     ensures { OnOk result (string_bytes page.new ≡ string_bytes page.old ++ last_fields by_wall late times.now.count times.now.first) }
 {
     if !by_wall {
@@ -202,7 +176,7 @@ fn push_record(
     span: &Span,
     name: Name,
     sums: &FlowSums,
-) -> Result<(), AllocError>
+) -> Written
     ensures { OnOk result (string_bytes page.new ≡ string_bytes page.old ++ flow_record by_wall span.now name sums.now) }
 {
     let moments = [span.moments.first, span.moments.last];
@@ -226,95 +200,62 @@ fn push_record(
     push_last(page, by_wall, sums.held, &span.times)
 }
 
-/// What stands before the flows.
-fn push_top(
-    page: &mut String,
-    form: Form,
-    span: &Span,
-    count: u64,
-    total: &FlowSums,
-) -> Result<(), AllocError>
-    ensures { OnOk result (string_bytes page.new ≡ string_bytes page.old ++ head_said form span.now count total.now) }
-{
-    match form {
-        Form::Text => push_total(page, false, span, count, total),
-        Form::TextByWall => push_total(page, true, span, count, total),
-        Form::Csv | Form::CsvByWall => Ok(()),
-    }
-}
-
-/// A flow in a form.
-fn push_flow(
-    page: &mut String,
-    form: Form,
-    span: &Span,
-    total: &FlowSums,
-    name: Name,
-    sums: &FlowSums,
-) -> Result<(), AllocError>
-    ensures { OnOk result (string_bytes page.new ≡ string_bytes page.old ++ flow_said form span.now total.now name sums.now) }
-{
-    match form {
-        Form::Text | Form::TextByWall => push_words(page, name, total, sums),
-        Form::Csv => push_record(page, false, span, name, sums),
-        Form::CsvByWall => push_record(page, true, span, name, sums),
-    }
-}
-
-/// Flows in a form, one after another.
-fn push_each(
-    page: &mut String,
-    form: Form,
-    span: &Span,
-    total: &FlowSums,
-    flows: &[Flow],
-) -> Result<(), AllocError>
-    ensures { OnOk result (string_bytes page.new ≡ string_bytes page.old ++ each_said form span.now total.now flows.now) }
-{
-    match flows {
-        [] => Ok(()),
-        [first, rest @ ..] => {
-            push_flow(page, form, span, total, Name::Of(first.number), &first.sums)?;
-            push_each(page, form, span, total, rest)
+impl Heading {
+    /// Writes what stands before so many flows.
+    fn push_top(&self, page: &mut String, count: u64) -> Written
+        ensures { OnOk result (string_bytes page.new ≡ string_bytes page.old ++ head_said self.now.form self.now count) }
+    {
+        match self.form {
+            Form::Text => push_total(page, false, &self.span, count, &self.total),
+            Form::TextByWall => push_total(page, true, &self.span, count, &self.total),
+            Form::Csv | Form::CsvByWall => Ok(()),
         }
     }
-}
 
-/// The flows behind the first so many, in one, where there are some.
-fn push_others(
-    page: &mut String,
-    form: Form,
-    span: &Span,
-    total: &FlowSums,
-    most: usize,
-    first: &[Flow],
-    flows: &[Flow],
-) -> Result<(), AllocError>
-    ensures { OnOk result (string_bytes page.new ≡ string_bytes page.old ++ others_said form span.now total.now most first.now flows.now) }
-{
-    if flows.len() <= most {
-        return Ok(());
+    /// Writes a flow.
+    fn push_flow(&self, page: &mut String, name: Name, sums: &FlowSums) -> Written
+        ensures { OnOk result (string_bytes page.new ≡ string_bytes page.old ++ flow_said self.now.form self.now name sums.now) }
+    {
+        match self.form {
+            Form::Text | Form::TextByWall => push_words(page, name, &self.total, sums),
+            Form::Csv => push_record(page, false, &self.span, name, sums),
+            Form::CsvByWall => push_record(page, true, &self.span, name, sums),
+        }
     }
-    let name = Name::Others((flows.len() - most) as u64);
-    push_flow(page, form, span, total, name, &sums_beside(first, flows))
-}
 
-/// What stands before the flows, the first so many, and the others.
-#[tactic(auto, unfolding(crate::specs::FlowWords::parts_said))]
-fn push_parts(
-    page: &mut String,
-    form: Form,
-    span: &Span,
-    total: &FlowSums,
-    most: usize,
-    first: &[Flow],
-    flows: &[Flow],
-) -> Result<(), AllocError>
-    ensures { OnOk result (string_bytes page.new ≡ string_bytes page.old ++ parts_said form span.now total.now most first.now flows.now) }
-{
-    push_top(page, form, span, flows.len() as u64, total)?;
-    push_each(page, form, span, total, first)?;
-    push_others(page, form, span, total, most, first, flows)
+    /// Writes flows, one after another.
+    fn push_each(&self, page: &mut String, flows: &[Flow]) -> Written
+        ensures { OnOk result (string_bytes page.new ≡ string_bytes page.old ++ each_said self.now flows.now) }
+    {
+        match flows {
+            [] => Ok(()),
+            [first, rest @ ..] => {
+                self.push_flow(page, Name::Of(first.number), &first.sums)?;
+                self.push_each(page, rest)
+            }
+        }
+    }
+
+    /// Writes the flows behind the first so many, in one, where there are some.
+    fn push_others(&self, page: &mut String, most: usize, first: &[Flow], flows: &[Flow]) -> Written
+        ensures { OnOk result (string_bytes page.new ≡ string_bytes page.old ++ others_said self.now most first.now flows.now) }
+    {
+        if flows.len() <= most {
+            return Ok(());
+        }
+        let name = Name::Others((flows.len() - most) as u64);
+        self.push_flow(page, name, &sums_beside(first, flows))
+    }
+
+    /// Writes what stands before the flows, the first so many, and the others.
+    #[tactic(auto, unfolding(crate::specs::FlowWords::parts_said))]
+    fn push_parts(&self, page: &mut String, most: usize, first: &[Flow], flows: &[Flow]) -> Written
+        ensures { OnOk result (string_bytes page.new ≡ string_bytes page.old ++ parts_said self.now most first.now flows.now) }
+    {
+        self.push_top(page, flows.len() as u64)?;
+        self.push_each(page, first)?;
+        self.push_others(page, most, first, flows)
+    }
 }
 
 /// Writes the first so many of these flows, and the others, behind a text.
@@ -329,13 +270,18 @@ pub(crate) fn push_flows(
     span: &Span,
     most: usize,
     flows: &[Flow],
-) -> Result<(), AllocError>
+) -> Written
     ensures { OnOk result (string_bytes page.new ≡ string_bytes page.old ++ flows_said form span.now most flows.now) }
 {
     let total = sums_beside(&[], flows);
+    let heading = Heading {
+        form,
+        span: *span,
+        total,
+    };
     match first_of(alloc, flows, most) {
         Ok(first) => {
-            let pushed = push_parts(page, form, span, &total, most, first.as_slice(), flows);
+            let pushed = heading.push_parts(page, most, first.as_slice(), flows);
             drop(first);
             pushed
         }

@@ -23,15 +23,6 @@ pub mod sums;
 mod words;
 
 pub use by_flow::ByFlow;
-pub use flow::{Flow, FlowTable};
-pub use flow_period::FlowPeriod;
-pub use flow_sums::FlowSums;
-pub use flow_words::Name;
 pub use live::LivePeriod;
-pub use meter::Meter;
 pub use noted::{Met, Noted};
-pub use period::Period;
-pub use ranges::RANGES;
-pub use spans::{Bounds, Peak, Span, Total};
 pub use summary::Summary;
-pub use sums::Sums;

@@ -2,7 +2,7 @@
 ghost use Rattle.std.specs.Prelude.{◌≡◌, ◌<◌, ◌++◌, ◌∷◌, [], ℕ, List, not, if◌then◌else◌};
 ghost use Rattle.std.specs.List.{cons_option};
 ghost use Rattle.pie_explain.specs.Selection.{time_of};
-ghost use Rattle.pie_summary.specs.Live.{Awaits, Holds, IsSet, clock_of, form_in, is_within, length_of, noted_of, number_in};
+ghost use Rattle.pie_summary.specs.Live.{Awaits, Holds, IsSet, clock_of, form_in, length_of, noted_of, number_in};
 ghost use Rattle.pie_summary.specs.Period.{last_events, starts};
 ghost use Rattle.pie_summary.specs.Summary.{header, said_of};
 ghost use Rattle.pie_summary.specs.Sums.{timed_by};
@@ -10,7 +10,7 @@ ghost use Rattle.pie_explain.specs.declared.explanation.Explained.{Explained};
 
 use crate::meter::Meter;
 use crate::noted::Noted;
-use crate::ranges::{RANGES, clear_counts, count_some, most_of};
+use crate::ranges::{RANGES, clear_counts, count_some};
 use crate::record::{NAMES, push_record};
 use pie_explain::time_of;
 use pie_page::LongRow;
@@ -67,14 +67,6 @@ impl LivePeriod {
         }
     }
 
-    /// Whether a moment is in the period under way.
-    #[inline(always)]
-    fn is_within(&self, moment: u64) -> bool
-        ensures { result ≡ is_within self.now moment }
-    {
-        self.start <= moment && moment < self.end
-    }
-
     /// Whether no event was in the period with this number, or one in another after them.
     fn begins(&self, number: u64) -> bool
         ensures { result ≡ starts (number_in self.now) number }
@@ -106,7 +98,7 @@ impl LivePeriod {
         ensures settings { IsSet self.old self.new }
         ensures awaits { (shown : List Explained) (one : Explained) → one.told.moment ≡ moment → Holds self.old shown → Awaits self.new shown one }
     {
-        if self.is_within(moment) {
+        if self.start <= moment && moment < self.end {
             return;
         }
         self.turn(moment);
@@ -129,6 +121,7 @@ impl LivePeriod {
     /// Notes the time of day of an event at this moment, where it is the first that has one. Where as many are noted as are told, none or
     /// one, there is nothing to do.
     #[inline(always)]
+    #[tactic(auto, using(crate::proofs::LiveFacts::clock_kept))]
     fn note_time(&mut self, moment: u64)
         ensures settings { IsSet self.old self.new }
         ensures noted { (times : List ℕ) → self.old.meter ≡ timed_by self.old.meter times → self.new ≡ record self.old {
@@ -185,11 +178,12 @@ impl LivePeriod {
     }
 
     /// Adds the record of the period under way to an empty line.
+    #[tactic(auto, using(crate::proofs::LiveFacts::said_live))]
     pub fn put_record(&self, line: &mut LongRow)
         requires { line.old ≡ [] }
         ensures { (shown : List Explained) → Holds self.now shown → line.new ≡ said_of (form_in self.now) (last_events (length_of self.now) shown) }
     {
-        let most = most_of(&self.waits, self.meter.answers[5], self.meter.greatest_wait);
+        let most = self.meter.wait_99(&self.waits);
         push_record(line, self.wall == 1, &self.meter, most);
     }
 }

@@ -1,20 +1,20 @@
 //! The numbers of a period that is summed up as it goes, in memory that its owner has: what the record of a summary is made of, and no more.
 ghost use Rattle.std.specs.Prelude.{◌≡◌, ◌+◌, ◌-◌, ◌^◌, ◌<◌, ◌++◌, ◌∷◌, [], ℕ, List, length, min, nat_lt, slice_index};
-ghost use Rattle.std.specs.Prelude.{slice_set, unwrap_or, if◌then◌else◌};
+ghost use Rattle.std.specs.Prelude.{slice_set, if◌then◌else◌};
 ghost use Rattle.std.specs.List.{cons_option};
-ghost use Rattle.pie_aqm.specs.Places.{greatest};
-ghost use Rattle.pie_explain.specs.declared.explanation.Explained.{Explained};
 ghost use Rattle.pie_summary.specs.Counts.{kept};
-ghost use Rattle.pie_summary.specs.Live.{noted_of};
+ghost use Rattle.pie_summary.specs.declared.noted.Noted.{Noted};
 ghost use Rattle.pie_summary.specs.Spans.{counted_some};
 ghost use Rattle.pie_summary.specs.Sums.{awaiting, excess_within, meter_of, timed_by};
+ghost use Rattle.pie_summary.specs.Words.{wait_99};
 
 use crate::noted::Noted;
+use crate::ranges::{RANGES, end_within, first_up_to};
 use crate::spans::{Bounds, Peak, Total, raise};
 
 /// The numbers of a record, each over all events of a period. How many events there are, and how many packets left, the answers say.
 #[repr(C)]
-#[derive(Clone, Copy, Debug)]
+#[derive(Clone, Copy, Debug, Default)]
 pub struct Meter {
     /// How many events have each answer: queued, marked, dropped early, in bytes, in packets, a packet that left, none that did, an
     /// update, and a reset or new parameters.
@@ -92,26 +92,6 @@ fn count_some(count: &mut u64, number: Option<u64>)
     }
 }
 
-/// The greatest of some numbers, with one more or none.
-#[inline(always)]
-fn raise_some(most: &mut u64, number: Option<u64>)
-    ensures { (numbers : List ℕ) → most.old ≡ greatest numbers → most.new ≡ greatest (numbers ++ cons_option number []) }
-{
-    if let Some(number) = number {
-        raise(most, number);
-    }
-}
-
-/// Puts a number in the place of another, where there is one.
-#[inline(always)]
-fn set_some(held: &mut u64, number: Option<u64>)
-    ensures { held.new ≡ unwrap_or number held.old }
-{
-    if let Some(number) = number {
-        *held = number;
-    }
-}
-
 /// Adds as much of an excess as lies within so long, where there is one.
 #[inline(always)]
 fn add_excess(late: &mut u64, excess: Option<u64>, since: u64)
@@ -127,35 +107,18 @@ impl Meter {
     /// No event yet, and the first at this moment.
     #[tactic(auto, unfolding(crate::specs::Sums::meter_of, pie_aqm::specs::Places::greatest, pie_aqm::specs::Places::last_or, pie_aqm::specs::Places::places))]
     pub(crate) fn begun(moment: u64) -> Meter
-        ensures { result ≡ record (meter_of []) { first = moment; since = moment } }
+        ensures { result ≡ record (meter_of [] []) { first = moment; since = moment } }
     {
         Meter {
-            answers: [0; 9],
-            causes: [0; 15],
             first: moment,
-            last: 0,
             since: moment,
-            arrivals: 0,
-            arrived: Total::NONE,
-            waits: Total::NONE,
-            greatest_wait: 0,
-            delays: Peak::NONE,
-            probs: Peak::NONE,
-            turned_on: Bounds::NONE,
-            turned_off: Bounds::NONE,
-            timed: 0,
-            time: 0,
-            carried: 0,
-            above: 0,
-            longer: 0,
-            late: 0,
-            target: 0,
-            burst: 0,
+            ..Meter::default()
         }
     }
 
     /// Notes the time of day of an event, where it is the first that has one.
     #[inline(always)]
+    #[tactic(auto, using(crate::proofs::SumsFacts::time_noted, crate::proofs::SumsFacts::times_kept))]
     pub(crate) fn note_time(&mut self, time: Option<u64>)
         ensures { (times : List ℕ) → self.old ≡ timed_by self.old times → self.new ≡ timed_by self.old (times ++ cons_option time []) }
     {
@@ -168,12 +131,23 @@ impl Meter {
         }
     }
 
+    /// The wait that at most a hundredth of the packets that left exceeded, or up to a tenth more; no more than the greatest.
+    pub(crate) fn wait_99(&self, waits: &[u64; RANGES]) -> u64
+        ensures { result ≡ wait_99 waits.now self.now }
+    {
+        let left = self.answers[5];
+        match first_up_to(waits, left - left / 100) {
+            Some(range) => end_within(range, self.greatest_wait),
+            None => self.greatest_wait,
+        }
+    }
+
     /// Takes the event that it awaits. Where it is compiled, what its kind has none of costs nothing.
     #[inline(always)]
     pub(crate) fn take(&mut self, noted: &Noted)
         requires { noted.now.answer < 9 }
-        ensures { (shown : List Explained) (one : Explained) → noted.now ≡ noted_of one → self.old ≡ awaiting shown one
-            → self.new ≡ meter_of (shown ++ one ∷ []) }
+        ensures { (shown : List Noted) (times : List ℕ) → self.old ≡ awaiting shown noted.now times
+            → self.new ≡ meter_of (shown ++ noted.now ∷ []) times }
     {
         count(&mut self.answers, noted.answer);
         count_cause(&mut self.causes, noted.cause);
@@ -181,11 +155,11 @@ impl Meter {
         count_some(&mut self.longer, noted.excess);
         let since = noted.moment.saturating_sub(self.since);
         add_excess(&mut self.late, noted.excess, since);
-        set_some(&mut self.since, noted.left);
+        self.since = noted.left.unwrap_or(self.since);
         count_some(&mut self.arrivals, noted.arrived);
         self.arrived.take_some(noted.arrived);
         self.waits.take_some(noted.wait);
-        raise_some(&mut self.greatest_wait, noted.wait);
+        raise(&mut self.greatest_wait, noted.wait.unwrap_or(0));
         self.delays.take_some(noted.delay);
         self.probs.take(noted.prob);
         self.turned_on.take_some(noted.turned_on);

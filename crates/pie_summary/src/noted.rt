@@ -1,15 +1,14 @@
 //! What a meter takes of an event.
-ghost use Rattle.std.specs.Prelude.{◌≡◌, ℕ, Some, None};
+ghost use Rattle.std.specs.Prelude.{◌≡◌, ◌<◌, ℕ, Some, None};
 ghost use Rattle.pie_explain.specs.declared.explanation.Explained.{Explained};
 ghost use Rattle.pie_queue.specs.declared.packet.Packet.{Packet};
 ghost use Rattle.pie_event.specs.declared.command.Answer.TheVariants.{Done, Empty, Left, Updated};
 ghost use Rattle.pie_event.specs.declared.verdict.Verdict.{Verdict};
 ghost use Rattle.pie_event.specs.Verdict.{answer_of};
-ghost use Rattle.pie_summary.specs.Live.{Meets, noted_by, noted_of};
-ghost use Rattle.pie_summary.specs.Sums.{answer_place, cause_of, size_in};
+ghost use Rattle.pie_summary.specs.Sums.{Meets, answer_place, cause_of, cause_place, noted_by, noted_of, size_by, size_in, turned_at};
 
-use crate::sums::{above_by, answer_place, carried_by, delay_by, excess_by, turned_at, where_left};
-use pie_book::Answer;
+use pie_book::{Answer, Cause, Command};
+use pie_explain::Explained;
 use pie_queue::{Ecn, Packet};
 
 /// What a meter takes of an event; what its kind has none of is none or 0.
@@ -69,10 +68,62 @@ pub struct Met {
     pub target: u64,
 }
 
+/// The place of an answer's count.
+#[inline(always)]
+fn answer_place(answer: Answer) -> usize
+    ensures place { result ≡ answer_place answer }
+    ensures within { result < 9 }
+{
+    match answer {
+        Answer::Enqueued => 0,
+        Answer::Marked => 1,
+        Answer::DroppedEarly => 2,
+        Answer::DroppedBytes => 3,
+        Answer::DroppedPackets => 4,
+        Answer::Left(_) => 5,
+        Answer::Empty => 6,
+        Answer::Updated { .. } => 7,
+        Answer::Done => 8,
+    }
+}
+
+/// The place of the count of what decided an arrival; 15 of any other event.
+fn cause_place(cause: Option<Cause>) -> usize
+    ensures place { result ≡ cause_place cause }
+    ensures within { result < 16 }
+{
+    match cause {
+        Some(cause) => cause.name().place(),
+        None => 15,
+    }
+}
+
+/// The size of the packet that arrived.
+fn size_by(command: Command) -> Option<u64>
+    ensures { result ≡ size_by command }
+{
+    match command {
+        Command::Arrive { packet, .. } => Some(u64::from(packet.size)),
+        _ => None,
+    }
+}
+
+/// The moment of an event that turned the controller on, or off: before it the controller was active or not, and after it is.
+#[inline(always)]
+fn turned_at(on: bool, was: bool, is: bool, moment: u64) -> Option<u64>
+    ensures { result ≡ turned_at on was is moment }
+{
+    match (on, was, is) {
+        (true, false, true) | (false, true, false) => Some(moment),
+        _ => None,
+    }
+}
+
 impl Met {
     /// What a meter takes of an event with this answer, this place of its cause, this size of the packet that arrived, and so long a wait of the
     /// one that left. Where it is compiled for a kind of event, what the kind has none of costs nothing.
     #[inline(always)]
+    #[tactic(auto, unfolding(crate::specs::Sums::noted_by))]
     pub(crate) fn noted(
         &self,
         answer: Answer,
@@ -80,30 +131,54 @@ impl Met {
         arrived: Option<u64>,
         waited: u64,
     ) -> Noted
-        ensures { result ≡ noted_by self.now answer cause arrived waited }
+        ensures noted { result ≡ noted_by self.now answer cause arrived waited }
+        ensures within { result.answer < 9 }
     {
-        let since = self.moment.saturating_sub(self.last);
-        Noted {
+        let plain = Noted {
             answer: answer_place(answer),
             cause,
             moment: self.moment,
             arrived,
-            wait: where_left(answer, waited),
-            left: where_left(answer, self.moment),
-            excess: excess_by(answer, waited, self.held),
-            delay: delay_by(self.was, answer),
+            wait: None,
+            left: None,
+            excess: None,
+            delay: None,
             prob: self.prob,
             turned_on: turned_at(true, self.was, self.is, self.moment),
             turned_off: turned_at(false, self.was, self.is, self.moment),
-            carried: carried_by(answer),
-            above: above_by(self.was, answer, self.held, since),
+            carried: 0,
+            above: 0,
             target: self.target,
             burst: self.burst,
+        };
+        match answer {
+            Answer::Left(packet) => Noted {
+                wait: Some(waited),
+                left: Some(self.moment),
+                excess: if self.held < waited {
+                    Some(waited - self.held)
+                } else {
+                    None
+                },
+                carried: u64::from(packet.size),
+                ..plain
+            },
+            Answer::Updated { delay, .. } => {
+                let is_above = self.was && self.held < delay;
+                let since = self.moment.saturating_sub(self.last);
+                Noted {
+                    delay: if self.was { Some(delay) } else { None },
+                    above: if is_above { since } else { 0 },
+                    ..plain
+                }
+            }
+            _ => plain,
         }
     }
 
     /// An arrival with this answer's place, this cause's place and this size.
     #[inline(always)]
+    #[tactic(auto, unfolding(crate::specs::Sums::noted_by))]
     pub fn arrived(&self, answer: usize, cause: usize, size: u32) -> Noted
         ensures places { (result.answer ≡ answer) × (result.cause ≡ cause) }
         ensures noted { (one : Explained) (verdict : Verdict) → Meets self.now one → one.told.event.answer ≡ answer_of verdict
@@ -117,6 +192,7 @@ impl Met {
 
     /// A packet of this size that left and had waited so long.
     #[inline(always)]
+    #[tactic(auto, unfolding(crate::specs::Sums::noted_by))]
     pub fn left(&self, size: u32, waited: u64) -> Noted
         ensures places { (result.answer ≡ 5) × (result.cause ≡ 15) }
         ensures noted { (one : Explained) (packet : Packet) → Meets self.now one → one.told.event.answer ≡ Left packet → packet.size ≡ size
@@ -132,6 +208,7 @@ impl Met {
 
     /// A departure that found no packet.
     #[inline(always)]
+    #[tactic(auto, unfolding(crate::specs::Sums::noted_by))]
     pub fn empty(&self) -> Noted
         ensures places { (result.answer ≡ 6) × (result.cause ≡ 15) }
         ensures noted { (one : Explained) → Meets self.now one → one.told.event.answer ≡ Empty → one.told.cause ≡ None → size_in one ≡ None
@@ -142,6 +219,7 @@ impl Met {
 
     /// An update that took this delay.
     #[inline(always)]
+    #[tactic(auto, unfolding(crate::specs::Sums::noted_by))]
     pub fn updated(&self, delay: u64) -> Noted
         ensures places { (result.answer ≡ 7) × (result.cause ≡ 15) }
         ensures noted { (one : Explained) (prob burst : ℕ) → Meets self.now one → one.told.event.answer ≡ Updated delay prob burst
@@ -157,6 +235,7 @@ impl Met {
 
     /// A reset, or new parameters.
     #[inline(always)]
+    #[tactic(auto, unfolding(crate::specs::Sums::noted_by))]
     pub fn done(&self) -> Noted
         ensures places { (result.answer ≡ 8) × (result.cause ≡ 15) }
         ensures noted { (one : Explained) → Meets self.now one → one.told.event.answer ≡ Done → one.told.cause ≡ None → size_in one ≡ None
@@ -164,4 +243,29 @@ impl Met {
     {
         self.noted(Answer::Done, 15, None, 0)
     }
+}
+
+/// What a meter takes of an explained event.
+pub(crate) fn noted_of(all: &Explained) -> Noted
+    ensures noted { result ≡ noted_of all.now }
+    ensures within { result.answer < 9 }
+{
+    let (told, after) = (&all.told, &all.after);
+    let met = Met {
+        moment: told.moment,
+        was: told.before.active,
+        is: after.active,
+        held: told.before.params.target().units(),
+        last: told.before.last,
+        prob: after.prob,
+        burst: after.burst,
+        target: after.params.target().units(),
+    };
+    let size = size_by(told.event.command);
+    met.noted(
+        told.event.answer,
+        cause_place(told.cause),
+        size,
+        told.waited,
+    )
 }

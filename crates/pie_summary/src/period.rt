@@ -4,8 +4,9 @@ ghost use Rattle.pie_explain.specs.declared.explanation.Explained.{Explained};
 ghost use Rattle.pie_summary.specs.Period.{Keeps, begins, period_of, since, starts};
 ghost use Rattle.pie_summary.specs.Summary.{HoldsSums};
 
+use crate::noted::noted_of;
 use crate::ranges::{RANGES, clear_counts, count_some};
-use crate::sums::{Sums, where_left};
+use crate::sums::Sums;
 use pie_explain::Explained;
 use std::alloc::{AllocError, Global};
 
@@ -57,6 +58,7 @@ impl Period {
     /// # Errors
     ///
     /// `AllocError` where there is none.
+    #[tactic(auto, using(crate::proofs::RangeFacts::no_ranges), unfolding(crate::specs::Sums::waits_of))]
     pub(crate) fn empty(alloc: Global) -> Result<Period, AllocError>
         ensures { IfOk result (λ period. (period.number ≡ None) × HoldsSums period []) }
     {
@@ -69,6 +71,7 @@ impl Period {
     }
 
     /// Forgets the events before one that is in this period, where they are in another.
+    #[tactic(auto, using(crate::proofs::PeriodFacts::since_begun, crate::proofs::PeriodFacts::since_same), unfolding(crate::specs::Sums::waits_of))]
     fn begin(&mut self, period: u64)
         ensures { (shown : List Explained) (every : Option ℕ) → Keeps (HoldsSums self.old) every self.old.number shown
             → HoldsSums self.new (since every (Some period) shown) }
@@ -87,8 +90,8 @@ impl Period {
         let number = period_of(every, told.told.moment);
         self.begin(number);
         self.number = Some(number);
-        self.sums.take(told);
-        let wait = where_left(told.told.event.answer, told.told.waited);
-        count_some(&mut self.waits, wait);
+        let noted = noted_of(told);
+        self.sums.take(told, &noted);
+        count_some(&mut self.waits, noted.wait);
     }
 }

@@ -7,6 +7,7 @@ ghost use Rattle.pie_summary.specs.Ranges.{end_within, first_up_to, range_end, r
 pub const RANGES: usize = 1720;
 
 /// The range of a number that has at most so many digits more than two.
+#[tactic(auto, using(crate::proofs::RangeFacts::shorter))]
 fn range_within(digits: u8, number: u64) -> u64
     requires fits { number < 100 * 10 ^ digits }
     ensures place { result ≡ range_within digits number }
@@ -49,7 +50,7 @@ fn range_apart(number: u64) -> u64
 }
 
 /// The first place up to which so many are counted.
-fn first_up_to(counts: &[u64; RANGES], rank: u64) -> Option<usize>
+pub(crate) fn first_up_to(counts: &[u64; RANGES], rank: u64) -> Option<usize>
     ensures first { result ≡ first_up_to counts.now rank }
     ensures within { IfSome result (λ place. place < 1720) }
 {
@@ -66,7 +67,7 @@ fn first_up_to(counts: &[u64; RANGES], rank: u64) -> Option<usize>
 
 /// The greatest number of a range, or a greatest number of all where it is less.
 #[tactic(auto, unfolding(crate::specs::Ranges::range_end))]
-fn end_within(range: usize, greatest: u64) -> u64
+pub(crate) fn end_within(range: usize, greatest: u64) -> u64
     requires { range < 1720 }
     ensures { result ≡ min (range_end range) greatest }
 {
@@ -89,6 +90,7 @@ pub(crate) fn clear_counts(counts: &mut [u64; RANGES])
 }
 
 /// Takes one more number.
+#[tactic(auto, using(crate::proofs::RangeFacts::ranges_push))]
 #[inline(always)]
 pub(crate) fn count_number(counts: &mut [u64; RANGES], number: u64)
     ensures { (numbers : List ℕ) → counts.old ≡ ranges_of numbers → counts.new ≡ ranges_of (numbers ++ number ∷ []) }
@@ -104,15 +106,5 @@ pub(crate) fn count_some(counts: &mut [u64; RANGES], number: Option<u64>)
 {
     if let Some(number) = number {
         count_number(counts, number);
-    }
-}
-
-/// The wait that at most a hundredth of so many exceeded, or up to a tenth more; no more than the greatest.
-pub(crate) fn most_of(counts: &[u64; RANGES], count: u64, greatest: u64) -> u64
-    ensures { result ≡ end_within (first_up_to counts.now (count - count / 100)) greatest }
-{
-    match first_up_to(counts, count - count / 100) {
-        Some(range) => end_within(range, greatest),
-        None => greatest,
     }
 }

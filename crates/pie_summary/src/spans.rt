@@ -11,7 +11,7 @@ const WORD: u128 = 1 << 64;
 
 /// How many numbers there were, the first, and the last; all 0 where there was none.
 #[repr(C)]
-#[derive(Clone, Copy, Debug)]
+#[derive(Clone, Copy, Debug, Default)]
 pub struct Bounds {
     /// How many there were, and 2^64 - 1 where there were more.
     pub count: u64,
@@ -23,7 +23,7 @@ pub struct Bounds {
 
 /// The greatest of some numbers, and the last; 0 where there was none.
 #[repr(C)]
-#[derive(Clone, Copy, Debug)]
+#[derive(Clone, Copy, Debug, Default)]
 pub struct Peak {
     /// The greatest.
     pub greatest: u64,
@@ -33,7 +33,7 @@ pub struct Peak {
 
 /// The sum of some numbers, and 2^128 - 1 where it is more.
 #[repr(C)]
-#[derive(Clone, Copy, Debug)]
+#[derive(Clone, Copy, Debug, Default)]
 pub struct Total {
     /// Its high 64 bits.
     pub high: u64,
@@ -42,7 +42,7 @@ pub struct Total {
 }
 
 /// When events were.
-#[derive(Clone, Copy, Debug)]
+#[derive(Clone, Copy, Debug, Default)]
 pub struct Span {
     /// Their effective moments, in nanoseconds.
     pub moments: Bounds,
@@ -60,14 +60,8 @@ fn held_or(count: u64, held: u64, number: u64) -> u64
 impl Bounds {
     ghost use Rattle.pie_summary.specs.Spans.{bounds_of};
 
-    /// No number yet.
-    pub(crate) const NONE: Bounds = Bounds {
-        count: 0,
-        first: 0,
-        last: 0,
-    };
-
     /// Takes one more number.
+    #[tactic(auto, using(crate::proofs::SpanFacts::bounds_push))]
     #[inline(never)]
     pub(crate) fn take(&mut self, number: u64)
         ensures { (numbers : List ℕ) → self.old ≡ bounds_of numbers → self.new ≡ bounds_of (numbers ++ number ∷ []) }
@@ -93,13 +87,8 @@ impl Bounds {
 impl Peak {
     ghost use Rattle.pie_summary.specs.Spans.{peak_of};
 
-    /// No number yet.
-    pub(crate) const NONE: Peak = Peak {
-        greatest: 0,
-        last: 0,
-    };
-
     /// Takes one more number. Most are the number before, which is none greater than the greatest.
+    #[tactic(auto, using(crate::proofs::SpanFacts::peak_push, crate::proofs::SpanFacts::peak_same))]
     #[inline(always)]
     pub(crate) fn take(&mut self, number: u64)
         ensures { (numbers : List ℕ) → self.old ≡ peak_of numbers → self.new ≡ peak_of (numbers ++ number ∷ []) }
@@ -124,9 +113,6 @@ impl Peak {
 
 impl Total {
     ghost use Rattle.pie_summary.specs.Spans.{total_of};
-
-    /// No number yet.
-    pub(crate) const NONE: Total = Total { high: 0, low: 0 };
 
     /// The sum.
     pub(crate) fn sum(self) -> u128
@@ -189,12 +175,6 @@ pub(crate) fn raise(most: &mut u64, number: u64)
 }
 
 impl Span {
-    /// Of no event.
-    pub(crate) const NONE: Span = Span {
-        moments: Bounds::NONE,
-        times: Bounds::NONE,
-    };
-
     /// Takes one more event.
     pub(crate) fn take(&mut self, all: &Explained)
         ensures { (shown : List Explained) → self.old ≡ span_of shown → self.new ≡ span_of (shown ++ all.now ∷ []) }

@@ -1,16 +1,14 @@
 //! Summaries of the explained events, and between them the words for each packet that was lost or marked.
-ghost use Rattle.std.specs.Prelude.{◌≡◌, ◌++◌, OnOk};
-ghost use Rattle.pie_summary.specs.Period.{begins};
+ghost use Rattle.std.specs.Prelude.{◌≡◌, ◌++◌, [], OnOk, if◌then◌else◌};
 ghost use Rattle.pie_summary.specs.Record.{record_of};
 ghost use Rattle.pie_summary.specs.Words.{words};
-ghost use Rattle.pie_summary.specs.Summary.{clock_for, ended, is_lost_or_marked, noted, said};
+ghost use Rattle.pie_summary.specs.Summary.{clock_for, is_lost_or_marked, noted, said};
 
 use crate::meter::Meter;
 use crate::period::{Period, begins, period_of};
-use crate::ranges::most_of;
 use crate::record::{NAMES, push_record};
 use crate::sums::Sums;
-use crate::words::push_words;
+use crate::words::{Written, push_words};
 use pie_explain::{Explained, Form, Report, Which, push_header};
 use pie_page::{LongRow, Page};
 use pie_record::Clock;
@@ -32,7 +30,7 @@ pub struct Summary {
 }
 
 /// Writes these numbers in words onto the page.
-fn push_in_words(page: &mut Page, by_wall: bool, sums: &Sums, most: u64) -> Result<(), AllocError>
+fn push_in_words(page: &mut Page, by_wall: bool, sums: &Sums, most: u64) -> Written
     ensures { OnOk result (page.new ≡ page.old ++ words by_wall sums.now most) }
 {
     let mut text = page.words();
@@ -41,12 +39,7 @@ fn push_in_words(page: &mut Page, by_wall: bool, sums: &Sums, most: u64) -> Resu
 }
 
 /// Writes these numbers as a record onto the page.
-fn push_as_record(
-    page: &mut Page,
-    by_wall: bool,
-    meter: &Meter,
-    most: u64,
-) -> Result<(), AllocError>
+fn push_as_record(page: &mut Page, by_wall: bool, meter: &Meter, most: u64) -> Written
     ensures { OnOk result (page.new ≡ page.old ++ record_of by_wall meter.now most) }
 {
     let mut line = LongRow::new();
@@ -54,32 +47,21 @@ fn push_as_record(
     page.push(line.as_bytes())
 }
 
-/// Writes the numbers of a period onto the page.
-fn push_said(page: &mut Page, form: Form, period: &Period) -> Result<(), AllocError>
-    ensures { OnOk result (page.new ≡ page.old ++ said form period.now.sums period.now.waits.value) }
+/// Writes a summary of the events of a period onto the page, where they have come to their end.
+fn push_ended(page: &mut Page, form: Form, period: &Period, ends: bool) -> Written
+    ensures { OnOk result (page.new ≡ page.old ++ (if ends then said form period.now.sums period.now.waits.value else [])) }
 {
+    if !ends {
+        return Ok(());
+    }
     let sums = &period.sums;
-    let most = most_of(
-        &period.waits,
-        sums.meter.answers[5],
-        sums.meter.greatest_wait,
-    );
+    let most = sums.meter.wait_99(&period.waits);
     match form {
         Form::Text => push_in_words(page, false, sums, most),
         Form::TextByWall => push_in_words(page, true, sums, most),
         Form::Csv => push_as_record(page, false, &sums.meter, most),
         Form::CsvByWall => push_as_record(page, true, &sums.meter, most),
     }
-}
-
-/// Writes a summary of the events of a period, where the next event is in another one.
-fn push_ended(page: &mut Page, form: Form, period: &Period, next: u64) -> Result<(), AllocError>
-    ensures { OnOk result (page.new ≡ page.old ++ ended form (begins period.now.number next) period.now.sums period.now.waits.value) }
-{
-    if !begins(period.number, next) {
-        return Ok(());
-    }
-    push_said(page, form, period)
 }
 
 /// Whether an event lost or marked a packet.
@@ -102,7 +84,7 @@ fn clock_for(form: Form, clock: Option<Clock>) -> Option<Clock>
 
 /// Writes the words for an event that lost or marked a packet, where packets are explained.
 #[tactic(auto, unfolding(crate::specs::Summary::noted))]
-fn push_noted(page: &mut Page, summary: &Summary, told: &Explained) -> Result<(), AllocError>
+fn push_noted(page: &mut Page, summary: &Summary, told: &Explained) -> Written
     ensures { OnOk result (page.new ≡ page.old ++ noted summary.now told.now) }
 {
     if summary.packets && is_lost_or_marked(told) {
@@ -129,20 +111,15 @@ impl Report for Summary {
         Ok(period)
     }
 
-    fn tell(
-        &self,
-        state: &mut Period,
-        told: &Explained,
-        page: &mut Page,
-    ) -> Result<(), AllocError> {
-        let next = period_of(self.every, told.told.moment);
-        push_ended(page, self.form, state, next)?;
+    fn tell(&self, state: &mut Period, told: &Explained, page: &mut Page) -> Written {
+        let ends = begins(state.number, period_of(self.every, told.told.moment));
+        push_ended(page, self.form, state, ends)?;
         push_noted(page, self, told)?;
         state.take(self.every, told);
         Ok(())
     }
 
-    fn end(&self, state: &Period, page: &mut Page) -> Result<(), AllocError> {
-        push_said(page, self.form, state)
+    fn end(&self, state: &Period, page: &mut Page) -> Written {
+        push_ended(page, self.form, state, true)
     }
 }

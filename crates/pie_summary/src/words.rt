@@ -1,8 +1,7 @@
 //! A summary in words.
 ghost use Rattle.std.specs.Prelude.{◌≡◌, ◌++◌, OnOk, string_bytes};
-ghost use Rattle.pie_summary.specs.Words.{arrival_words, arrived_words, cause_row, cause_rows, cause_words, disagree_words, head_words};
-ghost use Rattle.pie_summary.specs.Words.{late_words, later_words, left_words, row_words, target_words, time_words, turned_words, turning_words};
-ghost use Rattle.pie_summary.specs.Words.{update_words, verdict_words, words};
+ghost use Rattle.pie_summary.specs.Words.{above_words, arrival_words, cause_row, cause_rows, cause_words, disagree_words, head_words, later_words};
+ghost use Rattle.pie_summary.specs.Words.{row_words, time_words, turned_words, turning_words, update_words, verdict_words, words};
 
 use crate::meter::Meter;
 use crate::spans::Bounds;
@@ -12,9 +11,12 @@ use pie_explain::{Millis, PerCent, Share};
 use pie_units::Utc;
 use std::alloc::AllocError;
 
+/// What writing onto a text answers: `AllocError` where there is no memory for it.
+pub(crate) type Written = Result<(), AllocError>;
+
 /// So many of all arrivals.
 #[tactic(auto, unfolding(crate::specs::Words::row_words))]
-fn push_row(page: &mut String, name: &str, count: u64, all: u64) -> Result<(), AllocError>
+fn push_row(page: &mut String, name: &str, count: u64, all: u64) -> Written
     ensures { OnOk result (string_bytes page.new ≡ string_bytes page.old ++ row_words name.now count all) }
 {
     let share = Share { count, all };
@@ -23,12 +25,7 @@ fn push_row(page: &mut String, name: &str, count: u64, all: u64) -> Result<(), A
 
 /// How many arrivals a cause decided, where it decided some.
 #[tactic(auto, unfolding(crate::specs::Words::cause_row))]
-fn push_cause(
-    page: &mut String,
-    name: CauseName,
-    causes: &[u64; 15],
-    all: u64,
-) -> Result<(), AllocError>
+fn push_cause(page: &mut String, name: CauseName, causes: &[u64; 15], all: u64) -> Written
     ensures { OnOk result (string_bytes page.new ≡ string_bytes page.old ++ cause_row name causes.now all) }
 {
     let count = causes[name.place()];
@@ -39,12 +36,7 @@ fn push_cause(
 }
 
 /// How many arrivals each of these causes decided, where it decided some.
-fn push_rows(
-    page: &mut String,
-    names: &[CauseName],
-    causes: &[u64; 15],
-    all: u64,
-) -> Result<(), AllocError>
+fn push_rows(page: &mut String, names: &[CauseName], causes: &[u64; 15], all: u64) -> Written
     ensures { OnOk result (string_bytes page.new ≡ string_bytes page.old ++ cause_rows names.now causes.now all) }
 {
     match names {
@@ -58,7 +50,7 @@ fn push_rows(
 
 /// How many arrivals each cause decided, in the order of the decision.
 #[tactic(auto, unfolding(crate::specs::Words::cause_words))]
-fn push_causes(page: &mut String, causes: &[u64; 15], all: u64) -> Result<(), AllocError>
+fn push_causes(page: &mut String, causes: &[u64; 15], all: u64) -> Written
     ensures { OnOk result (string_bytes page.new ≡ string_bytes page.old ++ cause_words causes.now all) }
 {
     let names = [
@@ -84,7 +76,7 @@ fn push_causes(page: &mut String, causes: &[u64; 15], all: u64) -> Result<(), Al
 
 /// How many events there are, and when the first and the last were.
 #[tactic(auto, unfolding(crate::specs::Words::head_words))]
-pub(crate) fn push_head(page: &mut String, moments: &Bounds) -> Result<(), AllocError>
+pub(crate) fn push_head(page: &mut String, moments: &Bounds) -> Written
     ensures { OnOk result (string_bytes page.new ≡ string_bytes page.old ++ head_words moments.now) }
 {
     let (count, first, last) = (moments.count, Millis(moments.first), Millis(moments.last));
@@ -93,12 +85,7 @@ pub(crate) fn push_head(page: &mut String, moments: &Bounds) -> Result<(), Alloc
 
 /// Between which times of day, behind these spaces, where they are asked for.
 #[tactic(auto, unfolding(crate::specs::Words::time_words))]
-pub(crate) fn push_times(
-    page: &mut String,
-    by_wall: bool,
-    spaces: &str,
-    times: &Bounds,
-) -> Result<(), AllocError>
+pub(crate) fn push_times(page: &mut String, by_wall: bool, spaces: &str, times: &Bounds) -> Written
     ensures { OnOk result (string_bytes page.new ≡ string_bytes page.old ++ time_words by_wall spaces.now times.now) }
 {
     if !by_wall || times.count == 0 {
@@ -108,24 +95,9 @@ pub(crate) fn push_times(
     write!(page, "{spaces}by the time of day from {first} to {last}\n")
 }
 
-/// How many packets left, how long they and 99 of 100 of them had waited at most, and how many bytes they carried.
-#[tactic(auto, unfolding(crate::specs::Words::left_words))]
-fn push_left(page: &mut String, meter: &Meter, most: u64) -> Result<(), AllocError>
-    ensures { OnOk result (string_bytes page.new ≡ string_bytes page.old ++ left_words meter.now most) }
-{
-    let (left, carried) = (meter.answers[5], meter.carried);
-    let (greatest, mean) = (Millis(meter.greatest_wait), Millis(meter.waits.mean(left)));
-    let most = Millis(most);
-    write!(
-        page,
-        "  {left} packets left; they had waited at most {greatest},\n    and in the mean {mean}\n    \
-        99 of 100 had waited at most {most}\n    they carried {carried} bytes\n"
-    )
-}
-
 /// How many updates there were, the delays that they took, and the probabilities after the events.
 #[tactic(auto, unfolding(crate::specs::Words::update_words))]
-fn push_updates(page: &mut String, meter: &Meter) -> Result<(), AllocError>
+fn push_updates(page: &mut String, meter: &Meter) -> Written
     ensures { OnOk result (string_bytes page.new ≡ string_bytes page.old ++ update_words meter.now) }
 {
     let (delays, probs, updates) = (&meter.delays, &meter.probs, meter.answers[7]);
@@ -138,42 +110,9 @@ fn push_updates(page: &mut String, meter: &Meter) -> Result<(), AllocError>
     )
 }
 
-/// How long the delays were above the target, and the target and the burst allowance at the end.
-#[tactic(auto, unfolding(crate::specs::Words::target_words))]
-fn push_target(page: &mut String, meter: &Meter) -> Result<(), AllocError>
-    ensures { OnOk result (string_bytes page.new ≡ string_bytes page.old ++ target_words meter.now) }
-{
-    let (above, target, burst) = (
-        Millis(meter.above),
-        Millis(meter.target),
-        Millis(meter.burst),
-    );
-    write!(
-        page,
-        "  delays were above the target for {above};\n    at the end it was {target},\n    and the burst allowance {burst}\n"
-    )
-}
-
-/// How many of the packets that left had waited longer than the target, and how long at the head of the queue.
-#[tactic(auto, unfolding(crate::specs::Words::late_words))]
-fn push_late(page: &mut String, meter: &Meter) -> Result<(), AllocError>
-    ensures { OnOk result (string_bytes page.new ≡ string_bytes page.old ++ late_words meter.now) }
-{
-    let longer = meter.longer;
-    let share = Share {
-        count: longer,
-        all: meter.answers[5],
-    };
-    let late = Millis(meter.late);
-    write!(
-        page,
-        "  {longer} packets, {share} of those that left, had waited longer than the target,\n    at the head of the queue for {late}\n"
-    )
-}
-
 /// Says where the delays and the waits were above the target for very different times.
 #[tactic(auto, unfolding(crate::specs::Words::disagree_words))]
-fn push_disagree(page: &mut String, above: u64, late: u64) -> Result<(), AllocError>
+fn push_disagree(page: &mut String, above: u64, late: u64) -> Written
     ensures { OnOk result (string_bytes page.new ≡ string_bytes page.old ++ disagree_words above late) }
 {
     if above < late / 2 || late < above / 2 {
@@ -186,9 +125,50 @@ fn push_disagree(page: &mut String, above: u64, late: u64) -> Result<(), AllocEr
     }
 }
 
+/// How long the delays were above the target, the target and the burst allowance at the end, and how many of the packets that left had waited
+/// longer than the target, and how long at the head of the queue.
+#[tactic(auto, unfolding(crate::specs::Words::above_words))]
+fn push_above(page: &mut String, meter: &Meter) -> Written
+    ensures { OnOk result (string_bytes page.new ≡ string_bytes page.old ++ above_words meter.now) }
+{
+    let (above, late) = (Millis(meter.above), Millis(meter.late));
+    let (target, burst, longer) = (Millis(meter.target), Millis(meter.burst), meter.longer);
+    let share = Share {
+        count: longer,
+        all: meter.answers[5],
+    };
+    write!(
+        page,
+        "  delays were above the target for {above};\n    at the end it was {target},\n    and the burst allowance {burst}\n"
+    )?;
+    write!(
+        page,
+        "  {longer} packets, {share} of those that left, had waited longer than the target,\n    at the head of the queue for {late}\n"
+    )?;
+    push_disagree(page, meter.above, meter.late)
+}
+
+/// How many packets left, how long they and 99 of 100 of them had waited at most, and how many bytes they carried; what the updates made, and how
+/// long the delays and the waits were above the target.
+#[tactic(auto, unfolding(crate::specs::Words::later_words))]
+fn push_later(page: &mut String, meter: &Meter, most: u64) -> Written
+    ensures { OnOk result (string_bytes page.new ≡ string_bytes page.old ++ later_words meter.now most) }
+{
+    let (left, carried) = (meter.answers[5], meter.carried);
+    let (greatest, mean) = (Millis(meter.greatest_wait), Millis(meter.waits.mean(left)));
+    let most = Millis(most);
+    write!(
+        page,
+        "  {left} packets left; they had waited at most {greatest},\n    and in the mean {mean}\n    \
+        99 of 100 had waited at most {most}\n    they carried {carried} bytes\n"
+    )?;
+    push_updates(page, meter)?;
+    push_above(page, meter)
+}
+
 /// When the controller turned on, or off.
 #[tactic(auto, unfolding(crate::specs::Words::turned_words))]
-fn push_turned(page: &mut String, way: &str, turned: &Bounds) -> Result<(), AllocError>
+fn push_turned(page: &mut String, way: &str, turned: &Bounds) -> Written
     ensures { OnOk result (string_bytes page.new ≡ string_bytes page.old ++ turned_words way.now turned.now) }
 {
     let (count, first, last) = (turned.count, Millis(turned.first), Millis(turned.last));
@@ -201,18 +181,9 @@ fn push_turned(page: &mut String, way: &str, turned: &Bounds) -> Result<(), Allo
     )
 }
 
-/// How many packets arrived, and how many bytes.
-#[tactic(auto, unfolding(crate::specs::Words::arrived_words))]
-fn push_arrived(page: &mut String, meter: &Meter) -> Result<(), AllocError>
-    ensures { OnOk result (string_bytes page.new ≡ string_bytes page.old ++ arrived_words meter.now) }
-{
-    let (count, bytes) = (meter.arrivals, meter.arrived.sum());
-    write!(page, "  {count} arrivals, {bytes} bytes\n")
-}
-
 /// What became of the arrivals.
 #[tactic(auto, unfolding(crate::specs::Words::verdict_words))]
-fn push_verdicts(page: &mut String, answers: &[u64; 9], all: u64) -> Result<(), AllocError>
+fn push_verdicts(page: &mut String, answers: &[u64; 9], all: u64) -> Written
     ensures { OnOk result (string_bytes page.new ≡ string_bytes page.old ++ verdict_words answers.now all) }
 {
     push_row(page, "queued", answers[0], all)?;
@@ -224,17 +195,18 @@ fn push_verdicts(page: &mut String, answers: &[u64; 9], all: u64) -> Result<(), 
 
 /// How many packets arrived, what became of them, and why.
 #[tactic(auto, unfolding(crate::specs::Words::arrival_words))]
-fn push_arrivals(page: &mut String, meter: &Meter) -> Result<(), AllocError>
+fn push_arrivals(page: &mut String, meter: &Meter) -> Written
     ensures { OnOk result (string_bytes page.new ≡ string_bytes page.old ++ arrival_words meter.now) }
 {
-    push_arrived(page, meter)?;
-    push_verdicts(page, &meter.answers, meter.arrivals)?;
-    push_causes(page, &meter.causes, meter.arrivals)
+    let (all, bytes) = (meter.arrivals, meter.arrived.sum());
+    write!(page, "  {all} arrivals, {bytes} bytes\n")?;
+    push_verdicts(page, &meter.answers, all)?;
+    push_causes(page, &meter.causes, all)
 }
 
 /// When the controller turned, also by times of day where these are asked for.
 #[tactic(auto, unfolding(crate::specs::Words::turning_words))]
-fn push_turning(page: &mut String, by_wall: bool, sums: &Sums) -> Result<(), AllocError>
+fn push_turning(page: &mut String, by_wall: bool, sums: &Sums) -> Written
     ensures { OnOk result (string_bytes page.new ≡ string_bytes page.old ++ turning_words by_wall sums.now) }
 {
     push_turned(page, "on", &sums.meter.turned_on)?;
@@ -243,26 +215,9 @@ fn push_turning(page: &mut String, by_wall: bool, sums: &Sums) -> Result<(), All
     push_times(page, by_wall, "    ", &sums.off_times)
 }
 
-/// How long packets waited, what the updates made, and how long the delays and the waits were above the target.
-#[tactic(auto, unfolding(crate::specs::Words::later_words))]
-fn push_later(page: &mut String, meter: &Meter, most: u64) -> Result<(), AllocError>
-    ensures { OnOk result (string_bytes page.new ≡ string_bytes page.old ++ later_words meter.now most) }
-{
-    push_left(page, meter, most)?;
-    push_updates(page, meter)?;
-    push_target(page, meter)?;
-    push_late(page, meter)?;
-    push_disagree(page, meter.above, meter.late)
-}
-
 /// Writes a summary in words, with the wait of 99 of 100, by times of day or not.
 #[tactic(auto, unfolding(crate::specs::Words::words))]
-pub(crate) fn push_words(
-    page: &mut String,
-    by_wall: bool,
-    sums: &Sums,
-    most: u64,
-) -> Result<(), AllocError>
+pub(crate) fn push_words(page: &mut String, by_wall: bool, sums: &Sums, most: u64) -> Written
     ensures { OnOk result (string_bytes page.new ≡ string_bytes page.old ++ words by_wall sums.now most) }
 {
     push_head(page, &sums.span.moments)?;

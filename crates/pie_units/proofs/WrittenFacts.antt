@@ -1,9 +1,9 @@
 -- Digits of a text, one more at a time: the number that they write, and what it comes to in a unit.
-use Rattle.std.proofs.Common.{◌≡◌, ◌+◌, ◌*◌, ◌-◌, ◌<◌, ◌≤◌, arith, ℕ, zero, suc, List, [], ◌∷◌, ◌++◌, length, drop, slice_index, refl, sym, ap, ◌∙◌}
+use Rattle.std.proofs.Common.{◌≡◌, ◌+◌, ◌*◌, ◌-◌, ◌<◌, ◌≤◌, arith, ℕ, zero, suc, List, [], ◌∷◌, ◌++◌, length, slice_index, take, sym, ap, ◌∙◌}
 use Rattle.std.specs.Prelude.{min}
 use Rattle.std.proofs.lemmas.Bool.Decides.{nat_tests}
 use Rattle.std.proofs.lemmas.Nat.{mul-le}
-use Rattle.std.proofs.lemmas.List.{drop_all, drop_more}
+use Rattle.std.proofs.lemmas.List.Sums.{fold-append, fold_more}
 use Rattle.pie_units.specs.Written.{number_after, whole_in}
 
 -- ---- the number, kept at a greatest one
@@ -18,27 +18,29 @@ after-min n most (d ∷ ds) =
     sym (after-min (min n most * 10 + (d - 48)) most ds) ∙ ap (λ (k : ℕ). min (number_after k ds) most) (next-min n (d - 48) most)
     ∙ after-min (n * 10 + (d - 48)) most ds
 
--- one more digit
-pub number-more : (text : List ℕ) (i n next most : ℕ) → i < length text → next ≡ min (n * 10 + (slice_index text i - 48)) most
-    → min (number_after n (drop i text)) most ≡ min (number_after next (drop (i + 1) text)) most
+-- no digit
+pub number_none : (before most : ℕ) → before ≤ most → before ≡ min (number_after before []) most
 unfolding number_after
-number-more text i n next most within is =
-    rw (drop_more text i 0 within, is) (sym (after-min (n * 10 + (slice_index text i - 48)) most (drop (i + 1) text)))
+number_none before most small = omega arith
 
-pub number-end : (text : List ℕ) (i n most : ℕ) → length text ≤ i → min (number_after n (drop i text)) most ≡ min n most
+-- one more digit
+pub number_more : (before : ℕ) (digits : List ℕ) (i n next most : ℕ) → i < length digits → n ≡ min (number_after before (take i digits)) most
+    → next ≡ min (n * 10 + (slice_index digits i - 48)) most → next ≡ min (number_after before (take (i + 1) digits)) most
 unfolding number_after
-number-end text i n most past = rw (drop_all i text past) refl
+number_more before digits i n next most within n-is is =
+    is ∙ ap (λ (k : ℕ). min (k * 10 + (slice_index digits i - 48)) most) n-is
+    ∙ next-min (number_after before (take i digits)) (slice_index digits i - 48) most
+    ∙ ap (λ (k : ℕ). min k most) (sym (fold_more (λ number digit. number * 10 + (digit - 48)) before digits i 0 within))
 
 after-append : (n : ℕ) (xs ys : List ℕ) → number_after n (xs ++ ys) ≡ number_after (number_after n xs) ys
 unfolding number_after
-after-append n [] ys = refl
-after-append n (x ∷ xs) ys = after-append (n * 10 + (x - 48)) xs ys
+after-append n xs ys = fold-append (λ number digit. number * 10 + (digit - 48)) n xs ys
 
 -- digits in three parts
-pub number-joined : (whole decimals zeros : List ℕ) (first second third most : ℕ) → first ≡ min (number_after 0 whole) most
+pub number_joined : (whole decimals zeros : List ℕ) (first second third most : ℕ) → first ≡ min (number_after 0 whole) most
     → second ≡ min (number_after first decimals) most → third ≡ min (number_after second zeros) most
     → third ≡ min (number_after 0 (whole ++ decimals ++ zeros)) most
-number-joined whole decimals zeros first second third most first-is second-is third-is =
+number_joined whole decimals zeros first second third most first-is second-is third-is =
     let units = number_after 0 whole in
     let digits = number_after units decimals in
     third-is ∙ ap (λ (k : ℕ). min (number_after k zeros) most) (second-is ∙ ap (λ (k : ℕ). min (number_after k decimals) most) first-is
@@ -66,7 +68,7 @@ product-kept parts kept (suc scale) is =
     times : (n : ℕ) → 340282366920938463463374607431768211455 ≤ n → 340282366920938463463374607431768211455 ≤ n * suc scale
     times n most = let all = mul-le n 1 n (suc scale) (omega arith) (omega arith) in omega (arith, all, most)
 
-pub value-kept : (parts kept scale product : ℕ) → kept ≡ min parts 340282366920938463463374607431768211455
+pub value_kept : (parts kept scale product : ℕ) → kept ≡ min parts 340282366920938463463374607431768211455
     → product ≡ min (kept * scale) 340282366920938463463374607431768211455 → whole_in product ≡ whole_in (parts * scale)
-value-kept parts kept scale product kept-is product-is =
+value_kept parts kept scale product kept-is product-is =
     ap whole_in (product-is ∙ product-kept parts kept scale kept-is) ∙ whole-kept (parts * scale)

@@ -1,5 +1,5 @@
 -- What a number with a unit comes to, such as 1.5ms: a whole number of nanoseconds, bits a second, bytes or packets.
-use Rattle.std.specs.Prelude.{ℕ, ◌+◌, ◌-◌, ◌*◌, ◌/◌, ◌%◌, ◌^◌, ◌==◌, ◌&&◌, List, [], ◌∷◌, ◌++◌, length, take, drop, Option, Some, None}
+use Rattle.std.specs.Prelude.{ℕ, ◌+◌, ◌-◌, ◌*◌, ◌/◌, ◌%◌, ◌^◌, ◌==◌, ◌&&◌, List, [], ◌∷◌, ◌++◌, fold, length, take, drop, Option, Some, None}
 use Rattle.std.specs.Prelude.{Result, Ok, Err, nat_lt, if◌then◌else◌, codes}
 use Rattle.std.specs.Char.{is_ascii_digit}
 use Rattle.std.specs.List.{prefix_len}
@@ -14,8 +14,7 @@ digit_count text = prefix_len is_ascii_digit text
 
 -- the number that digits write, where they follow those of another
 unfoldable pub number_after : ℕ → List ℕ → ℕ
-number_after before [] = before
-number_after before (digit ∷ digits) = number_after (before * 10 + (digit - 48)) digits
+number_after before digits = fold (λ number digit. number * 10 + (digit - 48)) before digits
 
 -- the digits behind a point that stands first; none where none is behind it
 abbrev pub decimals_in : List ℕ → List ℕ

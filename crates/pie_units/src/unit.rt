@@ -45,16 +45,12 @@ fn is_any(first: &[u8], second: &[u8], third: &[u8], text: &[u8]) -> bool
 fn time_scale(unit: &[u8]) -> Option<u64>
     ensures { result ≡ time_scale unit.now }
 {
-    if is_any(b"ns", b"nsec", b"nsecs", unit) {
-        Some(1)
-    } else if is_any(b"us", b"usec", b"usecs", unit) {
-        Some(1_000)
-    } else if is_any(b"ms", b"msec", b"msecs", unit) {
-        Some(1_000_000)
-    } else if is_any(b"s", b"sec", b"secs", unit) {
-        Some(1_000_000_000)
-    } else {
-        None
+    match unit {
+        _ if is_any(b"ns", b"nsec", b"nsecs", unit) => Some(1),
+        _ if is_any(b"us", b"usec", b"usecs", unit) => Some(1_000),
+        _ if is_any(b"ms", b"msec", b"msecs", unit) => Some(1_000_000),
+        _ if is_any(b"s", b"sec", b"secs", unit) => Some(1_000_000_000),
+        _ => None,
     }
 }
 
@@ -64,26 +60,17 @@ fn prefix_scale(prefix: &[u8]) -> Option<u64>
     ensures scale { result ≡ prefix_scale prefix.now }
     ensures few { IfSome result (λ scale. scale ≤ 2 ^ 40) }
 {
-    if is_word(b"", prefix) {
-        Some(1)
-    } else if is_word(b"k", prefix) {
-        Some(1_000)
-    } else if is_word(b"ki", prefix) {
-        Some(1 << 10)
-    } else if is_word(b"m", prefix) {
-        Some(1_000_000)
-    } else if is_word(b"mi", prefix) {
-        Some(1 << 20)
-    } else if is_word(b"g", prefix) {
-        Some(1_000_000_000)
-    } else if is_word(b"gi", prefix) {
-        Some(1 << 30)
-    } else if is_word(b"t", prefix) {
-        Some(1_000_000_000_000)
-    } else if is_word(b"ti", prefix) {
-        Some(1 << 40)
-    } else {
-        None
+    match prefix {
+        _ if is_word(b"", prefix) => Some(1),
+        _ if is_word(b"k", prefix) => Some(1_000),
+        _ if is_word(b"ki", prefix) => Some(1 << 10),
+        _ if is_word(b"m", prefix) => Some(1_000_000),
+        _ if is_word(b"mi", prefix) => Some(1 << 20),
+        _ if is_word(b"g", prefix) => Some(1_000_000_000),
+        _ if is_word(b"gi", prefix) => Some(1 << 30),
+        _ if is_word(b"t", prefix) => Some(1_000_000_000_000),
+        _ if is_word(b"ti", prefix) => Some(1 << 40),
+        _ => None,
     }
 }
 
@@ -92,12 +79,10 @@ fn base_scale(base: &[u8]) -> Option<u64>
     ensures scale { result ≡ base_scale base.now }
     ensures few { IfSome result (λ scale. scale ≤ 8) }
 {
-    if is_word(b"bit", base) {
-        Some(1)
-    } else if is_word(b"bps", base) {
-        Some(8)
-    } else {
-        None
+    match base {
+        _ if is_word(b"bit", base) => Some(1),
+        _ if is_word(b"bps", base) => Some(8),
+        _ => None,
     }
 }
 
@@ -119,22 +104,15 @@ fn rate_scale(unit: &[u8]) -> Option<u64>
 fn size_scale(unit: &[u8]) -> Option<u64>
     ensures { result ≡ size_scale unit.now }
 {
-    if is_either(b"", b"b", unit) {
-        Some(1)
-    } else if is_either(b"k", b"kb", unit) {
-        Some(1 << 10)
-    } else if is_either(b"m", b"mb", unit) {
-        Some(1 << 20)
-    } else if is_either(b"g", b"gb", unit) {
-        Some(1 << 30)
-    } else if is_word(b"kbit", unit) {
-        Some(1 << 7)
-    } else if is_word(b"mbit", unit) {
-        Some(1 << 17)
-    } else if is_word(b"gbit", unit) {
-        Some(1 << 27)
-    } else {
-        None
+    match unit {
+        _ if is_either(b"", b"b", unit) => Some(1),
+        _ if is_either(b"k", b"kb", unit) => Some(1 << 10),
+        _ if is_either(b"m", b"mb", unit) => Some(1 << 20),
+        _ if is_either(b"g", b"gb", unit) => Some(1 << 30),
+        _ if is_word(b"kbit", unit) => Some(1 << 7),
+        _ if is_word(b"mbit", unit) => Some(1 << 17),
+        _ if is_word(b"gbit", unit) => Some(1 << 27),
+        _ => None,
     }
 }
 
@@ -155,10 +133,9 @@ pub(crate) fn scale_of(kind: Quantity, unit: &[u8]) -> Option<u64>
 fn packets_scale(unit: &[u8]) -> Option<u64>
     ensures { result ≡ packets_scale unit.now }
 {
-    if is_either(b"", b"p", unit) {
-        Some(1)
-    } else {
-        None
+    match unit {
+        _ if is_either(b"", b"p", unit) => Some(1),
+        _ => None,
     }
 }
 
@@ -166,13 +143,10 @@ fn packets_scale(unit: &[u8]) -> Option<u64>
 fn moment_scale(unit: &[u8]) -> Option<u64>
     ensures { result ≡ moment_scale unit.now }
 {
-    if is_word(b"", unit) {
-        Some(1)
-    } else if is_word(b"m", unit) {
-        Some(60_000_000_000)
-    } else if is_word(b"h", unit) {
-        Some(3_600_000_000_000)
-    } else {
-        time_scale(unit)
+    match unit {
+        _ if is_word(b"", unit) => Some(1),
+        _ if is_word(b"m", unit) => Some(60_000_000_000),
+        _ if is_word(b"h", unit) => Some(3_600_000_000_000),
+        _ => time_scale(unit),
     }
 }

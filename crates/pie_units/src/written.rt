@@ -41,6 +41,7 @@ fn with_digit(number: u128, digit: u8) -> u128
 }
 
 /// The number that digits write, where they follow those of another; at most 2^128 - 1.
+#[tactic(auto, using(crate::proofs::WrittenFacts::number_more, crate::proofs::WrittenFacts::number_none))]
 pub(crate) fn number_after(before: u128, digits: &[u8]) -> u128
     ensures { result ≡ min (number_after before digits.now) (2 ^ 128 - 1) }
 {
@@ -88,6 +89,7 @@ fn whole_in(parts: u128) -> Result<u64, UnitFault>
 }
 
 /// The number with these digits before the point and behind it, in parts with so many decimals; at most 2^128 - 1.
+#[tactic(auto, using(crate::proofs::WrittenFacts::number_joined))]
 pub(crate) fn parts_of(places: usize, whole: &[u8], decimals: &[u8]) -> u128
     requires few { length decimals.now ≤ places }
     requires places { places ≤ 18 }
@@ -100,6 +102,7 @@ pub(crate) fn parts_of(places: usize, whole: &[u8], decimals: &[u8]) -> u128
 }
 
 /// What a number of at most 18 decimals comes to in a unit that is so many.
+#[tactic(auto, using(crate::proofs::WrittenFacts::value_kept))]
 fn product_of(whole: &[u8], decimals: &[u8], scale: u64) -> Result<u64, UnitFault>
     requires { length decimals.now ≤ 18 }
     ensures { result ≡ whole_in (parts_of 18 whole.now decimals.now * scale) }

@@ -1,8 +1,7 @@
-use Rattle.std.proofs.Common.{◌≡◌, ◌≤◌, ◌-◌, ◌^◌, drop}
+use Rattle.std.proofs.Common.{◌≡◌, ◌-◌, ◌^◌, take}
 use Rattle.std.specs.Prelude.{min}
 use Rattle.pie_units.specs.Written.{number_after}
 use Rattle.pie_units.proofs.written.number_after.Given as goal
 
 abbrev pub invariant-more : goal.invariant-more
-invariant-more l =
-    (l.number ≤ 2 ^ 128 - 1) × (min (number_after l.before l.digits) (2 ^ 128 - 1) ≡ min (number_after l.number (drop l.i l.digits)) (2 ^ 128 - 1))
+invariant-more l = l.number ≡ min (number_after l.before (take l.i l.digits)) (2 ^ 128 - 1)

@@ -20,6 +20,6 @@ returns c = λ shown keeps.
       last = ap Some c.period_of-number.ensures ∙ sym (last_period-push every shown one);
       kept = record {
         span = c.take.ensures before begun.span ∙ ap span_of last;
-        flows = subst (HasFlows c.take-2.new.self.rows.entries) last taken;
+        flows = subst (HasFlows c.take-2.new.rows.entries) last taken;
       };
     }) (c.take-2.ensures before begun.flows)

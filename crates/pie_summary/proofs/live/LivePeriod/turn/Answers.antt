@@ -16,7 +16,7 @@ returns-then-begins-clause-awaits c = λ shown one at holds.
     awaits-new period shown one (c.args.moment / every) _ _ _ _ _ holds
     (same-number c.args.moment one.told.moment period.every every at c.max-every.ensures)
     (sym c.begins.ensures ∙ c.if-begins.true) c.saturating_add-self-then-begins.ensures
-    (c.begun-self.ensures ∙ (λ i. record (meter_of []) { first = sym at i; since = sym at i })) c.clear_counts.ensures
+    (c.begun-self.ensures ∙ (λ i. record (meter_of [] []) { first = sym at i; since = sym at i })) c.clear_counts.ensures
     (λ moment from to. (
       λ none. omega (arith, none, c.saturating_add-self-then-begins.ensures),
       ap (λ (e : ℕ). moment / e) (sym c.max-every.ensures)

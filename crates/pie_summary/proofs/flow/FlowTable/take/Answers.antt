@@ -1,5 +1,0 @@
-use Rattle.pie_summary.proofs.FlowFacts.{nothing_taken}
-use Rattle.pie_summary.proofs.flow.FlowTable.take.Goals as goal
-
-pub returns-in-None : goal.returns-in-None
-returns-in-None c = λ shown has. nothing_taken shown c.args.told.now c.args.self.now.rows.entries has c.in-None.ensures

@@ -2,8 +2,7 @@
 ghost use Rattle.std.specs.Prelude.{◌≡◌, Some};
 ghost use Rattle.pie_lock.specs.Tally.{Tells};
 
-use crate::calls::{Calls, THREADS, time};
-use crate::places::{AtMutex, Place};
+use crate::places::{AtMutex, Calls, Place, THREADS, time};
 use crate::report::Report;
 use pie_lock::{Counter, CounterEntry, Held, Pass, RuledLock, no_entries, one_entry};
 use std::alloc::Global;
@@ -70,14 +69,8 @@ pub fn measure<R: Threads + Wait + Clock + Print + Sync>(report: &mut Report<R>,
     for threads in THREADS {
         if let Ok((lock, pass)) = RuledLock::new(alloc, Counter::new(), PASSES) {
             let lock = &lock;
-            time(
-                report,
-                alloc,
-                "lock",
-                threads,
-                threads,
-                AtLock { lock, pass },
-            );
+            let place = AtLock { lock, pass };
+            time(report, alloc, "lock", threads, threads, place);
         }
         let mutex = &Mutex::new(Counter::new());
         time(report, alloc, "mutex", threads, threads, AtMutex { mutex });

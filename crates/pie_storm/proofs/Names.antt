@@ -30,7 +30,7 @@ pub use Rattle.pie_link.specs.Views.{CallerView, LinkView}
 pub use Rattle.pie_lock.proofs.Owns.{NoneOwn, goes_on_itself, gone_on, own_none}
 pub use Rattle.pie_lock.specs.Own.{is_within, own}
 pub use Rattle.pie_lock.specs.Steps.{GoesOn}
-pub use Rattle.pie_storm.specs.Plans.{IsFair, IsSound, arriving, changing, departing, folder, opening_of, senders, sent, total, updater, updating}
+pub use Rattle.pie_storm.specs.Plans.{IsFair, IsSound, arriving, changing, departing, folder, opening_of, senders, total, updater, updating}
 unfoldable pub use Rattle.pie_storm.specs.Plans.{calls_of}
 pub use Rattle.pie_storm.specs.StormPlan.{arrivals_of, held_by, planned_arrival, sender_words, words_of}
 unfoldable pub use Rattle.pie_storm.specs.StormPlan.{words_after}

@@ -1,18 +1,18 @@
 -- The lists of a storm's plan grow by one entry, and the random words are taken one after another; and what a sound plan says of its callers' calls.
-use Rattle.pie_storm.proofs.Names.{◌≡◌, ◌+◌, ◌*◌, ◌/◌, ◌^◌, ◌≤◌, ℕ, zero, suc, List, [], ◌∷◌, ◌++◌, map, refl, sym, ap, ◌∙◌, arith, Vec}
-use Rattle.pie_storm.proofs.Names.{range_with_len, Global, length, map-append, take, take-length, total, Arrival, arrivals_of, held_by, words_after}
-use Rattle.pie_storm.proofs.Names.{◌-◌, ◌==◌, nat_le, Bool, true, false, Some, slice_get, drop, subst, if◌then◌else◌, All, drop-map, take-map}
-use Rattle.pie_storm.proofs.Names.{nat_tests, All-nil, All-head, All-tail, Call, Ask, Fold, Plan, IsFair, IsSound, arriving, calls_of, changing}
-use Rattle.pie_storm.proofs.Names.{departing, folder, senders, sent, updater, updating}
+use Rattle.pie_storm.proofs.Names.{◌≡◌, ◌+◌, ◌*◌, ◌/◌, ◌^◌, ◌≤◌, ℕ, List, [], ◌∷◌, ◌++◌, map, refl, sym, ap, ◌∙◌, arith, Vec, range_with_len, Global}
+use Rattle.pie_storm.proofs.Names.{length, map-append, take, take-length, total, Arrival, arrivals_of, held_by, ◌-◌, ◌==◌, nat_le, Bool, true, false}
+use Rattle.pie_storm.proofs.Names.{Some, slice_get, drop, subst, if◌then◌else◌, All, drop-map, take-map, nat_tests, All-nil, Call, Ask, Fold, Plan}
+use Rattle.pie_storm.proofs.Names.{IsFair, IsSound, arriving, calls_of, changing, departing, folder, senders, updater, updating, None, Option}
 use Rattle.std.proofs.Common.{add-one}
 use Rattle.std.proofs.Math.Nat.{div-le_self, mul-le-mul_left}
 use Rattle.std.proofs.lemmas.List.FromFn.{map-range_with_len_more}
 use Rattle.rand_core.specs.Stream.{Stream, next_u64}
-use Rattle.pie_storm.specs.StormPlan.{arrival_at, arrival_by, word_at}
+use Rattle.pie_storm.specs.StormPlan.{after_three}
 use Rattle.std.proofs.lemmas.List.Elements.{All-map, All-weaker}
+use Rattle.std.proofs.lemmas.Option.{get_or_from_slice_get, slice_get_within}
 use Rattle.pie_book.specs.Decision.{is_too_soon}
 use Rattle.pie_storm.specs.declared.plan.Change.{Change}
-use Rattle.pie_storm.specs.Plans.{IsMoment, IsSoundArrival}
+use Rattle.pie_storm.specs.Plans.{IsMoment, IsSoundArrival, sent_by}
 
 -- ---- numbers
 
@@ -46,31 +46,21 @@ taken_whole list n is = ap (λ (k : ℕ). take k list) is ∙ take-length list
 
 -- ---- words
 
--- the words that are left after one more
-pub words_after-next : (count : ℕ) (words : Stream) → words_after (count + 1) words ≡ (next_u64 (words_after count words)).1
-unfolding words_after
-words_after-next zero words = refl
-words_after-next (suc count) words =
-    let e : suc count + 1 ≡ suc (count + 1) = omega arith in
-    rw e (words_after-next count (next_u64 words).1)
+-- three words that are drawn, and the words that are left
+pub drawn : (first second third last : Stream) (size ecn word : ℕ) → (size, second) ≡ next_u64 first → (ecn, third) ≡ next_u64 second
+    → (word, last) ≡ next_u64 third
+    → (size ≡ (next_u64 first).0) × (ecn ≡ (next_u64 (next_u64 first).1).0) × (word ≡ (next_u64 (next_u64 (next_u64 first).1).1).0)
+    × (last ≡ after_three first)
+drawn first second third last size ecn word one two three =
+    let second_is : second ≡ (next_u64 first).1 = ap (λ p. p.1) one in
+    let third_is : third ≡ (next_u64 (next_u64 first).1).1 = ap (λ p. p.1) two ∙ ap (λ (s : Stream). (next_u64 s).1) second_is in (
+      ap (λ p. p.0) one,
+      ap (λ p. p.0) two ∙ ap (λ (s : Stream). (next_u64 s).0) second_is,
+      ap (λ p. p.0) three ∙ ap (λ (s : Stream). (next_u64 s).0) third_is,
+      ap (λ p. p.1) three ∙ ap (λ (s : Stream). (next_u64 s).1) third_is,
+    )
 
--- an arrival by the next three words, and the words that are left after it
-pub drawn : (sender i moment : ℕ) (all first second third last : Stream) (size ecn word : ℕ) → first ≡ words_after (3 * i) all
-    → (size, second) ≡ next_u64 first → (ecn, third) ≡ next_u64 second → (word, last) ≡ next_u64 third
-    → (arrival_by sender i moment size ecn word ≡ arrival_at sender all i moment) × (last ≡ words_after (3 * (i + 1)) all)
-drawn sender i moment all first second third last size ecn word at one two three =
-    let second_is : second ≡ words_after (3 * i + 1) all = ap (λ p. p.1) one ∙ ap (λ (s : Stream). (next_u64 s).1) at
-    ∙ sym (words_after-next (3 * i) all) in
-    let third_is : third ≡ words_after (3 * i + 1 + 1) all = ap (λ p. p.1) two ∙ ap (λ (s : Stream). (next_u64 s).1) second_is
-    ∙ sym (words_after-next (3 * i + 1) all) in
-    let last_is : last ≡ words_after (3 * i + 1 + 1 + 1) all = ap (λ p. p.1) three ∙ ap (λ (s : Stream). (next_u64 s).1) third_is
-    ∙ sym (words_after-next (3 * i + 1 + 1) all) in
-    let size_is : size ≡ word_at (3 * i) all = ap (λ p. p.0) one ∙ ap (λ (s : Stream). (next_u64 s).0) at in
-    let ecn_is : ecn ≡ word_at (3 * i + 1) all = ap (λ p. p.0) two ∙ ap (λ (s : Stream). (next_u64 s).0) second_is in
-    let word_is : word ≡ word_at (3 * i + 1 + 1) all = ap (λ p. p.0) three ∙ ap (λ (s : Stream). (next_u64 s).0) third_is in
-    let two_on : 3 * i + 1 + 1 ≡ 3 * i + 2 = omega arith in
-    let three_on : 3 * i + 1 + 1 + 1 ≡ 3 * (i + 1) = omega arith in
-    (rw (size_is, ecn_is, word_is, two_on) refl, rw (last_is, three_on) refl)
+-- ---- what holds of all of a list
 
 of_if : {A : Type 0} (P : A → Type 0) (b : Bool) (x y : A) → (b ≡ true → P x) → P y → P (if b then x else y)
 of_if P true x y p q = p refl
@@ -80,9 +70,7 @@ pub all_of : {A B : Type 0} (P : A → Type 0) (Q : B → Type 0) (f : A → B) 
 all_of P Q f xs each a = All-map Q f xs (All-weaker P (λ x. Q (f x)) each xs a)
 
 pub all_at : {A : Type 0} (P : A → Type 0) (xs : List A) (k : ℕ) (x : A) → All P xs → slice_get xs k ≡ Some x → P x
-all_at P [] k x a e = absurd (cc e)
-all_at P (y ∷ ys) zero x a e = subst P (cc e) (All-head P y ys a)
-all_at P (y ∷ ys) (suc k) x a e = all_at P ys k x (All-tail P y ys a) e
+all_at P xs k x a e = subst P (get_or_from_slice_get xs k x x e) (a k x (slice_get_within xs k x e))
 
 -- ---- which caller asks what
 
@@ -97,14 +85,12 @@ module _ (plan : Plan) (sound : IsSound plan) (caller : ℕ) where
   abbrev IsIts : Call → Type 0
   IsIts = IsCallOf plan caller
 
-  sent_are : (caller ≡ folder plan → ⊥) → (lists : List (Vec Arrival Global)) (k : ℕ)
-      → All (λ (list : Vec Arrival Global). All IsSoundArrival list.items) lists → All IsIts (sent lists k)
-  sent_are asks [] k a = All-nil IsIts
-  sent_are asks (list ∷ lists) zero a =
+  sent_are : (caller ≡ folder plan → ⊥) → (found : Option (Vec Arrival Global))
+      → ((list : Vec Arrival Global) → found ≡ Some list → All IsSoundArrival list.items) → All IsIts (sent_by found)
+  sent_are asks None sound_one = All-nil IsIts
+  sent_are asks (Some list) sound_one =
       all_of IsSoundArrival IsIts arriving list.items
-      (λ x s. (asks, record { moment = s.0; size = grind (arith, nat_tests, s.1, s.2) }, λ other before due. refl))
-      (All-head (λ (l : Vec Arrival Global). All IsSoundArrival l.items) list lists a)
-  sent_are asks (list ∷ lists) (suc k) a = sent_are asks lists k (All-tail (λ (l : Vec Arrival Global). All IsSoundArrival l.items) list lists a)
+      (λ x s. (asks, record { moment = s.0; size = grind (arith, nat_tests, s.1, s.2) }, λ other before due. refl)) (sound_one list refl)
 
   pub calls_are : All IsIts (calls_of plan caller)
   unfolding calls_of
@@ -113,7 +99,8 @@ module _ (plan : Plan) (sound : IsSound plan) (caller : ℕ) where
       let F : List Call → Type 0 = All IsIts in
       of_if F (caller == 0) _ _ (λ starts. All-nil IsIts)
       (of_if F (nat_le caller (senders plan)) _ _
-      (λ sends. sent_are (λ folds. grind (arith, nat_tests, sends, folds)) plan.arrivals.items (caller - 1) sound.arrivals)
+      (λ sends. sent_are (λ folds. grind (arith, nat_tests, sends, folds)) (slice_get plan.arrivals.items (caller - 1))
+      (λ list at. all_at (λ (l : Vec Arrival Global). All IsSoundArrival l.items) plan.arrivals.items (caller - 1) list sound.arrivals at))
       (of_if F (n == 1) _ _
       (λ one. all_of IsMoment IsIts departing plan.departs.items
       (λ m s. (λ folds. grind (arith, nat_tests, one, folds), record { moment = s; size = refl }, λ other before due. refl)) sound.departs)

@@ -1,9 +1,8 @@
 //! The plan of a storm.
 ghost use Rattle.std.specs.Prelude.{◌≡◌, ◌+◌, ◌*◌, ◌/◌, ◌^◌, ◌<◌, ◌≤◌, IfOk, map};
 ghost use Rattle.std.specs.List.{range_with_len};
-ghost use Rattle.rand_core.specs.Stream.{Stream};
-ghost use Rattle.pie_storm.specs.StormPlan.{IsStormPlan, arrival_at, arrivals_of, change_at, changes_of, departs_of, ecn_of, folds_of, held_by};
-ghost use Rattle.pie_storm.specs.StormPlan.{HasStormRange, moment_of, params_at, updates_of, words_after, words_of};
+ghost use Rattle.pie_storm.specs.StormPlan.{IsStormPlan, after_three, arrival_by, arrivals_of, change_at, changes_of, departs_of, ecn_of, folds_of, held_by};
+ghost use Rattle.pie_storm.specs.StormPlan.{HasStormRange, moment_of, params_at, updates_of, words_of};
 
 use crate::numbers::StormNumbers;
 use crate::plan::{Change, Plan};
@@ -50,18 +49,8 @@ fn product(count: u64, by: u64) -> u64
     count * by
 }
 
-/// Which burst a packet belongs to, counted from 1.
-#[tactic(auto, using(crate::proofs::PlanFacts::small_quotient))]
-fn burst_of(burst: u64, i: u64) -> u64
-    requires some { 1 ≤ burst }
-    requires i { i < 2 ^ 14 }
-    ensures value { result ≡ i / burst + 1 }
-    ensures few { result ≤ 2 ^ 14 }
-{
-    i / burst + 1
-}
-
 /// The moment at which a sender hands in a packet, counted from 0: that of the last packet of its burst.
+#[tactic(auto, using(crate::proofs::PlanFacts::small_quotient))]
 fn moment_of(packets: u64, burst: u64, i: u64) -> u64
     requires some { 1 ≤ burst }
     requires burst { burst ≤ 1024 }
@@ -69,15 +58,15 @@ fn moment_of(packets: u64, burst: u64, i: u64) -> u64
     requires i { i < packets }
     ensures { result ≡ moment_of packets burst i }
 {
-    product(burst_of(burst, i), burst).min(packets) * PACKET_TIME
+    product(i / burst + 1, burst).min(packets) * PACKET_TIME
 }
 
 /// An arrival of this sender at this moment, counted from 0, by its next three random words.
 fn next_arrival(words: &mut Lcg128Xsl64, sender: u64, i: u64, moment: u64) -> Arrival
     requires sender { sender ≤ 8 }
     requires i { i < 10_000 }
-    ensures { (all : Stream) → words_of words.old ≡ words_after (3 * i) all
-        → (result ≡ arrival_at sender all i moment) × (words_of words.new ≡ words_after (3 * (i + 1)) all) }
+    ensures value { result ≡ arrival_by sender i moment (words_of words.old) }
+    ensures words { words_of words.new ≡ after_three (words_of words.old) }
 {
     let size = words.next_u64();
     let ecn = words.next_u64();

@@ -3,7 +3,7 @@
 ghost use Rattle.std.specs.Prelude.{◌≡◌};
 
 use crate::book::{open_book, opening};
-use crate::places::{AtMutex, Calls, Place, THREADS, time};
+use crate::places::{Place, THREADS, time};
 use crate::report::Report;
 use pie_book::{Book, Command, Limits, Mode};
 use pie_link::{Caller, Link};
@@ -31,16 +31,6 @@ struct AtLink<'a> {
     ghost own: { caller.lock ≡ link.now },
 }
 
-impl Place for AtLink<'_> {
-    fn share(&mut self) -> Option<Self> {
-        let link = self.link;
-        match link.share(&mut self.caller) {
-            Ok(caller) => Some(AtLink { link, caller }),
-            Err(_) => None,
-        }
-    }
-}
-
 /// The packet of a turn.
 fn packet(turn: u64) -> Packet {
     Packet {
@@ -50,7 +40,15 @@ fn packet(turn: u64) -> Packet {
     }
 }
 
-impl Calls for AtLink<'_> {
+impl Place for AtLink<'_> {
+    fn share(&mut self) -> Option<Self> {
+        let link = self.link;
+        match link.share(&mut self.caller) {
+            Ok(caller) => Some(AtLink { link, caller }),
+            Err(_) => None,
+        }
+    }
+
     fn call<R: Wait>(mut self, rt: &R, sends: bool, turn: u64) -> Self {
         let (moment, packet) = (turn.wrapping_mul(BETWEEN), packet(turn));
         if sends {
@@ -62,7 +60,11 @@ impl Calls for AtLink<'_> {
     }
 }
 
-impl Calls for AtMutex<'_, Book> {
+impl Place for &Mutex<Book> {
+    fn share(&mut self) -> Option<Self> {
+        Some(*self)
+    }
+
     fn call<R: Wait>(self, rt: &R, sends: bool, turn: u64) -> Self {
         let (moment, packet, word) = (turn.wrapping_mul(BETWEEN), packet(turn), 0);
         let command = if sends {
@@ -74,7 +76,7 @@ impl Calls for AtMutex<'_, Book> {
                 word,
             }
         };
-        let _ = self.mutex.lock(rt).apply(1, command);
+        let _ = self.lock(rt).apply(1, command);
         self
     }
 }
@@ -90,8 +92,7 @@ pub fn measure<R: Threads + Wait + Clock + Print + Sync>(report: &mut Report<R>,
             time(report, alloc, "link", threads, jobs, place);
         }
         if let Some(book) = open_book(alloc, LIMITS, Mode::Rolling) {
-            let mutex = &Mutex::new(book);
-            let place = AtMutex { mutex };
+            let place = &Mutex::new(book);
             time(report, alloc, "link_mutex", threads, jobs, place);
         }
     }

@@ -357,7 +357,7 @@ fn measure_early<R: Clock + Print>(
 /// Prints the time of each step, and what the results add up to.
 pub fn measure<R: Clock + Print>(report: &mut Report<R>, alloc: Global) {
     if let Err(why) = measure_all(report, alloc) {
-        report.lacks(why);
+        report.fail(why.into());
     }
 }
 

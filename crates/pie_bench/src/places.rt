@@ -3,7 +3,7 @@
 use crate::report::Report;
 use std::alloc::{AllocError, Global};
 use std::rt::Clock;
-use std::sync::{Mutex, Wait};
+use std::sync::Wait;
 use std::thread;
 use std::thread::Threads;
 use std::time::Instant;
@@ -17,28 +17,13 @@ const PER_THREAD: u64 = 1_000_000;
 /// By how many threads each place is measured; by 0 it is one thread, while there is no other.
 pub const THREADS: [u16; 5] = [0, 1, 2, 4, 8];
 
-/// A place of one thread.
+/// A place of one thread, which takes one call after another.
 pub trait Place {
     /// A place of one thread more; nothing where there is none.
     fn share(&mut self) -> Option<Self>;
-}
 
-/// A place that takes one call after another.
-pub trait Calls {
     /// The call of a turn, by a thread that sends or by another.
     fn call<R: Wait>(self, rt: &R, sends: bool, turn: u64) -> Self;
-}
-
-/// A thread at a mutex.
-#[derive(Drop)]
-pub struct AtMutex<'a, S> {
-    pub mutex: &'a Mutex<S>,
-}
-
-impl<S> Place for AtMutex<'_, S> {
-    fn share(&mut self) -> Option<Self> {
-        Some(AtMutex { mutex: self.mutex })
-    }
 }
 
 /// What one of several threads does at its place.
@@ -66,7 +51,7 @@ fn jobs<P: Place + Drop>(
 }
 
 /// The calls of one of several threads; the number is theirs.
-fn toil<R: Wait, P: Calls + Drop>(rt: &R, job: Job<P>) -> u64 {
+fn toil<R: Wait, P: Place + Drop>(rt: &R, job: Job<P>) -> u64 {
     let Job { mut place, sends } = job;
     for turn in 0..PER_THREAD {
         place = place.call(rt, sends, turn);
@@ -75,7 +60,7 @@ fn toil<R: Wait, P: Calls + Drop>(rt: &R, job: Job<P>) -> u64 {
 }
 
 /// Has so many threads make their calls at once, and gives the moment at which they began.
-fn toil_at_once<R: Threads + Wait + Clock + Print + Sync, P: Calls + Place + Send + Drop>(
+fn toil_at_once<R: Threads + Wait + Clock + Print + Sync, P: Place + Send + Drop>(
     report: &mut Report<R>,
     alloc: Global,
     place: &mut P,
@@ -89,14 +74,14 @@ fn toil_at_once<R: Threads + Wait + Clock + Print + Sync, P: Calls + Place + Sen
             start
         }
         Err(why) => {
-            report.lacks(why);
+            report.fail(why.into());
             None
         }
     }
 }
 
 /// Calls of one thread, in turn as one that sends and as another.
-fn call_alone<R: Wait, P: Calls + Drop>(rt: &R, place: P) {
+fn call_alone<R: Wait, P: Place + Drop>(rt: &R, place: P) {
     let mut place = place;
     for turn in 0..UNCONTENDED {
         place = place.call(rt, turn % 2 == 1, turn);
@@ -104,7 +89,7 @@ fn call_alone<R: Wait, P: Calls + Drop>(rt: &R, place: P) {
 }
 
 /// Prints how long a call takes, or how many there are in a second by `jobs` threads; of them so many are named.
-pub fn time<R: Threads + Wait + Clock + Print + Sync, P: Calls + Place + Send + Drop>(
+pub fn time<R: Threads + Wait + Clock + Print + Sync, P: Place + Send + Drop>(
     report: &mut Report<R>,
     alloc: Global,
     name: &'static str,

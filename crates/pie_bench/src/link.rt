@@ -81,8 +81,8 @@ impl Place for &Mutex<Book> {
     }
 }
 
-/// Prints the time of an event with no contention, and how many there are in a second by 1, 2, 4 and 8 threads that enqueue beside one that sends, for
-/// the link and for the mutex.
+/// Prints the time of an event with no contention, and how many there are in a second by 1, 2, 4 and 8 threads that enqueue beside one that sends,
+/// for the link and for the mutex.
 pub fn measure<R: Threads + Wait + Clock + Print + Sync>(report: &mut Report<R>, alloc: Global) {
     for threads in THREADS {
         let jobs = threads.saturating_add(1);

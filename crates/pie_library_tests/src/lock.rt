@@ -1,5 +1,5 @@
-//! The lock, over the counter that pie_lock has for tests. What its calls answer is proved but for this: that there is memory, that a lock which is free
-//! is taken and closed (src/links.rt), and that those who sleep at a lock that is held are woken: with a missed wake a test doesn't end.
+//! The lock, over the counter that pie_lock has for tests. What its calls answer is proved but for this: that there is memory, that a free lock is
+//! taken and closed (src/links.rt), and that those who sleep at a lock that is held are woken: with a missed wake a test doesn't end.
 ghost use Rattle.std.specs.Prelude.{◌≡◌};
 
 use pie_lock::{Counter, CounterEntry, Pass, RuledLock, no_entries, one_entry};

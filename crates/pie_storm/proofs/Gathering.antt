@@ -1,5 +1,5 @@
--- What all workers of a storm did together: it is gathered, no caller was cut short, since a history has no more events than there are commands, and so
--- the storm ends with what the plan asks for.
+-- What all workers of a storm did together: it is gathered; no caller was cut short, since a history has no more events than there are commands;
+-- and so the storm ends with what the plan asks for.
 use Rattle.pie_storm.proofs.Names.{◌≡◌, ℕ, ◌+◌, ◌<◌, List, [], length, length-append, events_in, refl, ap, sym, ◌∙◌, subst, inl, inr, ⊎_elim, arith}
 use Rattle.pie_storm.proofs.Names.{dite, ℕ_discrete, Bool, true, false, ◌||◌, get_or, is_within, nat_tests, GoesOn, Event, number_of, EntriesLookBack}
 use Rattle.pie_storm.proofs.Names.{Entry, CallerView, LinkView, Plan, Work, calls_of, folder, opening_of, updater, CameOf, HasNoMore, IsWell}

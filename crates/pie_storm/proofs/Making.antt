@@ -347,7 +347,8 @@ refused_why (Some other) told w e = cc e
 arrives_in_time : (opening : Opening) (h : List Entry) (a : Arrival) (why : Refusal) → IsWhy opening h (arrive a) why
     → (d : ℕ) → why ≡ TooSoon d → ⊥
 arrives_in_time opening h a why e d is =
-    never_soon (effective_moment opening (events_in h)) (due_after opening (events_in h)) (length (events_in h)) opening.limits.events (arrive a) d refl
+    let events = events_in h in
+    never_soon (effective_moment opening events) (due_after opening events) (length events) opening.limits.events (arrive a) d refl
     (too_soon_by_rule opening h (arrive a) d (e ∙ ap Some is))
 
 module _ (law : EntriesLookBack) (plan : Plan) (caller : ℕ) where

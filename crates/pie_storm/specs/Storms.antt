@@ -125,7 +125,8 @@ pub record Begins (link : LinkView) (plan : Plan) (caller : CallerView) : Type 0
 abbrev pub IsWell : Folding → Type 0
 IsWell folding = folding.is_short_of_memory ≡ false
 
--- in one turn a caller made so many calls, those after its first k, or was cut short; so many were passed over. The one that folds kept what it was handed
+-- in one turn a caller made so many calls, those after its first k, or was cut short; so many were passed over. The one that folds kept what it was
+-- handed
 pub record TakesTurn (link : LinkView) (plan : Plan) (number k count : ℕ) (before after : CallerView) (old new : Folding) (passed : Option ℕ)
     : Type 0 where
   pub at : IsAt link number after

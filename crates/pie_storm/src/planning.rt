@@ -1,8 +1,8 @@
 //! The plan of a storm.
 ghost use Rattle.std.specs.Prelude.{◌≡◌, ◌+◌, ◌*◌, ◌/◌, ◌^◌, ◌<◌, ◌≤◌, IfOk, map};
 ghost use Rattle.std.specs.List.{range_with_len};
-ghost use Rattle.pie_storm.specs.StormPlan.{IsStormPlan, after_three, arrival_by, arrivals_of, change_at, changes_of, departs_of, ecn_of, folds_of, held_by};
-ghost use Rattle.pie_storm.specs.StormPlan.{HasStormRange, moment_of, params_at, updates_of, words_of};
+ghost use Rattle.pie_storm.specs.StormPlan.{IsStormPlan, after_three, arrival_by, arrivals_of, change_at, changes_of, departs_of, ecn_of};
+ghost use Rattle.pie_storm.specs.StormPlan.{HasStormRange, folds_of, held_by, moment_of, params_at, updates_of, words_of};
 
 use crate::numbers::StormNumbers;
 use crate::plan::{Change, Plan};

@@ -10,7 +10,8 @@ returns-in-Some-Ask g c =
     let number = c.args.number in
     let at = c.requires.at in
     let stays = c.ask.ensures.stays in
-    let there : slice_get (calls_of plan number) c.args.k ≡ Some (Ask c.in-Some-Ask.command) = sym c.in-Some-Ask.ensures ∙ ap Some c.in-Some-Ask.field-0-is in
+    let there : slice_get (calls_of plan number) c.args.k ≡ Some (Ask c.in-Some-Ask.command) =
+    sym c.in-Some-Ask.ensures ∙ ap Some c.in-Some-Ask.field-0-is in
     let its = all_at (IsCallOf plan number) (calls_of plan number) c.args.k (Ask c.in-Some-Ask.command)
     (calls_are plan c.requires.link_for.sound number) there in
     let one : c.args.count ≡ 1 = omega (arith, c.requires.turn, c.requires.some, c.turn.ensures.size) in

@@ -1,9 +1,8 @@
 //! What an event costs, decided alone and decided and recorded, on a link with 8 per cent more arriving than leaving.
 
-use crate::places::open_book;
 use crate::report::Report;
 use crate::words::Words;
-use pie_book::{Answer, Book, Command, Core, Limits, Mode};
+use pie_book::{Answer, Book, Choices, Command, Core, Limits, Mode, Opening};
 use pie_params::Params;
 use pie_queue::{Ecn, Packet};
 use std::alloc::Global;
@@ -122,6 +121,21 @@ fn decide_all<D: Decides>(alloc: Global, place: &mut D) -> u64 {
         }
     }
     sum
+}
+
+/// What a book and a link are opened with.
+pub fn opening(limits: Limits, mode: Mode) -> Opening {
+    let usual = Opening::usual(limits, Params::default_profile(), 0);
+    let choices = Choices {
+        mode,
+        ..usual.choices
+    };
+    Opening { choices, ..usual }
+}
+
+/// A book with these limits.
+pub fn open_book(alloc: Global, limits: Limits, mode: Mode) -> Option<Book> {
+    Book::open_with(alloc, opening(limits, mode)).ok()
 }
 
 /// Prints the time of one event.

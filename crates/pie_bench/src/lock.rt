@@ -2,8 +2,7 @@
 ghost use Rattle.std.specs.Prelude.{◌≡◌, Some};
 ghost use Rattle.pie_lock.specs.Tally.{Tells};
 
-use crate::calls::{Calls, THREADS, time};
-use crate::places::{AtMutex, Place};
+use crate::places::{Place, THREADS, time};
 use crate::report::Report;
 use pie_lock::{Counter, CounterEntry, Held, Pass, RuledLock, no_entries, one_entry};
 use std::alloc::Global;
@@ -22,16 +21,6 @@ struct AtLock<'a> {
     ghost own: { pass.lock ≡ lock.now },
 }
 
-impl Place for AtLock<'_> {
-    fn share(&mut self) -> Option<Self> {
-        let lock = self.lock;
-        match lock.share(&mut self.pass) {
-            Ok(pass) => Some(AtLock { lock, pass }),
-            Err(_) => None,
-        }
-    }
-}
-
 /// Adds one, and puts the counter back.
 fn add_one(lock: &RuledLock<Counter>, mut held: Held<Counter>, caller: u16) -> Pass<Counter>
     requires own { held.lock ≡ lock.now }
@@ -47,7 +36,15 @@ fn add_one(lock: &RuledLock<Counter>, mut held: Held<Counter>, caller: u16) -> P
     }
 }
 
-impl Calls for AtLock<'_> {
+impl Place for AtLock<'_> {
+    fn share(&mut self) -> Option<Self> {
+        let lock = self.lock;
+        match lock.share(&mut self.pass) {
+            Ok(pass) => Some(AtLock { lock, pass }),
+            Err(_) => None,
+        }
+    }
+
     fn call<R: Wait>(self, rt: &R, _sends: bool, _turn: u64) -> Self {
         let AtLock { lock, pass } = self;
         let caller = pass.first();
@@ -58,9 +55,13 @@ impl Calls for AtLock<'_> {
     }
 }
 
-impl Calls for AtMutex<'_, Counter> {
+impl Place for &Mutex<Counter> {
+    fn share(&mut self) -> Option<Self> {
+        Some(*self)
+    }
+
     fn call<R: Wait>(self, rt: &R, _sends: bool, _turn: u64) -> Self {
-        self.mutex.lock(rt).add(1);
+        self.lock(rt).add(1);
         self
     }
 }
@@ -70,16 +71,10 @@ pub fn measure<R: Threads + Wait + Clock + Print + Sync>(report: &mut Report<R>,
     for threads in THREADS {
         if let Ok((lock, pass)) = RuledLock::new(alloc, Counter::new(), PASSES) {
             let lock = &lock;
-            time(
-                report,
-                alloc,
-                "lock",
-                threads,
-                threads,
-                AtLock { lock, pass },
-            );
+            let place = AtLock { lock, pass };
+            time(report, alloc, "lock", threads, threads, place);
         }
-        let mutex = &Mutex::new(Counter::new());
-        time(report, alloc, "mutex", threads, threads, AtMutex { mutex });
+        let place = &Mutex::new(Counter::new());
+        time(report, alloc, "mutex", threads, threads, place);
     }
 }

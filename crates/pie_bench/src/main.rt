@@ -1,9 +1,7 @@
-//! `pie_bench`: what an event costs in each part of the controller, measured. Its arguments name the measurement.
+//! `pie_bench`: what an event costs in each part of the controller, measured. Its argument names the measurement.
 #![tactic(auto)]
 
 mod book;
-mod bursts;
-mod calls;
 mod link;
 mod lock;
 mod parts;
@@ -39,19 +37,12 @@ fn measure<R: Threads + Wait + Clock + Print + Sync>(
         "parts" => parts::measure(report, alloc),
         "book" => book::measure(report, alloc),
         "lock" => lock::measure(report, alloc),
-        "link" => link::measure_calls(report, alloc),
-        "bursts1" => link::measure_bursts(report, alloc, 1),
-        "bursts2" => link::measure_bursts(report, alloc, 2),
-        "bursts3" => link::measure_bursts(report, alloc, 3),
-        "bursts4" => link::measure_bursts(report, alloc, 4),
-        "bursts8" => link::measure_bursts(report, alloc, 8),
+        "link" => link::measure(report, alloc),
         _ => usage(report),
     }
 }
 
 fn usage<R: Clock + Print>(report: &mut Report<R>) {
-    let said = println!(report.rt;
-        "pie_bench: name a measurement: parts, book, lock or link; of bursts bursts1, 2, 3, 4 or 8"
-    );
+    let said = println!(report.rt; "pie_bench: name a measurement: parts, book, lock or link");
     report.printed(said);
 }

@@ -30,8 +30,10 @@ trait Steps<I> {
     /// Takes one; the number is that of its result.
     fn take(&mut self, input: I) -> u64;
 
-    /// Begins anew; the number is that of what has come of the steps.
-    fn renew(&mut self) -> u64;
+    /// Begins anew; the number is that of what has come of the steps. Where a step leaves nothing behind, none has.
+    fn renew(&mut self) -> u64 {
+        0
+    }
 }
 
 /// Takes the steps in runs of so many; the number is what the results add up to.
@@ -136,6 +138,7 @@ fn measure_rate<R: Clock + Print>(report: &mut Report<R>, alloc: Global) -> Resu
     let rate = Rate::cleared();
     let mixed = departures(alloc, 64)?;
     let large = departures(alloc, 1024)?;
+    let (mixed, large) = (mixed.as_slice(), large.as_slice());
     let open = Departing {
         rate,
         threshold: LARGE,
@@ -144,22 +147,8 @@ fn measure_rate<R: Clock + Print>(report: &mut Report<R>, alloc: Global) -> Resu
         rate,
         threshold: SMALL,
     };
-    time(
-        report,
-        "rate",
-        "departed_open",
-        open,
-        mixed.as_slice(),
-        OPEN_RUN,
-    );
-    time(
-        report,
-        "rate",
-        "departed_closing",
-        closing,
-        large.as_slice(),
-        WHOLE,
-    );
+    time(report, "rate", "departed_open", open, mixed, OPEN_RUN);
+    time(report, "rate", "departed_closing", closing, large, WHOLE);
     Ok(())
 }
 
@@ -242,10 +231,6 @@ impl Steps<Input> for Probable {
         )
         .units()
     }
-
-    fn renew(&mut self) -> u64 {
-        0
-    }
 }
 
 /// The delay alone, at this threshold.
@@ -258,10 +243,6 @@ struct Delaying {
 impl Steps<Input> for Delaying {
     fn take(&mut self, input: Input) -> u64 {
         delay(input.bytes, input.average, self.threshold)
-    }
-
-    fn renew(&mut self) -> u64 {
-        0
     }
 }
 
@@ -280,18 +261,12 @@ fn measure_control<R: Clock + Print>(
         opened: control,
         control,
     };
+    let next = Probable { params };
     let delaying = Delaying {
         threshold: params.dq_threshold(),
     };
     time(report, "control", "update", whole, updates, WHOLE);
-    time(
-        report,
-        "control",
-        "next_probability",
-        Probable { params },
-        updates,
-        WHOLE,
-    );
+    time(report, "control", "next_probability", next, updates, WHOLE);
     time(report, "control", "delay", delaying, updates, WHOLE);
     Ok(())
 }
@@ -368,28 +343,21 @@ fn measure_early<R: Clock + Print>(
         control: Control::from_parts(prob, 15_000_000, 0, start),
         early,
     };
-    let let_through = Deciding {
+    let other = Deciding {
         params,
         control: Control::from_parts(prob, 1_000_000, 0, start),
         early,
     };
     let arrivals = arrivals.as_slice();
     time(report, "early", "considered", considered, arrivals, WHOLE);
-    time(
-        report,
-        "early",
-        "not_considered",
-        let_through,
-        arrivals,
-        WHOLE,
-    );
+    time(report, "early", "not_considered", other, arrivals, WHOLE);
     Ok(())
 }
 
 /// Prints the time of each step, and what the results add up to.
 pub fn measure<R: Clock + Print>(report: &mut Report<R>, alloc: Global) {
     if let Err(why) = measure_all(report, alloc) {
-        report.lacks(why);
+        report.fail(why.into());
     }
 }
 

@@ -1,83 +1,40 @@
-//! Places at which several threads work: a lock, a link, and the same state behind `std::sync::Mutex`.
-ghost use Rattle.std.specs.Prelude.{◌≡◌};
+//! Places at which several threads make calls: what a call costs one thread, and how many of them several threads make in a second.
 
 use crate::report::Report;
-use pie_book::{Book, Choices, Limits, Mode, Opening};
-use pie_link::{Caller, Link};
-use pie_params::Params;
 use std::alloc::{AllocError, Global};
 use std::rt::Clock;
-use std::sync::{Mutex, Wait};
+use std::sync::Wait;
 use std::thread;
 use std::thread::Threads;
 use std::time::Instant;
 
-/// A place of one thread.
+/// How many calls one thread makes while there is no other.
+const UNCONTENDED: u64 = 10_000_000;
+
+/// How many calls each of several threads makes.
+const PER_THREAD: u64 = 1_000_000;
+
+/// By how many threads each place is measured; by 0 it is one thread, while there is no other.
+pub const THREADS: [u16; 5] = [0, 1, 2, 4, 8];
+
+/// A place of one thread, which takes one call after another.
 pub trait Place {
     /// A place of one thread more; nothing where there is none.
     fn share(&mut self) -> Option<Self>;
-}
 
-/// A thread at the link.
-#[derive(Drop)]
-pub struct AtLink<'a> {
-    pub link: &'a Link,
-    pub caller: Caller,
-    ghost own: { caller.lock ≡ link.now },
-}
-
-/// A thread at the mutex.
-#[derive(Drop)]
-pub struct AtMutex<'a, S> {
-    pub mutex: &'a Mutex<S>,
-}
-
-impl Place for AtLink<'_> {
-    fn share(&mut self) -> Option<Self> {
-        let link = self.link;
-        match link.share(&mut self.caller) {
-            Ok(caller) => Some(AtLink { link, caller }),
-            Err(_) => None,
-        }
-    }
-}
-
-impl<S> Place for AtMutex<'_, S> {
-    fn share(&mut self) -> Option<Self> {
-        Some(AtMutex { mutex: self.mutex })
-    }
-}
-
-/// What a book and a link are opened with.
-pub fn opening(limits: Limits, mode: Mode) -> Opening {
-    let usual = Opening::usual(limits, Params::default_profile(), 0);
-    let choices = Choices {
-        mode,
-        ..usual.choices
-    };
-    Opening { choices, ..usual }
-}
-
-/// A book with these limits.
-pub fn open_book(alloc: Global, limits: Limits, mode: Mode) -> Option<Book> {
-    Book::open_with(alloc, opening(limits, mode)).ok()
+    /// The call of a turn, by a thread that sends or by another.
+    fn call<R: Wait>(self, rt: &R, sends: bool, turn: u64) -> Self;
 }
 
 /// What one of several threads does at its place.
 #[derive(Drop)]
-pub struct Job<P> {
-    pub place: P,
-    pub sends: bool,
-}
-
-/// The work of several threads.
-pub trait Work<P> {
-    /// Does the part of one of them; the number is that of its calls.
-    fn toil<R: Wait>(&self, rt: &R, job: Job<P>) -> u64;
+struct Job<P> {
+    place: P,
+    sends: bool,
 }
 
 /// Jobs for so many threads, of which the first sends.
-pub fn jobs<P: Place + Drop>(
+fn jobs<P: Place + Drop>(
     alloc: Global,
     place: &mut P,
     threads: u16,
@@ -93,22 +50,61 @@ pub fn jobs<P: Place + Drop>(
     Ok(jobs)
 }
 
-/// Has so many threads do the work at once, and gives the moment at which they began.
-pub fn toil_at_once<
-    R: Threads + Wait + Clock + Print + Sync,
-    P: Place + Send + Drop,
-    W: Work<P> + Sync,
->(report: &mut Report<R>, alloc: Global, place: &mut P, threads: u16, work: &W) -> Option<Instant> {
+/// The calls of one of several threads; the number is theirs.
+fn toil<R: Wait, P: Place + Drop>(rt: &R, job: Job<P>) -> u64 {
+    let Job { mut place, sends } = job;
+    for turn in 0..PER_THREAD {
+        place = place.call(rt, sends, turn);
+    }
+    PER_THREAD
+}
+
+/// Has so many threads make their calls at once, and gives the moment at which they began.
+fn toil_at_once<R: Threads + Wait + Clock + Print + Sync, P: Place + Send + Drop>(
+    report: &mut Report<R>,
+    alloc: Global,
+    place: &mut P,
+    threads: u16,
+) -> Option<Instant> {
     match jobs(alloc, place, threads) {
         Ok(jobs) => {
             let rt = report.rt;
             let start = report.start();
-            let _ = thread::map_vec(rt, jobs, &|job: Job<P>| { work.toil(rt, job) });
+            let _ = thread::map_vec(rt, jobs, &|job: Job<P>| { toil(rt, job) });
             start
         }
         Err(why) => {
-            report.lacks(why);
+            report.fail(why.into());
             None
         }
     }
+}
+
+/// Calls of one thread, in turn as one that sends and as another.
+fn call_alone<R: Wait, P: Place + Drop>(rt: &R, place: P) {
+    let mut place = place;
+    for turn in 0..UNCONTENDED {
+        place = place.call(rt, turn % 2 == 1, turn);
+    }
+}
+
+/// Prints how long a call takes, or how many there are in a second by `jobs` threads; of them so many are named.
+pub fn time<R: Threads + Wait + Clock + Print + Sync, P: Place + Send + Drop>(
+    report: &mut Report<R>,
+    alloc: Global,
+    name: &'static str,
+    threads: u16,
+    jobs: u16,
+    mut place: P,
+) {
+    if threads == 0 {
+        let start = report.start();
+        call_alone(report.rt, place);
+        report.nanos(name, "uncontended", start, UNCONTENDED);
+        return;
+    }
+    let start = toil_at_once(report, alloc, &mut place, jobs);
+    let rate = report.rate(start, u64::from(jobs) * PER_THREAD);
+    let said = println!(report.rt; "{name}_threads_{threads} {rate} calls/s");
+    report.printed(said);
 }

@@ -1,6 +1,5 @@
 //! What the measurements print, in lines `name value unit`.
 
-use std::alloc::AllocError;
 use std::io;
 use std::rt::Clock;
 use std::time::Instant;
@@ -25,16 +24,11 @@ impl<'a, R: Clock + Print> Report<'a, R> {
         }
     }
 
-    /// Takes a failure in.
-    fn fail(&mut self, why: io::Error) {
+    /// Takes a failure in: of the clock, of the output, or for want of memory.
+    pub fn fail(&mut self, why: io::Error) {
         if self.failure.is_none() {
             self.failure = Some(why);
         }
-    }
-
-    /// Takes in that there is no memory.
-    pub fn lacks(&mut self, memory: AllocError) {
-        self.fail(memory.into());
     }
 
     /// Takes in whether a line was printed.

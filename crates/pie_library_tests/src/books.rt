@@ -39,18 +39,13 @@ pub(crate) fn arrive(moment: u64, tag: u64) -> Command {
     }
 }
 
-/// So many packets arrive, each with its moment as tag.
-fn arrive_often(book: &mut Book, count: u64) {
-    for moment in 0..count {
-        let _ = book.apply(1, arrive(moment, moment));
-    }
-}
-
-/// A bounded book whose tail so many events fill.
+/// A bounded book whose tail so many arrivals fill, each of a packet with its moment as tag.
 fn full(alloc: Global, tail: u32) -> Option<Book> {
     match Book::open(alloc, limits(tail), Params::default_profile(), 0) {
         Ok(mut book) => {
-            arrive_often(&mut book, u64::from(tail));
+            for moment in 0..u64::from(tail) {
+                let _ = book.apply(1, arrive(moment, moment));
+            }
             Some(book)
         }
         Err(_) => None,

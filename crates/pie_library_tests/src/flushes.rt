@@ -62,45 +62,25 @@ pub(crate) enum Writes {
     History,
 }
 
-/// All of them.
-pub(crate) const WRITES: [Writes; 7] = [
-    Writes::Run,
-    Writes::RunWithin,
-    Writes::Migrate,
-    Writes::Explain,
-    Writes::Finding,
-    Writes::Opening,
-    Writes::History,
+/// All of them, and how they are printed.
+pub(crate) const WRITES: [(Writes, &str); 7] = [
+    (Writes::Run, "run_trace_flushes"),
+    (Writes::RunWithin, "run_trace_within_flushes"),
+    (Writes::Migrate, "migrate_flushes"),
+    (Writes::Explain, "explain_flushes"),
+    (Writes::Finding, "write_finding_flushes"),
+    (Writes::Opening, "write_opening_flushes"),
+    (Writes::History, "write_history_flushes"),
 ];
 
-fn run(alloc: Global, text: &[u8], writer: &mut Sink) -> bool {
-    matches!(run_trace(alloc, text, writer), Err(TraceFault::Write))
-}
-
-/// A run that reads one record at the most, and so meets a text that is too long.
-fn run_within(alloc: Global, text: &[u8], writer: &mut Sink) -> bool {
-    matches!(
-        run_trace_within(alloc, text, writer, 1),
-        Err(TraceFault::Write)
-    )
-}
-
-fn migrated(alloc: Global, text: &[u8], writer: &mut Sink) -> bool {
-    matches!(migrate(alloc, text, writer), Err(TraceFault::Write))
+/// Whether a call answers that the writer failed.
+fn is_write<T: Drop>(answer: Result<T, TraceFault>) -> bool {
+    matches!(answer, Err(TraceFault::Write))
 }
 
 fn explained(alloc: Global, text: &[u8], writer: &mut Sink) -> bool {
     let answer = explain(alloc, text, writer, Selection::of(Which::All), Form::Csv);
     matches!(answer, Err(ExplainFault::Trace(TraceFault::Write)))
-}
-
-fn found(writer: &mut Sink) -> bool {
-    let answer = write_finding(Finding::Clean { events: 3 }, writer);
-    matches!(answer, Err(TraceFault::Write))
-}
-
-fn opened(writer: &mut Sink) -> bool {
-    write_opening(&opening(), writer).is_err()
 }
 
 fn written(alloc: Global, writer: &mut Sink) -> bool {
@@ -109,36 +89,19 @@ fn written(alloc: Global, writer: &mut Sink) -> bool {
         command: Command::Depart { moment: 1 },
         answer: Answer::Empty,
     };
-    event.fits()
-        && matches!(
-            write_history(alloc, writer, &opening(), &[event]),
-            Err(TraceFault::Write)
-        )
+    event.fits() && is_write(write_history(alloc, writer, &opening(), &[event]))
 }
 
 impl Writes {
-    /// How it is printed.
-    pub(crate) fn name(self) -> &'static str {
-        match self {
-            Writes::Run => "run_trace_flushes",
-            Writes::RunWithin => "run_trace_within_flushes",
-            Writes::Migrate => "migrate_flushes",
-            Writes::Explain => "explain_flushes",
-            Writes::Finding => "write_finding_flushes",
-            Writes::Opening => "write_opening_flushes",
-            Writes::History => "write_history_flushes",
-        }
-    }
-
-    /// Whether it answers that the writer failed.
+    /// Whether it answers that the writer failed. (A run of one record at the most meets a text that is too long.)
     fn fails(self, alloc: Global, text: &[u8], writer: &mut Sink) -> bool {
         match self {
-            Writes::Run => run(alloc, text, writer),
-            Writes::RunWithin => run_within(alloc, text, writer),
-            Writes::Migrate => migrated(alloc, text, writer),
+            Writes::Run => is_write(run_trace(alloc, text, writer)),
+            Writes::RunWithin => is_write(run_trace_within(alloc, text, writer, 1)),
+            Writes::Migrate => is_write(migrate(alloc, text, writer)),
             Writes::Explain => explained(alloc, text, writer),
-            Writes::Finding => found(writer),
-            Writes::Opening => opened(writer),
+            Writes::Finding => is_write(write_finding(Finding::Clean { events: 3 }, writer)),
+            Writes::Opening => write_opening(&opening(), writer).is_err(),
             Writes::History => written(alloc, writer),
         }
     }

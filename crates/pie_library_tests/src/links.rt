@@ -114,31 +114,17 @@ pub(crate) fn fold<R: Wait + Print>(rt: &R, alloc: Global, how: How, name: &str)
 
 // ---- a caller that lacks numbers, of the highest one that there can be
 
-/// One of each command.
-fn commands() -> [Command; 5] {
-    let moment = 15_000_000;
-    [
-        arrive(10, 1),
-        Command::Depart { moment: 20 },
-        Command::Update { moment },
-        Command::Reset { moment },
-        Command::SetParams {
-            moment,
-            params: Params::default_profile(),
-        },
-    ]
-}
-
-/// How many of them are taken.
-fn taken(link: &Link, caller: &mut Caller) -> u64
+/// Whether one of each command is taken.
+fn takes_each(link: &Link, caller: &mut Caller) -> bool
     requires own { caller.old.lock ≡ link.now }
-    ensures { StaysOne caller.old caller.new }
+    ensures stays { StaysOne caller.old caller.new }
 {
-    let mut taken = 0u64;
-    for command in commands() {
-        taken = taken.saturating_add(u64::from(tries(link, caller, command)));
-    }
-    taken
+    let (moment, params) = (15_000_000, Params::default_profile());
+    tries(link, caller, arrive(10, 1))
+        & tries(link, caller, Command::Depart { moment: 20 })
+        & tries(link, caller, Command::Update { moment })
+        & tries(link, caller, Command::Reset { moment })
+        & tries(link, caller, Command::SetParams { moment, params })
 }
 
 /// How many answers there are to a burst of two packets, and to departures until none is left.
@@ -187,13 +173,13 @@ fn is_done<R: Wait>(rt: &R, alloc: Global, link: &Link, caller: &mut Caller) -> 
     requires own { caller.old.lock ≡ link.now }
     ensures stays { StaysOne caller.old caller.new }
 {
-    let taken = taken(link, caller);
+    let are_taken = takes_each(link, caller);
     let answers = burst(rt, alloc, link, caller);
     let count = count(link, caller);
     let waited = waited(link, caller);
     let told = told(alloc, link, caller);
     let folded = fold_two(rt, link, caller, How::Tries);
-    taken == 5 && answers == 5 && count == 10 && waited == 10 && told == 10 && folded == Ok((2, 2))
+    are_taken && answers == 5 && count == 10 && waited == 10 && told == 10 && folded == Ok((2, 2))
 }
 
 /// Whether this caller closes the link, with a book that holds the other eight.

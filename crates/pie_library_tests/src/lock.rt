@@ -1,39 +1,13 @@
-//! The lock, over the states that pie_lock has for tests. What its calls answer is proved but for this: that a pass which lacks numbers takes and
-//! closes a lock that is free, that there is memory, and that those who sleep at a lock that is held are woken: with a missed wake a test doesn't end.
-ghost use Rattle.std.specs.Prelude.{◌≡◌, Some, IfSome};
+//! The lock, over the counter that pie_lock has for tests. What its calls answer is proved but for this: that there is memory, that a free lock is
+//! taken and closed (src/links.rt), and that those who sleep at a lock that is held are woken: with a missed wake a test doesn't end.
+ghost use Rattle.std.specs.Prelude.{◌≡◌};
 
-use pie_lock::example::{Till, try_sell};
 use pie_lock::{Counter, CounterEntry, Pass, RuledLock, no_entries, one_entry};
 use std::alloc::Global;
 use std::sync::Wait;
 use std::thread;
 use std::thread::{Threads, sleep};
 use std::time::{Clock, Duration};
-
-/// The sales of a till that is sold from by a pass and another that it shares, and then closes by the first of them.
-fn sales(lock: RuledLock<Till>, mut pass: Pass<Till>) -> Option<u64>
-    requires own { pass.lock ≡ lock }
-{
-    let other = lock.share(&mut pass).ok()?;
-    let _other = try_sell(&lock, other).ok()?;
-    let pass = try_sell(&lock, pass).ok()?;
-    match lock.close(pass) {
-        Ok(till) => Some(till.sales),
-        Err(_) => None,
-    }
-}
-
-/// Whether both sell, at a lock with the most numbers.
-pub(crate) fn sells_to_two(alloc: Global) -> bool {
-    let till = Till {
-        opened_with: 50,
-        sales: 0,
-    };
-    match RuledLock::new(alloc, till, 65535) {
-        Ok((lock, pass)) => sales(lock, pass) == Some(2),
-        Err(_) => false,
-    }
-}
 
 /// How long each thread holds the lock, in milliseconds: long enough for those who wait to spin, to yield and to sleep.
 const LONG: u64 = 200;

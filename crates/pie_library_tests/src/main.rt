@@ -7,7 +7,6 @@
 #![tactic(auto)]
 
 mod books;
-mod calls;
 mod flushes;
 mod links;
 mod lock;
@@ -16,7 +15,8 @@ mod storms;
 mod words;
 
 use crate::flushes::WRITES;
-use crate::seen::say;
+use crate::links::How;
+use crate::seen::{say, tell};
 use std::alloc::Global;
 use std::rt::Clock;
 use std::sync::Wait;
@@ -39,7 +39,7 @@ fn part<R: Threads + Wait + Clock + Print + Sync>(
     name: &str,
 ) -> io::Result<()> {
     match name {
-        "calls" => calls::all(rt, alloc),
+        "calls" => calls(rt, alloc),
         "sleepers" => sleepers(rt, alloc),
         _ => tests(rt, alloc),
     }
@@ -47,45 +47,42 @@ fn part<R: Threads + Wait + Clock + Print + Sync>(
 
 /// Every part.
 fn all<R: Threads + Wait + Clock + Print + Sync>(rt: &R, alloc: Global) -> io::Result<()> {
-    calls::all(rt, alloc)?;
+    calls(rt, alloc)?;
     tests(rt, alloc)
+}
+
+/// Makes each call that can want memory and that no program makes so, and says what was seen.
+fn calls<R: Wait + Print>(rt: &R, alloc: Global) -> io::Result<()> {
+    let seen = books::fold(rt, alloc, "Book::fold");
+    tell(rt, "Book::fold", seen)?;
+    let seen = books::excerpt(rt, alloc, "write_excerpt");
+    tell(rt, "write_excerpt", seen)?;
+    let seen = links::open(rt, alloc, "Link::open_with");
+    tell(rt, "Link::open_with", seen)?;
+    let seen = links::fold(rt, alloc, How::Tries, "Link::try_fold");
+    tell(rt, "Link::try_fold", seen)?;
+    let seen = links::fold(rt, alloc, How::Waits, "Link::fold");
+    tell(rt, "Link::fold", seen)
 }
 
 /// Says of each test whether it holds.
 fn tests<R: Threads + Wait + Clock + Print + Sync>(rt: &R, alloc: Global) -> io::Result<()> {
-    for writes in WRITES {
-        say(rt, writes.name(), writes.tells_of_its_flush(alloc))?;
+    for (writes, name) in WRITES {
+        say(rt, name, writes.tells_of_its_flush(alloc))?;
     }
     say(rt, "refusals_in_words", words::refusals_in_words(alloc))?;
     say(rt, "the_largest_ring", words::the_largest_ring(alloc))?;
-    say(
-        rt,
-        "calls_that_nothing_else_makes",
-        words::calls_that_nothing_else_makes(alloc),
-    )?;
-    say(
-        rt,
-        "a_till_sells_to_passes_that_lack_numbers",
-        lock::sells_to_two(alloc),
-    )?;
-    say(
-        rt,
-        "a_caller_of_65535_is_answered_and_closes",
-        links::is_answered(rt, alloc),
-    )?;
-    say(
-        rt,
-        "folds_and_a_change_take_part",
-        storms::folds_take_part(rt, alloc),
-    )?;
+    let are_made = words::calls_that_nothing_else_makes(alloc);
+    say(rt, "calls_that_nothing_else_makes", are_made)?;
+    let is_answered = links::is_answered(rt, alloc);
+    say(rt, "a_caller_of_65535_is_answered_and_closes", is_answered)?;
+    let take_part = storms::folds_take_part(rt, alloc);
+    say(rt, "folds_and_a_change_take_part", take_part)?;
     sleepers(rt, alloc)
 }
 
 /// Says whether those that sleep at a held lock wake.
 fn sleepers<R: Threads + Wait + Clock + Print + Sync>(rt: &R, alloc: Global) -> io::Result<()> {
-    say(
-        rt,
-        "those_that_sleep_at_a_held_lock_all_wake",
-        lock::all_wake(rt, alloc),
-    )
+    let wake = lock::all_wake(rt, alloc);
+    say(rt, "those_that_sleep_at_a_held_lock_all_wake", wake)
 }

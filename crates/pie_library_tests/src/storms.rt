@@ -17,21 +17,23 @@ const FOLDER: u16 = 6;
 /// The longest that it is held: so many turns.
 const TURNS: u64 = 1_000_000;
 
-/// Holds the caller that folds until four calls of others were answered, and adds up the numbers of all calls, before them and after.
+/// What the numbers of all calls of the others add up to: one and two of a sender, one of the other, one change.
+const OTHERS: u64 = 5;
+
+/// Adds up the numbers of all calls, before them and after, and holds the caller that folds until those of others were answered.
 #[derive(Drop)]
 struct Hold {
+    asked: AtomicU64,
     answered: AtomicU64,
-    asked_in_all: AtomicU64,
-    answered_in_all: AtomicU64,
 }
 
 impl Gate for Hold {
     fn before(&self, caller: u16, call: u64) {
-        self.asked_in_all.fetch_add(call, Ordering::SeqCst);
+        self.asked.fetch_add(call, Ordering::SeqCst);
         if caller == FOLDER && call == 1 {
             let backoff = Backoff::new();
             for _ in 0..TURNS {
-                if self.answered.load(Ordering::SeqCst) >= 4 {
+                if self.answered.load(Ordering::SeqCst) >= OTHERS {
                     return;
                 }
                 backoff.snooze();
@@ -39,11 +41,8 @@ impl Gate for Hold {
         }
     }
 
-    fn after(&self, caller: u16, call: u64) {
-        self.answered_in_all.fetch_add(call, Ordering::SeqCst);
-        if caller != FOLDER {
-            self.answered.fetch_add(1, Ordering::SeqCst);
-        }
+    fn after(&self, _caller: u16, call: u64) {
+        self.answered.fetch_add(call, Ordering::SeqCst);
     }
 }
 
@@ -100,19 +99,16 @@ fn is_as_folded(end: &StormEnd) -> bool {
         && end.registers.bytes == 300
 }
 
-/// Whether a storm by that plan ends so, its folds held until all else was answered, and each call passed its gate: one and two of a sender, one of
-/// the other, one change, and one to three of the folds.
+/// Whether a storm by that plan ends so, its folds held until all else was answered, and each call passed its gate, one to three of the folds too.
 pub(crate) fn folds_take_part<R: Threads + Wait + Sync>(rt: &R, alloc: Global) -> bool {
     let gate = Hold {
+        asked: AtomicU64::new(0),
         answered: AtomicU64::new(0),
-        asked_in_all: AtomicU64::new(0),
-        answered_in_all: AtomicU64::new(0),
     };
     let is_so = match storm(rt, alloc, &plan(alloc), &gate) {
         Ok(end) => is_as_folded(&end),
         Err(_) => false,
     };
-    is_so
-        && gate.asked_in_all.load(Ordering::SeqCst) == 11
-        && gate.answered_in_all.load(Ordering::SeqCst) == 11
+    let all = OTHERS + 1 + 2 + 3;
+    is_so && gate.asked.load(Ordering::SeqCst) == all && gate.answered.load(Ordering::SeqCst) == all
 }

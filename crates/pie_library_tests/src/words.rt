@@ -11,19 +11,14 @@ use pie_record::{HistoryLines, Line, TraceFault};
 use std::alloc::Global;
 use std::fmt::Display;
 
-/// Whether this is said so.
-fn says<T: Display>(alloc: Global, it: &T, want: &str) -> bool {
-    match format!(in alloc; "{it}") {
-        Ok(text) => text.as_str() == want,
-        Err(_) => false,
-    }
-}
-
 /// Whether each of these is said so.
 fn say<T: Display>(alloc: Global, texts: &[(T, &'static str)]) -> bool {
     let mut are_said = true;
     for (it, want) in texts {
-        are_said &= says(alloc, it, want);
+        match format!(in alloc; "{it}") {
+            Ok(text) => are_said &= text.as_str() == *want,
+            Err(_) => return false,
+        }
     }
     are_said
 }
@@ -64,25 +59,20 @@ fn say_why_others_are_refused(alloc: Global) -> bool {
 
 /// Those of parameters, of a queue and its packets, of a trace longer than a test can run, and of a pass.
 fn say_what_is_wrong(alloc: Global) -> bool {
-    let param = says(
-        alloc,
-        &BadParam(Field::DqThreshold),
+    let params = [(
+        BadParam(Field::DqThreshold),
         "the parameter dq_threshold is out of its range",
-    );
-    let queue = says(alloc, &Memory, "out of memory");
-    let trace = says(alloc, &TraceFault::TooLong, "too many records");
-    let order = says(
-        alloc,
-        &QueueRefusal::Order,
+    )];
+    let queues = [(Memory, "out of memory")];
+    let traces = [(TraceFault::TooLong, "too many records")];
+    let orders = [(
+        QueueRefusal::Order,
         "a packet that arrived before its predecessor",
-    );
-    let end = says(
-        alloc,
-        &EndRefusal::Missing,
-        "fewer packets than were announced",
-    );
-    let pass = says(alloc, &OneNumber, "a pass with one number can't be shared");
-    param & queue & trace & order & end & pass
+    )];
+    let ends = [(EndRefusal::Missing, "fewer packets than were announced")];
+    let passes = [(OneNumber, "a pass with one number can't be shared")];
+    let of_queues = say(alloc, &queues) & say(alloc, &orders) & say(alloc, &ends);
+    of_queues & say(alloc, &params) & say(alloc, &traces) & say(alloc, &passes)
 }
 
 pub(crate) fn refusals_in_words(alloc: Global) -> bool {

@@ -32,7 +32,6 @@
 
 mod counter;
 mod entries;
-pub mod example;
 mod kept;
 mod lock;
 mod pass;

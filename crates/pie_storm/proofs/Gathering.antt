@@ -1,14 +1,27 @@
--- What is known of all workers of a storm together.
-use Rattle.pie_storm.proofs.Names.{◌≡◌, ℕ, ◌+◌, ◌<◌, List, [], length, length-append, events_in, refl, ap, sym, ◌∙◌, subst, inl, inr, ⊎_elim, arith, dite, ℕ_discrete}
-use Rattle.pie_storm.proofs.Names.{false, get_or, is_within, nat_tests, GoesOn, Event, number_of, EntriesLookBack, Entry, CallerView, LinkView, Plan}
-use Rattle.pie_storm.proofs.Names.{Work, calls_of, folder, opening_of, updater, CameOf, HasNoMore, IsWell}
-use Rattle.pie_storm.proofs.Names.{IsWorkBelow, WereHanded}
+-- What all workers of a storm did together: it is gathered; no caller was cut short, since a history has no more events than there are commands;
+-- and so the storm ends with what the plan asks for.
+use Rattle.pie_storm.proofs.Names.{◌≡◌, ℕ, ◌+◌, ◌<◌, List, [], length, length-append, events_in, refl, ap, sym, ◌∙◌, subst, inl, inr, ⊎_elim, arith}
+use Rattle.pie_storm.proofs.Names.{dite, ℕ_discrete, Bool, true, false, ◌||◌, get_or, is_within, nat_tests, GoesOn, Event, number_of, EntriesLookBack}
+use Rattle.pie_storm.proofs.Names.{Entry, CallerView, LinkView, Plan, Work, calls_of, folder, opening_of, updater, CameOf, HasNoMore, IsWell}
+use Rattle.pie_storm.proofs.Names.{IsWorkBelow, WereHanded, zero, suc, ◌≤◌, cond, ◌∷◌, ◌++◌, All, All-nil, All-cons, All-head, All-tail, own}
+use Rattle.pie_storm.proofs.Names.{own_none, due_after, effective_moment, entries_of, Made, Folded, Call, Ask, Fold, IsSound, total, AreMade}
+use Rattle.pie_storm.proofs.Names.{IsCutShort, IsStorm, Some, Ok, Err, Result, Bounded, Opening, IsLegal, handed_out, senders, IsEndOf, IsFor}
 use Rattle.pie_lock.specs.Promises.{IsBothOf}
 use Rattle.pie_lock.proofs.Owns.{goes_on, gone_on}
 use Rattle.pie_storm.specs.declared.worker.Folding.{Folding}
-use Rattle.pie_storm.specs.Storms.{Begins, IsWorkOf}
-use Rattle.pie_storm.proofs.Handing.{handed_same}
-use Rattle.pie_storm.proofs.Making.{made_on, stays}
+use Rattle.pie_storm.specs.Storms.{Begins, IsWorkOf, IsEntryOf, WasPassedOver}
+use Rattle.std.proofs.lemmas.List.Elements.{All-push}
+use native.Mathlib.Decide.{dec_le}
+use Rattle.std.specs.Result.{IfOk}
+use Rattle.pie_lock.specs.Views.{HoldsAll}
+use Rattle.pie_book.specs.Book.{BookView, Tells}
+use Rattle.pie_book.specs.Registers.{registers_after}
+use Rattle.pie_book.specs.Statistics.{stats_after}
+use Rattle.pie_kept.specs.Kept.{TellsEntries}
+use Rattle.pie_storm.specs.declared.ending.StormEnd.{StormEnd}
+use Rattle.pie_storm.specs.declared.ending.StormFault.{StormFault}
+use Rattle.pie_storm.proofs.Making.{IsRight, few_made, handed_alone, handed_same, made_on, never_soon, numbered, own_entry, stays}
+use Rattle.pie_storm.proofs.PlanFacts.{IsCallOf, calls_are, no_calls}
 
 -- what came of a caller's calls in a history came of them in one that goes on with nothing more of it
 came_on : (law : EntriesLookBack) (plan : Plan) (caller : ℕ) (h k : List Entry) (passed : ℕ) → HasNoMore caller h k → CameOf plan caller h passed
@@ -45,11 +58,15 @@ fronts plan p q r n p_first p_limit q_first q_limit both =
     ⊎_elim
     (λ behind.
     let on : GoesOn number_of 0 n p.front q.front = rw (p_first, p_limit) at behind.0 in
-    subst P (sym behind.1) ((λ caller below. each_below caller n p.front q.front below on), stays (opening_of plan) n q.front))
+    subst P (sym behind.1) ((λ caller below. each_below caller n p.front q.front below on), stays n q.front))
     (λ behind.
     let on : HasNoMore n q.front p.front = rw (q_first, q_limit) at behind.0 in
-    subst P (sym behind.1) ((λ caller below. stays (opening_of plan) caller p.front), on))
+    subst P (sym behind.1) ((λ caller below. stays caller p.front), on))
     both.3
+
+pub neither : (a b : Bool) → (a || b) ≡ false → (a ≡ false) × (b ≡ false)
+neither false b is = (refl, is)
+neither true b is = absurd (cc is)
 
 -- what the worker behind the others did is gathered to what they did
 pub together : (law : EntriesLookBack) (link : LinkView) (plan : Plan) (n : ℕ) (work last whole : Work)
@@ -68,18 +85,14 @@ together law link plan n work last whole both passed soon as_before events well 
       first = omega (arith, both.1, below.first);
       limit = omega (arith, both.2, below.limit, its.at.limit);
       came = λ fine caller less. dite (ℕ_discrete caller n)
-          (λ is. (last.passed, subst (λ (c : ℕ). CameOf plan c r.front last.passed) (sym is) (mine fine)))
+          (λ is. (last.passed, subst (λ (c : ℕ). CameOf plan c r.front last.passed) (sym is) (mine fine), λ updates. sym (soon (sym is ∙ updates))))
           (λ other.
           let before : caller < n = omega (arith, less, other) in
-          let came = below.came (well fine).0 caller before in
-          (came.0, came_on law plan caller p.front r.front came.0 (on.0 caller before) came.1));
-      updates = λ fine less. dite (ℕ_discrete n (updater plan))
-          (λ is. subst (λ (passed : ℕ). CameOf plan (updater plan) r.front passed) (sym (soon is))
-          (subst (λ (c : ℕ). CameOf plan c r.front last.passed) is (mine fine)))
-          (λ other.
-          let before : updater plan < n = omega (arith, less, other) in
-          subst (λ (passed : ℕ). CameOf plan (updater plan) r.front passed) (sym (as_before other))
-          (came_on law plan (updater plan) p.front r.front work.too_soon (on.0 (updater plan) before) (below.updates (well fine).0 before)));
+          let came = below.came (well fine).0 caller before in (
+            came.0,
+            came_on law plan caller p.front r.front came.0 (on.0 caller before) came.1,
+            λ updates. came.2 updates ∙ sym (as_before (λ is. other (updates ∙ sym is))),
+          ));
       folds = λ fine all.
           let is : n ≡ folder plan = omega (arith, all) in
           let handed = its.handed (well fine).1 is in (
@@ -93,7 +106,7 @@ together law link plan n work last whole both passed soon as_before events well 
 -- the starter asks for nothing
 nothing_asked : (plan : Plan) → CameOf plan 0 [] 0
 unfolding CameOf calls_of
-nothing_asked plan = inl (stays (opening_of plan) 0 [], refl)
+nothing_asked plan = inl (stays 0 [], refl)
 
 -- .. and alone has made nothing
 pub starter_alone : (link : LinkView) (plan : Plan) (caller rest : CallerView) (folding : Folding) → Begins link plan caller → caller.first ≡ 0
@@ -106,8 +119,282 @@ starter_alone link plan caller rest folding begins first one same =
       limit = ap (λ (p : CallerView). p.limit) same;
       came = λ fine number less.
           let is : 0 ≡ number = omega (arith, one, first, less) in
-          subst (λ (c : ℕ). (passed : ℕ) × CameOf plan c rest.front passed) is
-          (subst (λ (h : List Entry). (passed : ℕ) × CameOf plan 0 h passed) (sym new) (0, nothing_asked plan));
-      updates = λ fine less. absurd (omega (arith, one, first, less));
+          subst (λ (c : ℕ). (passed : ℕ) × CameOf plan c rest.front passed × (c ≡ updater plan → passed ≡ 0)) is
+          (0, subst (λ (h : List Entry). CameOf plan 0 h 0) (sym new) (nothing_asked plan), λ updates. refl);
       folds = λ fine all. absurd (omega (arith, one, first, all));
     }
+
+-- ---- all callers together
+
+-- the entries below n are those of each of these callers
+length-cond : (b : Bool) (e : Entry) (xs : List Entry) → length (cond b (e ∷ xs) xs) ≡ length xs + cond b 1 0
+length-cond true e xs = omega arith
+length-cond false e xs = omega arith
+
+one_more : (n k : ℕ) → cond (is_within 0 n k) 1 0 + cond (is_within n (n + 1) k) 1 0 ≡ cond (is_within 0 (suc n) k) 1 0
+one_more n k = grind (arith, nat_tests)
+
+split : (n : ℕ) (xs : List Entry) → length (own number_of 0 n xs) + length (entries_of n xs) ≡ length (own number_of 0 (suc n) xs)
+split n [] = omega arith
+split n (e ∷ xs) = omega (
+  arith,
+  split n xs,
+  one_more n (number_of e),
+  length-cond (is_within 0 n (number_of e)) e (own number_of 0 n xs),
+  length-cond (is_within n (n + 1) (number_of e)) e (entries_of n xs),
+  length-cond (is_within 0 (suc n) (number_of e)) e (own number_of 0 (suc n) xs),
+)
+
+none_within : (k : ℕ) → is_within 0 0 k ≡ false
+none_within k = grind (arith, nat_tests)
+
+none_below : (xs : List Entry) → length (own number_of 0 0 xs) ≤ 0
+none_below xs = omega (
+  arith,
+  ap (λ (l : List Entry). length l) (own_none number_of 0 0 xs (λ k d within. none_within (number_of (get_or xs k d)))),
+)
+
+-- so with no more of each than this there are no more than in all, and with fewer of one fewer
+counted : (f : ℕ → ℕ) (n : ℕ) (xs : List Entry) → ((k : ℕ) → k < n → length (entries_of k xs) ≤ f k) → length (own number_of 0 n xs) ≤ total f n
+counted f zero xs few = none_below xs
+counted f (suc n) xs few = omega (arith, split n xs, counted f n xs (λ k below. few k (omega (arith, below))), few n (omega arith))
+
+counted_fewer : (f : ℕ → ℕ) (n k : ℕ) (xs : List Entry) → ((j : ℕ) → j < n → length (entries_of j xs) ≤ f j) → k < n
+    → length (entries_of k xs) < f k → length (own number_of 0 n xs) < total f n
+counted_fewer f zero k xs few below fewer = absurd (omega (arith, below))
+counted_fewer f (suc n) k xs few below fewer =
+    let each = λ (j : ℕ) (lower : j < n). few j (omega (arith, lower)) in
+    dite (ℕ_discrete k n)
+    (λ is. let here : length (entries_of n xs) < f n = subst (λ (j : ℕ). length (entries_of j xs) < f j) is fewer in
+    omega (arith, split n xs, counted f n xs each, here))
+    (λ other. omega (arith, split n xs, counted_fewer f n k xs each (omega (arith, below, other)) fewer, few n (omega arith)))
+
+-- one more than the last, which folds
+abbrev pub callers_of_plan : Plan → ℕ
+callers_of_plan plan = suc (folder plan)
+
+-- ---- one entry, and those of its caller
+
+abbrev IsBelow : ℕ → Entry → Type 0
+IsBelow n e = number_of e < n
+
+rest_of : (P : Entry → Type 0) (b : Bool) (e : Entry) (xs : List Entry) → All P (cond b (e ∷ xs) xs) → All P xs
+rest_of P true e xs all = All-tail P e xs all
+rest_of P false e xs all = all
+
+-- what holds of a caller's entries holds of each entry that is its
+of_its : (P : Entry → Type 0) (caller : ℕ) (xs : List Entry) → All P (entries_of caller xs) → All (λ e. number_of e ≡ caller → P e) xs
+of_its P caller [] all = All-nil (λ e. number_of e ≡ caller → P e)
+of_its P caller (e ∷ xs) all =
+    All-cons (λ e. number_of e ≡ caller → P e) e xs
+    (λ is.
+    let yes : is_within caller (caller + 1) (number_of e) ≡ true = grind (arith, nat_tests, is) in
+    All-head P e (entries_of caller xs) (subst (λ (b : Bool). All P (cond b (e ∷ entries_of caller xs) (entries_of caller xs))) yes all))
+    (of_its P caller xs (rest_of P (is_within caller (caller + 1) (number_of e)) e (entries_of caller xs) all))
+
+-- where the callers are n and those below, and n makes folds alone, there are no more events than entries of those below
+few_events : (n : ℕ) (xs : List Entry) → All (IsBelow (suc n)) xs → All (λ e. number_of e ≡ n → IsRight n e) xs
+    → length (events_in xs) ≤ length (own number_of 0 n xs)
+few_events n [] below right = omega arith
+few_events n (Made event ∷ xs) below right =
+    let less : event.caller < suc n = All-head (IsBelow (suc n)) (Made event) xs below in
+    let other : event.caller ≡ n → ⊥ = λ is. All-head (λ e. number_of e ≡ n → IsRight n e) (Made event) xs right is is in
+    let lower : event.caller < n = omega (arith, less, other) in
+    let yes : is_within 0 n event.caller ≡ true = grind (arith, nat_tests, lower) in
+    omega (
+      arith,
+      ap {B = ℕ} (λ (b : Bool). cond b 1 0) yes,
+      length-cond (is_within 0 n event.caller) (Made event) (own number_of 0 n xs),
+      few_events n xs (All-tail (IsBelow (suc n)) (Made event) xs below) (All-tail (λ e. number_of e ≡ n → IsRight n e) (Made event) xs right),
+    )
+few_events n (Folded caller count ∷ xs) below right = omega (
+  arith,
+  length-cond (is_within 0 n caller) (Folded caller count) (own number_of 0 n xs),
+  few_events n xs (All-tail (IsBelow (suc n)) (Folded caller count) xs below)
+      (All-tail (λ e. number_of e ≡ n → IsRight n e) (Folded caller count) xs right),
+)
+
+-- ---- what a caller's entries are
+
+module _ (plan : Plan) (caller : ℕ) where
+  abbrev IsIts : Call → Type 0
+  IsIts = IsCallOf plan caller
+
+  abbrev IsFine : Entry → Type 0
+  IsFine = IsRight (folder plan)
+
+  -- a call that comes to nothing is the updater's or the folder's
+  not_passed : (before : List Entry) (call : Call) → (caller ≡ updater plan → ⊥) → (caller ≡ folder plan → ⊥) → IsIts call
+      → WasPassedOver (opening_of plan) before call → ⊥
+  not_passed before (Ask command) no_updates no_folds its was =
+      let h = events_in before in
+      let opening = opening_of plan in
+      never_soon (effective_moment opening h) (due_after opening h) (length h) opening.limits.events command was.due
+      (its.2 no_updates (effective_moment opening h) (due_after opening h)) was.refused
+  not_passed before (Fold n) no_updates no_folds its was = no_folds its
+
+  none_passed : (front : List Entry) (calls : List Call) (h : List Entry) (passed : ℕ) → (caller ≡ updater plan → ⊥) → (caller ≡ folder plan → ⊥)
+      → All IsIts calls → AreMade (opening_of plan) caller front calls h passed → passed ≡ 0
+  none_passed front [] h passed no_updates no_folds its m = m.1
+  none_passed front (call ∷ calls) h passed no_updates no_folds its (inl m) =
+      none_passed (m.0 ++ m.1 ∷ []) calls h passed no_updates no_folds (All-tail IsIts call calls its) m.4
+  none_passed front (call ∷ calls) h passed no_updates no_folds its (inr m) =
+      absurd (not_passed m.0 call no_updates no_folds (All-head IsIts call calls its) m.3)
+
+  right_by : (call : Call) → IsIts call → (entry : Entry) → IsEntryOf caller call entry → IsFine entry
+  right_by (Ask command) its (Made event) is = λ folds. its.0 (sym is.0 ∙ folds)
+  right_by (Ask command) its (Folded who n) is = absurd is
+  right_by (Fold n) its (Made event) is = absurd is
+  right_by (Fold n) its (Folded who count) is = is.0 ∙ its
+
+  all_right_by : (front : List Entry) (calls : List Call) (h : List Entry) (passed : ℕ) → All IsIts calls
+      → AreMade (opening_of plan) caller front calls h passed → All IsFine (entries_of caller front) → All IsFine (entries_of caller h)
+  all_right_by front [] h passed its m all = subst (All IsFine) (sym m.0.1) all
+  all_right_by front (call ∷ calls) h passed its (inl m) all =
+      all_right_by (m.0 ++ m.1 ∷ []) calls h passed (All-tail IsIts call calls its) m.4
+      (subst (All IsFine) (sym (own_entry caller m.0 m.1 (numbered caller call m.1 m.3) ∙ ap (λ (l : List Entry). l ++ m.1 ∷ []) m.2.1))
+      (All-push IsFine (entries_of caller front) m.1 all (right_by call (All-head IsIts call calls its) m.1 m.3)))
+  all_right_by front (call ∷ calls) h passed its (inr m) all =
+      all_right_by m.0 calls h m.1 (All-tail IsIts call calls its) m.5 (subst (All IsFine) (sym m.2.1) all)
+
+-- ---- a whole storm
+
+module _ (plan : Plan) (h : List Entry) (sound : IsSound plan) (below : All (IsBelow (callers_of_plan plan)) h) (too_soon : ℕ)
+    (came : (caller : ℕ) → caller < callers_of_plan plan
+    → (passed : ℕ) × CameOf plan caller h passed × (caller ≡ updater plan → passed ≡ too_soon)) where
+  -- no caller has more entries than calls
+  few_of : (caller passed : ℕ) → CameOf plan caller h passed → length (entries_of caller h) ≤ length (calls_of plan caller)
+  unfolding CameOf
+  few_of caller passed (inl made) = omega (arith, few_made (opening_of plan) caller [] (calls_of plan caller) h passed made)
+  few_of caller passed (inr cut) = omega (arith, cut.fewer)
+
+  -- .. and those of the one that folds are folds
+  folds_of : (passed : ℕ) → CameOf plan (folder plan) h passed → All (IsRight (folder plan)) (entries_of (folder plan) h)
+  unfolding CameOf
+  folds_of passed (inl made) =
+      all_right_by plan (folder plan) [] (calls_of plan (folder plan)) h passed (calls_are plan sound (folder plan)) made
+      (All-nil (IsRight (folder plan)))
+  folds_of passed (inr cut) = absurd (cut.asks refl)
+
+  -- no caller was cut short
+  never_cut : (caller : ℕ) → caller < callers_of_plan plan → IsCutShort plan caller [] (calls_of plan caller) h → ⊥
+  never_cut caller less cut =
+      let n = folder plan in
+      let below_n : caller < n = dite (ℕ_discrete caller n) (λ is. absurd (cut.asks is)) (λ other. omega (arith, less, other)) in
+      let last = came n (omega arith) in
+      omega (
+        arith,
+        counted_fewer (λ c. length (calls_of plan c)) n caller h
+            (λ c lower. let came_so = came c (omega (arith, lower)) in few_of c came_so.0 came_so.1) below_n (omega (arith, cut.fewer)),
+        cut.full,
+        few_events n h below (of_its (IsRight n) n h (folds_of last.0 last.1)),
+        sound.tail,
+        sound.events,
+      )
+
+  all_made : (caller passed : ℕ) → caller < callers_of_plan plan → CameOf plan caller h passed
+      → AreMade (opening_of plan) caller [] (calls_of plan caller) h passed
+  unfolding CameOf
+  all_made caller passed less (inl made) = made
+  all_made caller passed less (inr cut) = absurd (never_cut caller less cut)
+
+  -- each caller made all its calls
+  each_made : (caller : ℕ)
+      → (passed : ℕ) × AreMade (opening_of plan) caller [] (calls_of plan caller) h passed × (caller ≡ updater plan → passed ≡ too_soon)
+  each_made caller = dite (dec_le (callers_of_plan plan) caller)
+      (λ over. (
+        0,
+        subst (λ (calls : List Call). AreMade (opening_of plan) caller [] calls h 0) (sym (no_calls plan caller (omega (arith, over)))) (
+          (
+            (h, refl),
+            own_none number_of caller (caller + 1) h (λ k d within. let less = below k d within in grind (arith, nat_tests, less, over)),
+          ),
+          refl,
+        ),
+        λ is. absurd (omega (arith, over, is)),
+      ))
+      (λ not_over.
+      let lower : caller < callers_of_plan plan = omega (arith, not_over) in
+      let c = came caller lower in (c.0, all_made caller c.0 lower c.1, c.2))
+
+  -- no caller has folds but the one that makes them, and that has nothing else
+  pub all_right : All (IsRight (folder plan)) h
+  all_right = λ k d within.
+      let caller = number_of (get_or h k d) in
+      let m = each_made caller in
+      of_its (IsRight (folder plan)) caller h (all_right_by plan caller [] (calls_of plan caller) h m.0 (calls_are plan sound caller) m.1
+      (All-nil (IsRight (folder plan)))) k d within refl
+
+  -- the history of a storm is what its plan asks for
+  pub is_storm : (too_many : ℕ) → CameOf plan (folder plan) h too_many → IsStorm plan (events_in h) too_soon too_many
+  is_storm too_many folds =
+      let made = λ (caller : ℕ) (passed : ℕ). AreMade (opening_of plan) caller [] (calls_of plan caller) h passed in
+      let updates = each_made (updater plan) in record {
+        history = h;
+        of_history = refl;
+        updates = subst (made (updater plan)) (updates.2 refl) updates.1;
+        folds = all_made (folder plan) too_many (omega arith) folds;
+        others = λ caller no_updates no_folds.
+            let m = each_made caller in
+            let none = none_passed plan caller [] (calls_of plan caller) h m.0 no_updates no_folds (calls_are plan sound caller) m.1 in
+            subst (made caller) none m.1;
+      }
+
+module _ (plan : Plan) (link : LinkView) (work : Work) (book : BookView) (link_for : IsFor plan link)
+    (numbers : link.numbers ≡ senders plan + 5) (worked : IsWorkBelow link plan (senders plan + 5) work)
+    (opened : work.caller.lock.origin ≡ Some book.opening) (told : HoldsAll work.caller → TellsEntries book work.caller.front)
+    (numbered : HoldsAll work.caller → All (λ (e : Entry). number_of e < work.caller.lock.numbers) work.caller.front) where
+  -- the starter has all numbers of the link again
+  holds_all : HoldsAll work.caller
+  holds_all = (worked.first, worked.limit ∙ (sym numbers ∙ ap (λ (l : LinkView). l.numbers) (sym worked.lock)))
+
+  -- so it closed the link, and has the book that was opened
+  opened_so : book.opening ≡ opening_of plan
+  opened_so =
+      let same : Some book.opening ≡ Some (opening_of plan) = sym opened ∙ (ap (λ (l : LinkView). l.origin) worked.lock ∙ link_for.opened) in
+      cc same
+
+  -- all that it was shown is of the plan's callers, and their calls came to what they may
+  all_below : All (λ (e : Entry). number_of e < callers_of_plan plan) work.caller.front
+  all_below =
+      let all : work.caller.lock.numbers ≡ callers_of_plan plan = omega (arith, ap (λ (l : LinkView). l.numbers) worked.lock, numbers) in
+      subst (λ (n : ℕ). All (λ (e : Entry). number_of e < n) work.caller.front) all (numbered holds_all)
+
+  all_came : IsWell work.folding → (caller : ℕ) → caller < callers_of_plan plan
+      → (passed : ℕ) × CameOf plan caller work.caller.front passed × (caller ≡ updater plan → passed ≡ work.too_soon)
+  all_came fine caller less = worked.came fine caller (omega (arith, less))
+
+  -- so its front is what the plan asks for
+  storm_of : IsWell work.folding → IsStorm plan (events_in work.caller.front) work.too_soon work.passed
+  storm_of fine =
+      is_storm plan work.caller.front link_for.sound all_below work.too_soon (all_came fine) work.passed (worked.folds fine (omega arith)).0
+
+  -- what the folds handed out, and then the tail, are all events
+  whole_history : IsWell work.folding → work.folding.events.items ++ book.tail ≡ events_in work.caller.front
+  whole_history fine =
+      let front = work.caller.front in
+      let bounded : book.opening.choices.mode ≡ Bounded = ap (λ (o : Opening). o.choices.mode) opened_so in
+      let all : work.folding.events.items ≡ handed_out book.opening front = (worked.folds fine (omega arith)).1
+      ∙ (handed_alone (opening_of plan) (folder plan) [] front (all_right plan front link_for.sound all_below work.too_soon (all_came fine))
+      ∙ ap (λ (o : Opening). handed_out o front) (sym opened_so)) in
+      ap (λ (es : List Event). es ++ book.tail) all ∙ (told holds_all).nothing_lost bounded
+
+  -- how a storm ended
+  pub ended : (result : Result StormEnd StormFault)
+      → IfOk result (λ end. end.events.items ≡ work.folding.events.items ++ book.tail)
+      → ((events : List Event) → Tells book events → IfOk result (λ end. end.registers ≡ registers_after book.opening events))
+      → ((events : List Event) → Tells book events → IfOk result (λ end. end.stats ≡ stats_after book.opening events))
+      → IfOk result (λ end. IsWell work.folding × (end.too_soon ≡ work.too_soon) × (end.too_many ≡ work.passed)) → IfOk result (IsEndOf plan)
+  ended (Ok end) items registers stats counts =
+      let h = events_in work.caller.front in
+      let tells = (told holds_all).told in
+      let is : end.events.items ≡ h = items ∙ whole_history counts.0 in record {
+        legal = subst (λ (es : List Event). IsLegal (opening_of plan) es) (sym is)
+            (subst (λ (o : Opening). IsLegal o h) opened_so tells.running.legal);
+        made = subst (λ (es : List Event). IsStorm plan es end.too_soon end.too_many) (sym is)
+            (subst (λ (t : ℕ). IsStorm plan h t end.too_many) (sym (counts.1))
+            (subst (λ (t : ℕ). IsStorm plan h work.too_soon t) (sym (counts.2)) (storm_of counts.0)));
+        registers = registers h tells ∙ (ap (λ o. registers_after o h) opened_so ∙ ap (λ es. registers_after (opening_of plan) es) (sym is));
+        stats = stats h tells ∙ (ap (λ o. stats_after o h) opened_so ∙ ap (λ es. stats_after (opening_of plan) es) (sym is));
+      }
+  ended (Err why) items registers stats counts = counts

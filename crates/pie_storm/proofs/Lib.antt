@@ -1,10 +1,5 @@
 mod Names
-mod PlanCommands
-mod Handing
 mod Making
-mod Bursting
 mod Gathering
-mod Counting
-mod Closing
 mod PlanFacts
 mod StormFacts

@@ -1,27 +1,77 @@
--- What a caller's calls come to, in a history that grows.
-use Rattle.pie_storm.proofs.Names.{◌≡◌, ℕ, zero, suc, ◌+◌, ◌<◌, ◌≤◌, ◌==◌, ◌⊎◌, List, [], ◌∷◌, ◌++◌, Bool, true, false, cond, Some, None, Ok, Err}
-use Rattle.pie_storm.proofs.Names.{Option, Result, Vec, take, drop, min, length, slice_get, refl, ap, sym, ◌∙◌, subst, inl, inr, ⊎_elim, arith}
-use Rattle.pie_storm.proofs.Names.{length-append, length-drop, Global, take-add, take-length, length-take}
-use Rattle.pie_storm.proofs.Names.{append_assoc, nat_tests, is_within, GoesOn, goes_on_itself, Answer, Command, Event, Bounded}
-use Rattle.pie_storm.proofs.Names.{Rolling, Opening, Refusal, is_refused_full, or_full, refusal_by_rule, refusal_with, due_after, effective_moment}
-use Rattle.pie_storm.proofs.Names.{event_of, entries_of, events_in, handed_to, left_in, number_of, tail_in, EntriesLookBack, Entry, Made, Folded}
-use Rattle.pie_storm.proofs.Names.{Told, CallerView, LinkView, Call, Ask, Fold, Plan, IsFair, calls_of, folder, opening_of, AreMade}
-use Rattle.pie_storm.proofs.Names.{CameOf, HasMade, HasNoMore, IsAt, IsCutShort, IsFor, MadeOrCut, WereHanded, is_number}
-use Rattle.std.proofs.lemmas.List.Elements.{filter-append}
-use Rattle.std.proofs.lemmas.Option.{slice_get_within}
+-- What a caller's calls come to, in a history that grows: one by one or in bursts; and what its folds hand out.
+use Rattle.pie_storm.proofs.Names.{◌≡◌, ℕ, ◌+◌, Bool, true, false, List, [], ◌∷◌, ◌++◌, take, refl, ap, sym, ◌∙◌, arith, eq-eqb, if◌then◌else◌, All}
+use Rattle.pie_storm.proofs.Names.{nat_tests, append-nil, All-head, All-tail, is_within, NoneOwn, gone_on, Event, Opening, handed_to, number_of}
+use Rattle.pie_storm.proofs.Names.{tail_in, EntriesLookBack, Entry, Made, Folded, HasNoMore, is_number, zero, suc, ◌≤◌, ◌==◌, ◌⊎◌, cond, Some, None}
+use Rattle.pie_storm.proofs.Names.{Ok, Err, Option, Result, Vec, drop, min, length, slice_get, subst, inl, inr, ⊎_elim, length-append, length-drop}
+use Rattle.pie_storm.proofs.Names.{Global, take-add, take-length, length-take, append_assoc, GoesOn, goes_on_itself, Answer, Command, Bounded}
+use Rattle.pie_storm.proofs.Names.{Rolling, Refusal, is_refused_full, or_full, refusal_by_rule, refusal_with, due_after, effective_moment, event_of}
+use Rattle.pie_storm.proofs.Names.{entries_of, events_in, left_in, Told, CallerView, LinkView, Call, Ask, Fold, Plan, IsFair, calls_of, folder}
+use Rattle.pie_storm.proofs.Names.{opening_of, AreMade, CameBy, CameOf, IsAt, IsCutShort, IsFor, WereHanded, map, IfSome, IsOk, length-map, All-cons}
+use Rattle.pie_storm.proofs.Names.{All-nil, decision, Arrival, Reply, always, arrive, arriving, AddedByAll}
+use Rattle.std.proofs.lemmas.List.Elements.{filter-append, All-drop, All-take}
 use Rattle.pie_event.specs.declared.opening.Mode.{Mode}
 use Rattle.pie_event.specs.declared.refusal.FoldRefusal.{FoldRefusal}
 use Rattle.pie_event.specs.declared.refusal.FoldRefusal.TheVariants.{TooMany, Memory}
 use Rattle.pie_event.specs.declared.refusal.Refusal.TheVariants.{TooSoon, Moment, Size, Exhausted, HistoryFull}
 use Rattle.pie_book.specs.Decision.{is_too_soon}
-use Rattle.pie_kept.specs.Commands.{IsWhy}
+use Rattle.pie_kept.specs.Commands.{IsWhy, refusal_in}
 use Rattle.pie_link.specs.Commands.{Answers, IsRefused, IsTaken}
 use Rattle.pie_link.specs.Folds.{Folds, IsFoldMade, IsFoldRefused}
 use Rattle.pie_storm.specs.Storms.{IsEntryOf, TakenIn, WasPassedOver, added_by}
-use Rattle.pie_storm.proofs.Handing.{handed_more, handed_same}
-use Rattle.pie_storm.proofs.PlanCommands.{IsFairCall, all_at, all_fair, folder_asks_nothing}
+use Rattle.pie_kept.specs.Bursts.{burst_within, entries_by, entries_within, refused_or_told, replies_within, reply_in}
+use Rattle.pie_link.specs.Bursts.{AnswersAll, AnswersWithin, IsBurstWithin}
+use Rattle.pie_storm.proofs.PlanFacts.{IsCallOf, all_at, calls_are}
 
-module _ (opening : Opening) (caller : ℕ) where
+-- one more fold of the caller
+pub handed_more : (law : EntriesLookBack) (opening : Opening) (caller : ℕ) (g : List Entry) (n who : ℕ) → who ≡ caller
+    → handed_to (is_number caller) opening [] (g ++ Folded who n ∷ []) ≡ handed_to (is_number caller) opening [] g ++ take n (tail_in opening g)
+handed_more law opening caller g n who is =
+    law.handed (is_number caller) opening [] g (Folded who n ∷ [])
+    ∙ ap (λ (es : List Event). handed_to (is_number caller) opening [] g ++ es)
+    (append-nil (if is_number caller who then take n (tail_in opening g) else [])
+    ∙ ap (λ (b : Bool). if b then take n (tail_in opening g) else []) (eq-eqb who caller is))
+
+-- where the caller has no more entries nothing more is handed to it
+handed_none : (opening : Opening) (caller : ℕ) (before xs : List Entry) → NoneOwn number_of caller (caller + 1) xs
+    → handed_to (is_number caller) opening before xs ≡ []
+handed_none opening caller before [] none = refl
+handed_none opening caller before (Made event ∷ xs) none =
+    handed_none opening caller (before ++ Made event ∷ []) xs (All-tail (λ e. is_within caller (caller + 1) (number_of e) ≡ false) (Made event) xs none)
+handed_none opening caller before (Folded other n ∷ xs) none =
+    let out : is_within caller (caller + 1) other ≡ false = none 0 (Folded other n) (omega arith) in
+    let apart : is_number caller other ≡ false = grind (arith, nat_tests, out) in
+    ap (λ (b : Bool). (if b then take n (tail_in opening before) else []) ++ handed_to (is_number caller) opening (before ++ Folded other n ∷ []) xs)
+    apart
+    ∙ handed_none opening caller (before ++ Folded other n ∷ []) xs
+    (All-tail (λ e. is_within caller (caller + 1) (number_of e) ≡ false) (Folded other n) xs none)
+
+pub handed_same : (law : EntriesLookBack) (opening : Opening) (caller : ℕ) (g h : List Entry) → HasNoMore caller g h
+    → handed_to (is_number caller) opening [] h ≡ handed_to (is_number caller) opening [] g
+handed_same law opening caller g h same =
+    let on = gone_on number_of caller (caller + 1) g h same in
+    ap (λ (l : List Entry). handed_to (is_number caller) opening [] l) (sym on.1)
+    ∙ (law.handed (is_number caller) opening [] g on.0
+    ∙ (ap (λ (es : List Event). handed_to (is_number caller) opening [] g ++ es) (handed_none opening caller g on.0 on.2)
+    ∙ append-nil (handed_to (is_number caller) opening [] g)))
+
+-- an entry of a history in which this caller alone folds, and makes nothing else
+abbrev pub IsRight : ℕ → Entry → Type 0
+IsRight folder (Made event) = event.caller ≡ folder → ⊥
+IsRight folder (Folded who n) = who ≡ folder
+
+-- there what is handed to it is all that is handed out
+pub handed_alone : (opening : Opening) (folder : ℕ) (before h : List Entry) → All (IsRight folder) h
+    → handed_to (is_number folder) opening before h ≡ handed_to (λ caller. true) opening before h
+handed_alone opening folder before [] right = refl
+handed_alone opening folder before (Made event ∷ h) right =
+    handed_alone opening folder (before ++ Made event ∷ []) h (All-tail (IsRight folder) (Made event) h right)
+handed_alone opening folder before (Folded who n ∷ h) right =
+    ap (λ (b : Bool). (if b then take n (tail_in opening before) else []) ++ handed_to (is_number folder) opening (before ++ Folded who n ∷ []) h)
+    (eq-eqb who folder (All-head (IsRight folder) (Folded who n) h right))
+    ∙ ap (λ (es : List Event). take n (tail_in opening before) ++ es)
+    (handed_alone opening folder (before ++ Folded who n ∷ []) h (All-tail (IsRight folder) (Folded who n) h right))
+
+module _ (caller : ℕ) where
   pub stays : (h : List Entry) → HasNoMore caller h h
   stays h = goes_on_itself number_of caller (caller + 1) h
 
@@ -31,12 +81,26 @@ module _ (opening : Opening) (caller : ℕ) where
     b.1 ∙ a.1,
   )
 
+  -- a caller's own entry is one more of its entries
+  pub own_entry : (g : List Entry) (entry : Entry) → number_of entry ≡ caller → entries_of caller (g ++ entry ∷ []) ≡ entries_of caller g ++ entry ∷ []
+  own_entry g entry e =
+      let yes : is_within caller (caller + 1) (number_of entry) ≡ true = grind (arith, nat_tests, e) in
+      filter-append (λ (x : Entry). is_within caller (caller + 1) (number_of x)) g (entry ∷ [])
+      ∙ ap (λ w. entries_of caller g ++ w) (ap (λ (b : Bool). cond b (entry ∷ []) []) yes)
+
+  pub numbered : (call : Call) (entry : Entry) → IsEntryOf caller call entry → number_of entry ≡ caller
+  numbered (Ask command) (Made event) is = is.0
+  numbered (Ask command) (Folded who n) is = absurd is
+  numbered (Fold count) (Made event) is = absurd is
+  numbered (Fold count) (Folded who n) is = is.0
+
+module _ (opening : Opening) (caller : ℕ) where
   -- what was made by one that had been shown more, was made by one that had been shown less
   pub made_from : (front before : List Entry) (calls : List Call) (h : List Entry) (passed : ℕ) → HasNoMore caller front before
       → AreMade opening caller before calls h passed → AreMade opening caller front calls h passed
-  made_from front before [] h passed on m = (goes_on front before h on m.0, m.1)
-  made_from front before (call ∷ calls) h passed on (inl m) = inl (m.0, m.1, goes_on front before m.0 on m.2, m.3, m.4)
-  made_from front before (call ∷ calls) h passed on (inr m) = inr (m.0, m.1, goes_on front before m.0 on m.2, m.3, m.4, m.5)
+  made_from front before [] h passed on m = (goes_on caller front before h on m.0, m.1)
+  made_from front before (call ∷ calls) h passed on (inl m) = inl (m.0, m.1, goes_on caller front before m.0 on m.2, m.3, m.4)
+  made_from front before (call ∷ calls) h passed on (inr m) = inr (m.0, m.1, goes_on caller front before m.0 on m.2, m.3, m.4, m.5)
 
   -- calls after calls
   made_both : (front : List Entry) (calls later : List Call) (mid h : List Entry) (p q : ℕ) → AreMade opening caller front calls mid p
@@ -53,22 +117,9 @@ module _ (opening : Opening) (caller : ℕ) where
   -- .. in a history that goes on with nothing more of the caller
   pub made_on : (front : List Entry) (calls : List Call) (h k : List Entry) (passed : ℕ) → HasNoMore caller h k
       → AreMade opening caller front calls h passed → AreMade opening caller front calls k passed
-  made_on front [] h k passed on m = (goes_on front h k m.0 on, m.1)
+  made_on front [] h k passed on m = (goes_on caller front h k m.0 on, m.1)
   made_on front (call ∷ calls) h k passed on (inl m) = inl (m.0, m.1, m.2, m.3, made_on (m.0 ++ m.1 ∷ []) calls h k passed on m.4)
   made_on front (call ∷ calls) h k passed on (inr m) = inr (m.0, m.1, m.2, m.3, m.4, made_on m.0 calls h k m.1 on m.5)
-
-  -- a caller's own entry is one more of its entries
-  pub own_entry : (g : List Entry) (entry : Entry) → number_of entry ≡ caller → entries_of caller (g ++ entry ∷ []) ≡ entries_of caller g ++ entry ∷ []
-  own_entry g entry e =
-      let yes : is_within caller (caller + 1) (number_of entry) ≡ true = grind (arith, nat_tests, e) in
-      filter-append (λ (x : Entry). is_within caller (caller + 1) (number_of x)) g (entry ∷ [])
-      ∙ ap (λ w. entries_of caller g ++ w) (ap (λ (b : Bool). cond b (entry ∷ []) []) yes)
-
-  pub numbered : (call : Call) (entry : Entry) → IsEntryOf caller call entry → number_of entry ≡ caller
-  numbered (Ask command) (Made event) is = is.0
-  numbered (Ask command) (Folded who n) is = absurd is
-  numbered (Fold count) (Made event) is = absurd is
-  numbered (Fold count) (Folded who n) is = is.0
 
   -- there are no more entries than calls
   pub few_made : (front : List Entry) (calls : List Call) (h : List Entry) (passed : ℕ) → AreMade opening caller front calls h passed
@@ -77,7 +128,7 @@ module _ (opening : Opening) (caller : ℕ) where
   few_made front (call ∷ calls) h passed (inl m) = omega (
     arith,
     few_made (m.0 ++ m.1 ∷ []) calls h passed m.4,
-    ap (λ (l : List Entry). length l) (own_entry m.0 m.1 (numbered call m.1 m.3)),
+    ap (λ (l : List Entry). length l) (own_entry caller m.0 m.1 (numbered caller call m.1 m.3)),
     length-append (entries_of caller m.0) (m.1 ∷ []),
     ap (λ (l : List Entry). length l) m.2.1,
   )
@@ -99,14 +150,14 @@ seen link number before history at on = rw (at.first, at.limit) at on
 -- ---- why a command is refused
 
 -- a refusal is by the rules, or for a full tail
-pub which : (by_rule : Option Refusal) (full : Bool) (why : Refusal) → or_full by_rule full ≡ Some why
+which : (by_rule : Option Refusal) (full : Bool) (why : Refusal) → or_full by_rule full ≡ Some why
     → (by_rule ≡ Some why) ⊎ ((by_rule ≡ None) × (why ≡ HistoryFull) × (full ≡ true))
 which None false why is = absurd (cc)
 which None true why is = inr (refl, cc, refl)
 which (Some other) full why is = inl is
 
 -- a refusal as too soon is the rules'
-too_soon_by_rule : (opening : Opening) (history : List Entry) (command : Command) (due : ℕ) → IsWhy opening history command (TooSoon due)
+pub too_soon_by_rule : (opening : Opening) (history : List Entry) (command : Command) (due : ℕ) → IsWhy opening history command (TooSoon due)
     → refusal_by_rule opening (events_in history) command ≡ Some (TooSoon due)
 too_soon_by_rule opening history command due why =
     ⊎_elim (λ e. e) (λ e. absurd (cc (e.1)))
@@ -148,159 +199,294 @@ full_after opening history command why fair is not_soon =
 
 -- ---- what a turn comes to
 
--- the book was full after these calls, and before the caller had an entry for each
-pub record IsFull (opening : Opening) (caller : ℕ) (h : List Entry) (calls : List Call) (after : List Entry) : Type 0 where
-  pub full : min opening.limits.tail opening.limits.events ≤ length (events_in after)
-  pub fewer : length (entries_of caller after) < length (entries_of caller h) + length calls
+module _ (plan : Plan) (number : ℕ) where
+  -- what came of calls after a history came of them after what the caller had been shown before
+  pub came_from : (front before : List Entry) (calls : List Call) (after : List Entry) (passed : Option ℕ) → HasNoMore number front before
+      → CameBy plan number before calls after passed → CameBy plan number front calls after passed
+  unfolding CameBy
+  came_from front before calls after (Some passed) on came = made_from (opening_of plan) number front before calls after passed on came
+  came_from front before calls after None on came =
+      record { asks = came.asks; full = came.full; fewer = omega (arith, came.fewer, ap (λ (l : List Entry). length l) on.1) }
 
--- a caller that had been shown this history made these calls, and so many were passed over; or the book was full
-unfoldable pub CameBy : Opening → ℕ → List Entry → List Call → List Entry → Option ℕ → Type 0
-CameBy opening caller h calls after (Some passed) = AreMade opening caller h calls after passed
-CameBy opening caller h calls after None = IsFull opening caller h calls after
-
-module _ (opening : Opening) (caller : ℕ) where
   -- a front is this history
-  shows : (h front : List Entry) → front ≡ h → HasNoMore caller h front
-  shows h front is = subst (λ (l : List Entry). HasNoMore caller h l) (sym is) (stays opening caller h)
+  shows : (h front : List Entry) → front ≡ h → HasNoMore number h front
+  shows h front is = subst (λ (l : List Entry). HasNoMore number h l) (sym is) (stays number h)
 
   -- one call has its entry right behind a history, or was passed over there
-  one_made : (call : Call) (h : List Entry) (entry : Entry) (front : List Entry) → IsEntryOf caller call entry → front ≡ h ++ entry ∷ []
-      → AreMade opening caller h (call ∷ []) front 0
-  one_made call h entry front is shown = inl (h, entry, stays opening caller h, is, (shows (h ++ entry ∷ []) front shown, refl))
+  one_made : (call : Call) (h : List Entry) (entry : Entry) (front : List Entry) → IsEntryOf number call entry → front ≡ h ++ entry ∷ []
+      → AreMade (opening_of plan) number h (call ∷ []) front 0
+  one_made call h entry front is shown = inl (h, entry, stays number h, is, (shows (h ++ entry ∷ []) front shown, refl))
 
-  one_passed : (call : Call) (h front : List Entry) → WasPassedOver opening h call → front ≡ h → AreMade opening caller h (call ∷ []) front 1
-  one_passed call h front was shown = inr (h, 0, stays opening caller h, was, refl, (shows h front shown, refl))
+  one_passed : (call : Call) (h front : List Entry) → WasPassedOver (opening_of plan) h call → front ≡ h
+      → AreMade (opening_of plan) number h (call ∷ []) front 1
+  one_passed call h front was shown = inr (h, 0, stays number h, was, refl, (shows h front shown, refl))
 
-module _ (plan : Plan) (number k : ℕ) (link : LinkView) (link_for : IsFor plan link) (before after : CallerView) (at : IsAt link number before)
-    (earlier : ℕ) (old : List Event) (had : HasMade plan number k before.front earlier old) where
-  -- the next calls, after a history that goes on from what the caller had been shown
-  pub goes : (n : ℕ) (calls : List Call) (history : List Entry) (new : List Event) (passed : Option ℕ) → length calls ≡ n
-      → take n (drop k (calls_of plan number)) ≡ calls → HasNoMore number before.front history
-      → (number ≡ folder plan → WereHanded plan number new after.front)
-      → (passed ≡ None → (number ≡ folder plan → ⊥) × (k + n ≤ length (calls_of plan number)))
-      → CameBy (opening_of plan) number history calls after.front passed → MadeOrCut plan number (k + n) after.front earlier new passed
-  unfolding CameBy MadeOrCut
-  goes n calls history new (Some more) size is on handed there came =
-      let all = calls_of plan number in record {
-        made = subst (λ (cs : List Call). AreMade (opening_of plan) number [] cs after.front (earlier + more))
-            (sym (take-add k n all ∙ ap (λ (cs : List Call). take k all ++ cs) is))
-            (made_both (opening_of plan) number [] (take k all) calls before.front after.front earlier more had.made
-            (made_from (opening_of plan) number before.front history calls after.front more on came));
-        handed = handed;
-      }
-  goes n calls history new None size is on handed there came = record {
-    asks = (there refl).0;
-    full = came.full;
-    fewer = omega (
-      arith,
-      came.fewer,
-      size,
-      (there refl).1,
-      few_made (opening_of plan) number [] (take k (calls_of plan number)) before.front earlier had.made,
-      length-take k (calls_of plan number),
-      ap (λ (l : List Entry). length l) on.1,
-    );
-  }
+  -- what comes of a command that is refused
+  module _ (h front : List Entry) (command : Command) (its : IsCallOf plan number (Ask command)) (shown : front ≡ h) where
+    cut_short : (why : Refusal) → IsWhy (opening_of plan) h command why → ((d : ℕ) → why ≡ TooSoon d → ⊥)
+        → IsCutShort plan number h (Ask command ∷ []) front
+    cut_short why because not_soon =
+        subst (λ (l : List Entry). IsCutShort plan number h (Ask command ∷ []) l) (sym shown)
+        (record { asks = its.0; full = full_after (opening_of plan) h command why its.1 because not_soon; fewer = omega arith })
 
-  -- what comes of a command
-  module _ (command : Command) (there : slice_get (calls_of plan number) k ≡ Some (Ask command)) where
-    asked : (history : List Entry) (passed : Option ℕ) → GoesOn number_of before.first before.limit before.front history
-        → CameBy (opening_of plan) number history (Ask command ∷ []) after.front passed → MadeOrCut plan number (k + 1) after.front earlier old passed
-    asked history passed on came =
-        goes 1 (Ask command ∷ []) history old passed refl (one_at (calls_of plan number) k (Ask command) there)
-        (seen link number before history at on) (λ folds. absurd (folder_asks_nothing plan number k command folds there))
-        (λ none. (
-          (λ folds. folder_asks_nothing plan number k command folds there),
-          omega (arith, slice_get_within (calls_of plan number) k (Ask command) there),
-        ))
-        came
+    refused_by : (why : Refusal) → IsWhy (opening_of plan) h command why → CameBy plan number h (Ask command ∷ []) front (added_by (Err why))
+    unfolding CameBy added_by
+    refused_by (TooSoon due) because =
+        one_passed (Ask command) h front (record { due = due; refused = too_soon_by_rule (opening_of plan) h command due because }) shown
+    refused_by Moment because = cut_short Moment because (λ d e. cc e)
+    refused_by Size because = cut_short Size because (λ d e. cc e)
+    refused_by Exhausted because = cut_short Exhausted because (λ d e. cc e)
+    refused_by HistoryFull because = cut_short HistoryFull because (λ d e. cc e)
 
-    cut_short : (why : Refusal) → (history : List Entry) × IsRefused (opening_of plan) before command why after history
-        → ((d : ℕ) → why ≡ TooSoon d → ⊥) → MadeOrCut plan number (k + 1) after.front earlier old None
-    unfolding CameBy
-    cut_short why refused not_soon =
-        let fair = all_at IsFairCall (calls_of plan number) k (Ask command) (all_fair plan link_for.sound number) there in
-        asked refused.0 None refused.1.from.goes_on
-        (subst (λ (h : List Entry). IsFull (opening_of plan) number refused.0 (Ask command ∷ []) h)
-        (sym (ap (λ (c : CallerView). c.front) refused.1.seen))
-        (record { full = full_after (opening_of plan) refused.0 command why fair refused.1.because not_soon; fewer = omega arith }))
+module _ (plan : Plan) (number k : ℕ) (link : LinkView) (link_for : IsFor plan link) (before after : CallerView) (at : IsAt link number before) where
+  -- what comes of the call that the caller makes after k others
+  abbrev Came : Option ℕ → Type 0
+  Came passed = CameBy plan number before.front (take 1 (drop k (calls_of plan number))) after.front passed
 
-    pub asked_next : (answer : Result (Told Answer) Refusal) → Answers link before command answer after
-        → MadeOrCut plan number (k + 1) after.front earlier old (added_by answer)
-    unfolding Answers CameBy added_by
-    asked_next (Ok told) answers =
-        let a = answers (opening_of plan) link_for.opened in
-        let taken : IsTaken (opening_of plan) before command told after a.0 = a.1 in
-        asked a.0 (Some 0) taken.from.goes_on
-        (one_made (opening_of plan) number (Ask command) a.0 (Made (event_of before.first command told.answer)) after.front (at.first, refl)
-        (ap (λ (c : CallerView). c.front) taken.recorded))
-    asked_next (Err (TooSoon due)) answers =
-        let a = answers (opening_of plan) link_for.opened in
-        let refused : IsRefused (opening_of plan) before command (TooSoon due) after a.0 = a.1 in
-        asked a.0 (Some 1) refused.from.goes_on
-        (one_passed (opening_of plan) number (Ask command) a.0 after.front
-        (record { due = due; refused = too_soon_by_rule (opening_of plan) a.0 command due refused.because })
-        (ap (λ (c : CallerView). c.front) refused.seen))
-    asked_next (Err Moment) answers = cut_short Moment (answers (opening_of plan) link_for.opened) (λ d e. cc e)
-    asked_next (Err Size) answers = cut_short Size (answers (opening_of plan) link_for.opened) (λ d e. cc e)
-    asked_next (Err Exhausted) answers = cut_short Exhausted (answers (opening_of plan) link_for.opened) (λ d e. cc e)
-    asked_next (Err HistoryFull) answers = cut_short HistoryFull (answers (opening_of plan) link_for.opened) (λ d e. cc e)
+  one_came : (call : Call) (history : List Entry) (passed : Option ℕ) → slice_get (calls_of plan number) k ≡ Some call
+      → GoesOn number_of before.first before.limit before.front history → CameBy plan number history (call ∷ []) after.front passed → Came passed
+  one_came call history passed there on came =
+      subst (λ (calls : List Call). CameBy plan number before.front calls after.front passed) (sym (one_at (calls_of plan number) k call there))
+      (came_from plan number before.front history (call ∷ []) after.front passed (seen link number before history at on) came)
 
-  -- what comes of a fold
-  module _ (law : EntriesLookBack) (n : ℕ) (there : slice_get (calls_of plan number) k ≡ Some (Fold n)) where
-    handed_before : (history : List Entry) → HasNoMore number before.front history → number ≡ folder plan → WereHanded plan number old history
-    handed_before history on folds = had.handed folds ∙ sym (handed_same law (opening_of plan) number before.front history on)
+  pub asked_next : (command : Command) → slice_get (calls_of plan number) k ≡ Some (Ask command) → (answer : Result (Told Answer) Refusal)
+      → Answers link before command answer after → Came (added_by answer)
+  unfolding Answers CameBy added_by
+  asked_next command there (Ok told) answers =
+      let a = answers (opening_of plan) link_for.opened in
+      let taken : IsTaken (opening_of plan) before command told after a.0 = a.1 in
+      one_came (Ask command) a.0 (Some 0) there taken.from.goes_on
+      (one_made plan number (Ask command) a.0 (Made (event_of before.first command told.answer)) after.front (at.first, refl)
+      (ap (λ (c : CallerView). c.front) taken.recorded))
+  asked_next command there (Err why) answers =
+      let a = answers (opening_of plan) link_for.opened in
+      let refused : IsRefused (opening_of plan) before command why after a.0 = a.1 in
+      let its = all_at (IsCallOf plan number) (calls_of plan number) k (Ask command) (calls_are plan link_for.sound number) there in
+      one_came (Ask command) a.0 (added_by (Err why)) there refused.from.goes_on
+      (refused_by plan number a.0 after.front command its (ap (λ (c : CallerView). c.front) refused.seen) why refused.because)
 
-    folded : (history : List Entry) (new : List Event) (passed : Option ℕ) (more : ℕ) → passed ≡ Some more → HasNoMore number before.front history
-        → (number ≡ folder plan → WereHanded plan number new after.front)
-        → AreMade (opening_of plan) number history (Fold n ∷ []) after.front more → MadeOrCut plan number (k + 1) after.front earlier new passed
-    unfolding CameBy
-    folded history new passed more some on handed made =
-        subst (λ (p : Option ℕ). MadeOrCut plan number (k + 1) after.front earlier new p) (sym some)
-        (goes 1 (Fold n ∷ []) history new (Some more) refl (one_at (calls_of plan number) k (Fold n) there) on handed (λ none. absurd (cc none)) made)
+  -- .. where it is a fold, of which the caller keeps what it is handed
+  module _ (law : EntriesLookBack) (n : ℕ) (there : slice_get (calls_of plan number) k ≡ Some (Fold n)) (old new : List Event) where
+    handed_before : (history : List Entry) → HasNoMore number before.front history → WereHanded plan number old before.front
+        → WereHanded plan number old history
+    handed_before history on had = had ∙ sym (handed_same law (opening_of plan) number before.front history on)
 
-    pub folded_next : (answer : Result (Told (Vec Event Global)) FoldRefusal) (new : List Event) (passed : Option ℕ)
-        → Folds link before n answer after → TakenIn answer old new passed → MadeOrCut plan number (k + 1) after.front earlier new passed
-    unfolding Folds TakenIn
-    folded_next (Ok told) new passed answers kept =
+    pub folded_next : (passed : Option ℕ) (answer : Result (Told (Vec Event Global)) FoldRefusal) → Folds link before n answer after
+        → TakenIn answer old new passed → Came passed × (WereHanded plan number old before.front → WereHanded plan number new after.front)
+    unfolding Folds TakenIn CameBy
+    folded_next passed (Ok told) answers kept =
         let a = answers (opening_of plan) link_for.opened in
         let made : IsFoldMade (opening_of plan) before n told after a.0 = a.1 in
         let on = seen link number before a.0 at made.from.goes_on in
-        let shown : after.front ≡ a.0 ++ Folded before.first n ∷ [] = ap (λ (c : CallerView). c.front) made.recorded in
-        folded a.0 new passed 0 kept.1 on
-        (λ folds. kept.0 ∙ (ap (λ (es : List Event). es ++ told.answer.items) (handed_before a.0 on folds)
-        ∙ (ap (λ (es : List Event). handed_to (is_number number) (opening_of plan) [] a.0 ++ es) made.folded.oldest
-        ∙ (sym (handed_more law (opening_of plan) number a.0 n before.first at.first)
-        ∙ ap (λ (h : List Entry). handed_to (is_number number) (opening_of plan) [] h) (sym shown)))))
-        (one_made (opening_of plan) number (Fold n) a.0 (Folded before.first n) after.front (at.first, refl) shown)
-    folded_next (Err (TooMany held)) new passed answers kept =
+        let shown : after.front ≡ a.0 ++ Folded before.first n ∷ [] = ap (λ (c : CallerView). c.front) made.recorded in (
+          subst Came (sym kept.1) (one_came (Fold n) a.0 (Some 0) there made.from.goes_on
+              (one_made plan number (Fold n) a.0 (Folded before.first n) after.front (at.first, refl) shown)),
+          λ had. kept.0 ∙ (ap (λ (es : List Event). es ++ told.answer.items) (handed_before a.0 on had)
+              ∙ (ap (λ (es : List Event). handed_to (is_number number) (opening_of plan) [] a.0 ++ es) made.folded.oldest
+              ∙ (sym (handed_more law (opening_of plan) number a.0 n before.first at.first)
+              ∙ ap (λ (h : List Entry). handed_to (is_number number) (opening_of plan) [] h) (sym shown)))),
+        )
+    folded_next passed (Err (TooMany held)) answers kept =
         let a = answers (opening_of plan) link_for.opened in
         let refused : IsFoldRefused (opening_of plan) before n (TooMany held) after a.0 = a.1 in
         let on = seen link number before a.0 at refused.from.goes_on in
-        let shown : after.front ≡ a.0 = ap (λ (c : CallerView). c.front) refused.seen in
-        folded a.0 new passed 1 kept.1 on
-        (λ folds. kept.0 ∙ (handed_before a.0 on folds ∙ ap (λ (h : List Entry). handed_to (is_number number) (opening_of plan) [] h) (sym shown)))
-        (one_passed (opening_of plan) number (Fold n) a.0 after.front (omega (arith, refused.because.0, refused.because.1)) shown)
-    folded_next (Err Memory) new passed answers kept = absurd kept
+        let shown : after.front ≡ a.0 = ap (λ (c : CallerView). c.front) refused.seen in (
+          subst Came (sym kept.1) (one_came (Fold n) a.0 (Some 1) there refused.from.goes_on
+              (one_passed plan number (Fold n) a.0 after.front (omega (arith, refused.because.0, refused.because.1)) shown)),
+          λ had. kept.0 ∙ (handed_before a.0 on had
+              ∙ ap (λ (h : List Entry). handed_to (is_number number) (opening_of plan) [] h) (sym shown)),
+        )
+    folded_next passed (Err Memory) answers kept = absurd kept
 
 -- ---- from the first call to the last
 
-pub made_none : (plan : Plan) (number : ℕ) (front : List Entry) (events : List Event) → front ≡ [] → events ≡ []
-    → HasMade plan number 0 front 0 events
-made_none plan number front events new none =
-    subst (λ (h : List Entry). HasMade plan number 0 h 0 events) (sym new) (record {
-      made = (stays (opening_of plan) number [], refl);
-      handed = λ folds. none;
-    })
+module _ (plan : Plan) (number k : ℕ) (front : List Entry) (passed : ℕ)
+    (made : AreMade (opening_of plan) number [] (take k (calls_of plan number)) front passed) where
+  -- after its first k calls a caller made those of one turn more
+  pub made_more : (n : ℕ) (after : List Entry) (more : ℕ) → CameBy plan number front (take n (drop k (calls_of plan number))) after (Some more)
+      → AreMade (opening_of plan) number [] (take (k + n) (calls_of plan number)) after (passed + more)
+  unfolding CameBy
+  made_more n after more came =
+      let all = calls_of plan number in
+      subst (λ (calls : List Call). AreMade (opening_of plan) number [] calls after (passed + more)) (sym (take-add k n all))
+      (made_both (opening_of plan) number [] (take k all) (take n (drop k all)) front after passed more made came)
 
--- all calls were made, or the book was full
-pub came_of_all : (plan : Plan) (number k : ℕ) (front : List Entry) (passed : ℕ) (events : List Event)
-    → HasMade plan number k front passed events → k ≡ length (calls_of plan number) → CameOf plan number front passed
-unfolding CameOf
-came_of_all plan number k front passed events had all =
-    inl (subst (λ (calls : List Call). AreMade (opening_of plan) number [] calls front passed)
-    (ap (λ (n : ℕ). take n (calls_of plan number)) all ∙ take-length (calls_of plan number)) had.made)
+  -- .. or was cut short there
+  pub came_cut : k ≤ length (calls_of plan number) → (n : ℕ) (after : List Entry)
+      → IsCutShort plan number front (take n (drop k (calls_of plan number))) after → CameOf plan number after passed
+  unfolding CameOf
+  came_cut within n after cut =
+      let all = calls_of plan number in
+      inr (record {
+        asks = cut.asks;
+        full = cut.full;
+        fewer = omega (
+          arith,
+          within,
+          cut.fewer,
+          few_made (opening_of plan) number [] (take k all) front passed made,
+          length-take k all,
+          length-take n (drop k all),
+          length-drop k all,
+        );
+      })
 
-pub came_cut : (plan : Plan) (number : ℕ) (front : List Entry) (passed : ℕ) → IsCutShort plan number front → CameOf plan number front passed
-unfolding CameOf
-came_cut plan number front passed cut = inr cut
+  -- .. or it had made all
+  pub came_of_all : k ≡ length (calls_of plan number) → CameOf plan number front passed
+  unfolding CameOf
+  came_of_all all =
+      inl (subst (λ (calls : List Call). AreMade (opening_of plan) number [] calls front passed)
+      (ap (λ (n : ℕ). take n (calls_of plan number)) all ∙ take-length (calls_of plan number)) made)
+
+-- why a command is refused, where its reply is a refusal
+refused_why : (why : Option Refusal) (told : Told Answer) (w : Refusal) → refused_or_told why told ≡ Err w → why ≡ Some w
+refused_why None told w e = absurd (cc e)
+refused_why (Some other) told w e = cc e
+
+-- an arrival is never too soon
+arrives_in_time : (opening : Opening) (h : List Entry) (a : Arrival) (why : Refusal) → IsWhy opening h (arrive a) why
+    → (d : ℕ) → why ≡ TooSoon d → ⊥
+arrives_in_time opening h a why e d is =
+    let events = events_in h in
+    never_soon (effective_moment opening events) (due_after opening events) (length events) opening.limits.events (arrive a) d refl
+    (too_soon_by_rule opening h (arrive a) d (e ∙ ap Some is))
+
+module _ (law : EntriesLookBack) (plan : Plan) (caller : ℕ) where
+  -- an arrival after a history, and what the history is after it
+  abbrev reply_to : List Entry → Arrival → Reply
+  reply_to g a = reply_in (opening_of plan) g (arrive a)
+
+  abbrev grown : List Entry → Arrival → Reply → List Entry
+  grown g a reply = g ++ entries_by caller (arrive a) reply
+
+  -- .. and so several of them
+  abbrev replies_to : List Entry → List Arrival → List Reply
+  replies_to g [] = []
+  replies_to g (a ∷ later) = reply_to g a ∷ replies_to (grown g a (reply_to g a)) later
+
+  abbrev after_all : List Entry → List Arrival → List Entry
+  after_all g [] = g
+  after_all g (a ∷ later) = after_all (grown g a (reply_to g a)) later
+
+  -- this is what the link answers, and what it records
+  abbrev answered : List Entry → List Entry → List Arrival → List Reply
+  answered h made burst = replies_within None always (opening_of plan) caller h made (map arrive burst)
+
+  abbrev recorded : List Entry → List Entry → List Arrival → List Entry
+  recorded h made burst = entries_within None always (opening_of plan) caller h made (map arrive burst)
+
+  is_answered : (h made : List Entry) (burst : List Arrival) → (answered h made burst ≡ replies_to (h ++ made) burst)
+      × (h ++ (made ++ recorded h made burst) ≡ after_all (h ++ made) burst)
+  unfolding burst_within
+  is_answered h made [] = (refl, ap (λ (l : List Entry). h ++ l) (append-nil made))
+  is_answered h made (a ∷ later) =
+      let reply = reply_to (h ++ made) a in
+      let added = entries_by caller (arrive a) reply in
+      let rest = is_answered h (made ++ added) later in
+      let is : h ++ (made ++ added) ≡ grown (h ++ made) a reply = sym (append_assoc h made added) in (
+        ap (λ (l : List Reply). reply ∷ l) (rest.0 ∙ ap (λ (g : List Entry). replies_to g later) is),
+        ap (λ (l : List Entry). h ++ l) (sym (append_assoc made added (recorded h (made ++ added) later)))
+            ∙ (rest.1 ∙ ap (λ (g : List Entry). after_all g later) is),
+      )
+
+  -- there are no more entries of the caller than arrivals, and no event is lost
+  abbrev Grows : List Entry → ℕ → List Entry → Type 0
+  Grows g count end =
+      (length (entries_of caller end) ≤ length (entries_of caller g) + count) × (length (events_in g) ≤ length (events_in end))
+
+  grows_by : (g : List Entry) (a : Arrival) (reply : Reply) → Grows g 1 (grown g a reply)
+  grows_by g a (Ok told) =
+      let entry = Made (event_of caller (arrive a) told.answer) in (
+        omega (arith, ap (λ (l : List Entry). length l) (own_entry caller g entry refl), length-append (entries_of caller g) (entry ∷ [])),
+        omega (arith, ap (λ (l : List Event). length l) (law.events g (entry ∷ [])), length-append (events_in g) (events_in (entry ∷ []))),
+      )
+  grows_by g a (Err why) = (
+    omega (arith, ap (λ (l : List Entry). length (entries_of caller l)) (append-nil g)),
+    omega (arith, ap (λ (l : List Entry). length (events_in l)) (append-nil g)),
+  )
+
+  grows : (g : List Entry) (burst : List Arrival) → Grows g (length burst) (after_all g burst)
+  grows g [] = (omega arith, omega arith)
+  grows g (a ∷ later) =
+      let reply = reply_to g a in
+      let one = grows_by g a reply in
+      let rest = grows (grown g a reply) later in
+      (omega (arith, one.0, rest.0), omega (arith, one.1, rest.1))
+
+  -- what comes of an arrival, and then of those behind it
+  first_came : (g end : List Entry) (a : Arrival) (later : List Call) (replies : List Reply) (passed : Option ℕ) (reply : Reply)
+      → reply_to g a ≡ reply → IsCallOf plan caller (arriving a) → Grows (grown g a reply) (length later) end
+      → (AddedByAll replies passed → CameBy plan caller (grown g a reply) later end passed) → AddedByAll (reply ∷ replies) passed
+      → CameBy plan caller g (arriving a ∷ later) end passed
+  unfolding CameBy
+  first_came g end a later replies (Some p) (Ok told) is its more so (inl all) =
+      inl (g, Made (event_of caller (arrive a) told.answer), stays caller g, (refl, refl), so (inl (All-tail IsOk (Ok told) replies all.0, all.1)))
+  first_came g end a later replies None (Ok told) is its more so (inr not_all) =
+      let cut = so (inr ((λ all. not_all.0 (All-cons IsOk (Ok told) replies refl all)), refl)) in
+      record { asks = cut.asks; full = cut.full; fewer = omega (arith, cut.fewer, (grows_by g a (Ok told)).0) }
+  first_came g end a later replies None (Err why) is its more so (inr not_all) =
+      let refused : IsWhy (opening_of plan) g (arrive a) why = refused_why (refusal_in (opening_of plan) g (arrive a)) (record {
+        answer = decision (opening_of plan) (events_in g) (arrive a);
+        number = length (events_in g) + 1;
+      }) why is in
+      let same = append-nil g in record {
+        asks = its.0;
+        full = omega (
+          arith,
+          full_after (opening_of plan) g (arrive a) why its.1 refused (arrives_in_time (opening_of plan) g a why refused),
+          more.1,
+          ap (λ (l : List Entry). length (events_in l)) same,
+        );
+        fewer = omega (arith, more.0, ap (λ (l : List Entry). length (entries_of caller l)) same);
+      }
+  first_came g end a later replies None (Ok told) is its more so (inl all) = absurd (cc all.1)
+  first_came g end a later replies (Some p) (Ok told) is its more so (inr not_all) = absurd (cc not_all.1)
+  first_came g end a later replies passed (Err why) is its more so (inl all) = absurd (cc (All-head IsOk (Err why) replies all.0))
+  first_came g end a later replies (Some p) (Err why) is its more so (inr not_all) = absurd (cc not_all.1)
+
+  burst_came : (g : List Entry) (burst : List Arrival) (passed : Option ℕ) → All (IsCallOf plan caller) (map arriving burst)
+      → AddedByAll (replies_to g burst) passed → CameBy plan caller g (map arriving burst) (after_all g burst) passed
+  unfolding CameBy
+  burst_came g [] (Some p) its (inl all) = (stays caller g, cc all.1)
+  burst_came g [] None its (inl all) = absurd (cc all.1)
+  burst_came g [] passed its (inr not_all) = absurd (not_all.0 (All-nil IsOk))
+  burst_came g (a ∷ later) passed its added =
+      let reply = reply_to g a in
+      let now = grown g a reply in
+      let rest = grows now later in
+      first_came g (after_all now later) a (map arriving later) (replies_to now later) passed reply refl
+      (All-head (IsCallOf plan caller) (arriving a) (map arriving later) its)
+      (omega (arith, rest.0, length-map later arriving), rest.1)
+      (burst_came now later passed (All-tail (IsCallOf plan caller) (arriving a) (map arriving later) its)) added
+
+pub burst_next : (law : EntriesLookBack) (plan : Plan) (number k n : ℕ) (link : LinkView) → IsFor plan link → (before after : CallerView)
+    → IsAt link number before → (burst : List Arrival) (replies : List Reply) → 1 ≤ n → length burst ≡ n
+    → map arriving burst ≡ take n (drop k (calls_of plan number)) → AnswersAll always link before (map arrive burst) [] replies after
+    → (passed : Option ℕ) → AddedByAll replies passed
+    → CameBy plan number before.front (take n (drop k (calls_of plan number))) after.front passed
+unfolding AnswersWithin
+burst_next law plan number k n link link_for before after at [] replies some long is answers passed added = absurd (omega (arith, some, long))
+burst_next law plan number k n link link_for before after at (a ∷ later) replies some long is answers passed added =
+    let b = answers (opening_of plan) link_for.opened in
+    let burst = a ∷ later in
+    let told : IsBurstWithin None always (opening_of plan) before (map arrive burst) [] replies after b.0 = b.1 in
+    let same = is_answered law plan number b.0 [] burst in
+    let h = b.0 ++ [] in
+    let none : h ≡ b.0 = append-nil b.0 in
+    let Its = IsCallOf plan number in
+    let its = subst (All Its) (sym is)
+    (All-take Its n (drop k (calls_of plan number)) (All-drop Its k (calls_of plan number) (calls_are plan link_for.sound number))) in
+    let front_is : after.front ≡ after_all law plan number h burst =
+    ap (λ (c : CallerView). c.front) told.recorded ∙ ap (λ (first : ℕ). b.0 ++ recorded law plan first b.0 [] burst) at.first ∙ same.1 in
+    let replies_are : replies ≡ replies_to law plan number h burst =
+    told.answered ∙ ap (λ (first : ℕ). answered law plan first b.0 [] burst) at.first ∙ same.0 in
+    subst (λ (calls : List Call). CameBy plan number before.front calls after.front passed) is
+    (came_from plan number before.front h (map arriving burst) after.front passed
+    (subst (λ (g : List Entry). HasNoMore number before.front g) (sym none) (seen link number before b.0 at told.from.goes_on))
+    (subst (λ (g : List Entry). CameBy plan number h (map arriving burst) g passed) (sym front_is)
+    (burst_came law plan number h burst passed its (subst (λ (l : List Reply). AddedByAll l passed) replies_are added))))
+
+-- no arrival of a burst is passed over
+pub few_by_all : (replies : List Reply) (passed : Option ℕ) → AddedByAll replies passed → IfSome passed (λ n. n ≤ 1)
+few_by_all replies passed (inl all) = subst (λ (p : Option ℕ). IfSome p (λ n. n ≤ 1)) (sym all.1) (omega arith)
+few_by_all replies passed (inr none) = subst (λ (p : Option ℕ). IfSome p (λ n. n ≤ 1)) (sym none.1) tt

@@ -1,13 +1,13 @@
 -- What the files of this folder take from below, in one place.
 pub use Rattle.std.proofs.Common.{Bool, Err, List, None, Ok, Option, Result, Some, Vec, [], ap, append_assoc, arith, cond, drop, eq-eqb, false, get_or, inl}
-pub use Rattle.std.proofs.Common.{inr, length, length-append, length-drop, map, min, nat_le, not, refl, rules, slice_get, subst, suc, sym, take, true}
+pub use Rattle.std.proofs.Common.{inr, length, length-append, length-drop, map, min, nat_le, refl, rules, slice_get, subst, suc, sym, take, true}
 pub use Rattle.std.proofs.Common.{zero, ℕ, ⊎_elim, ◌*◌, ◌++◌, ◌+◌, ◌-◌, ◌/◌, ◌<◌, ◌==◌, ◌^◌, ◌∙◌, ◌∷◌, ◌≡◌, ◌≤◌, ◌⊎◌}
 pub use Rattle.std.proofs.Math.Seq.{take-add, take-length, take-suc}
 pub use Rattle.std.proofs.lemmas.Bool.Decides.{nat_tests}
 pub use Rattle.std.proofs.lemmas.List.{append-nil, length-map, length-take, map-append}
 pub use Rattle.std.proofs.lemmas.List.Elements.{All-cons, All-head, All-nil, All-tail}
 pub use Rattle.std.specs.List.{All, drop-map, range_with_len, take-map}
-pub use Rattle.std.specs.Prelude.{IfSome, IsOk, if◌then◌else◌}
+pub use Rattle.std.specs.Prelude.{IfSome, IsOk, if◌then◌else◌, ◌||◌}
 pub use Rattle.std.specs.declared.alloc.Global.{Global}
 pub use Rattle.pie_book.specs.Decision.{IsLegal, IsLegalAt, decision, is_refused_full, or_full, refusal_by_rule, refusal_with}
 pub use Rattle.pie_book.specs.Estimates.{due_after}
@@ -30,13 +30,13 @@ pub use Rattle.pie_link.specs.Views.{CallerView, LinkView}
 pub use Rattle.pie_lock.proofs.Owns.{NoneOwn, goes_on_itself, gone_on, own_none}
 pub use Rattle.pie_lock.specs.Own.{is_within, own}
 pub use Rattle.pie_lock.specs.Steps.{GoesOn}
-pub use Rattle.pie_storm.specs.Plans.{IsFair, IsSound, arriving, changing, departing, folder, opening_of, senders, sent, total, updater, updating}
+pub use Rattle.pie_storm.specs.Plans.{IsFair, IsSound, arriving, changing, departing, folder, opening_of, senders, total, updater, updating}
 unfoldable pub use Rattle.pie_storm.specs.Plans.{calls_of}
-pub use Rattle.pie_storm.specs.StormPlan.{arrivals_of, change_at, held_by, planned_arrival, sender_words, words_of}
+pub use Rattle.pie_storm.specs.StormPlan.{arrivals_of, held_by, planned_arrival, sender_words, words_of}
 unfoldable pub use Rattle.pie_storm.specs.StormPlan.{words_after}
-pub use Rattle.pie_storm.specs.Storms.{AddedByAll, AreMade, HasMade, HasNoMore, IsAt, IsCutShort, IsEndOf, IsFor, IsMade, IsStorm, IsWell}
+pub use Rattle.pie_storm.specs.Storms.{AddedByAll, AreMade, HasNoMore, IsAt, IsCutShort, IsEndOf, IsFor, IsStorm, IsWell}
 pub use Rattle.pie_storm.specs.Storms.{IsWorkBelow, WereHanded, is_number}
-unfoldable pub use Rattle.pie_storm.specs.Storms.{CameOf, MadeOrCut}
+unfoldable pub use Rattle.pie_storm.specs.Storms.{CameBy, CameOf}
 pub use Rattle.pie_storm.specs.declared.plan.Call.{Call}
 pub use Rattle.pie_storm.specs.declared.plan.Call.TheVariants.{Ask, Fold}
 pub use Rattle.pie_storm.specs.declared.plan.Plan.{Plan}

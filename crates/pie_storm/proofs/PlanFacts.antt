@@ -1,11 +1,18 @@
--- The lists of a storm's plan grow by one entry, and the random words are taken one after another.
-use Rattle.pie_storm.proofs.Names.{◌≡◌, ◌+◌, ◌*◌, ◌/◌, ◌^◌, ◌≤◌, ℕ, zero, suc, List, [], ◌∷◌, ◌++◌, map, refl, sym, ap, ◌∙◌, arith, Vec, range_with_len, Global}
-use Rattle.pie_storm.proofs.Names.{map-append, total, Arrival, arrivals_of, held_by, words_after}
+-- The lists of a storm's plan grow by one entry, and the random words are taken one after another; and what a sound plan says of its callers' calls.
+use Rattle.pie_storm.proofs.Names.{◌≡◌, ◌+◌, ◌*◌, ◌/◌, ◌^◌, ◌≤◌, ℕ, List, [], ◌∷◌, ◌++◌, map, refl, sym, ap, ◌∙◌, arith, Vec, range_with_len, Global}
+use Rattle.pie_storm.proofs.Names.{length, map-append, take, take-length, total, Arrival, arrivals_of, held_by, ◌-◌, ◌==◌, nat_le, Bool, true, false}
+use Rattle.pie_storm.proofs.Names.{Some, slice_get, drop, subst, if◌then◌else◌, All, drop-map, take-map, nat_tests, All-nil, Call, Ask, Fold, Plan}
+use Rattle.pie_storm.proofs.Names.{IsFair, IsSound, arriving, calls_of, changing, departing, folder, senders, updater, updating, None, Option}
 use Rattle.std.proofs.Common.{add-one}
 use Rattle.std.proofs.Math.Nat.{div-le_self, mul-le-mul_left}
 use Rattle.std.proofs.lemmas.List.FromFn.{map-range_with_len_more}
 use Rattle.rand_core.specs.Stream.{Stream, next_u64}
-use Rattle.pie_storm.specs.StormPlan.{arrival_at, arrival_by, word_at}
+use Rattle.pie_storm.specs.StormPlan.{after_three}
+use Rattle.std.proofs.lemmas.List.Elements.{All-map, All-weaker}
+use Rattle.std.proofs.lemmas.Option.{get_or_from_slice_get, slice_get_within}
+use Rattle.pie_book.specs.Decision.{is_too_soon}
+use Rattle.pie_storm.specs.declared.plan.Change.{Change}
+use Rattle.pie_storm.specs.Plans.{IsMoment, IsSoundArrival, sent_by}
 
 -- ---- numbers
 
@@ -34,30 +41,98 @@ lists_push packets burst seed before lists later list so_far pushed is =
     ∙ ap (λ (last : List Arrival). map (arrivals_of packets burst seed) (range_with_len 1 before) ++ last ∷ []) is
     ∙ sym (map-range_with_len_more (arrivals_of packets burst seed) 1 before (before + 1) (omega arith))
 
+pub taken_whole : {A : Type 0} (list : List A) (n : ℕ) → n ≡ length list → take n list ≡ list
+taken_whole list n is = ap (λ (k : ℕ). take k list) is ∙ take-length list
+
 -- ---- words
 
--- the words that are left after one more
-pub words_after-next : (count : ℕ) (words : Stream) → words_after (count + 1) words ≡ (next_u64 (words_after count words)).1
-unfolding words_after
-words_after-next zero words = refl
-words_after-next (suc count) words =
-    let e : suc count + 1 ≡ suc (count + 1) = omega arith in
-    rw e (words_after-next count (next_u64 words).1)
+-- three words that are drawn, and the words that are left
+pub drawn : (first second third last : Stream) (size ecn word : ℕ) → (size, second) ≡ next_u64 first → (ecn, third) ≡ next_u64 second
+    → (word, last) ≡ next_u64 third
+    → (size ≡ (next_u64 first).0) × (ecn ≡ (next_u64 (next_u64 first).1).0) × (word ≡ (next_u64 (next_u64 (next_u64 first).1).1).0)
+    × (last ≡ after_three first)
+drawn first second third last size ecn word one two three =
+    let second_is : second ≡ (next_u64 first).1 = ap (λ p. p.1) one in
+    let third_is : third ≡ (next_u64 (next_u64 first).1).1 = ap (λ p. p.1) two ∙ ap (λ (s : Stream). (next_u64 s).1) second_is in (
+      ap (λ p. p.0) one,
+      ap (λ p. p.0) two ∙ ap (λ (s : Stream). (next_u64 s).0) second_is,
+      ap (λ p. p.0) three ∙ ap (λ (s : Stream). (next_u64 s).0) third_is,
+      ap (λ p. p.1) three ∙ ap (λ (s : Stream). (next_u64 s).1) third_is,
+    )
 
--- an arrival by the next three words, and the words that are left after it
-pub drawn : (sender i moment : ℕ) (all first second third last : Stream) (size ecn word : ℕ) → first ≡ words_after (3 * i) all
-    → (size, second) ≡ next_u64 first → (ecn, third) ≡ next_u64 second → (word, last) ≡ next_u64 third
-    → (arrival_by sender i moment size ecn word ≡ arrival_at sender all i moment) × (last ≡ words_after (3 * (i + 1)) all)
-drawn sender i moment all first second third last size ecn word at one two three =
-    let second_is : second ≡ words_after (3 * i + 1) all = ap (λ p. p.1) one ∙ ap (λ (s : Stream). (next_u64 s).1) at
-    ∙ sym (words_after-next (3 * i) all) in
-    let third_is : third ≡ words_after (3 * i + 1 + 1) all = ap (λ p. p.1) two ∙ ap (λ (s : Stream). (next_u64 s).1) second_is
-    ∙ sym (words_after-next (3 * i + 1) all) in
-    let last_is : last ≡ words_after (3 * i + 1 + 1 + 1) all = ap (λ p. p.1) three ∙ ap (λ (s : Stream). (next_u64 s).1) third_is
-    ∙ sym (words_after-next (3 * i + 1 + 1) all) in
-    let size_is : size ≡ word_at (3 * i) all = ap (λ p. p.0) one ∙ ap (λ (s : Stream). (next_u64 s).0) at in
-    let ecn_is : ecn ≡ word_at (3 * i + 1) all = ap (λ p. p.0) two ∙ ap (λ (s : Stream). (next_u64 s).0) second_is in
-    let word_is : word ≡ word_at (3 * i + 1 + 1) all = ap (λ p. p.0) three ∙ ap (λ (s : Stream). (next_u64 s).0) third_is in
-    let two_on : 3 * i + 1 + 1 ≡ 3 * i + 2 = omega arith in
-    let three_on : 3 * i + 1 + 1 + 1 ≡ 3 * (i + 1) = omega arith in
-    (rw (size_is, ecn_is, word_is, two_on) refl, rw (last_is, three_on) refl)
+-- ---- what holds of all of a list
+
+of_if : {A : Type 0} (P : A → Type 0) (b : Bool) (x y : A) → (b ≡ true → P x) → P y → P (if b then x else y)
+of_if P true x y p q = p refl
+of_if P false x y p q = q
+
+pub all_of : {A B : Type 0} (P : A → Type 0) (Q : B → Type 0) (f : A → B) (xs : List A) → ((x : A) → P x → Q (f x)) → All P xs → All Q (map f xs)
+all_of P Q f xs each a = All-map Q f xs (All-weaker P (λ x. Q (f x)) each xs a)
+
+pub all_at : {A : Type 0} (P : A → Type 0) (xs : List A) (k : ℕ) (x : A) → All P xs → slice_get xs k ≡ Some x → P x
+all_at P xs k x a e = subst P (get_or_from_slice_get xs k x x e) (a k x (slice_get_within xs k x e))
+
+-- ---- which caller asks what
+
+-- a call of this caller: the one that folds folds, and another asks for a command with moment and size in their ranges, which is never too soon but
+-- where the caller makes the updates
+abbrev pub IsCallOf : Plan → ℕ → Call → Type 0
+IsCallOf plan caller (Ask command) =
+    (caller ≡ folder plan → ⊥) × IsFair command × ((caller ≡ updater plan → ⊥) → (before due : ℕ) → is_too_soon before due command ≡ false)
+IsCallOf plan caller (Fold n) = caller ≡ folder plan
+
+module _ (plan : Plan) (sound : IsSound plan) (caller : ℕ) where
+  abbrev IsIts : Call → Type 0
+  IsIts = IsCallOf plan caller
+
+  sent_are : (caller ≡ folder plan → ⊥) → (found : Option (Vec Arrival Global))
+      → ((list : Vec Arrival Global) → found ≡ Some list → All IsSoundArrival list.items) → All IsIts (sent_by found)
+  sent_are asks None sound_one = All-nil IsIts
+  sent_are asks (Some list) sound_one =
+      all_of IsSoundArrival IsIts arriving list.items
+      (λ x s. (asks, record { moment = s.0; size = grind (arith, nat_tests, s.1, s.2) }, λ other before due. refl)) (sound_one list refl)
+
+  pub calls_are : All IsIts (calls_of plan caller)
+  unfolding calls_of
+  calls_are =
+      let n = caller - senders plan in
+      let F : List Call → Type 0 = All IsIts in
+      of_if F (caller == 0) _ _ (λ starts. All-nil IsIts)
+      (of_if F (nat_le caller (senders plan)) _ _
+      (λ sends. sent_are (λ folds. grind (arith, nat_tests, sends, folds)) (slice_get plan.arrivals.items (caller - 1))
+      (λ list at. all_at (λ (l : Vec Arrival Global). All IsSoundArrival l.items) plan.arrivals.items (caller - 1) list sound.arrivals at))
+      (of_if F (n == 1) _ _
+      (λ one. all_of IsMoment IsIts departing plan.departs.items
+      (λ m s. (λ folds. grind (arith, nat_tests, one, folds), record { moment = s; size = refl }, λ other before due. refl)) sound.departs)
+      (of_if F (n == 2) _ _
+      (λ two. all_of IsMoment IsIts updating plan.updates.items
+      (λ m s. (
+        λ folds. grind (arith, nat_tests, two, folds),
+        record { moment = s; size = refl },
+        λ other before due. absurd (other (grind (arith, nat_tests, two))),
+      )) sound.updates)
+      (of_if F (n == 3) _ _
+      (λ three. all_of (λ (c : Change). IsMoment c.moment) IsIts changing plan.changes.items
+      (λ c s. (λ folds. grind (arith, nat_tests, three, folds), record { moment = s; size = refl }, λ other before due. refl)) sound.changes)
+      (of_if F (n == 4) _ _ (λ four. All-map IsIts Fold plan.folds.items (λ k d within. grind (arith, nat_tests, four))) (All-nil IsIts))))))
+
+-- other callers ask for nothing
+pub no_calls : (plan : Plan) (caller : ℕ) → senders plan + 5 ≤ caller → calls_of plan caller ≡ []
+unfolding calls_of
+no_calls plan caller over = grind (arith, nat_tests, over)
+
+-- a part of a sender's list has the calls of that part
+pub part_of : (k n : ℕ) (list part : List Arrival) (calls : List Call) → calls ≡ map arriving list → part ≡ take n (drop k list)
+    → map arriving part ≡ take n (drop k calls)
+part_of k n list part calls has is =
+    ap (λ (l : List Arrival). map arriving l) is ∙ sym (take-map arriving n (drop k list))
+    ∙ ap (λ (l : List Call). take n l) (sym (drop-map arriving k list)) ∙ ap (λ (l : List Call). take n (drop k l)) (sym has)
+
+-- a sender's calls are those of its list
+pub sender_has : (plan : Plan) (caller : ℕ) (list : Vec Arrival Global) → 1 ≤ caller → caller ≤ senders plan
+    → slice_get plan.arrivals.items (caller - 1) ≡ Some list → calls_of plan caller ≡ map arriving list.items
+unfolding calls_of
+sender_has plan caller list one within at =
+    let not_first : (caller == 0) ≡ false = grind (arith, nat_tests, one) in
+    let sender : nat_le caller (senders plan) ≡ true = grind (arith, nat_tests, within) in
+    rw (not_first, sender, at) refl

@@ -21,7 +21,7 @@ use Rattle.pie_audit.specs.Legal.{AreLegal}
 use Rattle.pie_audit.specs.Text.{excerpt_lines, text_finding, whole_finding}
 use Rattle.pie_audit.specs.declared.auditor.Finding.TheVariants.{Clean, Differs}
 use Rattle.pie_storm.specs.StormHistory.{WritesHistory}
-use Rattle.pie_storm.proofs.PlanCommands.{all_of}
+use Rattle.pie_storm.proofs.PlanFacts.{all_of}
 
 -- ---- each answer is of a kind that its command can have
 

@@ -25,14 +25,14 @@ words_of generator = stream_of (steps_u64_low pcg64) generator
 abbrev pub sender_words : ℕ → ℕ → Stream
 sender_words seed sender = words_of (started 128 multiplier_128 seed (increment_of 128 sender))
 
--- the words that are left after so many
+-- the words that are left after three more, as many as an arrival takes
+abbrev pub after_three : Stream → Stream
+after_three words = (next_u64 (next_u64 (next_u64 words).1).1).1
+
+-- .. and after so many arrivals
 unfoldable pub words_after : ℕ → Stream → Stream
 words_after zero words = words
-words_after (suc count) words = words_after count (next_u64 words).1
-
--- one of the words, counted from 0
-abbrev pub word_at : ℕ → Stream → ℕ
-word_at place words = (next_u64 (words_after place words)).0
+words_after (suc arrivals) words = after_three (words_after arrivals words)
 
 -- ---- the lists
 
@@ -47,22 +47,21 @@ ecn_of _ = Ce
 abbrev pub moment_of : ℕ → ℕ → ℕ → ℕ
 moment_of packets burst i = min ((i / burst + 1) * burst) packets * 1_000_000
 
--- an arrival of a sender, counted from 0, by its moment and three words: one for the packet's size, one for its ECN field, and the random
+-- an arrival of a sender, counted from 0, by its moment and the next three words: one for the packet's size, one for its ECN field, and the random
 -- word that is handed in
-abbrev pub arrival_by : ℕ → ℕ → ℕ → ℕ → ℕ → ℕ → Arrival
-arrival_by sender i moment size ecn word = record {
-  moment = moment;
-  packet = record { tag = sender * 2 ^ 32 + i; size = 64 + size % 1437; ecn = ecn_of (ecn % 4) };
-  word = word;
-}
-
--- .. which are the next three of the sender's random words
-abbrev pub arrival_at : ℕ → Stream → ℕ → ℕ → Arrival
-arrival_at sender words i moment = arrival_by sender i moment (word_at (3 * i) words) (word_at (3 * i + 1) words) (word_at (3 * i + 2) words)
+abbrev pub arrival_by : ℕ → ℕ → ℕ → Stream → Arrival
+arrival_by sender i moment words =
+    let size = next_u64 words in
+    let ecn = next_u64 size.1 in
+    record {
+      moment = moment;
+      packet = record { tag = sender * 2 ^ 32 + i; size = 64 + size.0 % 1437; ecn = ecn_of (ecn.0 % 4) };
+      word = (next_u64 ecn.1).0;
+    }
 
 -- the arrival of this place of a sender, in bursts
 abbrev pub planned_arrival : ℕ → ℕ → ℕ → Stream → ℕ → Arrival
-planned_arrival packets burst sender words i = arrival_at sender words i (moment_of packets burst i)
+planned_arrival packets burst sender words i = arrival_by sender i (moment_of packets burst i) (words_after i words)
 
 -- the arrivals of a sender
 abbrev pub arrivals_of : ℕ → ℕ → ℕ → ℕ → List Arrival

@@ -1,6 +1,6 @@
 -- What the callers of a storm did, and how it ends. A history is the list of all entries of the link: its events, and the folds between them.
 use Rattle.std.specs.Prelude.{◌≡◌, ◌==◌, ◌+◌, ◌<◌, ◌≤◌, ◌⊎◌, ℕ, Bool, false, All, List, [], ◌∷◌, ◌++◌, Option, Some, None, Result, Ok, Err}
-use Rattle.std.specs.Prelude.{IfSome, IsOk, Vec, min, length, take}
+use Rattle.std.specs.Prelude.{IfSome, IsOk, Vec, drop, min, length, take}
 use Rattle.std.specs.declared.alloc.Global.{Global}
 use Rattle.pie_lock.specs.Steps.{GoesOn}
 use Rattle.pie_event.specs.declared.command.Command.{Command}
@@ -63,17 +63,22 @@ AreMade opening caller front (call ∷ calls) history passed =
     ⊎ ((before : List Entry) × (fewer : ℕ) × HasNoMore caller front before × WasPassedOver opening before call × (passed ≡ fewer + 1)
     × AreMade opening caller before calls history fewer)
 
--- a caller of commands stopped where the book was full, and before it had an entry for each
-pub record IsCutShort (plan : Plan) (caller : ℕ) (history : List Entry) : Type 0 where
+-- a caller of commands that had been shown this front stopped where the book was full, and before it had an entry for each of these calls
+pub record IsCutShort (plan : Plan) (caller : ℕ) (front : List Entry) (calls : List Call) (history : List Entry) : Type 0 where
   pub asks : caller ≡ folder plan → ⊥
   pub full : min plan.limits.tail plan.limits.events ≤ length (events_in history)
-  pub fewer : length (entries_of caller history) < length (calls_of plan caller)
+  pub fewer : length (entries_of caller history) < length (entries_of caller front) + length calls
 
--- what came of a caller's calls in this history
+-- a caller that had been shown this front made these calls, but for so many that were passed over; with no number it was cut short
+unfoldable pub CameBy : Plan → ℕ → List Entry → List Call → List Entry → Option ℕ → Type 0
+CameBy plan caller front calls history (Some passed) = AreMade (opening_of plan) caller front calls history passed
+CameBy plan caller front calls history None = IsCutShort plan caller front calls history
+
+-- what came of all calls of a caller in this history
 unfoldable pub CameOf : Plan → ℕ → List Entry → ℕ → Type 0
 CameOf plan caller history passed =
     AreMade (opening_of plan) caller [] (calls_of plan caller) history passed
-    ⊎ IsCutShort plan caller history
+    ⊎ IsCutShort plan caller [] (calls_of plan caller) history
 
 -- a number is this one
 abbrev pub is_number : ℕ → ℕ → Bool
@@ -120,24 +125,16 @@ pub record Begins (link : LinkView) (plan : Plan) (caller : CallerView) : Type 0
 abbrev pub IsWell : Folding → Type 0
 IsWell folding = folding.is_short_of_memory ≡ false
 
--- a caller made its first k calls, of which so many were passed over
-pub record HasMade (plan : Plan) (number k : ℕ) (front : List Entry) (passed : ℕ) (events : List Event) : Type 0 where
-  pub made : AreMade (opening_of plan) number [] (take k (calls_of plan number)) front passed
-  pub handed : number ≡ folder plan → WereHanded plan number events front
-
--- it went on so to k calls, or was cut short
-unfoldable pub MadeOrCut : Plan → ℕ → ℕ → List Entry → ℕ → List Event → Option ℕ → Type 0
-MadeOrCut plan number k front passed events (Some more) = HasMade plan number k front (passed + more) events
-MadeOrCut plan number k front passed events None = IsCutShort plan number front
-
--- in one turn a caller made its calls after the first k, up to this number of them, or was cut short; so many were passed over
-pub record TakesTurn (link : LinkView) (plan : Plan) (number k next : ℕ) (before after : CallerView) (old new : Folding) (passed : Option ℕ)
+-- in one turn a caller made so many calls, those after its first k, or was cut short; so many were passed over. The one that folds kept what it was
+-- handed
+pub record TakesTurn (link : LinkView) (plan : Plan) (number k count : ℕ) (before after : CallerView) (old new : Folding) (passed : Option ℕ)
     : Type 0 where
   pub at : IsAt link number after
   pub few : IfSome passed (λ n. n ≤ 1)
   pub well : IsWell new → IsWell old
-  pub goes : (earlier : ℕ) → IsWell new → HasMade plan number k before.front earlier old.events.items
-      → MadeOrCut plan number next after.front earlier new.events.items passed
+  pub came : IsWell new → CameBy plan number before.front (take count (drop k (calls_of plan number))) after.front passed
+  pub handed : IsWell new → number ≡ folder plan → WereHanded plan number old.events.items before.front
+      → WereHanded plan number new.events.items after.front
 
 -- what the worker of the caller with this number did: it made all calls
 pub record IsWorkOf (link : LinkView) (plan : Plan) (number : ℕ) (work : Work) : Type 0 where
@@ -150,15 +147,10 @@ pub record IsWorkBelow (link : LinkView) (plan : Plan) (n : ℕ) (work : Work) :
   pub lock : work.caller.lock ≡ link
   pub first : work.caller.first ≡ 0
   pub limit : work.caller.limit ≡ n
-  pub came : IsWell work.folding → (caller : ℕ) → caller < n → (passed : ℕ) × CameOf plan caller work.caller.front passed
-  pub updates : IsWell work.folding → updater plan < n → CameOf plan (updater plan) work.caller.front work.too_soon
+  pub came : IsWell work.folding → (caller : ℕ) → caller < n
+      → (passed : ℕ) × CameOf plan caller work.caller.front passed × (caller ≡ updater plan → passed ≡ work.too_soon)
   pub folds : IsWell work.folding → n ≡ folder plan + 1
       → CameOf plan (folder plan) work.caller.front work.passed × WereHanded plan (folder plan) work.folding.events.items work.caller.front
-
--- an entry is an event
-abbrev pub IsMade : Entry → Type 0
-IsMade (Made event) = Unit {0}
-IsMade (Folded caller n) = ⊥
 
 -- these events are those that the plan asks for, but for so many updates that were too soon; and so many of its folds were of more
 -- events than the tail held

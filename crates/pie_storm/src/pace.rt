@@ -94,11 +94,11 @@ impl<'a, C: Clock> Pace<'a, C> {
 
 /// Whether the time for looking again and again is over, or the clock fails.
 fn has_waited_long<C: Clock>(clock: &C, begun: &io::Result<Instant>) -> bool {
-    match begun {
-        Ok(begun) => match begun.elapsed(clock) {
-            Ok(waited) => waited >= Duration::from_millis(EAGER),
-            Err(_) => true,
-        },
+    let Ok(begun) = begun else {
+        return true;
+    };
+    match begun.elapsed(clock) {
+        Ok(waited) => waited >= Duration::from_millis(EAGER),
         Err(_) => true,
     }
 }

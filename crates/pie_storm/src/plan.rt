@@ -1,8 +1,7 @@
 //! What a storm is asked to do.
 ghost use Rattle.std.specs.Prelude.{◌≡◌, ◌≤◌, ◌^◌, ◌-◌, ◌↔◌, IsTrue, All, Option, drop, length, map, min, slice_get, take, ◌+◌};
-ghost use Rattle.pie_storm.specs.Plans.{IsMoment, IsSoundArrival, IsSound, arriving, calls_of, changing, departing, opening_of, planned, senders};
-ghost use Rattle.pie_storm.specs.Plans.{turn_of, updating};
-ghost use Rattle.pie_storm.specs.declared.plan.Call.TheVariants.{Fold};
+ghost use Rattle.pie_storm.specs.Plans.{IsMoment, IsSoundArrival, IsSound, arriving, calls_after_senders, calls_of, changing, opening_of, planned};
+ghost use Rattle.pie_storm.specs.Plans.{senders, turn_of};
 
 use pie_book::{Choices, Command, Elements, Limits, Mode, Opening, Profile};
 use pie_fixed::MAX_NANOS;
@@ -20,6 +19,18 @@ pub struct Change {
     pub moment: u64,
     /// The new parameters.
     pub params: Params,
+}
+
+impl Change {
+    // The call that makes it.
+    fn call(&self) -> Call
+        ensures { result ≡ changing self.now }
+    {
+        Call::Ask(Command::SetParams {
+            moment: self.moment,
+            params: self.params,
+        })
+    }
 }
 
 /// What a caller of a storm asks the link for (this project's own).
@@ -71,7 +82,7 @@ fn is_sound(arrival: &Arrival) -> bool
 fn are_sound(arrivals: &[Arrival]) -> bool
     ensures { IsTrue result ↔ All IsSoundArrival arrivals.now }
 {
-    arrivals.iter().all(|arrival| is_sound(arrival))
+    arrivals.iter().all(is_sound)
 }
 
 fn are_moments(moments: &[u64]) -> bool
@@ -202,15 +213,29 @@ impl Plan {
         if place == 0 {
             None
         } else if place <= senders {
-            arrival_at(self.arrivals[place - 1].as_slice(), k)
-        } else if place - senders == 1 {
-            departure_at(self.departs.as_slice(), k)
-        } else if place - senders == 2 {
-            update_at(self.updates.as_slice(), k)
-        } else if place - senders == 3 {
-            change_at(self.changes.as_slice(), k)
-        } else if place - senders == 4 {
-            fold_at(self.folds.as_slice(), k)
+            let ask = |it: &Arrival| Call::Ask(it.command());
+            self.arrivals[place - 1].as_slice().get(k).map(ask)
+        } else {
+            self.call_after_senders(place - senders, k)
+        }
+    }
+
+    // The same of the caller that comes so many after the last sender.
+    fn call_after_senders(&self, n: usize, k: usize) -> Option<Call>
+        ensures { result ≡ slice_get (calls_after_senders self.now n) k }
+    {
+        if n == 1 {
+            let ask = |it: &u64| Call::Ask(Command::Depart { moment: *it });
+            self.departs.as_slice().get(k).map(ask)
+        } else if n == 2 {
+            let ask = |it: &u64| Call::Ask(Command::Update { moment: *it });
+            self.updates.as_slice().get(k).map(ask)
+        } else if n == 3 {
+            let ask = |it: &Change| it.call();
+            self.changes.as_slice().get(k).map(ask)
+        } else if n == 4 {
+            let ask = |it: &u64| Call::Fold(*it);
+            self.folds.as_slice().get(k).map(ask)
         } else {
             None
         }
@@ -223,42 +248,4 @@ fn part(arrivals: &[Arrival], k: usize, count: usize) -> &[Arrival]
     ensures { result.now ≡ take count (drop k arrivals.now) }
 {
     &arrivals[k..k + count]
-}
-
-fn arrival_at(arrivals: &[Arrival], k: usize) -> Option<Call>
-    ensures { result ≡ slice_get (map arriving arrivals.now) k }
-{
-    let arrival = arrivals.get(k)?;
-    Some(Call::Ask(arrival.command()))
-}
-
-fn departure_at(moments: &[u64], k: usize) -> Option<Call>
-    ensures { result ≡ slice_get (map departing moments.now) k }
-{
-    let moment = *moments.get(k)?;
-    Some(Call::Ask(Command::Depart { moment }))
-}
-
-fn update_at(moments: &[u64], k: usize) -> Option<Call>
-    ensures { result ≡ slice_get (map updating moments.now) k }
-{
-    let moment = *moments.get(k)?;
-    Some(Call::Ask(Command::Update { moment }))
-}
-
-fn change_at(changes: &[Change], k: usize) -> Option<Call>
-    ensures { result ≡ slice_get (map changing changes.now) k }
-{
-    let change = changes.get(k)?;
-    Some(Call::Ask(Command::SetParams {
-        moment: change.moment,
-        params: change.params,
-    }))
-}
-
-fn fold_at(folds: &[u64], k: usize) -> Option<Call>
-    ensures { result ≡ slice_get (map Fold folds.now) k }
-{
-    let n = *folds.get(k)?;
-    Some(Call::Fold(n))
 }

@@ -1,9 +1,8 @@
 //! The plan of a storm.
 ghost use Rattle.std.specs.Prelude.{◌≡◌, ◌+◌, ◌*◌, ◌/◌, ◌^◌, ◌<◌, ◌≤◌, IfOk, map};
 ghost use Rattle.std.specs.List.{range_with_len};
-ghost use Rattle.rand_core.specs.Stream.{Stream};
-ghost use Rattle.pie_storm.specs.StormPlan.{IsStormPlan, arrival_at, arrivals_of, changes_of, departs_of, ecn_of, folds_of, held_by};
-ghost use Rattle.pie_storm.specs.StormPlan.{HasStormRange, moment_of, params_at, updates_of, words_after, words_of};
+ghost use Rattle.pie_storm.specs.StormPlan.{IsStormPlan, after_three, arrival_by, arrivals_of, change_at, changes_of, departs_of, ecn_of};
+ghost use Rattle.pie_storm.specs.StormPlan.{HasStormRange, folds_of, held_by, moment_of, params_at, updates_of, words_of};
 
 use crate::numbers::StormNumbers;
 use crate::plan::{Change, Plan};
@@ -50,18 +49,8 @@ fn product(count: u64, by: u64) -> u64
     count * by
 }
 
-/// Which burst a packet belongs to, counted from 1.
-#[tactic(auto, using(crate::proofs::PlanFacts::small_quotient))]
-fn burst_of(burst: u64, i: u64) -> u64
-    requires some { 1 ≤ burst }
-    requires i { i < 2 ^ 14 }
-    ensures value { result ≡ i / burst + 1 }
-    ensures few { result ≤ 2 ^ 14 }
-{
-    i / burst + 1
-}
-
 /// The moment at which a sender hands in a packet, counted from 0: that of the last packet of its burst.
+#[tactic(auto, using(crate::proofs::PlanFacts::small_quotient))]
 fn moment_of(packets: u64, burst: u64, i: u64) -> u64
     requires some { 1 ≤ burst }
     requires burst { burst ≤ 1024 }
@@ -69,15 +58,15 @@ fn moment_of(packets: u64, burst: u64, i: u64) -> u64
     requires i { i < packets }
     ensures { result ≡ moment_of packets burst i }
 {
-    product(burst_of(burst, i), burst).min(packets) * PACKET_TIME
+    product(i / burst + 1, burst).min(packets) * PACKET_TIME
 }
 
 /// An arrival of this sender at this moment, counted from 0, by its next three random words.
 fn next_arrival(words: &mut Lcg128Xsl64, sender: u64, i: u64, moment: u64) -> Arrival
     requires sender { sender ≤ 8 }
     requires i { i < 10_000 }
-    ensures { (all : Stream) → words_of words.old ≡ words_after (3 * i) all
-        → (result ≡ arrival_at sender all i moment) × (words_of words.new ≡ words_after (3 * (i + 1)) all) }
+    ensures value { result ≡ arrival_by sender i moment (words_of words.old) }
+    ensures words { words_of words.new ≡ after_three (words_of words.old) }
 {
     let size = words.next_u64();
     let ecn = words.next_u64();
@@ -138,6 +127,19 @@ fn all_arrivals(
     Ok(lists)
 }
 
+/// A departure for each packet, spread evenly, where `load` packets come for each hundred that the link sends.
+fn departs_of(alloc: Global, senders: u64, packets: u64, load: u64) -> Result<Vec<u64>, AllocError>
+    requires some { 1 ≤ senders }
+    requires senders { senders ≤ 8 }
+    requires packets { packets ≤ 10_000 }
+    requires load { load ≤ 200 }
+    ensures { IfOk result (λ list. list.items ≡ departs_of senders packets load) }
+{
+    (0..product(senders, packets))
+        .map(|j| departure_of(senders, load, j))
+        .collect(alloc)
+}
+
 /// The moment of a departure, counted from 0.
 fn departure_of(senders: u64, load: u64, j: u64) -> u64
     requires some { 1 ≤ senders }
@@ -148,34 +150,14 @@ fn departure_of(senders: u64, load: u64, j: u64) -> u64
     product(j + 1, load) * LOAD_TIME / senders
 }
 
-/// A departure for each packet, spread evenly, where `load` packets come for each hundred that the link sends.
-#[tactic(auto, using(crate::proofs::PlanFacts::item_push))]
-fn departs_of(alloc: Global, senders: u64, packets: u64, load: u64) -> Result<Vec<u64>, AllocError>
-    requires some { 1 ≤ senders }
-    requires senders { senders ≤ 8 }
-    requires packets { packets ≤ 10_000 }
-    requires load { load ≤ 200 }
-    ensures { IfOk result (λ list. list.items ≡ departs_of senders packets load) }
-{
-    let count = product(senders, packets);
-    let mut moments = Vec::with_capacity(alloc, count as usize)?;
-    for j in 0..count {
-        moments.push(departure_of(senders, load, j))?;
-    }
-    Ok(moments)
-}
-
 /// An update at each due moment while packets arrive, and one more.
-#[tactic(auto, using(crate::proofs::PlanFacts::item_push))]
 fn updates_of(alloc: Global, packets: u64) -> Result<Vec<u64>, AllocError>
     requires { packets ≤ 10_000 }
     ensures { IfOk result (λ list. list.items ≡ updates_of packets) }
 {
-    let mut moments = Vec::with_capacity(alloc, (packets / 15 + 1) as usize)?;
-    for j in 0..packets / 15 + 1 {
-        moments.push((j + 1) * UPDATE_TIME)?;
-    }
-    Ok(moments)
+    (0..packets / 15 + 1)
+        .map(|j| (j + 1) * UPDATE_TIME)
+        .collect(alloc)
 }
 
 /// The parameters that a change sets: a reference delay of 5 ms, and at each second change those by default again.
@@ -192,35 +174,31 @@ fn params_at(k: u64) -> Params
     }
 }
 
-/// The moment of a change, counted from 0.
-fn change_moment(packets: u64, changes: u64, k: u64) -> u64
+/// A change, counted from 0.
+fn change_at(packets: u64, changes: u64, k: u64) -> Change
     requires packets { packets ≤ 10_000 }
     requires changes { changes ≤ 100 }
     requires k { k < changes }
-    ensures { result ≡ (k + 1) * packets * 1_000_000 / (changes + 1) }
+    ensures { result ≡ change_at packets changes k }
 {
-    product(k + 1, packets) * PACKET_TIME / (changes + 1)
+    Change {
+        moment: product(k + 1, packets) * PACKET_TIME / (changes + 1),
+        params: params_at(k),
+    }
 }
 
 /// The changes of the parameters, spread evenly over the time in which packets arrive.
-#[tactic(auto, using(crate::proofs::PlanFacts::item_push))]
 fn changes_of(alloc: Global, packets: u64, changes: u64) -> Result<Vec<Change>, AllocError>
     requires packets { packets ≤ 10_000 }
     requires changes { changes ≤ 100 }
     ensures { IfOk result (λ list. list.items ≡ changes_of packets changes) }
 {
-    let mut list = Vec::with_capacity(alloc, changes as usize)?;
-    for k in 0..changes {
-        list.push(Change {
-            moment: change_moment(packets, changes, k),
-            params: params_at(k),
-        })?;
-    }
-    Ok(list)
+    (0..changes)
+        .map(|k| change_at(packets, changes, k))
+        .collect(alloc)
 }
 
 /// The folds: together of as many events as there are packets.
-#[tactic(auto, using(crate::proofs::PlanFacts::item_push))]
 fn folds_of(alloc: Global, senders: u64, packets: u64, folds: u64) -> Result<Vec<u64>, AllocError>
     requires senders { senders ≤ 8 }
     requires packets { packets ≤ 10_000 }
@@ -228,11 +206,7 @@ fn folds_of(alloc: Global, senders: u64, packets: u64, folds: u64) -> Result<Vec
     ensures { IfOk result (λ list. list.items ≡ folds_of senders packets folds) }
 {
     let events = product(senders, packets);
-    let mut list = Vec::with_capacity(alloc, folds as usize)?;
-    for _ in 0..folds {
-        list.push(events / folds)?;
-    }
-    Ok(list)
+    (0..folds).map(|_| events / folds).collect(alloc)
 }
 
 /// The plan of a storm (this project's own) with default parameters from moment 0 on, and these choices. Each sender has a packet each

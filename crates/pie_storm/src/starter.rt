@@ -1,5 +1,5 @@
 //! The storm: a link under many threads at once, recorded.
-ghost use Rattle.std.specs.Prelude.{◌≡◌, ◌+◌, ◌*◌, ◌^◌, ◌≤◌, ◌≢◌, ◌↔◌, ◌++◌, ℕ, List, false, Some, None, Err, IfSome, IfOk, IfErr, OnOk};
+ghost use Rattle.std.specs.Prelude.{◌≡◌, ◌+◌, ◌≢◌, ◌↔◌, ◌++◌, ℕ, List, Some, None, Err, IfSome, IfOk, IfErr};
 ghost use denote.Param.Send.{IsSync};
 ghost use Rattle.pie_event.specs.declared.command.Event.{Event};
 ghost use Rattle.pie_book.specs.Book.{Tells};
@@ -9,7 +9,7 @@ ghost use Rattle.pie_storm.specs.declared.plan.Plan.{Plan};
 ghost use Rattle.pie_kept.specs.Entries.{number_of};
 ghost use Rattle.pie_link.specs.declared.refusal.LinkRefusal.{LinkRefusal};
 ghost use Rattle.pie_link.specs.Opening.{IsRefusedFor, link_refusal};
-ghost use Rattle.pie_storm.specs.Plans.{IsSound, opening_of, senders, updater};
+ghost use Rattle.pie_storm.specs.Plans.{IsSound, senders, updater};
 ghost use Rattle.pie_storm.specs.Storms.{Begins, IsEndOf, IsFor, IsWell, IsWorkBelow, IsWorkOf};
 ghost use Rattle.pie_lock.specs.Promises.{IsBothOf, first_pass};
 
@@ -173,7 +173,7 @@ fn both(link: &Link, plan: &Plan, work: Work, last: Work) -> Work
     let number = last.caller.first();
     let too_soon = too_soon(plan, number, last.passed, work.too_soon);
     let mut folding = last.folding;
-    folding.remember(work.folding.is_short_of_memory);
+    folding.is_short_of_memory |= work.folding.is_short_of_memory;
     Work {
         caller: gathered(link, work.caller, last.caller),
         passed: last.passed,
@@ -285,6 +285,7 @@ fn end_of(
 }
 
 // The folded events, and then the tail of the closed book, where none is missing and there is memory for all.
+#[tactic(auto, using(crate::proofs::PlanFacts::taken_whole))]
 fn all_events(alloc: Global, book: &mut Book, folding: &mut Folding) -> Option<Vec<Event>>
     ensures events { IfSome result (λ events. events.items ≡ folding.old.events.items ++ book.old.tail) }
     ensures well { IfSome result (λ _. IsWell folding.old) }
@@ -292,7 +293,9 @@ fn all_events(alloc: Global, book: &mut Book, folding: &mut Folding) -> Option<V
     if folding.is_short_of_memory {
         return None;
     }
-    let Some(mut tail) = folded_tail(alloc, book) else {
+    // (a fold of as many as it has hands the tail out)
+    let held = book.tail_len() as u64;
+    let Ok(mut tail) = book.fold(alloc, held) else {
         return None;
     };
     let Ok(()) = folding.events.append(&mut tail) else {
@@ -300,17 +303,6 @@ fn all_events(alloc: Global, book: &mut Book, folding: &mut Folding) -> Option<V
     };
     match Recorded::events(alloc, &folding.events) {
         Ok(events) => Some(events),
-        Err(_) => None,
-    }
-}
-
-// The events of a book's tail, where there is memory for them: they are handed out by a fold of as many.
-fn folded_tail(alloc: Global, book: &mut Book) -> Option<Vec<Recorded>>
-    ensures { IfSome result (λ tail. tail.items ≡ book.old.tail) }
-{
-    let held = book.tail_len() as u64;
-    match book.fold(alloc, held) {
-        Ok(tail) => Some(tail),
         Err(_) => None,
     }
 }

@@ -1,5 +1,5 @@
 //! The workers of a storm: each makes the calls of one caller, one after another.
-ghost use Rattle.std.specs.Prelude.{◌≡◌, ◌+◌, ◌^◌, ◌<◌, ◌≤◌, ◌-◌, ◌++◌, [], false, Some, IfSome, length};
+ghost use Rattle.std.specs.Prelude.{◌≡◌, ◌+◌, ◌<◌, ◌≤◌, ◌-◌, [], false, Some, IfSome, length};
 ghost use Rattle.pie_link.specs.Commands.{Answers};
 ghost use Rattle.pie_link.specs.Views.{StaysOne};
 ghost use Rattle.pie_storm.specs.Plans.{calls_of, senders, turn_of};
@@ -50,27 +50,6 @@ impl Folding {
         }
     }
 
-    // Adds what one more fold handed out.
-    fn follow(&mut self, told: Told<Vec<Recorded>>)
-        ensures well { IsWell self.new → IsWell self.old }
-        ensures events { IsWell self.new → self.new.events.items ≡ self.old.events.items ++ told.answer.items }
-    {
-        let mut answer = told.answer;
-        if self.events.append(&mut answer).is_err() {
-            self.is_short_of_memory = true;
-        }
-    }
-
-    /// Remembers whether memory was wanting to others.
-    pub(crate) fn remember(&mut self, is_short_of_memory: bool)
-        ensures well { IsWell self.new → IsWell self.old × (is_short_of_memory ≡ false) }
-        ensures events { self.new.events ≡ self.old.events }
-    {
-        if is_short_of_memory {
-            self.is_short_of_memory = true;
-        }
-    }
-
     // Takes in what one more fold was answered, and tells whether it was of too many events. There is no answer for want of memory.
     #[tactic(auto, unfolding(crate::specs::Storms::TakenIn))]
     fn take_in(&mut self, answer: Result<Told<Vec<Recorded>>, FoldRefusal>) -> Option<u64>
@@ -80,8 +59,14 @@ impl Folding {
     {
         match answer {
             Ok(told) => {
-                self.follow(told);
-                Some(0)
+                let mut events = told.answer;
+                match self.events.append(&mut events) {
+                    Ok(()) => Some(0),
+                    Err(_) => {
+                        self.is_short_of_memory = true;
+                        None
+                    }
+                }
             }
             Err(FoldRefusal::TooMany { .. }) => Some(1),
             Err(FoldRefusal::Memory) => {
@@ -156,7 +141,7 @@ fn send_next<R: Wait>(
     requires sender { (1 ≤ number) × (number ≤ senders plan.now) }
     requires some { 1 ≤ count }
     requires there { k + count ≤ length (calls_of plan.now number) }
-    ensures { TakesTurn link.now plan.now number k (k + count) caller.old caller.new folding.old folding.new result }
+    ensures { TakesTurn link.now plan.now number k count caller.old caller.new folding.old folding.new result }
 {
     entries_look_back();
     let burst = plan.burst(number, k, count);
@@ -185,7 +170,7 @@ fn make_turn<R: Wait>(
     requires some { 1 ≤ count }
     requires turn { count ≤ turn_of plan.now number }
     requires there { k + count ≤ length (calls_of plan.now number) }
-    ensures { TakesTurn link.now plan.now number k (k + count) caller.old caller.new folding.old folding.new result }
+    ensures { TakesTurn link.now plan.now number k count caller.old caller.new folding.old folding.new result }
 {
     if plan.turn(number) > 1 {
         return send_next(rt, link, plan, number, caller, folding, k, count);

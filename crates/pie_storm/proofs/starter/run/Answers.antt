@@ -1,5 +1,5 @@
 use Rattle.pie_storm.proofs.Names.{ℕ, ap, subst, CallerView, IsWorkBelow}
-use Rattle.pie_storm.proofs.Closing.{ended}
+use Rattle.pie_storm.proofs.Gathering.{ended}
 use Rattle.pie_storm.proofs.starter.run.Goals as goal
 
 pub work_at_once-requires-clause-begins : goal.work_at_once-requires-clause-begins

@@ -1,5 +1,5 @@
-use Rattle.pie_storm.proofs.Names.{◌≡◌, length, arith, calls_of, IsWell, MadeOrCut}
-use Rattle.pie_storm.proofs.Making.{came_cut, came_of_all, made_none}
+use Rattle.pie_storm.proofs.Names.{◌≡◌, [], refl, length, arith, calls_of, CameBy}
+use Rattle.pie_storm.proofs.Making.{came_cut, came_of_all, made_more, stays}
 use Rattle.pie_storm.proofs.worker.make_all.Goals as goal
 
 pub loop-k-init : goal.loop-k-init
@@ -8,11 +8,11 @@ loop-k-init g c = record {
   few = omega arith;
   within = omega arith;
   at = c.requires.at;
-  made = λ well. made_none c.args.plan.now c.args.number c.args.caller.now.front c.args.folding.now.events.items c.requires.begins.new c.requires.none;
+  made = λ well. rw c.requires.begins.new (stays c.args.number [], refl);
+  handed = λ well folds. rw (c.requires.none, c.requires.begins.new) refl;
 }
 
 pub loop-k-preserved : goal.loop-k-preserved
-unfolding MadeOrCut
 loop-k-preserved g c =
     let l = c.loop-k.invariant in
     let turn = c.in-Some.ensures in record {
@@ -20,18 +20,20 @@ loop-k-preserved g c =
       few = omega (arith, l.few, turn.few);
       within = omega (arith, l.within, c.min-count.ensures);
       at = turn.at;
-      made = λ well. turn.goes c.loop-k.passed well (l.made (turn.well well));
+      made = λ well. made_more c.args.plan.now c.args.number c.loop-k.k c.loop-k.caller.front c.loop-k.passed (l.made (turn.well well))
+          c.min-count.result c.make_turn.new.caller.front c.in-Some.more (turn.came well);
+      handed = λ well folds. turn.handed well folds (l.handed (turn.well well) folds);
     }
 
 pub returns-in-None : goal.returns-in-None
-unfolding MadeOrCut
+unfolding CameBy
 returns-in-None g c =
     let l = c.loop-k.invariant in
-    let turn = c.in-None.ensures in
-    let cut = λ (well : IsWell c.make_turn.new.folding). turn.goes c.loop-k.passed well (l.made (turn.well well)) in record {
+    let turn = c.in-None.ensures in record {
       at = turn.at;
-      came = λ well. came_cut c.args.plan.now c.args.number c.make_turn.new.caller.front c.loop-k.passed (cut well);
-      handed = λ well folds. absurd ((cut well).asks folds);
+      came = λ well. came_cut c.args.plan.now c.args.number c.loop-k.k c.loop-k.caller.front c.loop-k.passed (l.made (turn.well well))
+          (omega (arith, l.within, c.calls-calls.ensures)) c.min-count.result c.make_turn.new.caller.front (turn.came well);
+      handed = λ well folds. absurd ((turn.came well).asks folds);
     }
 
 pub returns : goal.returns
@@ -40,7 +42,6 @@ returns g c =
     let all : c.loop-k.k ≡ length (calls_of c.args.plan.now c.args.number) = omega (arith, l.within, c.loop-k-test.false, c.calls-calls.ensures) in
     record {
       at = l.at;
-      came = λ well. came_of_all c.args.plan.now c.args.number c.loop-k.k c.loop-k.caller.front c.loop-k.passed c.loop-k.folding.events.items
-          (l.made well) all;
-      handed = λ well folds. (l.made well).handed folds;
+      came = λ well. came_of_all c.args.plan.now c.args.number c.loop-k.k c.loop-k.caller.front c.loop-k.passed (l.made well) all;
+      handed = λ well folds. l.handed well folds;
     }

@@ -1,6 +1,6 @@
-use Rattle.pie_storm.proofs.Names.{◌∙◌, List, map, subst, Reply, always, arrive, AddedByAll}
+use Rattle.pie_storm.proofs.Names.{◌≡◌, ◌∙◌, List, arith, map, subst, Reply, always, arrive, folder, AddedByAll}
 use Rattle.pie_link.specs.Bursts.{AnswersAll}
-use Rattle.pie_storm.proofs.Bursting.{burst_next, few_by_all}
+use Rattle.pie_storm.proofs.Making.{burst_next, few_by_all}
 use Rattle.pie_storm.proofs.worker.send_next.Goals as goal
 
 pub returns-in_default : goal.returns-in_default
@@ -10,13 +10,15 @@ returns-in_default g c =
       at = record { own = stays.0 ∙ at.own; first = stays.1 ∙ at.first; limit = stays.2 ∙ at.limit };
       few = tt;
       well = λ well. absurd (cc well);
-      goes = λ earlier well had. absurd (cc well);
+      came = λ well. absurd (cc well);
+      handed = λ well folds. absurd (cc well);
     }
 
 pub returns : goal.returns
 returns g c =
     let at = c.requires.at in
     let stays = c.in-Ok.ensures.stays in
+    let asks : c.args.number ≡ folder c.args.plan.now → ⊥ = λ folds. absurd (omega (arith, folds, c.requires.sender.1)) in
     let burst = c.burst-burst.result.now in
     let replies = c.arrive_all.new.answers.items in
     let answered = subst (λ (l : List Reply). AnswersAll always c.args.link.now c.args.caller.now (map arrive burst) l replies
@@ -25,8 +27,9 @@ returns g c =
       at = record { own = stays.0 ∙ at.own; first = stays.1 ∙ at.first; limit = stays.2 ∙ at.limit };
       few = few_by_all replies c.added_by_all.result added;
       well = λ well. well;
-      goes = λ earlier well had.
+      came = λ well.
           burst_next c.entries_look_back.ensures c.args.plan.now c.args.number c.args.k c.args.count c.args.link.now c.requires.link_for
-          c.args.caller.now c.arrive_all.new.caller at earlier c.args.folding.now.events.items had burst replies c.requires.some c.requires.sender.1
-          c.requires.there c.burst-burst.ensures.value c.burst-burst.ensures.long answered c.added_by_all.result added;
+          c.args.caller.now c.arrive_all.new.caller at burst replies c.requires.some c.burst-burst.ensures.long c.burst-burst.ensures.value
+          answered c.added_by_all.result added;
+      handed = λ well folds. absurd (asks folds);
     }

@@ -50,10 +50,8 @@ took asked caller number events now next place done replies reply d before at so
     ) in
     let said = told-more asked caller events replies reply d few in record {
       told = is
-          ∙ (ap (λ (c : ℕ). set now place (told_event asked c (get_or now place d) reply)) before.same
-          ∙ (ap (λ (l : List PieEvent). set l place (told_event asked caller (get_or l place d) reply)) before.told
-          ∙ (ap (λ (n : ℕ). set (told_events asked caller events replies) n
-          (told_event asked caller (get_or (told_events asked caller events replies) n d) reply)) here ∙ sym said)));
+          ∙ (λ i. set (before.told i) (here i) (told_event asked (before.same i) (get_or (before.told i) (here i) d) reply))
+          ∙ sym said;
       so_many = omega (arith, here, length-append replies (reply ∷ []));
       same = before.same;
     }

@@ -3,9 +3,8 @@ ghost use Rattle.std.specs.Prelude.{◌≡◌, ◌<◌, Bool, drop, length, map,
 ghost use Rattle.pie_link_c.specs.{Reply, always, has_left_or_updated, PieEvent, Asked, Arrive, Depart, asks, asks_unless, riding, told_event};
 ghost use Rattle.pie_link_c.specs.{has_bad_ecn};
 
-use crate::asked::Asked;
 use crate::code::of_refusal;
-use crate::filling::{fill_answer, fill_number};
+use crate::filling::{Asked, fill_answer, fill_number};
 use crate::port::has_bad_ecn;
 use pie_abi::PieEvent;
 use pie_abi::code::BAD_ECN;

@@ -3,17 +3,16 @@ use Rattle.std.specs.Prelude.{IsTrue, None}
 use Rattle.pie_c.specs.{Arrive, Call, Change, IsTaken, Pass, Restart, after_call, shown_by, ControllerEvent, Opened, Shows, Arrives, Departs, Leaves}
 use Rattle.pie_c.specs.{Makes, Passes, Steps, kept_if_refused, params_refusal, KeepsSound, LooksBack}
 use Rattle.pie_c.proofs.Names.{reset_refusal, ◌≡◌, ℕ, ◌≤◌, ◌<◌, ◌^◌, ◌==◌, ◌&&◌, min, if◌then◌else◌, nat_lt, Bool, true, false, List, [], ◌∷◌, Some}
-use Rattle.pie_c.proofs.Names.{◌++◌, arith, refl, sym, ap, ◌∙◌, eqb-true, nat_tests, ArrivingPacket, Verdict, Depart, RawParams, first_bad, One, Two}
-use Rattle.pie_c.proofs.Names.{Held, accu_left, arrived, capped, count_kept_open, departed, is_unmeasured, cause, opened, passed, verdict, with_count}
-use Rattle.pie_c.proofs.Names.{name_of, place_of_cause, PieParams, PieState, is_bad_size, departure_refusal, waited_refusal, moment_refusal, if_taken}
-use Rattle.pie_c.proofs.Names.{packet_refusal, unless_refused, PieOpening, Opening, opening_in, opening_of, opening_refusal, held_by_opening}
-use Rattle.pie_c.proofs.Names.{params_of, raw_of, choices_of, elements_of, last_moment, profile_number, profile_of, held_in, is_sound, state_of}
-use Rattle.pie_c.proofs.Names.{takes_stamps, are_in_range, with_arrival, with_departure, with_rate, with_registers}
-use Rattle.std.proofs.Common.{◌||◌, not, max, Ok}
+use Rattle.pie_c.proofs.Names.{◌++◌, arith, refl, sym, ap, ◌∙◌, eqb-true, nat_tests, ArrivingPacket, Verdict, Depart, RawParams, first_bad, Held}
+use Rattle.pie_c.proofs.Names.{accu_left, arrived, capped, count_kept_open, departed, is_unmeasured, cause, opened, passed, verdict, with_count}
+use Rattle.pie_c.proofs.Names.{name_of, place_of_cause, PieParams, PieState, is_bad_size, departure_refusal, waited_refusal, moment_refusal}
+use Rattle.pie_c.proofs.Names.{if_taken, packet_refusal, unless_refused, PieOpening, Opening, opening_in, opening_of, opening_refusal}
+use Rattle.pie_c.proofs.Names.{held_by_opening, params_of, raw_of, choices_of, elements_of, last_moment, profile_number, profile_of, held_in}
+use Rattle.pie_c.proofs.Names.{is_sound, state_of, takes_stamps, are_in_range, with_arrival, with_departure, with_rate, with_registers}
+use Rattle.std.proofs.Common.{not, max, Ok}
 use Rattle.pie_params.specs.Range.{is_dq_threshold}
 use Rattle.pie_aqm.specs.Steps.{anew, bytes_with, changed, judged, reset, turns_on}
-use Rattle.pie_c.proofs.Choices.{choices-back}
-use Rattle.pie_c.proofs.Sound.{held-sound, held-state, kept-by, params-from, parts-of, profile-back, state-held, state-sound}
+use Rattle.pie_c.proofs.Sound.{choices-back, chosen-back, held-sound, held-state, kept-by, kind-back, params-from, state-held, state-sound}
 
 -- ---- a call that nothing refuses
 
@@ -23,20 +22,9 @@ unfolding packet_refusal
 departure-taken s size left moment m good q rate = grind (arith, nat_tests)
 
 -- what an opening says that nothing refuses
-pub record Opens (o : PieOpening) : Type 0 where
-  pub params : are_in_range o.params ≡ true
-  pub moment : o.moment < 2 ^ 60
-  pub profile : ((o.profile == 1) || (o.profile == 2)) ≡ true
-  pub choices : o.choices ≤ 31
-
-pub opening-taken : (o : PieOpening) → opening_refusal o ≡ 0 → Opens o
+pub opening-taken : (o : PieOpening) → opening_refusal o ≡ 0 → (are_in_range o.params ≡ true) × (o.moment < 2 ^ 60)
 unfolding opening_refusal
-opening-taken o free = record {
-  params = grind (arith, nat_tests);
-  moment = grind (arith, nat_tests);
-  profile = grind (arith, nat_tests);
-  choices = grind (arith, nat_tests);
-}
+opening-taken o free = (grind (arith, nat_tests), grind (arith, nat_tests))
 
 -- what an opening says, and why it is refused
 pub says-opening : (o : PieOpening) (it : Opening) → opening_of o ≡ Ok it → (opening_refusal o ≡ 0) × (it ≡ opening_in o)
@@ -49,7 +37,7 @@ threshold-in params good =
 
 pub threshold-held : (s : PieState) → is_sound s ≡ true → (held_in s).params.dq_threshold ≤ 65536
 unfolding held_in
-threshold-held s sound = threshold-in (raw_of s.params) (parts-of s sound).params
+threshold-held s sound = threshold-in (raw_of s.params) (held-sound s sound).params
 
 -- ---- what follows for a call that leaves this of a sound state: it stays sound, and shows the call
 
@@ -109,12 +97,6 @@ pub registers-state : (s : PieState) (h : Held) → h.params ≡ raw_of s.params
 unfolding state_of
 registers-state s h same kind chosen =
     λ i. record (with_registers s h) { params = params_of ((sym same) i); profile = (sym kind) i; choices = (sym chosen) i }
-
-kind-back : (s : PieState) → is_sound s ≡ true → profile_number (profile_of s.profile) ≡ s.profile
-kind-back s sound = profile-back (s.profile == 2) s refl (parts-of s sound).activity
-
-chosen-back : (s : PieState) → is_sound s ≡ true → choices_of (elements_of s.choices) ≡ s.choices
-chosen-back s sound = choices-back s.choices (parts-of s sound).choices
 
 pub arrived-state : (s : PieState) (a : ArrivingPacket) (moment : ℕ) → is_sound s ≡ true
     → with_arrival s (arrived (held_in s) a moment) ≡ state_of (arrived (held_in s) a moment)
@@ -296,11 +278,10 @@ pub opened-in : (o : PieOpening) (it : Opening) (raw : RawParams) → it ≡ ope
     → opened it.choices.profile it.choices.elements raw it.moment ≡ held_by_opening o
 opened-in o it raw is same = rw same (ap (λ (i : Opening). opened i.choices.profile i.choices.elements i.params i.moment) is)
 
-pub opened-state : (s : PieState) (o : PieOpening) → Opens o
+pub opened-state : (s : PieState) (o : PieOpening) → opening_refusal o ≡ 0
     → with_registers (record s { params = o.params; profile = o.profile; choices = o.choices }) (held_by_opening o) ≡ state_of (held_by_opening o)
-opened-state s o opens =
-    registers-state (record s { params = o.params; profile = o.profile; choices = o.choices }) (held_by_opening o) refl
-    (by (o.profile == 2) refl opens.profile) (choices-back o.choices opens.choices)
-  where
-    by : (two : Bool) → (o.profile == 2) ≡ two → ((o.profile == 1) || (o.profile == 2)) ≡ true → profile_number (if two then Two else One) ≡ o.profile
-    by two is known = grind (arith, nat_tests)
+unfolding opening_refusal
+opened-state s o free =
+    let kind : profile_number (profile_of o.profile) ≡ o.profile = grind (arith, nat_tests) in
+    registers-state (record s { params = o.params; profile = o.profile; choices = o.choices }) (held_by_opening o) refl kind
+    (choices-back o.choices (grind (arith, nat_tests)))

@@ -1,7 +1,7 @@
 -- What is written of packets that wait and of events is their records.
 use Rattle.std.specs.Prelude.{All, map, nat_le}
 use Rattle.pie_c.specs.{flat_map, NotEct, Waiting, rows_text, text_of, event_row, written_rows, queued_row, part_rows, PieEvent, PieStats, Kept}
-use Rattle.pie_c.specs.{event_of, opening_text, stands_for, written_text, CanWait, ecn_number, is_standing, queued_text, resume_of, resume_text}
+use Rattle.pie_c.specs.{event_of, opening_text, stands_for, written_text, CanWait, bits_of, is_standing, queued_text, resume_of, resume_text}
 use Rattle.pie_c.specs.{set_by_of, standing_in, waiting_text}
 use Rattle.pie_c.proofs.Names.{◌≡◌, ℕ, suc, ◌==◌, ◌++◌, List, [], ◌∷◌, true, false, Some, None, refl, arith, nat_tests, Ecn, Event, waiting_after}
 use Rattle.pie_c.proofs.Names.{PieOpening, PieState, is_bad_size, opening_in, opening_of, opening_refusal, last_moment, is_sound}
@@ -25,7 +25,7 @@ events-written (k ∷ kept) (e ∷ events) is =
     rw (event-written k e first, events-written kept events rest) refl
 
 packet-written : (tag size since : ℕ) (ecn : Ecn) → is_bad_size size ≡ false → nat_le since last_moment ≡ true
-    → queued_text tag size (ecn_number ecn) since
+    → queued_text tag size (bits_of ecn) since
     ≡ text_of (queued_row (record { packet = record { tag = tag; size = size; ecn = ecn }; since = since }))
 packet-written tag size since NotEct good early = rw (good, early) refl
 packet-written tag size since _ good early = rw (good, early) refl

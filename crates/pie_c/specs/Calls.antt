@@ -1,10 +1,23 @@
 -- Why each call is refused, and what it answers. What a call leaves is what the controller makes of what was held.
-use Rattle.std.specs.Prelude.{ℕ, ◌≡◌, ◌^◌, ◌==◌, ◌&&◌, true, max, nat_lt, not, List, [], ◌∷◌, ◌++◌, if◌then◌else◌}
-use Rattle.pie_c.specs.Names.{Arrive, Call, Depart, Pass, after_call, shown_by, ControllerEvent, Opened, Held, Shows, arrived, capped, delay_answered}
-use Rattle.pie_c.specs.Names.{departed, due, is_too_soon, updated, verdict, PieParams, ecn_at, is_bad_size, verdict_number, PieState, PieUpdated}
+use Rattle.std.specs.Prelude.{ℕ, ◌≡◌, ◌≤◌, ◌^◌, ◌==◌, ◌&&◌, true, max, nat_lt, not, List, [], ◌∷◌, ◌++◌, if◌then◌else◌}
+use Rattle.pie_c.specs.Names.{Arrive, Call, Depart, IsTaken, Pass, after_call, shown_by, ControllerEvent, Opened, Held, IsSound, Shows, arrived, capped}
+use Rattle.pie_c.specs.Names.{delay_answered, departed, due, is_too_soon, updated, verdict, PieParams, ecn_at, is_bad_size, verdict_number, PieState, PieUpdated}
 use Rattle.pie_c.specs.Names.{last_moment, are_in_range}
 use Rattle.pie_aqm.specs.declared.verdict.ArrivingPacket.{ArrivingPacket}
 use Rattle.pie_c.specs.State.{held_in, is_sound, state_of, takes_stamps, with_arrival, with_departure}
+
+-- ---- what pie_aqm's laws say of each call, whoever holds what its controller holds
+
+-- what is held stays sound
+abbrev pub KeepsSound : Type 0
+KeepsSound = (held : Held) → IsSound held → (call : Call) → IsTaken call → IsSound (after_call held call)
+
+-- and shows the call too
+abbrev pub LooksBack : Type 0
+LooksBack = (opened : Opened) (events : List ControllerEvent) (held : Held) → Shows opened events held → held.params.dq_threshold ≤ 65536
+    → (call : Call) → Shows opened (events ++ shown_by held call ∷ []) (after_call held call)
+
+-- ---- what a call answers and leaves
 
 -- the answer of a call that is refused by a number, where that isn't 0, and else this one
 abbrev pub unless_refused : ℕ → ℕ → ℕ

@@ -1,6 +1,5 @@
 pub mod Names
 pub mod State
-pub mod Laws
 pub mod Calls
 pub mod Opening
 pub mod Reading
@@ -9,7 +8,6 @@ pub mod Resuming
 pub mod Summed
 unfoldable pub use Names.*
 unfoldable pub use State.*
-unfoldable pub use Laws.*
 unfoldable pub use Calls.*
 unfoldable pub use Opening.*
 unfoldable pub use Reading.*

@@ -97,38 +97,21 @@ abbrev pub with_arrival : PieState → Held → PieState
 with_arrival s h =
     if h.active && not (s.active == 1) then with_registers s h else record s { moment = h.moment; accu = h.accu }
 
--- the controller's registers are in their ranges, and the last update wasn't later than now
-unfoldable pub is_control_sound : PieState → Bool
-is_control_sound s =
-    nat_le s.prob (10 ^ 12) && nat_le s.old_delay (2 ^ 40) && nat_le s.burst (10 ^ 12) && nat_le s.last s.moment
-
 -- the flag is 1, and the cycle began no later than now and has counted less than the threshold; or
 -- the flag and the cycle's numbers are 0
-abbrev pub is_cycle_sound : PieState → Bool
+unfoldable pub is_cycle_sound : PieState → Bool
 is_cycle_sound s =
     if s.measuring == 1
     then nat_le s.cycle_start s.moment && nat_lt s.cycle_count s.params.dq_threshold
     else (s.measuring == 0) && (s.cycle_start == 0) && (s.cycle_count == 0)
 
--- the average is in its range, and the cycle is sound
-unfoldable pub is_rate_sound : PieState → Bool
-is_rate_sound s = nat_lt s.average (2 ^ 60) && is_cycle_sound s
-
 -- in profile one the controller is active, and in profile two it is active or not
 unfoldable pub is_activity_sound : PieState → Bool
 is_activity_sound s = if s.profile == 1 then s.active == 1 else (s.profile == 2) && nat_le s.active 1
 
--- the choices are known, and the wait is in its range
-unfoldable pub is_choice_sound : PieState → Bool
-is_choice_sound s = nat_le s.choices 31 && nat_le s.waited (2 ^ 40)
-
--- each field is in its range, and the fields fit one another
+-- each field is in its range, and the fields fit one another: the last update wasn't later than now
 unfoldable pub is_sound : PieState → Bool
 is_sound s =
-    are_in_range s.params
-    && nat_le s.moment last_moment
-    && is_control_sound s
-    && nat_lt s.accu 8_500_000_000_000
-    && is_rate_sound s
-    && is_activity_sound s
-    && is_choice_sound s
+    nat_le s.choices 31 && nat_le s.waited (2 ^ 40) && are_in_range s.params && nat_le s.moment last_moment
+    && nat_le s.prob (10 ^ 12) && nat_le s.old_delay (2 ^ 40) && nat_le s.burst (10 ^ 12) && nat_le s.last s.moment
+    && nat_lt s.accu 8_500_000_000_000 && nat_lt s.average (2 ^ 60) && is_cycle_sound s && is_activity_sound s

@@ -15,14 +15,14 @@ returns-clause-after c =
     c.opened-held.ensures ∙ opened-in a.opening.now c.in-Ok.it c.raw.result says.1 c.raw.ensures.same in
     rw (free c) (c.keep_registers.ensures
     ∙ ap (λ (h : Held). with_registers (record a.state.now { params = a.opening.now.params; profile = a.opening.now.profile; choices = a.opening.now.choices }) h) held
-    ∙ opened-state a.state.now a.opening.now (opening-taken a.opening.now (free c)))
+    ∙ opened-state a.state.now a.opening.now (free c))
 
 pub returns-clause-sound : goal.returns-clause-sound
 returns-clause-sound c taken =
     let o = c.args.opening.now in
     let opens = opening-taken o taken in
     rw (returns-clause-after c, taken)
-    (state-sound _ (c.calls_keep_it_sound.ensures.opens (profile_of o.profile) (elements_of o.choices) (raw_of o.params) o.moment (params-from o.params opens.params) opens.moment))
+    (state-sound _ (c.calls_keep_it_sound.ensures.opens (profile_of o.profile) (elements_of o.choices) (raw_of o.params) o.moment (params-from o.params opens.0) opens.1))
 
 pub returns-clause-shows : goal.returns-clause-shows
 returns-clause-shows c taken =

@@ -30,7 +30,7 @@ unfoldable pub use Rattle.pie_link.specs.Headline.{KeepsOneHistory}
 pub use Rattle.pie_link.specs.Views.{CallerView, LinkView, StaysOne, WasBusy}
 pub use Rattle.pie_link.specs.declared.told.Tried.{Tried}
 pub use Rattle.pie_link.specs.declared.told.Tried.TheVariants.{Busy, Refused}
-pub use Rattle.pie_link_c.specs.declared.excerpt_text.ExcerptText.{ExcerptText}
+pub use Rattle.pie_link_c.specs.declared.excerpt.ExcerptText.{ExcerptText}
 pub use Rattle.pie_link_c.specs.declared.filling.Asked.{Asked}
 pub use Rattle.pie_link_c.specs.declared.filling.Asked.TheVariants.{Arrive, Depart, Reset, Update}
 pub use Rattle.pie_lock.specs.Promises.{IsBeside, IsBothOf, first_pass, highest_alone, without_highest}

@@ -4,7 +4,7 @@ ghost use Rattle.std_alloc.specs.Box.Ownership.{box_owns};
 ghost use Rattle.pie_link_c.specs.{CallerView, ExcerptText};
 ghost use Rattle.pie_link_c.specs.Owned.{maybe_port, maybe_text, owns_port_if, owns_text_if};
 
-use crate::excerpt_text::ExcerptText;
+use crate::excerpt::ExcerptText;
 use crate::port::Port;
 use core::mem::replace;
 use std::alloc::{Allocator, Global};

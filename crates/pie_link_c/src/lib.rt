@@ -12,11 +12,9 @@
 #![tactic(auto)]
 
 mod burst;
-mod burst_calls;
 mod calls;
 mod code;
-mod excerpt_calls;
-mod excerpt_text;
+mod excerpt;
 mod filling;
 mod folding;
 mod handle;

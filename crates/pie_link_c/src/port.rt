@@ -3,7 +3,7 @@ ghost use Rattle.std.specs.Prelude.{◌≡◌, ◌≢◌, ◌==◌, ◌+◌, ◌
 ghost use Rattle.pie_link_c.specs.{arc_value, has_bad_ecn};
 
 use crate::code::{NO_MEMORY, ONE_NUMBER};
-use crate::excerpt_text::ExcerptText;
+use crate::excerpt::ExcerptText;
 use crate::filling::{Asked, fill, fill_number, fill_set};
 use crate::folding::{MOST, room, write_folded};
 use atomic_table::TableRule;

@@ -6,7 +6,7 @@ use Rattle.pie_link_c.proofs.Names.{free_all, look_at, get, get_in, sets, sets_l
 use Rattle.pie_link_c.proofs.Names.{RattleType, type_at, plain, Ptr, block_ptr, null_ptr, ptr_val, tests_null, nothing, layout, Stays, stay_dropped}
 use Rattle.pie_link_c.proofs.Names.{walk_of, Goes-dropped, None, Some, after, Ptr-Good, Good, Some-of, none_of, ghosts, and_tt, proved_at, leaves}
 use Rattle.pie_link_c.proofs.Names.{owns_text_if}
-use Rattle.pie_link_c.specs.contracts.excerpt_text.ExcerptText.{the_row as R}
+use Rattle.pie_link_c.specs.contracts.excerpt.ExcerptText.{the_row as R}
 use Rattle.pie_link_c.specs.contracts.handle.PieExcerpt.{the_row as Handle, struct}
 use Rattle.pie_link_c.specs.contracts.handle.PieExcerpt.into_loose.{ended, clauses}
 use Rattle.pie_link_c.specs.contracts.handle.PieExcerpt.into_loose.Key.{name as #self}

@@ -4,7 +4,7 @@ use Rattle.pie_link_c.proofs.Names.{◌∵◌, !, qed, by, keep, drop, split, fs
 use Rattle.pie_link_c.proofs.Names.{enter, alloc_all, pass_all, free_all, look_at, get, get_in, sets, agg, sub, whole, fact, fact_i, tables, yes}
 use Rattle.pie_link_c.proofs.Names.{RattleType, plain, block_ptr, nothing, Stays, stay_dropped, walk_of, Goes-dropped, Some, ghosts, proved_at}
 use Rattle.pie_link_c.proofs.Names.{leaves, owns_text_if}
-use Rattle.pie_link_c.specs.contracts.excerpt_text.ExcerptText.{the_row as R}
+use Rattle.pie_link_c.specs.contracts.excerpt.ExcerptText.{the_row as R}
 use Rattle.pie_link_c.specs.contracts.handle.PieExcerpt.{the_row as Handle, struct}
 use Rattle.pie_link_c.specs.contracts.handle.PieExcerpt.of_loose.{ended, clauses}
 use Rattle.pie_link_c.specs.contracts.handle.PieExcerpt.of_loose.Key.{name as #self}

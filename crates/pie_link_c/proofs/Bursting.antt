@@ -1,8 +1,7 @@
 -- One event more of a burst is told.
-use Rattle.pie_link_c.specs.{Command, Reply, AnswersWithin, WasBusy, Asked, IsAnswered, Took, WasNotTried, asks, told_event, told_events}
-use Rattle.pie_link_c.proofs.Names.{◌≡◌, ◌+◌, ◌<◌, ℕ, List, [], ◌∷◌, ◌++◌, refl, ap, sym, ◌∙◌, subst, length, map, arith, get_or, drop_more}
-use Rattle.pie_link_c.proofs.Names.{CallerView, LinkView, StaysOne, PieEvent}
-use Rattle.std.proofs.Common.{Bool, Option, drop, length-append, length-drop}
+use Rattle.pie_link_c.specs.{Command, Reply, Asked, Took, asks, told_event, told_events}
+use Rattle.pie_link_c.proofs.Names.{◌≡◌, ◌+◌, ◌<◌, ℕ, List, [], ◌∷◌, ◌++◌, refl, ap, sym, ◌∙◌, length, map, arith, get_or, drop_more, PieEvent}
+use Rattle.std.proofs.Common.{drop, length-append, length-drop}
 use Rattle.std.proofs.Math.ListN.{set}
 use Rattle.std.proofs.lemmas.List.{drop-set-lt, length-map}
 
@@ -65,31 +64,3 @@ later_stay asked l now i e is =
 -- a burst begins
 pub begun : (asked : Asked) (caller : ℕ) (events : List PieEvent) (done : ℕ) → done ≡ 0 → Took asked caller caller events events done []
 begun asked caller events done none = record { told = sym (none_told asked caller events); so_many = none; same = refl }
-
--- it was answered
-pub answered : (asked : Asked) (budget : Option ℕ) (go : Reply → Bool) (link : LinkView) (before inside after : CallerView)
-    (events now : List PieEvent) (number its done code : ℕ) (replies : List Reply) → before ≡ inside → inside.lock ≡ link
-    → AnswersWithin budget go link inside (map (asks asked) events) [] replies after → StaysOne inside after
-    → Took asked number its events now done replies → number ≡ before.first → code ≡ 0
-    → IsAnswered asked budget go before events done code now after
-answered asked budget go link before inside after events now number its done code replies same lock answers stays took_all is told = record {
-  replies = replies;
-  answered = subst (λ (b : CallerView). AnswersWithin budget go b.lock b (map (asks asked) events) [] replies after) (sym same)
-      (subst (λ (l : LinkView). AnswersWithin budget go l inside (map (asks asked) events) [] replies after) (sym lock) answers);
-  stays = subst (λ (b : CallerView). StaysOne b after) (sym same) stays;
-  told = took_all.told ∙ ap (λ (n : ℕ). told_events asked n events replies) is;
-  counted = took_all.so_many;
-  done = told;
-}
-
--- or it was not
-pub not_tried : (asked : Asked) (before inside after : CallerView) (events : List PieEvent) (done code : ℕ) → before ≡ inside
-    → WasBusy inside after → done ≡ 0 → (length (map (asks asked) events) ≡ 0 → ⊥) → code ≡ 121
-    → WasNotTried before events done code events after
-not_tried asked before inside after events done code same busy none some told = record {
-  busy = subst (λ (b : CallerView). WasBusy b after) (sym same) busy;
-  stays = refl;
-  counted = none;
-  some = λ empty. some (ap (λ (l : List PieEvent). length (map (asks asked) l)) empty);
-  told = told;
-}

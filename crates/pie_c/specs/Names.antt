@@ -23,7 +23,7 @@ pub use Rattle.pie_book.specs.Decision.{cause_after}
 unfoldable pub use Rattle.pie_book.specs.Estimates.{held_after}
 pub use Rattle.pie_book.specs.Statistics.{wait_of}
 pub use Rattle.pie_c.specs.declared.state.PieState.{PieState}
-pub use Rattle.pie_c.specs.declared.updated.PieUpdated.{PieUpdated}
+pub use Rattle.pie_c.specs.declared.state.PieUpdated.{PieUpdated}
 pub use Rattle.pie_event.specs.Deed.{deed_of}
 pub use Rattle.pie_event.specs.Verdict.{answer_of}
 pub use Rattle.pie_event.specs.declared.cause.Cause.{Cause}

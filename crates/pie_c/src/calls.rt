@@ -10,8 +10,7 @@ ghost use Rattle.pie_aqm.specs.Calls.{Update};
 ghost use Rattle.pie_event.specs.CauseName.{name_of, place_of_cause};
 
 use crate::checked::{is_sound, raw, raw_with, takes_stamps, usual_but_delay};
-use crate::state::PieState;
-use crate::updated::PieUpdated;
+use crate::state::{PieState, PieUpdated};
 use pie_abi::PieParams;
 use pie_abi::choices::elements;
 use pie_abi::code::{

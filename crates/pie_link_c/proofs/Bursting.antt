@@ -8,8 +8,7 @@ use Rattle.std.proofs.lemmas.List.{drop-set-lt, length-map}
 -- what is asked from a place on: its event's command, and those after it
 pub is_at : (asked : Asked) (es : List PieEvent) (i : ℕ) (d : PieEvent) (command : Command) → i < length es → command ≡ asks asked (get_or es i d)
     → map (asks asked) (drop i es) ≡ command ∷ map (asks asked) (drop (i + 1) es)
-is_at asked es i d command some is =
-    ap (map (asks asked)) (drop_more es i d some) ∙ ap (λ (first : Command). first ∷ map (asks asked) (drop (i + 1) es)) (sym is)
+is_at asked es i d command some is = grind (arith, drop_more es i d)
 
 -- a place from which something is asked is one of an event
 pub is_place : (asked : Asked) (es : List PieEvent) (i : ℕ) → 0 < length (map (asks asked) (drop i es)) → i < length es
@@ -23,9 +22,8 @@ told-more : (asked : Asked) (caller : ℕ) (es : List PieEvent) (rs : List Reply
     → told_events asked caller es (rs ++ r ∷ [])
     ≡ set (told_events asked caller es rs) (length rs) (told_event asked caller (get_or (told_events asked caller es rs) (length rs) d) r)
 told-more asked caller [] rs r d some = absurd (omega (arith, some))
-told-more asked caller (e ∷ es) [] r d some = ap (λ (l : List PieEvent). told_event asked caller e r ∷ l) (none_told asked caller es)
-told-more asked caller (e ∷ es) (q ∷ rs) r d some =
-    ap (λ (l : List PieEvent). told_event asked caller e q ∷ l) (told-more asked caller es rs r d (omega (arith, some)))
+told-more asked caller (e ∷ es) [] r d some = grind (arith, none_told asked caller es)
+told-more asked caller (e ∷ es) (q ∷ rs) r d some = grind (arith, told-more asked caller es rs r d)
 
 length-told : (asked : Asked) (caller : ℕ) (es : List PieEvent) (rs : List Reply) → length (told_events asked caller es rs) ≡ length es
 length-told asked caller [] rs = refl
@@ -58,8 +56,7 @@ took asked caller number events now next place done replies reply d before at so
 -- the events after a place stay
 pub later_stay : (asked : Asked) (l now : List PieEvent) (i : ℕ) (e : PieEvent) → now ≡ set l i e
     → map (asks asked) (drop (i + 1) now) ≡ map (asks asked) (drop (i + 1) l)
-later_stay asked l now i e is =
-    ap (λ (k : List PieEvent). map (asks asked) (drop (i + 1) k)) is ∙ ap (map (asks asked)) (drop-set-lt (i + 1) l i e (omega arith))
+later_stay asked l now i e is = grind (arith, drop-set-lt (i + 1) l i e)
 
 -- a burst begins
 pub begun : (asked : Asked) (caller : ℕ) (events : List PieEvent) (done : ℕ) → done ≡ 0 → Took asked caller caller events events done []

@@ -1,7 +1,7 @@
 -- What the calls for each packet leave of a sound state is what the controller then holds.
 use Rattle.std.specs.Prelude.{IsTrue, None}
 use Rattle.pie_c.specs.{Arrive, Call, Change, IsTaken, Pass, Restart, after_call, shown_by, ControllerEvent, Opened, Shows, Arrives, Departs, Leaves}
-use Rattle.pie_c.specs.{Makes, Passes, Steps, kept_if_refused, params_refusal, KeepsSound, LooksBack}
+use Rattle.pie_c.specs.{Makes, Passes, Steps, params_refusal, KeepsSound, LooksBack}
 use Rattle.pie_c.proofs.Names.{reset_refusal, ◌≡◌, ℕ, ◌≤◌, ◌<◌, ◌^◌, ◌==◌, if◌then◌else◌, nat_lt, Bool, true, false, List, [], ◌∷◌, Some, ◌++◌}
 use Rattle.pie_c.proofs.Names.{arith, refl, ap, ◌∙◌, eqb-true, nat_tests, ArrivingPacket, Verdict, Depart, RawParams, first_bad, Held, accu_left}
 use Rattle.pie_c.proofs.Names.{arrived, capped, count_kept_open, departed, is_unmeasured, cause, opened, passed, verdict, with_count, name_of}
@@ -45,7 +45,7 @@ unfolding packet_refusal
 departed-moment size left moment rest free = grind (arith, nat_tests)
 
 module _ (s t : PieState) (call : Call) (refusal : ℕ) (keeps : KeepsSound) (looks : LooksBack) (sound : is_sound s ≡ true)
-    (left : t ≡ kept_if_refused refusal s (after_call (held_in s) call)) where
+    (left : t ≡ if_taken refusal s (state_of (after_call (held_in s) call))) where
   pub stays-sound : (refusal ≡ 0 → IsTaken call) → is_sound t ≡ true
   stays-sound taken = rw left (by (refusal == 0) (λ is. taken (eqb-true refusal 0 is)))
     where
@@ -60,7 +60,7 @@ module _ (s t : PieState) (call : Call) (refusal : ℕ) (keeps : KeepsSound) (lo
 
 -- all three
 pub makes : KeepsSound → LooksBack → (s t : PieState) (call : Call) (refusal : ℕ) → is_sound s ≡ true
-    → t ≡ kept_if_refused refusal s (after_call (held_in s) call) → (refusal ≡ 0 → IsTaken call) → Makes s call refusal t
+    → t ≡ if_taken refusal s (state_of (after_call (held_in s) call)) → (refusal ≡ 0 → IsTaken call) → Makes s call refusal t
 makes keeps looks s t call refusal sound left taken = record {
   after = left;
   sound = λ _. stays-sound s t call refusal keeps looks sound left taken;

@@ -1,7 +1,7 @@
--- What a state says that a controller holds, and which states are sound.
+-- What a state says that a controller holds, and which states are sound; what an opening opens.
 use Rattle.std.specs.Prelude.{ℕ, ◌^◌, ◌%◌, Bool, not, ◌&&◌, ◌==◌, nat_lt, nat_le, Option, Some, None, if◌then◌else◌}
 use Rattle.pie_c.specs.Names.{Begun, Held, choices_of, elements_of, last_moment, profile_number, profile_of, are_in_range, params_of, raw_of}
-use Rattle.pie_c.specs.Names.{PieState}
+use Rattle.pie_c.specs.Names.{PieState, profile_for, Opened, opened, PieOpening}
 use Rattle.pie_rate.specs.declared.raw.RawCycle.{RawCycle}
 use Rattle.pie_aqm.specs.declared.raw.RawController.{RawController}
 
@@ -115,3 +115,25 @@ is_sound s =
     nat_le s.choices 31 && nat_le s.waited (2 ^ 40) && are_in_range s.params && nat_le s.moment last_moment
     && nat_le s.prob (10 ^ 12) && nat_le s.old_delay (2 ^ 40) && nat_le s.burst (10 ^ 12) && nat_le s.last s.moment
     && nat_lt s.accu 8_500_000_000_000 && nat_lt s.average (2 ^ 60) && is_cycle_sound s && is_activity_sound s
+
+-- ---- what an opening opens
+
+-- the default opening for a link of this rate
+abbrev pub default_opening : ℕ → PieOpening
+default_opening rate = record {
+  params = params_of (profile_for rate);
+  moment = 0;
+  profile = 1;
+  choices = 0;
+  mode = 1;
+  packets = 2 ^ 20;
+  tail = 1024;
+  events = 2 ^ 47;
+}
+
+-- what a controller holds that is opened by it, and was opened with
+abbrev pub held_by_opening : PieOpening → Held
+held_by_opening o = opened (profile_of o.profile) (elements_of o.choices) (raw_of o.params) o.moment
+
+abbrev pub opened_by : PieOpening → Opened
+opened_by o = record { profile = profile_of o.profile; elements = elements_of o.choices; params = raw_of o.params; moment = o.moment }

@@ -4,8 +4,8 @@ use Rattle.pie_c.proofs.calls.depart_counted.Goals as goal
 
 pub returns-in-Some-clause-taken : goal.returns-in-Some-clause-taken
 returns-in-Some-clause-taken c did = let a = c.args in
-    counted-taken a.state.now c.raw.result a.size a.left a.moment c.in-Some.count c.raw.ensures (sym c.in-Some.ensures.count) (omega arith) (omega arith)
-    (omega arith)
+    counted-taken a.state.now c.raw.result a.size a.left a.moment c.in-Some.count c.raw.ensures (sym c.in-Some.ensures.count)
+    (omega arith) (omega arith) (omega arith)
 
 pub returns-in-Some-clause-after : goal.returns-in-Some-clause-after
 returns-in-Some-clause-after c = let a = c.args in

@@ -9,16 +9,17 @@ free c = opening-free c.args.opening.now c.in-Ok.it (sym c.checked.ensures ∙ c
 
 pub returns-clause-after : goal.returns-clause-after
 returns-clause-after c =
+    let says = sym c.checked.ensures ∙ c.in-Ok.is in
     rw (free c) (c.keep_registers.ensures
-    ∙ opened-state c.args.state.now c.args.opening.now c.in-Ok.it c.raw.result c.opened-held.result (sym c.checked.ensures ∙ c.in-Ok.is) c.raw.ensures.same
-    c.opened-held.ensures)
+    ∙ opened-state c.args.state.now c.args.opening.now c.in-Ok.it c.raw.result c.opened-held.result says c.raw.ensures.same c.opened-held.ensures)
 
 pub returns-clause-sound : goal.returns-clause-sound
 returns-clause-sound c taken =
     let o = c.args.opening.now in
     let opens = opening-taken o taken in
     rw (returns-clause-after c, taken)
-    (state-sound _ (c.calls_keep_it_sound.ensures.opens (profile_of o.profile) (elements_of o.choices) (raw_of o.params) o.moment (params-from o.params opens.0) opens.1))
+    (state-sound _ (c.calls_keep_it_sound.ensures.opens (profile_of o.profile) (elements_of o.choices) (raw_of o.params) o.moment
+    (params-from o.params opens.0) opens.1))
 
 pub returns-clause-shows : goal.returns-clause-shows
 returns-clause-shows c taken =

@@ -3,7 +3,7 @@ use Rattle.std.specs.Prelude.{IsTrue, None}
 use Rattle.pie_c.specs.{Arrive, Call, Change, IsTaken, Pass, Restart, after_call, shown_by, ControllerEvent, Opened, Shows, Arrives, Departs, Leaves}
 use Rattle.pie_c.specs.{Makes, Passes, Steps, params_refusal, KeepsSound, LooksBack}
 use Rattle.pie_c.proofs.Names.{reset_refusal, ◌≡◌, ℕ, ◌≤◌, ◌<◌, ◌^◌, ◌==◌, if◌then◌else◌, nat_lt, Bool, true, false, List, [], ◌∷◌, Some, ◌++◌}
-use Rattle.pie_c.proofs.Names.{arith, refl, ap, ◌∙◌, eqb-true, nat_tests, ArrivingPacket, Verdict, Depart, RawParams, first_bad, Held, accu_left}
+use Rattle.pie_c.proofs.Names.{arith, refl, ◌∙◌, eqb-true, nat_tests, ArrivingPacket, Verdict, Depart, RawParams, first_bad, Held, accu_left}
 use Rattle.pie_c.proofs.Names.{arrived, capped, count_kept_open, departed, is_unmeasured, cause, opened, passed, verdict, with_count, name_of}
 use Rattle.pie_c.proofs.Names.{place_of_cause, PieParams, PieState, is_bad_size, departure_refusal, waited_refusal, moment_refusal, if_taken}
 use Rattle.pie_c.proofs.Names.{packet_refusal, unless_refused, PieOpening, Opening, opening_of, opening_refusal, held_by_opening, raw_of}
@@ -86,30 +86,27 @@ pub arrived-state : (s : PieState) (a : ArrivingPacket) (moment : ℕ) → is_so
 unfolding held_in state_of
 arrived-state s a moment sound = let back = state-held s sound in grind (arith, nat_tests)
 
-capped-is : (h : Held) → h.params.dq_threshold ≤ 65536 → capped h ≡ h
-capped-is h t = ap (λ (n : ℕ). record h { params = record h.params { dq_threshold = n } }) (grind arith)
-
--- a departure of a state that takes delays by the rate, and of one that takes them from time stamps
-pub departed-state : (s : PieState) (size left since moment : ℕ) → is_sound s ≡ true
-    → with_departure s (departed (capped (held_in s)) size left since moment) ≡ state_of (departed (held_in s) size left since moment)
-unfolding held_in state_of elements_of
-departed-state s size left since moment sound =
-    let back = state-held s sound in
-    let same : capped (held_in s) ≡ held_in s = capped-is (held_in s) (threshold-held s sound) in
-    grind (arith, nat_tests)
-
 -- where delays come from the rate it doesn't matter since when a packet waited
 pub by-rate : (s : PieState) (size left since moment : ℕ) → takes_stamps s ≡ false
     → with_rate s (departed (capped (held_in s)) size left 0 moment) ≡ with_departure s (departed (capped (held_in s)) size left since moment)
 unfolding held_in elements_of
 by-rate s size left since moment is = rw is refl
 
--- what a departure leaves of each field
+-- what a departure leaves of each field, where delays come from the rate and where they come from time stamps
+left-in : (s t : PieState) (size left since moment refusal : ℕ) → is_sound s ≡ true
+    → t ≡ if_taken refusal s (with_departure s (departed (capped (held_in s)) size left since moment))
+    → t ≡ if_taken refusal s (state_of (departed (held_in s) size left since moment))
+unfolding held_in state_of elements_of
+left-in s t size left since moment refusal sound is =
+    let back = state-held s sound in
+    let few = threshold-held s sound in
+    grind (arith, nat_tests)
+
 left-by : KeepsSound → LooksBack → (s t : PieState) (size left since moment rest : ℕ) → let refusal = unless_refused (packet_refusal size left moment) rest in
     t ≡ if_taken refusal s (with_departure s (departed (capped (held_in s)) size left since moment)) → Leaves s (Depart size left since moment) refusal t
-left-by keeps looks s t size left since moment rest is sound = let refusal = unless_refused (packet_refusal size left moment) rest in
-    makes keeps looks s t (Depart size left since moment) refusal sound
-    (is ∙ ap (λ (u : PieState). if_taken refusal s u) (departed-state s size left since moment sound)) (departed-moment size left moment rest)
+left-by keeps looks s t size left since moment rest is sound =
+    makes keeps looks s t (Depart size left since moment) (unless_refused (packet_refusal size left moment) rest) sound
+    (left-in s t size left since moment _ sound is) (departed-moment size left moment rest)
 
 pub departs : KeepsSound → LooksBack → (s t : PieState) (size left since moment : ℕ)
     → t ≡ if_taken (waited_refusal s size left since moment) s (with_departure s (departed (capped (held_in s)) size left since moment))
@@ -150,17 +147,13 @@ pub unmeasured-state : (s : PieState) (h : Held) (size left moment : ℕ) → h 
 unfolding held_in is_unmeasured elements_of
 unmeasured-state s h size left moment is none alone = grind (arith, nat_tests)
 
-pub passed-state : (s : PieState) (moment : ℕ) → is_sound s ≡ true → record s { moment = max s.moment moment } ≡ state_of (passed (held_in s) moment)
-unfolding held_in state_of
-passed-state s moment sound = let back = state-held s sound in grind (arith, nat_tests)
-
 pub passes : KeepsSound → LooksBack → (s t : PieState) (moment : ℕ)
     → t ≡ if_taken (moment_refusal moment) s (record s { moment = max s.moment moment }) → Passes s moment t
-unfolding moment_refusal
+unfolding moment_refusal held_in state_of
 passes keeps looks s t moment is = record {
   fields = is;
-  held = λ sound. makes keeps looks s t (Pass moment) (moment_refusal moment) sound
-      (is ∙ ap (λ (u : PieState). if_taken (moment_refusal moment) s u) (passed-state s moment sound)) (handed moment _);
+  held = λ sound. let back = state-held s sound in
+      makes keeps looks s t (Pass moment) (moment_refusal moment) sound (grind (arith, nat_tests)) (handed moment _);
 }
 
 -- an arrival at a state that has its moment already
@@ -195,30 +188,23 @@ reset-taken : (s : PieState) (moment : ℕ) → reset_refusal s moment ≡ 0 →
 unfolding reset_refusal
 reset-taken s moment free = (grind (arith, nat_tests), grind (arith, nat_tests))
 
-reset-state : (s : PieState) (moment : ℕ) → is_sound s ≡ true → with_registers s (reset (held_in s) moment) ≡ state_of (reset (held_in s) moment)
-unfolding held_in state_of
-reset-state s moment sound = let back = state-held s sound in grind (arith, nat_tests)
-
 pub resets : KeepsSound → LooksBack → (s t : PieState) (moment : ℕ) → reset_refusal s moment ≡ 0 → t ≡ with_registers s (reset (held_in s) moment)
     → Makes s (Restart moment) (reset_refusal s moment) t
-resets keeps looks s t moment free is = let taken = reset-taken s moment free in
-    makes keeps looks s t (Restart moment) (reset_refusal s moment) taken.0 (rw free (is ∙ reset-state s moment taken.0)) (λ _. taken.1)
+unfolding held_in state_of
+resets keeps looks s t moment free is = let taken = reset-taken s moment free in let back = state-held s taken.0 in
+    makes keeps looks s t (Restart moment) (reset_refusal s moment) taken.0 (grind (arith, nat_tests)) (λ _. taken.1)
 
 change-taken : (s : PieState) (params : PieParams) (moment : ℕ) → params_refusal s params moment ≡ 0
     → (is_sound s ≡ true) × (are_in_range params ≡ true) × (moment < 2 ^ 60)
 unfolding params_refusal
 change-taken s params moment free = (grind (arith, nat_tests), grind (arith, nat_tests), grind (arith, nat_tests))
 
-changed-state : (s : PieState) (params : PieParams) (moment : ℕ) → is_sound s ≡ true
-    → with_rate (record s { params = params }) (changed (held_in s) (raw_of params) moment) ≡ state_of (changed (held_in s) (raw_of params) moment)
-unfolding held_in state_of
-changed-state s params moment sound = let back = state-held s sound in grind (arith, nat_tests)
-
 pub changes : KeepsSound → LooksBack → (s t : PieState) (params : PieParams) (moment : ℕ) → params_refusal s params moment ≡ 0
     → t ≡ with_rate (record s { params = params }) (changed (held_in s) (raw_of params) moment)
     → Makes s (Change (raw_of params) moment) (params_refusal s params moment) t
-changes keeps looks s t params moment free is = let taken = change-taken s params moment free in
-    makes keeps looks s t (Change (raw_of params) moment) (params_refusal s params moment) taken.0 (rw free (is ∙ changed-state s params moment taken.0))
+unfolding held_in state_of
+changes keeps looks s t params moment free is = let taken = change-taken s params moment free in let back = state-held s taken.0 in
+    makes keeps looks s t (Change (raw_of params) moment) (params_refusal s params moment) taken.0 (grind (arith, nat_tests))
     (λ _. (taken.2, params-from params taken.1))
 
 pub opened-state : (s : PieState) (o : PieOpening) (it : Opening) (raw : RawParams) (h : Held) → opening_of o ≡ Ok it → raw ≡ it.params

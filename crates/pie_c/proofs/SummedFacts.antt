@@ -26,13 +26,6 @@ told before after day made decided wait one met noted is tells notes = (
   tells.clock,
 )
 
--- the place of a verdict's count is its number
-pub verdict-place : (verdict : Verdict) → verdict_number verdict ≡ answer_place (answer_of verdict)
-verdict-place verdict = grind (arith, nat_tests)
-
-pub verdict-few : (verdict : Verdict) → verdict_number verdict ≤ 4
-verdict-few verdict = grind (arith, nat_tests)
-
 -- what a call adds, by whether it was taken
 pub adds-by : (refusal : ℕ) (before after : LivePeriod) (told : Explained → Type 0) (taken : Bool) (noted : Noted) → IsSet before after
     → (taken ≡ false → after ≡ before)
@@ -55,7 +48,7 @@ pub arrival-decides : (queued size ecn moment answer : ℕ) (verdict : Verdict)
     → Decides (nat_le answer 4) (arrival_refusal queued size ecn moment ≡ 0)
 unfolding arrival_refusal
 arrival-decides queued size ecn moment answer verdict is =
-    (λ few. grind (arith, nat_tests), λ free. grind (arith, nat_tests, verdict-few verdict))
+    (λ few. grind (arith, nat_tests), λ free. grind (arith, nat_tests))
 
 -- a call that answers its refusal
 pub done-decides : (refusal answer : ℕ) → answer ≡ refusal → Decides (answer == 0) (refusal ≡ 0)

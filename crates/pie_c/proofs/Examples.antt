@@ -1,7 +1,7 @@
 -- The definitions on worked rows: each theorem computes.
 use Rattle.pie_c.proofs.Names.{◌≡◌, ◌^◌, true, false, refl, PieParams, PieState, usual, Half, Stamp, Random, Uncapped, Scaled, One, accu_left}
 use Rattle.pie_c.proofs.Names.{arrived, capped, departed, opened, verdict, arrival_of, packet_refusal, waited_refusal, departure_refusal}
-use Rattle.pie_c.proofs.Names.{update_refusal, raw_of, choices_of, elements_of, are_in_range, held_in, is_activity_sound, is_cycle_sound}
+use Rattle.pie_c.proofs.Names.{update_refusal, raw_of, choices_of, elements_of, are_in_range, held_in, is_activity_sound, is_rate_sound}
 use Rattle.pie_c.proofs.Names.{is_sound, state_of, with_arrival, with_rate}
 use Rattle.std.proofs.Common.{◌-◌}
 use Rattle.pie_early.specs.Decision.{is_considered, is_picked}
@@ -29,7 +29,7 @@ sound-states : (is_sound start ≡ true) × (is_sound (record start { last = 1 }
     × (is_sound (record start { params = record defaults { dq_threshold = 3000 } }) ≡ false)
     × (is_sound (record start { active = 0 }) ≡ false) × (is_sound (record start { profile = 2; active = 0 }) ≡ true)
     × (is_sound (record start { profile = 2; active = 2 }) ≡ false) × (is_sound (record start { profile = 3 }) ≡ false)
-unfolding state_of is_sound is_cycle_sound is_activity_sound are_in_range choices_of
+unfolding state_of is_sound is_rate_sound is_activity_sound are_in_range choices_of
 sound-states = (refl, refl, refl, refl, refl, refl, refl, refl, refl, refl)
 
 -- where delays come from time stamps a departure says when the packet arrived; numbers of its own are looked at first
@@ -52,5 +52,5 @@ odd_states = (refl, refl)
 
 too_soon : (update_refusal start 0 14_999_999 ≡ 103) × (update_refusal start 0 15_000_000 ≡ 0)
     × (update_refusal (record start { moment = 15_000_000 }) 0 3 ≡ 0)
-unfolding state_of held_in update_refusal is_sound is_cycle_sound is_activity_sound are_in_range choices_of elements_of
+unfolding state_of held_in update_refusal is_sound is_rate_sound is_activity_sound are_in_range choices_of elements_of
 too_soon = (refl, refl, refl)

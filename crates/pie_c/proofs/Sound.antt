@@ -1,7 +1,7 @@
 -- A state says what a controller holds, and is sound where that is.
 use Rattle.pie_c.specs.{Begun, count_of, flag, flag_of, start_of}
-use Rattle.pie_c.proofs.Names.{RawParams, params_of, ◌≡◌, ◌≤◌, ◌==◌, if◌then◌else◌, ℕ, suc, Bool, true, None, arith, refl, ap, nat_tests, first_bad}
-use Rattle.pie_c.proofs.Names.{One, Held, IsSound, PieParams, PieState, raw_of, are_in_range, held_in, is_activity_sound, is_cycle_sound, is_sound}
+use Rattle.pie_c.proofs.Names.{RawParams, params_of, ◌≡◌, ◌<◌, ◌^◌, ◌≤◌, ◌==◌, if◌then◌else◌, ℕ, suc, Bool, true, None, arith, refl, ap, nat_tests, first_bad}
+use Rattle.pie_c.proofs.Names.{One, Held, IsSound, PieParams, PieState, raw_of, are_in_range, held_in, is_activity_sound, is_rate_sound, is_sound}
 use Rattle.pie_c.proofs.Names.{profile_number, profile_of, Stamp, state_of, choices_of, elements_of, usual}
 use Rattle.std.proofs.Common.{Option, is_none, zero}
 use Rattle.pie_event.specs.declared.profile.Profile.{Profile}
@@ -46,13 +46,13 @@ unfolding are_in_range
 params-to p e = ap is_none e
 
 -- what of a sound state takes more than one number
-fits : (s : PieState) → is_sound s ≡ true → (is_cycle_sound s ≡ true) × (is_activity_sound s ≡ true) × (s.choices ≤ 31)
+fits : (s : PieState) → is_sound s ≡ true → (is_rate_sound s ≡ true) × (is_activity_sound s ≡ true) × (s.choices ≤ 31)
 unfolding is_sound
 fits s sound = (grind (arith, nat_tests), grind (arith, nat_tests), grind (arith, nat_tests))
 
-within : (s : PieState) → is_cycle_sound s ≡ true → IsWithin s.params.dq_threshold s.moment (held_in s).rate.begun
-unfolding is_cycle_sound held_in
-within s h = grind (arith, nat_tests)
+within : (s : PieState) → is_rate_sound s ≡ true → (s.average < 2 ^ 60) × IsWithin s.params.dq_threshold s.moment (held_in s).rate.begun
+unfolding is_rate_sound held_in
+within s h = (grind (arith, nat_tests), grind (arith, nat_tests))
 
 one-at : (s : PieState) → is_activity_sound s ≡ true → profile_of s.profile ≡ One → (s.active == 1) ≡ true
 unfolding is_activity_sound
@@ -68,16 +68,16 @@ held-sound s h = record {
   burst = grind (arith, nat_tests);
   last = grind (arith, nat_tests);
   accu = grind (arith, nat_tests);
-  average = grind (arith, nat_tests);
-  cycle = within s (fits s h).0;
+  average = (within s (fits s h).0).0;
+  cycle = (within s (fits s h).0).1;
   waited = grind (arith, nat_tests);
   active = one-at s (fits s h).1;
 }
 
-cycle-to : (s : PieState) (o : Option Begun) → s.measuring ≡ flag_of o → s.cycle_start ≡ start_of o → s.cycle_count ≡ count_of o
-    → IsWithin s.params.dq_threshold s.moment o → is_cycle_sound s ≡ true
-unfolding is_cycle_sound
-cycle-to s o f t c w = grind (arith, nat_tests)
+rate-to : (s : PieState) (o : Option Begun) → s.average < 2 ^ 60 → s.measuring ≡ flag_of o → s.cycle_start ≡ start_of o → s.cycle_count ≡ count_of o
+    → IsWithin s.params.dq_threshold s.moment o → is_rate_sound s ≡ true
+unfolding is_rate_sound
+rate-to s o a f t c w = grind (arith, nat_tests)
 
 activity-to : (profile : Profile) (active : Bool) (s : PieState) → s.profile ≡ profile_number profile → s.active ≡ flag active
     → (profile ≡ One → active ≡ true) → is_activity_sound s ≡ true
@@ -88,7 +88,7 @@ pub state-sound : (h : Held) → IsSound h → is_sound (state_of h) ≡ true
 unfolding state_of is_sound
 state-sound h sound =
     let params : are_in_range (params_of h.params) ≡ true = params-to h.params sound.params in
-    let cycle : is_cycle_sound (state_of h) ≡ true = cycle-to (state_of h) h.rate.begun refl refl refl sound.cycle in
+    let rate : is_rate_sound (state_of h) ≡ true = rate-to (state_of h) h.rate.begun sound.average refl refl refl sound.cycle in
     let activity : is_activity_sound (state_of h) ≡ true = activity-to h.profile h.active (state_of h) refl refl sound.active in
     let few : choices_of h.elements ≤ 31 = few-choices h.elements in
     grind (arith, nat_tests)
@@ -96,7 +96,7 @@ state-sound h sound =
 -- ---- what a sound state says is the state, so a call writes the fields that it changes alone
 
 pub state-held : (s : PieState) → is_sound s ≡ true → state_of (held_in s) ≡ s
-unfolding held_in state_of is_cycle_sound is_activity_sound
+unfolding held_in state_of is_rate_sound is_activity_sound
 state-held s sound =
     let fit = (fits s sound).0 in
     let known = (fits s sound).1 in

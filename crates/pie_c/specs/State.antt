@@ -97,13 +97,14 @@ abbrev pub with_arrival : PieState → Held → PieState
 with_arrival s h =
     if h.active && not (s.active == 1) then with_registers s h else record s { moment = h.moment; accu = h.accu }
 
--- the flag is 1, and the cycle began no later than now and has counted less than the threshold; or
+-- the average is in its range; and the flag is 1, and the cycle began no later than now and has counted less than the threshold, or
 -- the flag and the cycle's numbers are 0
-unfoldable pub is_cycle_sound : PieState → Bool
-is_cycle_sound s =
-    if s.measuring == 1
+unfoldable pub is_rate_sound : PieState → Bool
+is_rate_sound s =
+    nat_lt s.average (2 ^ 60)
+    && (if s.measuring == 1
     then nat_le s.cycle_start s.moment && nat_lt s.cycle_count s.params.dq_threshold
-    else (s.measuring == 0) && (s.cycle_start == 0) && (s.cycle_count == 0)
+    else (s.measuring == 0) && (s.cycle_start == 0) && (s.cycle_count == 0))
 
 -- in profile one the controller is active, and in profile two it is active or not
 unfoldable pub is_activity_sound : PieState → Bool
@@ -114,7 +115,7 @@ unfoldable pub is_sound : PieState → Bool
 is_sound s =
     nat_le s.choices 31 && nat_le s.waited (2 ^ 40) && are_in_range s.params && nat_le s.moment last_moment
     && nat_le s.prob (10 ^ 12) && nat_le s.old_delay (2 ^ 40) && nat_le s.burst (10 ^ 12) && nat_le s.last s.moment
-    && nat_lt s.accu 8_500_000_000_000 && nat_lt s.average (2 ^ 60) && is_cycle_sound s && is_activity_sound s
+    && nat_lt s.accu 8_500_000_000_000 && is_rate_sound s && is_activity_sound s
 
 -- ---- what an opening opens
 

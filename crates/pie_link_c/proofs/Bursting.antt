@@ -1,6 +1,6 @@
 -- One event more of a burst is told.
 use Rattle.pie_link_c.specs.{Command, Reply, Asked, Took, asks, told_event, told_events}
-use Rattle.pie_link_c.proofs.Names.{◌≡◌, ◌+◌, ◌<◌, ℕ, List, [], ◌∷◌, ◌++◌, refl, ap, sym, ◌∙◌, length, map, arith, get_or, drop_more, PieEvent}
+use Rattle.pie_link_c.proofs.Names.{◌≡◌, ◌+◌, ◌<◌, ℕ, List, [], ◌∷◌, ◌++◌, refl, sym, ◌∙◌, length, map, arith, get_or, drop_more, PieEvent}
 use Rattle.std.proofs.Common.{drop, length-append, length-drop}
 use Rattle.std.proofs.Math.ListN.{set}
 use Rattle.std.proofs.lemmas.List.{drop-set-lt, length-map}
@@ -38,17 +38,9 @@ pub took : (asked : Asked) (caller number : ℕ) (events now next : List PieEven
     → Took asked caller number events next (place + 1) (replies ++ reply ∷ [])
 took asked caller number events now next place done replies reply d before at some is =
     let here : place ≡ length replies = sym at ∙ before.so_many in
-    let few : length replies < length events = omega (
-      arith,
-      some,
-      here,
-      ap (λ (l : List PieEvent). length l) before.told,
-      length-told asked caller events replies,
-    ) in
+    let few : length replies < length events = grind (arith, length-told asked caller events replies) in
     let said = told-more asked caller events replies reply d few in record {
-      told = is
-          ∙ (λ i. set (before.told i) (here i) (told_event asked (before.same i) (get_or (before.told i) (here i) d) reply))
-          ∙ sym said;
+      told = grind arith;
       so_many = omega (arith, here, length-append replies (reply ∷ []));
       same = before.same;
     }

@@ -3,7 +3,6 @@ use Rattle.pie_c.proofs.Names.{◌≡◌, ◌^◌, true, false, refl, PieParams,
 use Rattle.pie_c.proofs.Names.{arrived, capped, departed, opened, verdict, arrival_of, packet_refusal, waited_refusal, departure_refusal}
 use Rattle.pie_c.proofs.Names.{update_refusal, raw_of, choices_of, elements_of, are_in_range, held_in, is_activity_sound, is_rate_sound}
 use Rattle.pie_c.proofs.Names.{is_sound, state_of, with_arrival, with_rate}
-use Rattle.std.proofs.Common.{◌-◌}
 use Rattle.pie_early.specs.Decision.{is_considered, is_picked}
 
 -- the default parameters, and a controller that is opened with them at 0

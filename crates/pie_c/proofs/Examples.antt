@@ -1,11 +1,8 @@
 -- The definitions on worked rows: each theorem computes.
-use Rattle.pie_c.specs.{state_refusal, default_opening}
 use Rattle.pie_c.proofs.Names.{◌≡◌, ◌^◌, true, false, refl, PieParams, PieState, usual, Half, Stamp, Random, Uncapped, Scaled, One, accu_left}
-use Rattle.pie_c.proofs.Names.{arrived, capped, departed, opened, verdict, arrival_of, arrival_refusal, packet_refusal, waited_refusal}
-use Rattle.pie_c.proofs.Names.{departure_refusal, moment_refusal, reset_refusal, update_refusal, opening_refusal, raw_of, PieOpening, choices_of}
-use Rattle.pie_c.proofs.Names.{elements_of, are_in_range, is_choice_sound, held_in, is_activity_sound, is_control_sound, is_rate_sound, is_sound}
-use Rattle.pie_c.proofs.Names.{state_of, with_arrival, with_rate}
-use Rattle.std.proofs.Common.{◌+◌, ◌-◌}
+use Rattle.pie_c.proofs.Names.{arrived, capped, departed, opened, verdict, arrival_of, packet_refusal, waited_refusal, departure_refusal}
+use Rattle.pie_c.proofs.Names.{update_refusal, raw_of, choices_of, elements_of, are_in_range, held_in, is_activity_sound, is_rate_sound}
+use Rattle.pie_c.proofs.Names.{is_sound, state_of, with_arrival, with_rate}
 use Rattle.pie_early.specs.Decision.{is_considered, is_picked}
 
 -- the default parameters, and a controller that is opened with them at 0
@@ -31,15 +28,8 @@ sound-states : (is_sound start ≡ true) × (is_sound (record start { last = 1 }
     × (is_sound (record start { params = record defaults { dq_threshold = 3000 } }) ≡ false)
     × (is_sound (record start { active = 0 }) ≡ false) × (is_sound (record start { profile = 2; active = 0 }) ≡ true)
     × (is_sound (record start { profile = 2; active = 2 }) ≡ false) × (is_sound (record start { profile = 3 }) ≡ false)
-unfolding state_of is_sound are_in_range is_control_sound is_rate_sound is_activity_sound is_choice_sound choices_of
+unfolding state_of is_sound is_rate_sound is_activity_sound are_in_range choices_of
 sound-states = (refl, refl, refl, refl, refl, refl, refl, refl, refl, refl)
-
--- a state is refused by any field, and by the calls for each packet by none
-state_refusals : (state_refusal start ≡ 0) × (state_refusal (record start { accu = 8_500_000_000_000 }) ≡ 110)
-    × (reset_refusal (record start { accu = 8_500_000_000_000 }) 0 ≡ 110)
-    × (reset_refusal start (2 ^ 60) ≡ 101) × (moment_refusal (2 ^ 60) ≡ 101) × (packet_refusal 65536 0 0 ≡ 102)
-unfolding state_of reset_refusal moment_refusal packet_refusal is_sound are_in_range is_control_sound is_rate_sound is_activity_sound is_choice_sound choices_of
-state_refusals = (refl, refl, refl, refl, refl, refl)
 
 -- where delays come from time stamps a departure says when the packet arrived; numbers of its own are looked at first
 stamped : (departure_refusal (record start { choices = 1 }) 1 0 0 ≡ 119) × (departure_refusal (record start { choices = 30 }) 1 0 0 ≡ 0)
@@ -59,27 +49,7 @@ odd_states : (with_rate odd (departed (capped (held_in odd)) 1 0 0 8)
 unfolding held_in state_of verdict accu_left is_considered is_picked elements_of choices_of
 odd_states = (refl, refl)
 
--- the first thing that is out of its range is named
-refusals : (arrival_refusal (2 ^ 30 + 1) 0 4 (2 ^ 60) ≡ 101) × (arrival_refusal (2 ^ 30 + 1) 0 4 0 ≡ 102)
-    × (arrival_refusal (2 ^ 30 + 1) 65535 4 0 ≡ 111)
-    × (arrival_refusal (2 ^ 30 + 1) 1 3 0 ≡ 112) × (arrival_refusal (2 ^ 30) 1 3 (2 ^ 60 - 1) ≡ 0)
-unfolding arrival_refusal
-refusals = (refl, refl, refl, refl, refl)
-
--- the first thing that is out of its range is named, and the limits of the history come last
-abbrev opens : PieOpening
-opens = default_opening 0
-
-openings : (opening_refusal (record opens { params = record defaults { target = 1 }; moment = 2 ^ 60; profile = 3; choices = 32; mode = 2 }) ≡ 107)
-    × (opening_refusal (record opens { moment = 2 ^ 60; profile = 3; choices = 32; mode = 2 }) ≡ 101)
-    × (opening_refusal (record opens { profile = 3; choices = 32; mode = 2 }) ≡ 113) × (opening_refusal (record opens { profile = 0 }) ≡ 113)
-    × (opening_refusal (record opens { profile = 2; choices = 32; mode = 2 }) ≡ 117) × (opening_refusal (record opens { choices = 31; mode = 2 }) ≡ 120)
-    × (opening_refusal (record opens { packets = 0 }) ≡ 120) × (opening_refusal (record opens { tail = 2 ^ 20 + 1 }) ≡ 120)
-    × (opening_refusal (record opens { events = 2 ^ 47 + 1 }) ≡ 120) × (opening_refusal (record opens { profile = 2; choices = 31; mode = 0 }) ≡ 0)
-unfolding opening_refusal are_in_range
-openings = (refl, refl, refl, refl, refl, refl, refl, refl, refl, refl)
-
 too_soon : (update_refusal start 0 14_999_999 ≡ 103) × (update_refusal start 0 15_000_000 ≡ 0)
     × (update_refusal (record start { moment = 15_000_000 }) 0 3 ≡ 0)
-unfolding state_of held_in update_refusal is_sound are_in_range is_control_sound is_rate_sound is_activity_sound is_choice_sound choices_of elements_of
+unfolding state_of held_in update_refusal is_sound is_rate_sound is_activity_sound are_in_range choices_of elements_of
 too_soon = (refl, refl, refl)

@@ -1,6 +1,5 @@
 mod Names
-pub mod Choices
-mod Sound
+pub mod Sound
 mod Examples
 pub mod Packets
 pub mod WrittenFacts

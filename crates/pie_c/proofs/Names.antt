@@ -5,8 +5,8 @@ pub use Rattle.pie_c.specs.{PieOpening, PieParams, Depart, Held, IsSound, arrive
 pub use Rattle.pie_c.specs.{departure_refusal, if_taken, unless_refused, waited_refusal, held_by_opening, takes_stamps, with_arrival, with_departure}
 pub use Rattle.pie_c.specs.{with_rate, with_registers, PieState, Event, first_bad, Ecn}
 unfoldable pub use Rattle.pie_c.specs.{choices_of, elements_of, opening_refusal, are_in_range, cause, verdict, arrival_refusal, moment_refusal}
-unfoldable pub use Rattle.pie_c.specs.{packet_refusal, reset_refusal, update_refusal, held_in, is_activity_sound, is_choice_sound, is_control_sound}
-unfoldable pub use Rattle.pie_c.specs.{is_rate_sound, is_sound, state_of}
+unfoldable pub use Rattle.pie_c.specs.{packet_refusal, reset_refusal, update_refusal, held_in, is_activity_sound, is_rate_sound}
+unfoldable pub use Rattle.pie_c.specs.{is_sound, state_of}
 pub use Rattle.std.proofs.Common.{Bool, List, None, Some, [], ap, arith, false, if◌then◌else◌, min, nat_le, nat_lt, refl, rules, subst, suc, sym}
 pub use Rattle.std.proofs.Common.{true, ℕ, ◌&&◌, ◌++◌, ◌<◌, ◌==◌, ◌^◌, ◌∙◌, ◌∷◌, ◌≡◌, ◌≤◌}
 pub use Rattle.std.proofs.lemmas.Bool.{eqb-true}

@@ -1,10 +1,10 @@
 -- What the calls that sum up add to a period.
-use Rattle.std.specs.Prelude.{Option, if◌then◌else◌}
-use Rattle.pie_c.specs.{Cause, Enqueued, answer_of, Clock, Explained, LivePeriod, Met, Holds, IsSet, Meets, clock_of, noted_of, updated_by, Adds}
-use Rattle.pie_c.specs.{Tells, met_by, cause_after, held_after, wait_of, deed_of, Setter, explanation, moment_of, with_after}
-use Rattle.pie_c.proofs.Names.{◌≡◌, ◌≤◌, min, ◌==◌, arith, ℕ, Bool, true, false, nat_le, List, [], ◌∷◌, ◌++◌, refl, sym, ap, ◌∙◌, subst, nat_tests}
+use Rattle.std.specs.Prelude.{Option}
+use Rattle.pie_c.specs.{Cause, answer_of, Clock, Explained, LivePeriod, Met, Holds, IsSet, Meets, clock_of, noted_of, updated_by, Adds, Tells}
+use Rattle.pie_c.specs.{met_by, cause_after, held_after, wait_of, deed_of, Setter, explanation, moment_of, with_after}
+use Rattle.pie_c.proofs.Names.{◌≡◌, ◌≤◌, min, ◌==◌, arith, ℕ, Bool, true, false, nat_le, List, [], ◌∷◌, ◌++◌, refl, sym, ap, subst, nat_tests}
 use Rattle.pie_c.proofs.Names.{Event, Verdict, verdict_number, PieState, arrival_refusal, if_taken, moment_refusal, unless_refused, update_refusal}
-use Rattle.pie_c.proofs.Names.{held_in, takes_stamps, with_departure, with_rate, Held, waiting_after, Opening}
+use Rattle.pie_c.proofs.Names.{held_in, with_departure, Held, waiting_after, Opening}
 use Rattle.pie_summary.specs.declared.noted.Noted.{Noted}
 use Rattle.pie_summary.specs.Sums.{answer_place, size_by, size_in}
 use Rattle.std.specs.Bool.{Decides}
@@ -13,19 +13,7 @@ use Rattle.pie_book.specs.Registers.{registers_after}
 -- a departure leaves what it met, but for what it changes
 pub unmoved : (before after : PieState) (refusal : ℕ) (held : Held) → after ≡ if_taken refusal before (with_departure before held)
     → met_by (after.active == 1) after.params.target after.last after ≡ met_by (before.active == 1) before.params.target before.last after
-unmoved before after refusal held is =
-    λ i. met_by (kept (λ (s : PieState). s.active == 1) refl refl i) (kept (λ (s : PieState). s.params.target) refl refl i)
-    (kept (λ (s : PieState). s.last) refl refl i) after
-  where
-    kept : {A : Type 0} (of : PieState → A) → of (record before { moment = held.moment; waited = held.waited }) ≡ of before
-        → of (with_rate before held) ≡ of before → of after ≡ of before
-    kept {A} of stamped by_rate = ap of is ∙ by_test (refusal == 0) (takes_stamps before)
-      where
-        by_test : (taken stamps : Bool) → of (if taken then (if stamps then record before { moment = held.moment; waited = held.waited }
-            else with_rate before held) else before) ≡ of before
-        by_test true true = stamped
-        by_test true false = by_rate
-        by_test false stamps = refl
+unmoved before after refusal held is = grind (arith, nat_tests)
 
 -- an event that is told so is noted so, where what its kind notes is noted
 pub told : (before after : PieState) (day : Option Clock) (made : Event) (decided : Option Cause) (wait : ℕ) (one : Explained) (met : Met) (noted : Noted)
@@ -38,15 +26,6 @@ told before after day made decided wait one met noted is tells notes = (
   tells.clock,
 )
 
--- the place of a verdict's count is its number
-pub verdict-place : (verdict : Verdict) → verdict_number verdict ≡ answer_place (answer_of verdict)
-verdict-place Enqueued = refl
-verdict-place _ = refl
-
-pub verdict-few : (verdict : Verdict) → verdict_number verdict ≤ 4
-verdict-few Enqueued = omega arith
-verdict-few _ = omega arith
-
 -- what a call adds, by whether it was taken
 pub adds-by : (refusal : ℕ) (before after : LivePeriod) (told : Explained → Type 0) (taken : Bool) (noted : Noted) → IsSet before after
     → (taken ≡ false → after ≡ before)
@@ -55,15 +34,10 @@ pub adds-by : (refusal : ℕ) (before after : LivePeriod) (told : Explained → 
     → Decides taken (refusal ≡ 0)
     → ((one : Explained) → refusal ≡ 0 → told one → (noted ≡ noted_of one) × (one.told.clock ≡ clock_of before))
     → Adds refusal before after told
-adds-by refusal before after told true noted set same adds decides is = record {
-  refused = λ r. absurd (r (decides.0 refl));
+adds-by refusal before after told taken noted set same adds decides is = record {
+  refused = λ r. grind (arith, same, decides);
   settings = set;
-  adds = λ all one free tells holds. adds all one refl (is one free tells).0 (is one free tells).1 holds;
-}
-adds-by refusal before after told false noted set same adds decides is = record {
-  refused = λ r. same refl;
-  settings = set;
-  adds = λ all one free tells holds. let wrong = decides.1 free in cc;
+  adds = λ all one free tells holds. adds all one (decides.1 free) (is one free tells).0 (is one free tells).1 holds;
 }
 
 -- ---- what an answer says of the refusal
@@ -74,7 +48,7 @@ pub arrival-decides : (queued size ecn moment answer : ℕ) (verdict : Verdict)
     → Decides (nat_le answer 4) (arrival_refusal queued size ecn moment ≡ 0)
 unfolding arrival_refusal
 arrival-decides queued size ecn moment answer verdict is =
-    (λ few. grind (arith, nat_tests), λ free. grind (arith, nat_tests, verdict-few verdict))
+    (λ few. grind (arith, nat_tests), λ free. grind (arith, nat_tests))
 
 -- a call that answers its refusal
 pub done-decides : (refusal answer : ℕ) → answer ≡ refusal → Decides (answer == 0) (refusal ≡ 0)
@@ -82,17 +56,12 @@ done-decides refusal answer is = (λ so. grind (arith, nat_tests), λ free. grin
 
 -- an arrival that is taken is answered by a verdict
 pub arrival-few : (refusal answer : ℕ) (verdict : Verdict) → answer ≡ unless_refused refusal (verdict_number verdict) → refusal ≡ 0 → answer ≤ 4
-arrival-few refusal answer verdict is taken =
-    let number : answer ≡ verdict_number verdict = is ∙ ap (λ (r : ℕ). unless_refused r (verdict_number verdict)) taken in
-    omega (arith, number, verdict-few verdict)
+arrival-few refusal answer verdict is taken = grind (arith, nat_tests)
 
 -- the place at which an arrival that was taken counts
 pub arrival-place : (refusal answer : ℕ) (verdict : Verdict) → answer ≡ unless_refused refusal (verdict_number verdict) → refusal ≡ 0
     → min answer 8 ≡ answer_place (answer_of verdict)
-arrival-place refusal answer verdict is taken =
-    let number : answer ≡ verdict_number verdict = is ∙ ap (λ (r : ℕ). unless_refused r (verdict_number verdict)) taken in
-    let same : min answer 8 ≡ verdict_number verdict = omega (arith, number, verdict-few verdict) in
-    same ∙ verdict-place verdict
+arrival-place refusal answer verdict is taken = grind (arith, nat_tests)
 
 -- a departure that found no packet is answered by 5, which is no refusal
 pub none-decides : (moment answer : ℕ) → answer ≡ unless_refused (moment_refusal moment) 5 → Decides (answer == 5) (moment_refusal moment ≡ 0)

@@ -1,34 +1,26 @@
 -- What is written of packets that wait and of events is their records.
 use Rattle.std.specs.Prelude.{All, map, nat_le}
-use Rattle.pie_c.specs.{flat_map, NotEct, Waiting, rows_text, text_of, event_row, written_rows, queued_row, part_rows, PieEvent, PieStats, Kept}
-use Rattle.pie_c.specs.{event_of, opening_text, stands_for, written_text, CanWait, ecn_number, is_standing, queued_text, resume_of, resume_text}
-use Rattle.pie_c.specs.{set_by_of, standing_in, waiting_text}
-use Rattle.pie_c.proofs.Names.{◌≡◌, ℕ, suc, ◌==◌, ◌++◌, List, [], ◌∷◌, true, false, Some, None, refl, arith, nat_tests, Ecn, Event, waiting_after}
-use Rattle.pie_c.proofs.Names.{PieOpening, PieState, is_bad_size, opening_in, opening_of, opening_refusal, last_moment, is_sound}
+use Rattle.pie_c.specs.{flat_map, Waiting, rows_text, text_of, event_row, written_rows, queued_row, part_rows, PieStats, Kept, opening_text}
+use Rattle.pie_c.specs.{stands_for, written_text, CanWait, bits_of, is_standing, queued_text, resume_of, resume_text, set_by_of, standing_in}
+use Rattle.pie_c.specs.{waiting_text}
+use Rattle.pie_c.proofs.Names.{◌≡◌, ℕ, suc, ◌++◌, List, [], ◌∷◌, true, false, Some, refl, arith, nat_tests, Ecn, Event, waiting_after, PieOpening}
+use Rattle.pie_c.proofs.Names.{PieState, is_bad_size, opening_in, opening_of, opening_refusal, last_moment, is_sound}
 use Rattle.std.proofs.lemmas.Grind.{flat_map-append}
 
--- lost events stand for none
-lost-none : (e : PieEvent) → (e.kind == 6) ≡ true → event_of e ≡ None
-lost-none e is = grind (arith, nat_tests)
-
 event-written : (k : Kept) (e : Event) → stands_for k ≡ Some e → written_text k ≡ text_of (event_row e)
-event-written k e is = grind (arith, nat_tests, lost-none k.event)
+event-written k e is = grind (arith, nat_tests)
 
 events-written : (kept : List Kept) (events : List Event) → map stands_for kept ≡ map Some events
     → flat_map written_text kept ≡ flat_map text_of (map event_row events)
 events-written [] [] is = refl
 events-written [] (e ∷ events) is = cc
 events-written (k ∷ kept) [] is = cc
-events-written (k ∷ kept) (e ∷ events) is =
-    let first : stands_for k ≡ Some e = cc in
-    let rest : map stands_for kept ≡ map Some events = cc in
-    rw (event-written k e first, events-written kept events rest) refl
+events-written (k ∷ kept) (e ∷ events) is = grind (arith, event-written k e, events-written kept events)
 
 packet-written : (tag size since : ℕ) (ecn : Ecn) → is_bad_size size ≡ false → nat_le since last_moment ≡ true
-    → queued_text tag size (ecn_number ecn) since
+    → queued_text tag size (bits_of ecn) since
     ≡ text_of (queued_row (record { packet = record { tag = tag; size = size; ecn = ecn }; since = since }))
-packet-written tag size since NotEct good early = rw (good, early) refl
-packet-written tag size since _ good early = rw (good, early) refl
+packet-written tag size since ecn good early = grind (arith, nat_tests)
 
 packets-written : (packets : List Waiting) → All CanWait packets → flat_map waiting_text packets ≡ flat_map text_of (map queued_row packets)
 packets-written [] can = refl

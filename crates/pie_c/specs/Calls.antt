@@ -1,20 +1,29 @@
 -- Why each call is refused, and what it answers. What a call leaves is what the controller makes of what was held.
-use Rattle.std.specs.Prelude.{ℕ, ◌≡◌, ◌^◌, ◌==◌, ◌&&◌, true, max, nat_lt, not, List, [], ◌∷◌, ◌++◌, if◌then◌else◌}
-use Rattle.pie_c.specs.Names.{Arrive, Call, Depart, Pass, after_call, shown_by, ControllerEvent, Opened, Held, Shows, arrived, capped, delay_answered}
-use Rattle.pie_c.specs.Names.{departed, due, is_too_soon, updated, verdict, PieParams, ecn_at, is_bad_size, verdict_number, PieState, PieUpdated}
-use Rattle.pie_c.specs.Names.{last_moment, are_in_range}
+use Rattle.std.specs.Prelude.{ℕ, ◌≡◌, ◌≤◌, ◌^◌, ◌==◌, ◌&&◌, true, max, nat_lt, not, List, [], ◌∷◌, ◌++◌, if◌then◌else◌}
+use Rattle.pie_c.specs.Names.{Arrive, Call, Depart, IsTaken, Pass, after_call, shown_by, ControllerEvent, Opened, Held, IsSound, Shows, arrived}
+use Rattle.pie_c.specs.Names.{capped, delay_answered, departed, due, is_too_soon, updated, verdict, PieParams, ecn_at, is_bad_size, verdict_number}
+use Rattle.pie_c.specs.Names.{PieState, PieUpdated, last_moment, are_in_range}
 use Rattle.pie_aqm.specs.declared.verdict.ArrivingPacket.{ArrivingPacket}
 use Rattle.pie_c.specs.State.{held_in, is_sound, state_of, takes_stamps, with_arrival, with_departure}
+
+-- ---- what pie_aqm's laws say of each call, whoever holds what its controller holds
+
+-- what is held stays sound
+abbrev pub KeepsSound : Type 0
+KeepsSound = (held : Held) → IsSound held → (call : Call) → IsTaken call → IsSound (after_call held call)
+
+-- and shows the call too
+abbrev pub LooksBack : Type 0
+LooksBack = (opened : Opened) (events : List ControllerEvent) (held : Held) → Shows opened events held → held.params.dq_threshold ≤ 65536
+    → (call : Call) → Shows opened (events ++ shown_by held call ∷ []) (after_call held call)
+
+-- ---- what a call answers and leaves
 
 -- the answer of a call that is refused by a number, where that isn't 0, and else this one
 abbrev pub unless_refused : ℕ → ℕ → ℕ
 unless_refused refusal answer = if refusal == 0 then answer else refusal
 
 -- the state after a call: what it leaves is this, and a refused call leaves all as it was
-abbrev pub kept_if_refused : ℕ → PieState → Held → PieState
-kept_if_refused refusal before after = if refusal == 0 then state_of after else before
-
--- the same for a call that says each field of the state that it leaves
 abbrev pub if_taken : ℕ → PieState → PieState → PieState
 if_taken refusal before after = if refusal == 0 then after else before
 
@@ -41,7 +50,7 @@ arrival_of queued size room bits word = record { queued = queued; is_full = room
 -- what a call that checks the whole state leaves, where it is refused by this number: in every field what the controller then holds; a sound
 -- state stays sound and, where it showed what came before, shows the call too
 pub record Makes (before : PieState) (call : Call) (refusal : ℕ) (left : PieState) : Type 0 where
-  pub after : left ≡ kept_if_refused refusal before (after_call (held_in before) call)
+  pub after : left ≡ if_taken refusal before (state_of (after_call (held_in before) call))
   pub sound : is_sound before ≡ true → is_sound left ≡ true
   pub shows : (opened : Opened) (events : List ControllerEvent) → refusal ≡ 0 → Shows opened events (held_in before)
       → Shows opened (events ++ shown_by (held_in before) call ∷ []) (held_in left)

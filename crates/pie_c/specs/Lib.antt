@@ -1,18 +1,12 @@
 pub mod Names
 pub mod State
-pub mod Laws
 pub mod Calls
-pub mod Opening
 pub mod Reading
 pub mod Events
-pub mod Resuming
 pub mod Summed
 unfoldable pub use Names.*
 unfoldable pub use State.*
-unfoldable pub use Laws.*
 unfoldable pub use Calls.*
-unfoldable pub use Opening.*
 unfoldable pub use Reading.*
 unfoldable pub use Events.*
-unfoldable pub use Resuming.*
 unfoldable pub use Summed.*

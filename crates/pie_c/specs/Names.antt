@@ -23,7 +23,7 @@ pub use Rattle.pie_book.specs.Decision.{cause_after}
 unfoldable pub use Rattle.pie_book.specs.Estimates.{held_after}
 pub use Rattle.pie_book.specs.Statistics.{wait_of}
 pub use Rattle.pie_c.specs.declared.state.PieState.{PieState}
-pub use Rattle.pie_c.specs.declared.updated.PieUpdated.{PieUpdated}
+pub use Rattle.pie_c.specs.declared.state.PieUpdated.{PieUpdated}
 pub use Rattle.pie_event.specs.Deed.{deed_of}
 pub use Rattle.pie_event.specs.Verdict.{answer_of}
 pub use Rattle.pie_event.specs.declared.cause.Cause.{Cause}
@@ -39,8 +39,9 @@ unfoldable pub use Rattle.pie_explain.specs.Explanation.{explanation}
 pub use Rattle.pie_explain.specs.declared.explanation.Explained.{Explained}
 pub use Rattle.pie_params.specs.Profile.{default_profile, profile_for}
 pub use Rattle.pie_params.specs.Range.{first_bad}
+pub use Rattle.pie_queue.specs.Ecn.{bits_of}
 pub use Rattle.pie_queue.specs.declared.ecn.Ecn.{Ecn}
-pub use Rattle.pie_queue.specs.declared.ecn.Ecn.TheVariants.{Ce, Ect0, Ect1, NotEct}
+pub use Rattle.pie_queue.specs.declared.ecn.Ecn.TheVariants.{NotEct}
 pub use Rattle.pie_queue.specs.declared.packet.Waiting.{Waiting}
 pub use Rattle.pie_rate.specs.Estimate.{Begun}
 pub use Rattle.pie_record.specs.Text.{text_of}

@@ -1,7 +1,7 @@
--- What a state says that a controller holds, and which states are sound.
+-- What a state says that a controller holds, and which states are sound; what an opening opens.
 use Rattle.std.specs.Prelude.{ℕ, ◌^◌, ◌%◌, Bool, not, ◌&&◌, ◌==◌, nat_lt, nat_le, Option, Some, None, if◌then◌else◌}
 use Rattle.pie_c.specs.Names.{Begun, Held, choices_of, elements_of, last_moment, profile_number, profile_of, are_in_range, params_of, raw_of}
-use Rattle.pie_c.specs.Names.{PieState}
+use Rattle.pie_c.specs.Names.{PieState, profile_for, Opened, opened, PieOpening}
 use Rattle.pie_rate.specs.declared.raw.RawCycle.{RawCycle}
 use Rattle.pie_aqm.specs.declared.raw.RawController.{RawController}
 
@@ -97,38 +97,44 @@ abbrev pub with_arrival : PieState → Held → PieState
 with_arrival s h =
     if h.active && not (s.active == 1) then with_registers s h else record s { moment = h.moment; accu = h.accu }
 
--- the controller's registers are in their ranges, and the last update wasn't later than now
-unfoldable pub is_control_sound : PieState → Bool
-is_control_sound s =
-    nat_le s.prob (10 ^ 12) && nat_le s.old_delay (2 ^ 40) && nat_le s.burst (10 ^ 12) && nat_le s.last s.moment
-
--- the flag is 1, and the cycle began no later than now and has counted less than the threshold; or
+-- the average is in its range; and the flag is 1, and the cycle began no later than now and has counted less than the threshold, or
 -- the flag and the cycle's numbers are 0
-abbrev pub is_cycle_sound : PieState → Bool
-is_cycle_sound s =
-    if s.measuring == 1
-    then nat_le s.cycle_start s.moment && nat_lt s.cycle_count s.params.dq_threshold
-    else (s.measuring == 0) && (s.cycle_start == 0) && (s.cycle_count == 0)
-
--- the average is in its range, and the cycle is sound
 unfoldable pub is_rate_sound : PieState → Bool
-is_rate_sound s = nat_lt s.average (2 ^ 60) && is_cycle_sound s
+is_rate_sound s =
+    nat_lt s.average (2 ^ 60)
+    && (if s.measuring == 1
+    then nat_le s.cycle_start s.moment && nat_lt s.cycle_count s.params.dq_threshold
+    else (s.measuring == 0) && (s.cycle_start == 0) && (s.cycle_count == 0))
 
 -- in profile one the controller is active, and in profile two it is active or not
 unfoldable pub is_activity_sound : PieState → Bool
 is_activity_sound s = if s.profile == 1 then s.active == 1 else (s.profile == 2) && nat_le s.active 1
 
--- the choices are known, and the wait is in its range
-unfoldable pub is_choice_sound : PieState → Bool
-is_choice_sound s = nat_le s.choices 31 && nat_le s.waited (2 ^ 40)
-
--- each field is in its range, and the fields fit one another
+-- each field is in its range, and the fields fit one another: the last update wasn't later than now
 unfoldable pub is_sound : PieState → Bool
 is_sound s =
-    are_in_range s.params
-    && nat_le s.moment last_moment
-    && is_control_sound s
-    && nat_lt s.accu 8_500_000_000_000
-    && is_rate_sound s
-    && is_activity_sound s
-    && is_choice_sound s
+    nat_le s.choices 31 && nat_le s.waited (2 ^ 40) && are_in_range s.params && nat_le s.moment last_moment
+    && nat_le s.prob (10 ^ 12) && nat_le s.old_delay (2 ^ 40) && nat_le s.burst (10 ^ 12) && nat_le s.last s.moment
+    && nat_lt s.accu 8_500_000_000_000 && is_rate_sound s && is_activity_sound s
+
+-- ---- what an opening opens
+
+-- the default opening for a link of this rate
+abbrev pub default_opening : ℕ → PieOpening
+default_opening rate = record {
+  params = params_of (profile_for rate);
+  moment = 0;
+  profile = 1;
+  choices = 0;
+  mode = 1;
+  packets = 2 ^ 20;
+  tail = 1024;
+  events = 2 ^ 47;
+}
+
+-- what a controller holds that is opened by it, and was opened with
+abbrev pub held_by_opening : PieOpening → Held
+held_by_opening o = opened (profile_of o.profile) (elements_of o.choices) (raw_of o.params) o.moment
+
+abbrev pub opened_by : PieOpening → Opened
+opened_by o = record { profile = profile_of o.profile; elements = elements_of o.choices; params = raw_of o.params; moment = o.moment }

@@ -1,7 +1,7 @@
 //! The calls on a state. Those for each packet read the state's numbers as they are: their rules are total, so nothing of the state
 //! is checked. The others refuse a state that isn't sound. Each refuses what it is handed out of its range, lets the controller
 //! make its step, and writes back what that changed.
-ghost use Rattle.std.specs.Prelude.{◌≡◌, ◌<◌, ◌+◌, ◌-◌, ◌^◌, ◌≤◌, ℕ, if◌then◌else◌, max, min, true};
+ghost use Rattle.std.specs.Prelude.{◌≡◌, ◌<◌, ◌+◌, ◌-◌, ◌^◌, ◌≤◌, ℕ, if◌then◌else◌, min, true};
 ghost use Rattle.pie_c.specs.{Change, Depart, Restart, arrived, capped, cause, departed, verdict, raw_of, elements_of, held_in, is_sound};
 ghost use Rattle.pie_c.specs.{takes_stamps, with_departure, with_rate, KeepsSound, LooksBack, Arrives, Departs, Makes, Passes, Steps, Takes};
 ghost use Rattle.pie_c.specs.{arrival_of, arrival_refusal, departure_refusal, moment_refusal, params_refusal, reset_refusal, state_refusal};
@@ -10,8 +10,7 @@ ghost use Rattle.pie_aqm.specs.Calls.{Update};
 ghost use Rattle.pie_event.specs.CauseName.{name_of, place_of_cause};
 
 use crate::checked::{is_sound, raw, raw_with, takes_stamps, usual_but_delay};
-use crate::state::PieState;
-use crate::updated::PieUpdated;
+use crate::state::{PieState, PieUpdated};
 use pie_abi::PieParams;
 use pie_abi::choices::elements;
 use pie_abi::code::{

@@ -1,16 +1,14 @@
 -- One event more of a burst is told.
-use Rattle.pie_link_c.specs.{Command, Reply, AnswersWithin, WasBusy, Asked, IsAnswered, Took, WasNotTried, asks, told_event, told_events}
-use Rattle.pie_link_c.proofs.Names.{◌≡◌, ◌+◌, ◌<◌, ℕ, List, [], ◌∷◌, ◌++◌, refl, ap, sym, ◌∙◌, subst, length, map, arith, get_or, drop_more}
-use Rattle.pie_link_c.proofs.Names.{CallerView, LinkView, StaysOne, PieEvent}
-use Rattle.std.proofs.Common.{Bool, Option, drop, length-append, length-drop}
+use Rattle.pie_link_c.specs.{Command, Reply, Asked, Took, asks, told_event, told_events}
+use Rattle.pie_link_c.proofs.Names.{◌≡◌, ◌+◌, ◌<◌, ℕ, List, [], ◌∷◌, ◌++◌, refl, sym, ◌∙◌, length, map, arith, get_or, drop_more, PieEvent}
+use Rattle.std.proofs.Common.{drop, length-append, length-drop}
 use Rattle.std.proofs.Math.ListN.{set}
 use Rattle.std.proofs.lemmas.List.{drop-set-lt, length-map}
 
 -- what is asked from a place on: its event's command, and those after it
 pub is_at : (asked : Asked) (es : List PieEvent) (i : ℕ) (d : PieEvent) (command : Command) → i < length es → command ≡ asks asked (get_or es i d)
     → map (asks asked) (drop i es) ≡ command ∷ map (asks asked) (drop (i + 1) es)
-is_at asked es i d command some is =
-    ap (map (asks asked)) (drop_more es i d some) ∙ ap (λ (first : Command). first ∷ map (asks asked) (drop (i + 1) es)) (sym is)
+is_at asked es i d command some is = grind (arith, drop_more es i d)
 
 -- a place from which something is asked is one of an event
 pub is_place : (asked : Asked) (es : List PieEvent) (i : ℕ) → 0 < length (map (asks asked) (drop i es)) → i < length es
@@ -24,9 +22,8 @@ told-more : (asked : Asked) (caller : ℕ) (es : List PieEvent) (rs : List Reply
     → told_events asked caller es (rs ++ r ∷ [])
     ≡ set (told_events asked caller es rs) (length rs) (told_event asked caller (get_or (told_events asked caller es rs) (length rs) d) r)
 told-more asked caller [] rs r d some = absurd (omega (arith, some))
-told-more asked caller (e ∷ es) [] r d some = ap (λ (l : List PieEvent). told_event asked caller e r ∷ l) (none_told asked caller es)
-told-more asked caller (e ∷ es) (q ∷ rs) r d some =
-    ap (λ (l : List PieEvent). told_event asked caller e q ∷ l) (told-more asked caller es rs r d (omega (arith, some)))
+told-more asked caller (e ∷ es) [] r d some = grind (arith, none_told asked caller es)
+told-more asked caller (e ∷ es) (q ∷ rs) r d some = grind (arith, told-more asked caller es rs r d)
 
 length-told : (asked : Asked) (caller : ℕ) (es : List PieEvent) (rs : List Reply) → length (told_events asked caller es rs) ≡ length es
 length-told asked caller [] rs = refl
@@ -41,19 +38,9 @@ pub took : (asked : Asked) (caller number : ℕ) (events now next : List PieEven
     → Took asked caller number events next (place + 1) (replies ++ reply ∷ [])
 took asked caller number events now next place done replies reply d before at some is =
     let here : place ≡ length replies = sym at ∙ before.so_many in
-    let few : length replies < length events = omega (
-      arith,
-      some,
-      here,
-      ap (λ (l : List PieEvent). length l) before.told,
-      length-told asked caller events replies,
-    ) in
+    let few : length replies < length events = grind (arith, length-told asked caller events replies) in
     let said = told-more asked caller events replies reply d few in record {
-      told = is
-          ∙ (ap (λ (c : ℕ). set now place (told_event asked c (get_or now place d) reply)) before.same
-          ∙ (ap (λ (l : List PieEvent). set l place (told_event asked caller (get_or l place d) reply)) before.told
-          ∙ (ap (λ (n : ℕ). set (told_events asked caller events replies) n
-          (told_event asked caller (get_or (told_events asked caller events replies) n d) reply)) here ∙ sym said)));
+      told = grind arith;
       so_many = omega (arith, here, length-append replies (reply ∷ []));
       same = before.same;
     }
@@ -61,37 +48,8 @@ took asked caller number events now next place done replies reply d before at so
 -- the events after a place stay
 pub later_stay : (asked : Asked) (l now : List PieEvent) (i : ℕ) (e : PieEvent) → now ≡ set l i e
     → map (asks asked) (drop (i + 1) now) ≡ map (asks asked) (drop (i + 1) l)
-later_stay asked l now i e is =
-    ap (λ (k : List PieEvent). map (asks asked) (drop (i + 1) k)) is ∙ ap (map (asks asked)) (drop-set-lt (i + 1) l i e (omega arith))
+later_stay asked l now i e is = grind (arith, drop-set-lt (i + 1) l i e)
 
 -- a burst begins
 pub begun : (asked : Asked) (caller : ℕ) (events : List PieEvent) (done : ℕ) → done ≡ 0 → Took asked caller caller events events done []
 begun asked caller events done none = record { told = sym (none_told asked caller events); so_many = none; same = refl }
-
--- it was answered
-pub answered : (asked : Asked) (budget : Option ℕ) (go : Reply → Bool) (link : LinkView) (before inside after : CallerView)
-    (events now : List PieEvent) (number its done code : ℕ) (replies : List Reply) → before ≡ inside → inside.lock ≡ link
-    → AnswersWithin budget go link inside (map (asks asked) events) [] replies after → StaysOne inside after
-    → Took asked number its events now done replies → number ≡ before.first → code ≡ 0
-    → IsAnswered asked budget go before events done code now after
-answered asked budget go link before inside after events now number its done code replies same lock answers stays took_all is told = record {
-  replies = replies;
-  answered = subst (λ (b : CallerView). AnswersWithin budget go b.lock b (map (asks asked) events) [] replies after) (sym same)
-      (subst (λ (l : LinkView). AnswersWithin budget go l inside (map (asks asked) events) [] replies after) (sym lock) answers);
-  stays = subst (λ (b : CallerView). StaysOne b after) (sym same) stays;
-  told = took_all.told ∙ ap (λ (n : ℕ). told_events asked n events replies) is;
-  counted = took_all.so_many;
-  done = told;
-}
-
--- or it was not
-pub not_tried : (asked : Asked) (before inside after : CallerView) (events : List PieEvent) (done code : ℕ) → before ≡ inside
-    → WasBusy inside after → done ≡ 0 → (length (map (asks asked) events) ≡ 0 → ⊥) → code ≡ 121
-    → WasNotTried before events done code events after
-not_tried asked before inside after events done code same busy none some told = record {
-  busy = subst (λ (b : CallerView). WasBusy b after) (sym same) busy;
-  stays = refl;
-  counted = none;
-  some = λ empty. some (ap (λ (l : List PieEvent). length (map (asks asked) l)) empty);
-  told = told;
-}

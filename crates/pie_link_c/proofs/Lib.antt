@@ -1,5 +1,4 @@
 mod Names
-pub mod Values
 pub mod Handles
 pub mod Gathers
 pub mod Texts

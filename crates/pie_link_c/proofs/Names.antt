@@ -1,7 +1,6 @@
 -- What the files of this folder take from below, in one place.
 pub use Rattle.pie_link_c.specs.{PieEvent, PieParams, Event, CallerView, LinkView, StaysOne, params_after, params_in, struct_of}
-pub use Rattle.pie_link_c.specs.Owned.{owns_port_if}
-pub use Rattle.pie_link_c.specs.Owned.{owns_text_if}
+pub use Rattle.pie_link_c.specs.Owned.{owns_port_if, owns_text_if}
 pub use Rattle.std.proofs.Common.{List, [], add-one, ap, arith, get_or, length, lit<, map, min, refl, slice_set, subst, suc, sym, take, zero, ℕ, ◌++◌}
 pub use Rattle.std.proofs.Common.{◌+◌, ◌-◌, ◌<◌, ◌∙◌, ◌∷◌, ◌≡◌, ◌≤◌}
 pub use Rattle.std.proofs.lemmas.List.{drop_more}

@@ -3,8 +3,7 @@ use Rattle.std.specs.Prelude.{ℕ, ◌≡◌, ◌==◌, ◌⊎◌, Bool, true, f
 use Rattle.pie_link_c.specs.Names.{Command, Reply, AnswersWithin, CallerView, StaysOne, WasBusy, PieEvent, Asked, Update}
 use Rattle.pie_event.specs.declared.command.Command.TheVariants as command
 use Rattle.pie_link_c.specs.Calls.{AtPort}
-use Rattle.pie_link_c.specs.Codes.{refusal_number}
-use Rattle.pie_link_c.specs.Events.{answered_event, command_in, has_bad_ecn, numbered_event, packet_in, under}
+use Rattle.pie_link_c.specs.Events.{refusal_number, answered_event, command_in, has_bad_ecn, numbered_event, packet_in, under}
 
 -- ---- an event of a burst
 

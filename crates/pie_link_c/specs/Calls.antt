@@ -3,12 +3,7 @@ use Rattle.std.specs.Prelude.{ℕ, ◌≡◌, ◌≢◌, ◌==◌, ◌+◌, ◌�
 use Rattle.pie_link_c.specs.Names.{first_pass, without_highest, highest_alone, IsBeside, IsBothOf, Answer, Command, SetParams, Refusal, number_of}
 use Rattle.pie_link_c.specs.Names.{Told, TriesToAnswer, CallerView, LinkView, StaysOne, Tried, Busy, Refused, PieEvent, PieOpening, PieParams}
 use Rattle.pie_link_c.specs.Names.{bare_event, opening_in, opening_refusal, are_in_range, raw_of, Asked}
-use Rattle.pie_link_c.specs.Codes.{answer_number, code_of, refusal_number}
-use Rattle.pie_link_c.specs.Events.{command_in, filled, has_bad_ecn, numbered_event, under}
-
--- nothing was done, for this reason
-abbrev pub WasRefused : ℕ → ℕ → Option CallerView → Option CallerView → Type 0
-WasRefused reason code before after = (code ≡ reason) × (after ≡ before)
+use Rattle.pie_link_c.specs.Events.{answer_number, code_of, refusal_number, command_in, filled, has_bad_ecn, numbered_event, under}
 
 -- ---- opening
 

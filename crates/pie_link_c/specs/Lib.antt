@@ -1,5 +1,4 @@
 pub mod Names
-pub mod Codes
 pub mod Events
 pub mod Calls
 pub mod Folds
@@ -8,7 +7,6 @@ pub mod Excerpts
 pub mod Owned
 pub mod Bursts
 unfoldable pub use Names.*
-unfoldable pub use Codes.*
 unfoldable pub use Events.*
 unfoldable pub use Calls.*
 unfoldable pub use Folds.*

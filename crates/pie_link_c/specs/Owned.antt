@@ -9,7 +9,7 @@ use Rattle.std.specs.Coded.{coded_option}
 use Rattle.std.specs.Box.Ownership.{box_owns}
 use Rattle.std.specs.contracts.impls.GlobalAllocator.TheImpl.{ghosts}
 use Rattle.pie_link_c.specs.contracts.port.Port as port
-use Rattle.pie_link_c.specs.contracts.excerpt_text.ExcerptText as text
+use Rattle.pie_link_c.specs.contracts.excerpt.ExcerptText as text
 
 module _ (R : RattleType) where
   abbrev pub owns_if : Global → Ptr → Option R.Denot → Fml

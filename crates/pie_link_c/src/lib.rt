@@ -11,18 +11,13 @@
 //! (`specs/Excerpts.antt`).
 #![tactic(auto)]
 
-mod asked;
 mod burst;
-mod burst_calls;
 mod calls;
 mod code;
-mod excerpt_calls;
-mod excerpt_handle;
-mod excerpt_text;
+mod excerpt;
 mod filling;
 mod folding;
 mod handle;
-mod loose;
 mod opening;
 mod port;
 mod readings;

@@ -2,10 +2,9 @@
 ghost use Rattle.std.specs.Prelude.{◌≡◌, ◌≢◌, ◌==◌, ◌+◌, ◌↔◌, IfOk, IfErr, IfSome, IsOk, IsTrue, OnOk, OnErr, Some, false, if◌then◌else◌};
 ghost use Rattle.pie_link_c.specs.{arc_value, has_bad_ecn};
 
-use crate::asked::Asked;
 use crate::code::{NO_MEMORY, ONE_NUMBER};
-use crate::excerpt_text::ExcerptText;
-use crate::filling::{fill, fill_number, fill_set};
+use crate::excerpt::ExcerptText;
+use crate::filling::{Asked, fill, fill_number, fill_set};
 use crate::folding::{MOST, room, write_folded};
 use atomic_table::TableRule;
 use pie_abi::code::{BAD_ECN, BAD_PARAMS};

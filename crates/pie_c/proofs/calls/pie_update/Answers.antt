@@ -1,6 +1,5 @@
 use Rattle.pie_c.specs.{delay_answered, updated_with}
-use Rattle.pie_c.proofs.Names.{◌≡◌, ℕ, ◌∙◌, true, ap, arith, rules, subst, sym, Held, IsSound, updated, update_refusal, held_in, is_sound}
-use Rattle.pie_c.proofs.Names.{state_of}
+use Rattle.pie_c.proofs.Names.{◌≡◌, ℕ, ◌∙◌, true, ap, arith, rules, subst, sym, Held, IsSound, updated, update_refusal, held_in, is_sound, state_of}
 use Rattle.pie_aqm.specs.Calls.{Update}
 use Rattle.pie_c.proofs.Packets.{makes}
 use Rattle.pie_c.proofs.Sound.{held-sound}

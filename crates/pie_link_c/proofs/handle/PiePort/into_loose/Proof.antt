@@ -9,8 +9,7 @@ use Rattle.pie_link_c.proofs.Names.{Handle, struct, owns_port_if}
 use Rattle.pie_link_c.specs.contracts.handle.PiePort.into_loose.{ended, clauses}
 use Rattle.pie_link_c.specs.contracts.handle.PiePort.into_loose.Key.{name as #self}
 use Rattle.std.proofs.alloc.Global.TheLaws as heap_laws
-use Rattle.pie_link_c.proofs.Values.{both, Loose, loose_good, loose_in}
-use Rattle.pie_link_c.proofs.Handles.{Z, handle_out, closed_or_open}
+use Rattle.pie_link_c.proofs.Handles.{both, Loose, loose_good, loose_in, Z, handle_out, closed_or_open}
 use Rattle.pie_link_c.proofs.handle.PiePort.into_loose.Statement.{statement}
 use Rattle.pie_link_c.proofs.handle.PiePort.into_loose.Code as code
 

@@ -7,8 +7,7 @@ use Rattle.pie_link_c.proofs.Names.{leaves, R, Handle, struct, owns_port_if, han
 use Rattle.pie_link_c.specs.contracts.handle.PiePort.none.{ended, clauses}
 use Rattle.pie_link_c.specs.contracts.handle.PiePort.none.Key.{name as #self}
 use Rattle.std.proofs.alloc.Global.TheLaws as heap_laws
-use Rattle.pie_link_c.proofs.Values.{both, al}
-use Rattle.pie_link_c.proofs.Handles.{Z, handle_in}
+use Rattle.pie_link_c.proofs.Handles.{both, al, Z, handle_in}
 use Rattle.pie_link_c.proofs.handle.PiePort.none.Statement.{statement}
 use Rattle.pie_link_c.proofs.handle.PiePort.none.Code as code
 

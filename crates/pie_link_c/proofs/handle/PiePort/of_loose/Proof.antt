@@ -7,8 +7,7 @@ use Rattle.pie_link_c.proofs.Names.{leaves, R, Handle, struct, owns_port_if}
 use Rattle.pie_link_c.specs.contracts.handle.PiePort.of_loose.{ended, clauses}
 use Rattle.pie_link_c.specs.contracts.handle.PiePort.of_loose.Key.{name as #self}
 use Rattle.std.proofs.alloc.Global.TheLaws as heap_laws
-use Rattle.pie_link_c.proofs.Values.{both, Loose, loose_good, loose_out}
-use Rattle.pie_link_c.proofs.Handles.{Z, handle_in}
+use Rattle.pie_link_c.proofs.Handles.{both, Loose, loose_good, loose_out, Z, handle_in}
 use Rattle.pie_link_c.proofs.handle.PiePort.of_loose.Statement.{statement}
 use Rattle.pie_link_c.proofs.handle.PiePort.of_loose.Code as code
 

@@ -1,5 +1,7 @@
-use Rattle.std.proofs.Common.{◌≡◌, [], inl, inr, rules, refl}
-use Rattle.pie_link_c.proofs.Bursting.{answered, begun, not_tried}
+use Rattle.pie_link_c.specs.{AnswersWithin, WasBusy, asks, told_events}
+use Rattle.pie_link_c.proofs.Names.{◌≡◌, ◌∙◌, ℕ, [], refl, ap, subst, length, map, List, CallerView, LinkView, StaysOne, PieEvent}
+use Rattle.std.proofs.Common.{inl, inr, rules}
+use Rattle.pie_link_c.proofs.Bursting.{begun}
 use Rattle.pie_link_c.proofs.port.Port.ask_all.Goals as goal
 use Rattle.pie_link_c.proofs.port.Port.ask_all.Goals.{in-Ok, in-Err}
 
@@ -8,19 +10,30 @@ returns-clause-tried g c =
     let asked = g.K.Kind.asked in
     let goes_on = g.K.Kind.goes_on in
     let events = c.args.burst.events.now in
-    let code = c.match-try_answer_all.code in
+    let inside = c.self.inside.caller in
     let after = c.try_answer_all.new.caller in
-    let same : c.args.self.now ≡ c.self.inside.caller = search (rules, c.self.view_is) in
-    let lock : c.self.inside.caller.lock ≡ c.deref.result.now = search (rules, c.self.invariant, c.deref.ensures) in
+    let same : inside ≡ c.args.self.now = search (rules, c.self.view_is) in
+    let lock : c.deref.result.now ≡ inside.lock = search (rules, c.self.invariant, c.deref.ensures) in
     elim c.match-try_answer_all.branch [
       | in-Ok w ↦
           (let said = w.in-Ok.ensures.answered c.args.burst [] (refl, begun asked c.args.burst.caller events c.args.burst.done c.requires.fresh) in
           rw w.result-is
-          (inl (answered asked c.args.budget goes_on c.deref.result.now c.args.self.now c.self.inside.caller after events w.in-Ok.after.events.now
-          c.args.burst.caller w.in-Ok.after.caller w.in-Ok.after.done code said.0 same lock said.2 w.in-Ok.ensures.stays said.1.1 c.requires.caller
-          w.code-is)))
+          (inl (record {
+            replies = said.0;
+            answered = subst (λ (b : CallerView). AnswersWithin c.args.budget goes_on b.lock b (map (asks asked) events) [] said.0 after) same
+                (subst (λ (l : LinkView). AnswersWithin c.args.budget goes_on l inside (map (asks asked) events) [] said.0 after) lock said.2);
+            stays = subst (λ (b : CallerView). StaysOne b after) same w.in-Ok.ensures.stays;
+            told = said.1.1.told ∙ ap (λ (n : ℕ). told_events asked n events said.0) c.requires.caller;
+            counted = said.1.1.so_many;
+            done = w.code-is;
+          })))
       | in-Err w ↦
           (rw (w.result-is, w.in-Err.ensures.busy.0)
-          (inr (not_tried asked c.args.self.now c.self.inside.caller after events c.args.burst.done code same w.in-Err.ensures.busy.1 c.requires.fresh
-          (λ none. cc (w.in-Err.ensures.none none)) w.code-is)))
+          (inr (record {
+            busy = subst (λ (b : CallerView). WasBusy b after) same w.in-Err.ensures.busy.1;
+            stays = refl;
+            counted = c.requires.fresh;
+            some = λ empty. cc (w.in-Err.ensures.none (ap (λ (l : List PieEvent). length (map (asks asked) l)) empty));
+            told = w.code-is;
+          })))
     ]

@@ -1,7 +1,6 @@
 use Rattle.pie_link_c.specs.{TriesToFoldInto, fold_code, written_events}
-use Rattle.pie_link_c.proofs.Names.{◌≡◌, ◌≤◌, ◌-◌, ℕ, List, [], length, min, sym, ap, ◌∙◌, subst, Event, CallerView, LinkView, StaysOne, params_after}
+use Rattle.pie_link_c.proofs.Names.{◌≡◌, ◌≤◌, ◌-◌, ℕ, List, [], length, min, arith, sym, ap, ◌∙◌, subst, Event, CallerView, LinkView, StaysOne, params_after}
 use Rattle.std.proofs.Common.{vec_capacity, vec_len}
-use Rattle.pie_link_c.proofs.Written.{up_to_64}
 use Rattle.pie_link_c.proofs.port.Port.try_fold.Goals as goal
 
 pub returns : goal.returns
@@ -16,8 +15,8 @@ returns c =
     let asked : ℕ = min c.min-most.result (vec_capacity empty - vec_len empty) in
     let most : ℕ = min (length c.args.events.now) 64 in
     let link : here ≡ before.lock = c.deref.ensures ∙ (sym c.self.invariant.0 ∙ ap (λ (b : CallerView). b.lock) c.self.view_is) in
-    let many : asked ≡ most = up_to_64 (length c.args.events.now) c.min-most.result (vec_capacity empty) (vec_len empty) c.min-most.ensures
-    (subst (λ (n : ℕ). 64 ≤ n) (sym c.clear.ensures.capacity) c.self.invariant.1) c.clear.ensures.len in
+    let room : 64 ≤ vec_capacity empty = subst (λ (n : ℕ). 64 ≤ n) (sym c.clear.ensures.capacity) c.self.invariant.1 in
+    let many : asked ≡ most = grind (arith, c.min-most.ensures, c.clear.ensures.len) in
     let said : TriesToFoldInto here inside asked reply [] events after =
     subst (λ (e : List Event). TriesToFoldInto here inside asked reply e events after) c.clear.ensures.items c.try_fold_into-reply.ensures.folded in
     let value = c.deref-2.ensures.value in record {

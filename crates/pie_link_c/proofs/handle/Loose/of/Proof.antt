@@ -11,13 +11,13 @@ use denote.Steps.{heard}
 use denote.Struct.Tuple.{Tuple}
 use denote.Triple.Call.{calls_at}
 use Rattle.std_alloc.proofs.boxed.Box.into_raw_with_allocator.Met.{met}
-use Rattle.pie_link_c.specs.contracts.loose.Loose.of.{ended, clauses}
-use Rattle.pie_link_c.specs.contracts.loose.Loose.of.Key.{name as #self}
+use Rattle.pie_link_c.specs.contracts.handle.Loose.of.{ended, clauses}
+use Rattle.pie_link_c.specs.contracts.handle.Loose.of.Key.{name as #self}
 use Rattle.std_alloc.proofs.BoxSteps.Form as box
-use Rattle.pie_link_c.proofs.Values.{both, loose_good, loose_in}
+use Rattle.pie_link_c.proofs.Handles.{both, loose_good, loose_in}
 use Rattle.std_alloc.specs.contracts.boxed.Box.into_raw_with_allocator as callee
-use Rattle.pie_link_c.proofs.loose.Loose.of.Statement.{statement}
-use Rattle.pie_link_c.proofs.loose.Loose.of.Code as code
+use Rattle.pie_link_c.proofs.handle.Loose.of.Statement.{statement}
+use Rattle.pie_link_c.proofs.handle.Loose.of.Code as code
 
 pub of_spec : {M : Type 1} → statement M
 of_spec 𝓤 𝓛 𝓜 𝓡 wired T A L LA g d dx dd allocator glue glued =

@@ -4,15 +4,14 @@ use Rattle.pie_link_c.proofs.Names.{◌∵◌, !, qed, by, keep, drop, split, fs
 use Rattle.pie_link_c.proofs.Names.{enter, alloc_all, pass_all, free_all, look_at, get, get_in, sets, agg, sub, whole, fact, fact_i, tables, yes}
 use Rattle.pie_link_c.proofs.Names.{RattleType, plain, block_ptr, nothing, Stays, stay_dropped, walk_of, Goes-dropped, Some, ghosts, proved_at}
 use Rattle.pie_link_c.proofs.Names.{leaves, owns_text_if}
-use Rattle.pie_link_c.specs.contracts.excerpt_text.ExcerptText.{the_row as R}
-use Rattle.pie_link_c.specs.contracts.excerpt_handle.PieExcerpt.{the_row as Handle, struct}
-use Rattle.pie_link_c.specs.contracts.excerpt_handle.PieExcerpt.of_loose.{ended, clauses}
-use Rattle.pie_link_c.specs.contracts.excerpt_handle.PieExcerpt.of_loose.Key.{name as #self}
+use Rattle.pie_link_c.specs.contracts.excerpt.ExcerptText.{the_row as R}
+use Rattle.pie_link_c.specs.contracts.handle.PieExcerpt.{the_row as Handle, struct}
+use Rattle.pie_link_c.specs.contracts.handle.PieExcerpt.of_loose.{ended, clauses}
+use Rattle.pie_link_c.specs.contracts.handle.PieExcerpt.of_loose.Key.{name as #self}
 use Rattle.std.proofs.alloc.Global.TheLaws as heap_laws
-use Rattle.pie_link_c.proofs.Values.{both, Loose, loose_good, loose_out}
-use Rattle.pie_link_c.proofs.Handles.{Z, handle_in}
-use Rattle.pie_link_c.proofs.excerpt_handle.PieExcerpt.of_loose.Statement.{statement}
-use Rattle.pie_link_c.proofs.excerpt_handle.PieExcerpt.of_loose.Code as code
+use Rattle.pie_link_c.proofs.Handles.{both, Loose, loose_good, loose_out, Z, handle_in}
+use Rattle.pie_link_c.proofs.handle.PieExcerpt.of_loose.Statement.{statement}
+use Rattle.pie_link_c.proofs.handle.PieExcerpt.of_loose.Code as code
 
 pub of_loose_spec : {M : Type 1} → statement M
 of_loose_spec 𝓤 𝓛 𝓜 𝓡 wired =

@@ -11,13 +11,13 @@ use contract.BorrowLft.{◌⊑◌}
 use denote.Triple.Clauses.{Lasts, lasts}
 use denote.Triple.Call.{calls_at_last}
 use Rattle.std_alloc.proofs.boxed.Box.from_raw.Met.{met}
-use Rattle.pie_link_c.specs.contracts.loose.Loose.into_box.{ended, clauses}
-use Rattle.pie_link_c.specs.contracts.loose.Loose.into_box.Key.{name as #self}
+use Rattle.pie_link_c.specs.contracts.handle.Loose.into_box.{ended, clauses}
+use Rattle.pie_link_c.specs.contracts.handle.Loose.into_box.Key.{name as #self}
 use Rattle.std_alloc.proofs.BoxSteps.Form as box
-use Rattle.pie_link_c.proofs.Values.{both, Loose, loose_good, loose_out}
+use Rattle.pie_link_c.proofs.Handles.{both, Loose, loose_good, loose_out}
 use Rattle.std_alloc.specs.contracts.boxed.Box.from_raw as callee
-use Rattle.pie_link_c.proofs.loose.Loose.into_box.Statement.{statement}
-use Rattle.pie_link_c.proofs.loose.Loose.into_box.Code as code
+use Rattle.pie_link_c.proofs.handle.Loose.into_box.Statement.{statement}
+use Rattle.pie_link_c.proofs.handle.Loose.into_box.Code as code
 
 pub into_box_spec : {M : Type 1} → statement M
 into_box_spec 𝓤 𝓛 𝓜 𝓡 wired T A L LA g d dx dd allocator glue glued =

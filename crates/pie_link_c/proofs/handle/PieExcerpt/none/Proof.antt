@@ -4,15 +4,14 @@ use Rattle.pie_link_c.proofs.Names.{◌$◌, ◌∵◌, !, qed, by, keep, drop, 
 use Rattle.pie_link_c.proofs.Names.{enter, alloc_all, pass_all, free_all, look_at, get, sets, agg, fact, fact_i, tables, yes, plain, Ptr, null_ptr}
 use Rattle.pie_link_c.proofs.Names.{ptr_val, nothing, layout, Stays, stay_dropped, walk_of, Goes-dropped, None, Ptr-Good, ghosts, and_tt, proved_at}
 use Rattle.pie_link_c.proofs.Names.{leaves, owns_text_if, handle_tells}
-use Rattle.pie_link_c.specs.contracts.excerpt_text.ExcerptText.{the_row as R}
-use Rattle.pie_link_c.specs.contracts.excerpt_handle.PieExcerpt.{the_row as Handle, struct}
-use Rattle.pie_link_c.specs.contracts.excerpt_handle.PieExcerpt.none.{ended, clauses}
-use Rattle.pie_link_c.specs.contracts.excerpt_handle.PieExcerpt.none.Key.{name as #self}
+use Rattle.pie_link_c.specs.contracts.excerpt.ExcerptText.{the_row as R}
+use Rattle.pie_link_c.specs.contracts.handle.PieExcerpt.{the_row as Handle, struct}
+use Rattle.pie_link_c.specs.contracts.handle.PieExcerpt.none.{ended, clauses}
+use Rattle.pie_link_c.specs.contracts.handle.PieExcerpt.none.Key.{name as #self}
 use Rattle.std.proofs.alloc.Global.TheLaws as heap_laws
-use Rattle.pie_link_c.proofs.Values.{both, al}
-use Rattle.pie_link_c.proofs.Handles.{Z, handle_in}
-use Rattle.pie_link_c.proofs.excerpt_handle.PieExcerpt.none.Statement.{statement}
-use Rattle.pie_link_c.proofs.excerpt_handle.PieExcerpt.none.Code as code
+use Rattle.pie_link_c.proofs.Handles.{both, al, Z, handle_in}
+use Rattle.pie_link_c.proofs.handle.PieExcerpt.none.Statement.{statement}
+use Rattle.pie_link_c.proofs.handle.PieExcerpt.none.Code as code
 
 abbrev None-is : Handle.Denot → Type 0
 None-is d = d.text ≡ None

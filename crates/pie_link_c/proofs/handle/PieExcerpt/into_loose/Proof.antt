@@ -6,15 +6,14 @@ use Rattle.pie_link_c.proofs.Names.{free_all, look_at, get, get_in, sets, sets_l
 use Rattle.pie_link_c.proofs.Names.{RattleType, type_at, plain, Ptr, block_ptr, null_ptr, ptr_val, tests_null, nothing, layout, Stays, stay_dropped}
 use Rattle.pie_link_c.proofs.Names.{walk_of, Goes-dropped, None, Some, after, Ptr-Good, Good, Some-of, none_of, ghosts, and_tt, proved_at, leaves}
 use Rattle.pie_link_c.proofs.Names.{owns_text_if}
-use Rattle.pie_link_c.specs.contracts.excerpt_text.ExcerptText.{the_row as R}
-use Rattle.pie_link_c.specs.contracts.excerpt_handle.PieExcerpt.{the_row as Handle, struct}
-use Rattle.pie_link_c.specs.contracts.excerpt_handle.PieExcerpt.into_loose.{ended, clauses}
-use Rattle.pie_link_c.specs.contracts.excerpt_handle.PieExcerpt.into_loose.Key.{name as #self}
+use Rattle.pie_link_c.specs.contracts.excerpt.ExcerptText.{the_row as R}
+use Rattle.pie_link_c.specs.contracts.handle.PieExcerpt.{the_row as Handle, struct}
+use Rattle.pie_link_c.specs.contracts.handle.PieExcerpt.into_loose.{ended, clauses}
+use Rattle.pie_link_c.specs.contracts.handle.PieExcerpt.into_loose.Key.{name as #self}
 use Rattle.std.proofs.alloc.Global.TheLaws as heap_laws
-use Rattle.pie_link_c.proofs.Values.{both, Loose, loose_good, loose_in}
-use Rattle.pie_link_c.proofs.Handles.{Z, handle_out, closed_or_open}
-use Rattle.pie_link_c.proofs.excerpt_handle.PieExcerpt.into_loose.Statement.{statement}
-use Rattle.pie_link_c.proofs.excerpt_handle.PieExcerpt.into_loose.Code as code
+use Rattle.pie_link_c.proofs.Handles.{both, Loose, loose_good, loose_in, Z, handle_out, closed_or_open}
+use Rattle.pie_link_c.proofs.handle.PieExcerpt.into_loose.Statement.{statement}
+use Rattle.pie_link_c.proofs.handle.PieExcerpt.into_loose.Code as code
 
 pub into_loose_spec : {M : Type 1} → statement M
 into_loose_spec 𝓤 𝓛 𝓜 𝓡 wired =

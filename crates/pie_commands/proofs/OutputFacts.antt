@@ -71,3 +71,11 @@ pub ends-unable : (output read : Option Text) (forced : Bool) (fresh : Option (L
     (before now : Option (List ℕ)) → now ≡ before → ends Unable before now → EndsIn output read forced fresh held held ends Unable before now
 ends-unable None read forced fresh held ends before now same ended = (keeps-same held, ended)
 ends-unable (Some name) read forced fresh held ends before now same ended = (same, inl (refl, keeps-same held))
+
+-- what follows from what a subcommand did that met an event that differs, whatever it wrote to
+pub ends-anywhere : (output read : Option Text) (forced : Bool) (fresh : Option (List ℕ)) (old new : Held)
+    (ends : End → Option (List ℕ) → Option (List ℕ) → Type 0) (P : Type 0) (before now : Option (List ℕ))
+    → ((first last : Option (List ℕ)) → ends Differs first last → P) → EndsIn output read forced fresh old new ends Differs before now → P
+ends-anywhere None read forced fresh old new ends P before now all ended = all before now ended.1
+ends-anywhere (Some name) read forced fresh old new ends P before now all (same, inl (unable, keeps)) = cc
+ends-anywhere (Some name) read forced fresh old new ends P before now all (same, inr (left, empty, ended, settles)) = all fresh left ended

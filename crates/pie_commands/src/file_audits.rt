@@ -1,7 +1,7 @@
 //! `pie audit FILE..`: of files, each in turn; with `--joined` of those of one history, in its order.
 ghost use Rattle.std.specs.Prelude.{◌≡◌, ◌<◌, ◌||◌, [], IfOk, None, OnErr, OnOk, Some, get_or, length, map, true};
 ghost use Rattle.std.specs.Io.KnownBytes.{Appends};
-ghost use Rattle.pie_commands.specs.FileAudits.{EndsOfFiles, TellsRead, TellsText, is_broken, is_unfound, line_of_joint, lines_of};
+ghost use Rattle.pie_commands.specs.FileAudits.{EndsFiles, TellsRead, TellsText, is_broken, is_unfound, line_of_joint, lines_of};
 ghost use Rattle.pie_commands.specs.FileAudits.{named_line, worst};
 ghost use Rattle.pie_files.specs.Files.{ReadsNamed, left_for};
 
@@ -201,7 +201,7 @@ pub(crate) fn audit_files<H: NamedFiles + Clock, R: Read + Drop, W: Write, E: Wr
     output: &mut W,
     errors: &mut E,
 ) -> End
-    ensures { EndsOfFiles are_joined (R.remaining input) (H.holds rt.now) (map (λ name. name.now) names.now) result (W.contents output.old)
+    ensures { EndsFiles are_joined (R.remaining input) (H.holds rt.now) (map (λ name. name.now) names.now) result (W.contents output.old)
         (W.contents output.new) }
 {
     let mut given = Some(input);

@@ -1,6 +1,6 @@
 -- How a subcommand ends that never began, one that meets no event that differs, and one whose text may hold more than is known.
 use Rattle.pie_commands.proofs.Names.{◌≡◌, ◌≤◌, ℕ, List, Option, Some, None, arith, inl, inr, refl, Bool, true, false}
-use Rattle.pie_commands.proofs.Names.{IfSome, Result, Ok, Err, Explained, Selection, TraceFault, records_of, EndsBy, End, Done, Fault, Unable, Failed}
+use Rattle.pie_commands.proofs.Names.{IfSome, Result, Ok, Err, Explained, Selection, TraceFault, records_of, EndsBy, End, Done, Unable}
 use Rattle.pie_commands.proofs.Names.{CutsInto, CutsLast, cut_ends, end_of, end_of_cut, end_of_explain, explain_ends, Last, Once, status_of}
 use Rattle.pie_record.specs.Text.{Row}
 use Rattle.pie_explain.specs.Either.{ExplainsEither}
@@ -11,10 +11,7 @@ use Rattle.pie_commands.specs.declared.end.End.TheVariants.{Differs}
 
 pub status-most : (end : End) → status_of end ≤ 2
 status-most Done = omega arith
-status-most Differs = omega arith
-status-most (Fault why) = omega arith
-status-most Unable = omega arith
-status-most Failed = omega arith
+status-most _ = omega arith
 
 -- a run or a migration meets no event that differs
 pub no-difference : {A : Type 0} (tells : List Row → Result A TraceFault → Option (List ℕ) → Option (List ℕ) → Type 0)

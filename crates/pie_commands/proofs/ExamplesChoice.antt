@@ -1,6 +1,6 @@
 -- Which events the words of `pie explain` and `pie cut` choose, worked out.
-use Rattle.pie_commands.proofs.Names.{◌≡◌, List, [], ◌∷◌, Some, None, codes, refl, Text, Selection, options_in, choice_of, Part, Last, Every, Once, around}
-use Rattle.pie_commands.proofs.Names.{between, wanted_of}
+use Rattle.pie_commands.proofs.Names.{◌≡◌, List, [], ◌∷◌, Some, None, codes, refl, Text, Selection, options_in, choice_of, Part, Last, Every, Once}
+use Rattle.pie_commands.proofs.Names.{around, between, wanted_of}
 use Rattle.clap.proofs.OnLiterals.{clap_on_literals}
 use Rattle.pie_explain.specs.declared.which.Which.{Which}
 use Rattle.pie_explain.specs.declared.which.Which.TheVariants.{Number, Lost, All}

@@ -1,9 +1,8 @@
 -- An audit of one file after another, of any or of those of one history.
-use Rattle.pie_commands.proofs.Names.{◌≡◌, ◌∙◌, ◌+◌, ◌<◌, ℕ, List, [], ◌∷◌, ◌++◌, add-one, get_or, length, take, Bool, true, false, Option, Some, None}
-use Rattle.pie_commands.proofs.Names.{inl, inr, refl, ap, subst, sym, ◌||◌, Appends, Appends-nil, Appends-trans, append-nil, map-append, flat_map}
-use Rattle.pie_commands.proofs.Names.{flat_map-append, list_any, Text, Joined, EndView, Fault, ReadsNamed, text_given, Stays, reads-given}
-use Rattle.pie_commands.proofs.Names.{AreTold, AuditsFiles, EndsFiles, TellsRead, TellsText, Told, is_broken, is_unfound, lines_of}
-use Rattle.pie_commands.proofs.Names.{told_lines, worst}
+use Rattle.pie_commands.proofs.Names.{◌≡◌, ◌∙◌, ◌+◌, ◌<◌, ℕ, List, [], ◌∷◌, ◌++◌, add-one, get_or, length, take, Bool, true, false, Option, Some}
+use Rattle.pie_commands.proofs.Names.{None, inl, inr, refl, ap, subst, sym, ◌||◌, Appends, Appends-nil, Appends-trans, append-nil, map-append}
+use Rattle.pie_commands.proofs.Names.{flat_map, flat_map-append, list_any, Text, Joined, EndView, Fault, ReadsNamed, text_given, Stays, reads-given}
+use Rattle.pie_commands.proofs.Names.{AreTold, AuditsFiles, EndsFiles, TellsRead, TellsText, Told, is_broken, is_unfound, lines_of, told_lines, worst}
 use Rattle.std.proofs.Math.Seq.{take-suc}
 use Rattle.std.proofs.lemmas.List.Folds.{list_any-append}
 use Rattle.pie_record.specs.declared.fault.TraceFault.TheVariants as trace_fault

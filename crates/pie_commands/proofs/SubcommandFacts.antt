@@ -23,15 +23,11 @@ use Rattle.pie_commands.proofs.OutputFacts.{ends-anywhere, ends-keep, ends-unabl
 -- a subcommand that could not begin wrote nothing
 pub EndsTask-unable : (task : Task) (options : List Row) (known before now : Option (List ℕ)) → now ≡ before
     → EndsTask task options known Unable before now
-EndsTask-unable task.Run options known before now same = inl (refl, same)
-EndsTask-unable task.Audit options known before now same = inl (refl, same)
 EndsTask-unable task.Explain options known before now same = explain-unable (choice_of options) (told_by (tale_of options)) known before now same
-EndsTask-unable (task.Cut pieces) options known before now same = inl (refl, same)
-EndsTask-unable task.Migrate options known before now same = inl (refl, same)
+EndsTask-unable _ options known before now same = inl (refl, same)
 
 EndsAs-unable : (subcommand : Subcommand) (options : List Row) (input : Option (List ℕ)) (files : Held) (before now : Option (List ℕ)) → now ≡ before
     → EndsAs subcommand options input files Unable before now
-EndsAs-unable Run options input files before now same = inl (refl, same)
 EndsAs-unable Audit options input files before now same = go (files_in options)
   where
     go : (names : List Text) → EndsEither (is_joined options) input files names Unable before now
@@ -41,9 +37,9 @@ EndsAs-unable Explain options input files before now same =
     explain-unable (choice_of options) (told_by (tale_of options)) (text_given input files (file_in options)) before now same
 EndsAs-unable Cut options input files before now same =
     cut-unable (wanted_of options) (is_named (file_in options)) (text_given input files (file_in options)) before now same
-EndsAs-unable Migrate options input files before now same = inl (refl, same)
 EndsAs-unable Storm options input files before now same = storm-unable (elements_in options) options before now same
 EndsAs-unable Params options input files before now same = same
+EndsAs-unable _ options input files before now same = inl (refl, same)
 
 EndsTo-unable : (subcommand : Subcommand) (options : List Row) (input fresh : Option (List ℕ)) (files : Held) (before now : Option (List ℕ))
     → now ≡ before → EndsTo subcommand options input fresh files files Unable before now
@@ -130,8 +126,7 @@ EndsAs-kept Cut options input old new end before now keeps ended =
 EndsAs-kept Migrate options input old new end before now keeps ended =
     by-kept end_of Migrates (text_given input old (file_in options)) (text_given input new (file_in options)) end before now
     (given-kept input old new (file_in options) keeps) ended
-EndsAs-kept Storm options input old new end before now keeps ended = ended
-EndsAs-kept Params options input old new end before now keeps ended = ended
+EndsAs-kept _ options input old new end before now keeps ended = ended
 
 -- ---- an event can differ in three of them
 
@@ -139,12 +134,10 @@ differs-as : (subcommand : Subcommand) (options : List Row) (input : Option (Lis
     → EndsAs subcommand options input files Differs before now → may_differ subcommand ≡ true
 differs-as Run options input files before now ended =
     absurd (no-difference (RunsEither (2 ^ 32)) (text_given input files (file_in options)) before now ended)
-differs-as Audit options input files before now ended = refl
-differs-as Explain options input files before now ended = refl
-differs-as Cut options input files before now ended = refl
 differs-as Migrate options input files before now ended = absurd (no-difference Migrates (text_given input files (file_in options)) before now ended)
 differs-as Storm options input files before now ended = absurd (storm-same options (elements_in options) before now ended)
 differs-as Params options input files before now ended = absurd ended
+differs-as _ options input files before now ended = refl
 
 differs-to : (subcommand : Subcommand) (options : List Row) (input fresh : Option (List ℕ)) (old new : Held) (before now : Option (List ℕ))
     → EndsTo subcommand options input fresh old new Differs before now → may_differ subcommand ≡ true

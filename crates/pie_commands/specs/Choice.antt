@@ -1,5 +1,7 @@
 -- Which events the words of `pie explain` choose, and how they are explained.
-use Rattle.std.specs.Prelude.{ℕ, ◌==◌, ◌&&◌, ◌||◌, Bool, true, false, not, List, Option, Some, None, Result, Ok, Err, codes, if◌then◌else◌, is_some, nat_le}
+use Rattle.std.specs.Prelude.{ℕ, ◌==◌, ◌&&◌, ◌||◌, Bool, true, false, not, List, Option, Some, None, Result, Ok, Err, codes, if◌then◌else◌, is_some}
+use Rattle.std.specs.Prelude.{nat_le, option_map}
+use Rattle.std.specs.Option.{option_transpose}
 use Rattle.std.specs.Result.{result_ok}
 use Rattle.clap.specs.Words.{Row, Text, one_of}
 use Rattle.pie_options.specs.Words.{flag_given, number_given}
@@ -30,23 +32,13 @@ units_of (Ok None) = Ok None
 units_of (Ok (Some moment)) = Ok (Some moment.0)
 units_of (Err why) = Err why
 
--- what was written, where something was
-abbrev pub written : {A E : Type 0} → Result A E → Result (Option A) E
-written (Ok read) = Ok (Some read)
-written (Err why) = Err why
-
--- what a text is read as, if there is one
-abbrev pub read_by : {A E : Type 0} → (Text → Result A E) → Option Text → Result (Option A) E
-read_by reads None = Ok None
-read_by reads (Some text) = written (reads text)
-
 -- the moment that an option is given
 abbrev pub moment_given : Text → List Row → Result (Option ℕ) MomentFault
-moment_given name options = read_by moment_in (one_of name options)
+moment_given name options = option_transpose (option_map moment_in (one_of name options))
 
 -- the bound that an option is given
 abbrev pub bound_given : Text → List Row → Result (Option When) WhenFault
-bound_given name options = read_by when_in (one_of name options)
+bound_given name options = option_transpose (option_map when_in (one_of name options))
 
 -- ---- the choice
 

@@ -1,6 +1,6 @@
 -- `pie cut`: what the words choose, and how it ends.
 use Rattle.std.specs.Prelude.{ℕ, ◌≡◌, ◌==◌, ◌+◌, ◌-◌, ◌^◌, ◌<◌, List, Bool, true, false, Option, Some, None, Result, Ok, Err, ⊤, codes, min, not}
-use Rattle.std.specs.Prelude.{if◌then◌else◌}
+use Rattle.std.specs.Prelude.{unwrap_or, if◌then◌else◌}
 use Rattle.std.specs.Result.{result_ok}
 use Rattle.std.specs.Str.{bytes_eq}
 use Rattle.clap.specs.Words.{Row, Text}
@@ -44,16 +44,11 @@ abbrev pub within : Option When → Option When → Option Span
 within None None = None
 within from to = Some (between from to)
 
--- segments of some events
-abbrev pub segments : ℕ → Option Wanted
-segments every = if every == 0 then None else Some (Once (Every every))
-
 -- what is chosen, where it is in exactly one way: an event, with some around it or none; the last ones; segments; or those within bounds
 abbrev pub chosen : Option ℕ → Option ℕ → Option ℕ → Option ℕ → Option Span → Option Wanted
-chosen (Some event) None None None None = Some (Once (Part (around event 0)))
-chosen (Some event) (Some more) None None None = Some (Once (Part (around event more)))
+chosen (Some event) more None None None = Some (Once (Part (around event (unwrap_or more 0))))
 chosen None None (Some many) None None = Some (Last many)
-chosen None None None (Some every) None = segments every
+chosen None None None (Some every) None = if every == 0 then None else Some (Once (Every every))
 chosen None None None None (Some span) = Some (Once (Part span))
 chosen _ _ _ _ _ = None
 
@@ -85,14 +80,10 @@ end_of_cut (Err (fault.Trace why)) = Fault why
 end_of_cut (Err (fault.Differs event)) = Differs
 end_of_cut (Err fault.NoEvents) = Failed
 
--- into segments
-abbrev pub CutsSegments : ℕ → List Fields → Result ℕ CutFault → Option (List ℕ) → Option (List ℕ) → Type 0
-CutsSegments every rows given before now = TextTold every_answer (IsInSegments every) (is_resumed rows) rows given before now
-
 -- into pieces of either kind
 abbrev pub CutsInto : Pieces → List Fields → Result ℕ CutFault → Option (List ℕ) → Option (List ℕ) → Type 0
 CutsInto (Part span) rows given before now = CutsEither span rows given before now
-CutsInto (Every every) rows given before now = CutsSegments every rows given before now
+CutsInto (Every every) rows given before now = TextTold every_answer (IsInSegments every) (is_resumed rows) rows given before now
 
 -- the last so many events, once this was found to be the number of the last, or a fault was found
 abbrev pub CutsUpTo : ℕ → Result ℕ TraceFault → List Fields → Result ℕ CutFault → Option (List ℕ) → Option (List ℕ) → Type 0

@@ -20,9 +20,7 @@ use Rattle.pie_commands.specs.declared.end.End.TheVariants.{Done, Differs, Fault
 abbrev pub status_of : End → ℕ
 status_of Done = 0
 status_of Differs = 2
-status_of (Fault why) = 1
-status_of Unable = 1
-status_of Failed = 1
+status_of _ = 1
 
 -- the writer failed
 abbrev pub is_unwritten : End → Bool

@@ -16,10 +16,7 @@ abbrev pub end_of_explain : Result ℕ ExplainFault → End
 end_of_explain (Ok explained) = Done
 end_of_explain (Err (fault.Trace why)) = Fault why
 end_of_explain (Err (fault.Differs event)) = Differs
-end_of_explain (Err (fault.Earlier event before)) = Failed
-end_of_explain (Err (fault.NoEvent event events)) = Failed
-end_of_explain (Err (fault.NoTag tag)) = Failed
-end_of_explain (Err fault.NoneWithin) = Failed
+end_of_explain (Err _) = Failed
 
 -- a text of either kind is explained: what a tale tells of the chosen events is written, up to its first fault and the first event that differs, and
 -- the end is that of the answer. Options that choose no events fail, and nothing is written

@@ -7,7 +7,7 @@ ghost use Rattle.pie_cut.specs.Last.{LastEither};
 ghost use Rattle.pie_files.specs.Files.{text_given};
 ghost use Rattle.pie_options.specs.Words.{file_in};
 ghost use Rattle.pie_commands.specs.CutEnds.{CutsInto, CutsLast, EndsCut, HasSome, WantsSome, chosen, end_of_cut, ends_last, is_named};
-ghost use Rattle.pie_commands.specs.CutEnds.{segments, wanted_of, within};
+ghost use Rattle.pie_commands.specs.CutEnds.{wanted_of, within};
 ghost use Rattle.pie_commands.specs.Ends.{EndsBy};
 
 use crate::end::{End, failed, faulted};
@@ -60,25 +60,6 @@ fn within(from: Option<When>, to: Option<When>) -> Option<Span>
     }
 }
 
-/// One part of a text.
-fn part(span: Span) -> Option<Wanted>
-    ensures { result ≡ Some (Wanted.Once (Pieces.Part span)) }
-{
-    Some(Wanted::Once(Pieces::Part(span)))
-}
-
-/// Segments of so many events, where these are some.
-fn segments(every: u64) -> Option<Wanted>
-    ensures segments { result ≡ segments every }
-    ensures some { IfSome result WantsSome }
-{
-    if every == 0 {
-        None
-    } else {
-        Some(Wanted::Once(Pieces::Every(every)))
-    }
-}
-
 /// What is chosen, where it is in exactly one way.
 fn chosen(
     event: Option<u64>,
@@ -91,11 +72,15 @@ fn chosen(
     ensures some { IfSome result WantsSome }
 {
     match (event, around, last, every, span) {
-        (Some(event), None, None, None, None) => part(Span::around(event, 0)),
-        (Some(event), Some(more), None, None, None) => part(Span::around(event, more)),
+        (Some(event), more, None, None, None) => {
+            let span = Span::around(event, more.unwrap_or(0));
+            Some(Wanted::Once(Pieces::Part(span)))
+        }
         (None, None, Some(many), None, None) => Some(Wanted::Last(many)),
-        (None, None, None, Some(every), None) => segments(every),
-        (None, None, None, None, Some(span)) => part(span),
+        (None, None, None, Some(every), None) if every != 0 => {
+            Some(Wanted::Once(Pieces::Every(every)))
+        }
+        (None, None, None, None, Some(span)) => Some(Wanted::Once(Pieces::Part(span))),
         _ => None,
     }
 }
@@ -152,20 +137,6 @@ pub(crate) fn cut_out<R: Read + Drop, W: Write>(
     }
 }
 
-/// The number of the last event of the text that a reader has, or its fault.
-fn last_in<H: Clock, R: Read + Drop, E: Write>(
-    rt: &H,
-    alloc: Global,
-    is_shown: bool,
-    reader: R,
-    errors: &mut E,
-) -> Result<u64, TraceFault>
-    ensures { IfSome (R.remaining reader) (λ text. LastEither (records_of text) result) }
-{
-    let watched = Watched::new(reader, &mut *errors, rt, is_shown);
-    last_number(alloc, watched)
-}
-
 /// The number of the last event of the text in the file of this name, or its fault; or none, with a line on `errors`, where the file can't be
 /// opened.
 fn last_named<H: NamedFiles + Clock, R: Read + Drop, E: Write>(
@@ -181,7 +152,8 @@ fn last_named<H: NamedFiles + Clock, R: Read + Drop, E: Write>(
         Ok(file) => {
             // Of the same type as what the cut reads, so that reading is compiled once.
             let reader: Either<R, H::File> = Right(file);
-            Some(last_in(rt, alloc, is_shown, reader, errors))
+            let watched = Watched::new(reader, &mut *errors, rt, is_shown);
+            Some(last_number(alloc, watched))
         }
         Err(why) => {
             named_fault(errors, name, why);

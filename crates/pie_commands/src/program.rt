@@ -124,13 +124,8 @@ fn asked_of<'a, 'b>(matches: &'b ArgMatches<'a>) -> Option<(Subcommand, &'b ArgM
         ≡ option_map (λ (given : Text × List Row). given.1) (subcommand_rows_of matches.now)) }
     ensures none { result ≡ None → (subcommand : Subcommand) → subcommand_name_of matches.now ≡ Some (word_of subcommand) → ⊥ }
 {
-    let Some((name, options)) = matches.subcommand() else {
-        return None;
-    };
-    match Subcommand::named(name) {
-        Some(subcommand) => Some((subcommand, options)),
-        None => None,
-    }
+    let (name, options) = matches.subcommand()?;
+    Some((Subcommand::named(name)?, options))
 }
 
 /// What `clap` says of the words: help, or a mistake.

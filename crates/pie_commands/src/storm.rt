@@ -22,15 +22,6 @@ use std::sync::Wait;
 use std::thread::Threads;
 use std::time::Clock;
 
-/// How many senders a storm has where the words name no number.
-const SENDERS: u64 = 2;
-/// How many packets each sender has where the words name no number.
-const PACKETS: u64 = 100;
-/// The seed of the random words where the words name none.
-const SEED: u64 = 1;
-/// How many packets come for each hundred that the link sends, where the words name no number.
-const LOAD: u64 = 100;
-
 /// What is said where the word of a choice is none of its own.
 const NO_CHOICE: &str =
     "storm: --delay is rate or stamp, --picking derandomized or random, --step capped or uncapped, --size unscaled or scaled, \
@@ -91,17 +82,17 @@ fn profile_of(options: &ArgMatches<'_>) -> Profile
     }
 }
 
-/// The numbers of the plan that these options ask for, with these elements.
+/// The numbers of the plan that these options ask for, with these elements; each has one that it is where the words name none.
 fn numbers_of(options: &ArgMatches<'_>, elements: Elements) -> StormNumbers
     ensures asked { result ≡ numbers_in elements (rows_of (found_of options.now)) }
     ensures ranges { HasStormRange result }
 {
     StormNumbers {
-        senders: number_or(options, "senders", 2, 8, SENDERS) as u16,
-        packets: number_or(options, "packets", 1, 10_000, PACKETS) as u32,
+        senders: number_or(options, "senders", 2, 8, 2) as u16,
+        packets: number_or(options, "packets", 1, 10_000, 100) as u32,
         burst: number_or(options, "burst", 1, 1024, 1) as u16,
-        seed: number_or(options, "seed", 0, u64::MAX, SEED),
-        load: number_or(options, "load", 50, 200, LOAD),
+        seed: number_or(options, "seed", 0, u64::MAX, 1),
+        load: number_or(options, "load", 50, 200, 100),
         changes: number_or(options, "changes", 0, 100, 0),
         folds: number_or(options, "folds", 0, 100, 0),
         profile: profile_of(options),

@@ -105,7 +105,8 @@ pub(crate) fn of_options<H: NamedFiles + Screen, R: Read + Drop, W: Write, E: Wr
 ) -> End
     requires { CanDo task }
     ensures { EndsTask task (rows_of (found_of options.now))
-        (text_given (R.remaining input) (H.holds rt.now) (file_in (rows_of (found_of options.now)))) result (W.contents output.old) (W.contents output.new) }
+        (text_given (R.remaining input) (H.holds rt.now) (file_in (rows_of (found_of options.now)))) result (W.contents output.old)
+        (W.contents output.new) }
 {
     let is_shown = shows_progress(rt, options, true);
     match reader_of(rt, file(options), input, errors) {

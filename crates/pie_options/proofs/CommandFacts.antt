@@ -1,7 +1,7 @@
 -- How a command of `clap` is put together from arguments and subcommands, one after the other.
 use Rattle.pie_options.proofs.Names.{◌≡◌, ◌∙◌, ◌+◌, ◌<◌, ℕ, List, ◌∷◌, IfOk, Result, suc, add-one, drop, drop-cons, get_or, length, Bool, true}
 use Rattle.pie_options.proofs.Names.{false, refl, ap, ◌&&◌, not, AddsSubcommand, App, app_of, with_subcommand}
-use Rattle.pie_options.proofs.Names.{Subcommand, Run, Audit, Explain, Cut, Migrate, Storm, Params, Wants, app_for}
+use Rattle.pie_options.proofs.Names.{Subcommand, Run, Wants, app_for}
 use Rattle.pie_options.proofs.Names.{with_subcommands}
 use Rattle.std.proofs.Math.Seq.{drop-length}
 use Rattle.clap.specs.declared.builder.command.Command.{Command}
@@ -31,12 +31,7 @@ third false b c d e = cc
 
 plain-for : (subcommand : Subcommand) → (app_for subcommand).top.is_plain ≡ true
 plain-for Run = refl
-plain-for Audit = refl
-plain-for Explain = refl
-plain-for Cut = refl
-plain-for Migrate = refl
-plain-for Storm = refl
-plain-for Params = refl
+plain-for _ = refl
 
 -- one more subcommand, which is plain
 adds_subcommand : {above sub with_it : Command} (sub_app : App) → app_of sub ≡ sub_app → sub_app.top.is_plain ≡ true

@@ -47,12 +47,7 @@ asked_by word = if bytes_eq word (codes "run") then Some Run
 
 asked-word : (subcommand : Subcommand) → asked_by (word_of subcommand) ≡ Some subcommand
 asked-word Run = refl
-asked-word Audit = refl
-asked-word Explain = refl
-asked-word Cut = refl
-asked-word Migrate = refl
-asked-word Storm = refl
-asked-word Params = refl
+asked-word _ = refl
 
 pub same-word : (one other : Subcommand) → Some (word_of one) ≡ Some (word_of other) → one ≡ other
 same-word one other same =

@@ -1,9 +1,8 @@
 -- An audit of one file after another, of any or of those of one history.
-use Rattle.pie_commands.proofs.Names.{◌≡◌, ◌∙◌, ◌+◌, ◌<◌, ℕ, List, [], ◌∷◌, ◌++◌, add-one, get_or, length, take, Bool, true, false, Option, Some, None}
-use Rattle.pie_commands.proofs.Names.{inl, inr, refl, ap, subst, sym, ◌||◌, Appends, Appends-nil, Appends-trans, append-nil, map-append, flat_map}
-use Rattle.pie_commands.proofs.Names.{flat_map-append, list_any, Text, Joined, EndView, End, Fault, ReadsNamed, text_given, Stays, reads-given}
-use Rattle.pie_commands.proofs.Names.{AreTold, AuditsFiles, EndsEither, EndsOfFiles, TellsRead, TellsText, Told, is_broken, is_unfound, lines_of}
-use Rattle.pie_commands.proofs.Names.{told_lines, worst}
+use Rattle.pie_commands.proofs.Names.{◌≡◌, ◌∙◌, ◌+◌, ◌<◌, ℕ, List, [], ◌∷◌, ◌++◌, add-one, get_or, length, take, Bool, true, false, Option, Some}
+use Rattle.pie_commands.proofs.Names.{None, inl, inr, refl, ap, subst, sym, ◌||◌, Appends, Appends-nil, Appends-trans, append-nil, map-append}
+use Rattle.pie_commands.proofs.Names.{flat_map, flat_map-append, list_any, Text, Joined, EndView, Fault, ReadsNamed, text_given, Stays, reads-given}
+use Rattle.pie_commands.proofs.Names.{AreTold, AuditsFiles, EndsFiles, TellsRead, TellsText, Told, is_broken, is_unfound, lines_of, told_lines, worst}
 use Rattle.std.proofs.Math.Seq.{take-suc}
 use Rattle.std.proofs.lemmas.List.Folds.{list_any-append}
 use Rattle.pie_record.specs.declared.fault.TraceFault.TheVariants as trace_fault
@@ -82,14 +81,9 @@ audits-taken joined input files names place name unfound broken end before now w
 
 pub ends-audited : (joined : Bool) (input : Option (List ℕ)) (files : Text → Option (List ℕ)) (names : List Text) (unfound broken : Bool)
     (end : Option EndView) (before now : Option (List ℕ)) → AuditsFiles joined input files names unfound broken end before now
-    → EndsOfFiles joined input files names (worst unfound broken) before now
+    → EndsFiles joined input files names (worst unfound broken) before now
 ends-audited joined input files names unfound broken end before now audits = inr (inr (unfound, broken, end, refl, audits))
 
 pub ends-unwritten : (joined : Bool) (input : Option (List ℕ)) (files : Text → Option (List ℕ)) (names : List Text) (before now : Option (List ℕ))
-    → EndsOfFiles joined input files names (Fault trace_fault.Write) before now
+    → EndsFiles joined input files names (Fault trace_fault.Write) before now
 ends-unwritten joined input files names before now = inl refl
-
-pub ends-of-files : (joined asked : Bool) (input : Option (List ℕ)) (files : Text → Option (List ℕ)) (given : List Text) (name : Text)
-    (names : List Text) (end : End) (before now : Option (List ℕ)) → joined ≡ asked → given ≡ name ∷ names
-    → EndsEither joined input files given end before now → EndsOfFiles asked input files (name ∷ names) end before now
-ends-of-files joined asked input files given name names end before now same are ended = rw (same, are) at ended

@@ -3,7 +3,6 @@ mod CutFacts
 mod EndFacts
 mod ExamplesChoice
 mod ExamplesJoined
-mod ExplainFacts
 mod FileAuditFacts
 mod MomentFacts
 mod OutputFacts

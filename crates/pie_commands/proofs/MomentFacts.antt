@@ -1,6 +1,7 @@
 -- What a getter of `clap` reads of an option that is given a moment, or a bound of moments.
 use Rattle.pie_commands.proofs.Names.{◌≡◌, ℕ, List, Option, Some, None, refl, sym, ap, Result, Ok, Err}
-use Rattle.pie_commands.proofs.Names.{read_by, units_of, written}
+use Rattle.pie_commands.proofs.Names.{option_map, units_of}
+use Rattle.std.specs.Option.{option_transpose}
 use Rattle.clap.specs.Matches.{TriesOne}
 use Rattle.pie_units.specs.declared.moment.Moment.{Moment}
 use Rattle.pie_units.specs.declared.moment.MomentFault.{MomentFault}
@@ -10,21 +11,22 @@ use Rattle.pie_units.specs.declared.when.WhenFault.{WhenFault}
 use Rattle.pie_units.specs.When.{WritesWhen, when_in}
 
 pub moment-given : (given : Option (List ℕ)) (result : Result (Option Moment) MomentFault) → (given ≡ None → result ≡ Ok None)
-    → ((text : List ℕ) → given ≡ Some text → TriesOne WritesMoment text result) → units_of result ≡ read_by moment_in given
+    → ((text : List ℕ) → given ≡ Some text → TriesOne WritesMoment text result) → units_of result ≡ option_transpose (option_map moment_in given)
 moment-given None result none some = ap units_of (none refl)
 moment-given (Some text) result none some = go result (some text refl)
   where
-    go : (read : Result (Option Moment) MomentFault) → TriesOne WritesMoment text read → units_of read ≡ read_by moment_in (Some text)
-    go (Ok (Some moment)) tries = sym (ap written tries)
+    go : (read : Result (Option Moment) MomentFault) → TriesOne WritesMoment text read
+        → units_of read ≡ option_transpose (option_map moment_in (Some text))
+    go (Ok (Some moment)) tries = sym (ap (λ (read : Result ℕ MomentFault). option_transpose (Some read)) tries)
     go (Ok None) tries = absurd tries
-    go (Err why) tries = sym (ap written tries)
+    go (Err why) tries = sym (ap (λ (read : Result ℕ MomentFault). option_transpose (Some read)) tries)
 
 pub bound-given : (given : Option (List ℕ)) (result : Result (Option When) WhenFault) → (given ≡ None → result ≡ Ok None)
-    → ((text : List ℕ) → given ≡ Some text → TriesOne WritesWhen text result) → result ≡ read_by when_in given
+    → ((text : List ℕ) → given ≡ Some text → TriesOne WritesWhen text result) → result ≡ option_transpose (option_map when_in given)
 bound-given None result none some = none refl
 bound-given (Some text) result none some = go result (some text refl)
   where
-    go : (read : Result (Option When) WhenFault) → TriesOne WritesWhen text read → read ≡ read_by when_in (Some text)
-    go (Ok (Some bound)) tries = sym (ap written tries)
+    go : (read : Result (Option When) WhenFault) → TriesOne WritesWhen text read → read ≡ option_transpose (option_map when_in (Some text))
+    go (Ok (Some bound)) tries = sym (ap (λ (read : Result When WhenFault). option_transpose (Some read)) tries)
     go (Ok None) tries = absurd tries
-    go (Err why) tries = sym (ap written tries)
+    go (Err why) tries = sym (ap (λ (read : Result When WhenFault). option_transpose (Some read)) tries)

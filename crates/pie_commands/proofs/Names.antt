@@ -1,32 +1,30 @@
 -- What the files of this folder take from below, in one place.
 pub use Rattle.std.proofs.Common.{Bool, List, None, Option, Some, [], add-one, ap, arith, codes, false, get_or, inl, inr, length, map, option_map}
-pub use Rattle.std.proofs.Common.{refl, rules, string_bytes, subst, sym, take, true, ℕ, ◌++◌, ◌+◌, ◌-◌, ◌<◌, ◌^◌, ◌∙◌, ◌∷◌, ◌≡◌, ◌≤◌}
+pub use Rattle.std.proofs.Common.{refl, rules, string_bytes, subst, sym, take, true, ℕ, ◌++◌, ◌+◌, ◌<◌, ◌^◌, ◌∙◌, ◌∷◌, ◌≡◌, ◌≤◌}
 pub use Rattle.std.proofs.KnownBytes.{Appends-nil, Appends-trans}
 pub use Rattle.std.proofs.lemmas.Grind.{flat_map-append}
 pub use Rattle.std.proofs.lemmas.List.{append-nil, length-map, map-append}
 pub use Rattle.std.specs.Io.KnownBytes.{Appends}
 pub use Rattle.std.specs.List.{flat_map, list_any}
-pub use Rattle.std.specs.Prelude.{Err, IfErr, IfOk, IfSome, IsSome, Ok, Result, if◌then◌else◌, not, unwrap_or, ◌&&◌, ◌||◌, ◌⊎◌}
+pub use Rattle.std.specs.Prelude.{Err, IfErr, IfOk, IfSome, IsSome, Ok, Result, if◌then◌else◌, not, unwrap_or, ◌&&◌, ◌||◌}
 pub use Rattle.std.specs.Str.{bytes_eq}
-pub use Rattle.clap.proofs.WalkLemmas.{first_value-rows, one_text-rows, raw_values-rows}
-pub use Rattle.clap.specs.Words.{App, HasMatchesOf, Text, app_of, first_of, found_of, kind_of, one_text, rows_of, subcommand_name_of}
+pub use Rattle.clap.proofs.WalkLemmas.{one_text-rows, raw_values-rows}
+pub use Rattle.clap.specs.Words.{App, HasMatchesOf, Text, app_of, found_of, kind_of, one_text, rows_of, subcommand_name_of}
 pub use Rattle.clap.specs.Words.{subcommand_rows_of, takes}
-pub use Rattle.either.specs.Either.{either}
-pub use Rattle.pie_audit.specs.Text.{FindsEither, finding_line}
-pub use Rattle.pie_audit.specs.declared.auditor.Finding.{Finding}
-pub use Rattle.pie_commands.specs.Choice.{read_by, tale_of, told_by, units_of, written}
+pub use Rattle.pie_audit.specs.Text.{FindsEither}
+pub use Rattle.pie_commands.specs.Choice.{tale_of, told_by, units_of}
 unfoldable pub use Rattle.pie_commands.specs.Choice.{choice_of}
-pub use Rattle.pie_commands.specs.CutEnds.{CutsInto, CutsLast, EndsCut, around, between, cut_ends, end_of_cut, is_named, last_of}
+pub use Rattle.pie_commands.specs.CutEnds.{CutsInto, CutsLast, around, between, cut_ends, end_of_cut, is_named, last_of}
 unfoldable pub use Rattle.pie_commands.specs.CutEnds.{wanted_of}
-pub use Rattle.pie_commands.specs.Ends.{EndsAudit, EndsBy, EndsMigrate, EndsRun, TellsFound, audit_ends, end_found, end_of, run_ends, run_ends_by}
-pub use Rattle.pie_commands.specs.Ends.{status_of}
-pub use Rattle.pie_commands.specs.ExplainEnds.{EndsExplain, end_of_explain, explain_ends}
-pub use Rattle.pie_commands.specs.FileAudits.{AreTold, AuditsFiles, EndsEither, EndsOfFiles, TellsRead, TellsText, Told, is_broken, is_unfound}
+pub use Rattle.pie_commands.specs.Ends.{EndsBy, Migrates, end_of, status_of}
+pub use Rattle.pie_commands.specs.ExplainEnds.{end_of_explain, explain_ends}
+pub use Rattle.pie_commands.specs.FileAudits.{AreTold, AuditsFiles, EndsEither, EndsFiles, TellsRead, TellsText, Told, is_broken, is_unfound}
 pub use Rattle.pie_commands.specs.FileAudits.{lines_of, told_lines, worst}
 pub use Rattle.pie_commands.specs.Outputs.{EndsAt, EndsIn, is_whole, settled}
-pub use Rattle.pie_commands.specs.StormEnds.{EndsStorm, choice_by, elements_in, numbers_in, storm_ends}
-pub use Rattle.pie_commands.specs.Subcommands.{Answers, EndsAs, EndsRead, EndsTo, Finds, may_differ, output_for}
-pub use Rattle.pie_commands.specs.declared.cut.Wanted.TheVariants.{Every, Last, Part}
+pub use Rattle.pie_commands.specs.StormEnds.{EndsStorm, elements_in, numbers_in, storm_ends}
+pub use Rattle.pie_commands.specs.Subcommands.{Answers, EndsAs, EndsTask, EndsTo, Finds, may_differ, output_for}
+pub use Rattle.pie_commands.specs.declared.cut.Pieces.TheVariants.{Every, Part}
+pub use Rattle.pie_commands.specs.declared.cut.Wanted.TheVariants.{Last, Once}
 pub use Rattle.pie_commands.specs.declared.end.End.{End}
 pub use Rattle.pie_commands.specs.declared.end.End.TheVariants.{Done, Failed, Fault, Unable}
 pub use Rattle.pie_cut.specs.Joined.{EndView, JoinsText}
@@ -37,11 +35,10 @@ pub use Rattle.pie_explain.specs.declared.explanation.Explained.{Explained}
 pub use Rattle.pie_files.proofs.FileFacts.{Stays, reads-given, stays-on}
 pub use Rattle.pie_files.specs.Files.{Name, ReadsNamed, file_of, text_given}
 pub use Rattle.pie_files.specs.Output.{Held, IsEmpty, Keeps, Places, Settles}
-pub use Rattle.pie_files.specs.Watched.{remaining_of}
-pub use Rattle.pie_options.proofs.WordFacts.{audit-alone, migrate-alone, name-found, options-in, run-alone, same-word, subcommand-found}
+pub use Rattle.pie_options.proofs.WordFacts.{name-found, options-in, same-word}
 pub use Rattle.pie_options.specs.Words.{file_in, files_in, is_forced, is_joined, options_in, pie_app, subcommand_in}
 pub use Rattle.pie_options.specs.declared.subcommand.Subcommand.TheVariants.{Audit, Cut, Explain, Migrate, Params, Run, Storm}
 pub use Rattle.pie_params.specs.declared.elements.Elements.{Elements}
-pub use Rattle.pie_record.specs.Fault.{IsTold, IsWrite, is_device}
+pub use Rattle.pie_record.specs.Fault.{IsWrite}
 pub use Rattle.pie_record.specs.Text.{records_of, text_of}
 pub use Rattle.pie_record.specs.declared.fault.TraceFault.{TraceFault}

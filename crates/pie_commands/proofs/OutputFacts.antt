@@ -1,6 +1,7 @@
 -- What a subcommand writes, where the words name a file for it and where they don't, and what becomes of files.
 use Rattle.pie_commands.proofs.Names.{◌≡◌, ℕ, List, Bool, true, false, Option, Some, None, refl, sym, subst, inl, inr, IsSome, Text, file_of, Held}
-use Rattle.pie_commands.proofs.Names.{IsEmpty, Keeps, Places, Settles, End, Done, Fault, Unable, Failed, ◌&&◌, if◌then◌else◌, not, settled, status_of, EndsAt, EndsIn, is_whole}
+use Rattle.pie_commands.proofs.Names.{IsEmpty, Keeps, Places, Settles, End, Done, Unable, ◌&&◌, if◌then◌else◌, not, settled, status_of, EndsAt}
+use Rattle.pie_commands.proofs.Names.{EndsIn, is_whole}
 use Rattle.pie_commands.specs.declared.end.End.TheVariants.{Differs}
 
 pub keeps-same : (held : Held) → Keeps held held
@@ -43,9 +44,7 @@ settles-keeps : (read : Option Text) (forced : Bool) (name : Text) (left : Optio
     → Settles (is_whole end) read forced name left old new → Keeps old new
 settles-keeps read forced name left old new Done one settles = cc
 settles-keeps read forced name left old new Differs one settles = cc
-settles-keeps read forced name left old new (Fault why) one settles = settles
-settles-keeps read forced name left old new Unable one settles = settles
-settles-keeps read forced name left old new Failed one settles = settles
+settles-keeps read forced name left old new _ one settles = settles
 
 pub ends-keep : (output read : Option Text) (forced : Bool) (fresh : Option (List ℕ)) (old new : Held) (ends : End → Option (List ℕ) → Option (List ℕ) → Type 0) (end : End)
     (before now : Option (List ℕ)) → status_of end ≡ 1 → EndsIn output read forced fresh old new ends end before now → Keeps old new
@@ -71,3 +70,11 @@ pub ends-unable : (output read : Option Text) (forced : Bool) (fresh : Option (L
     (before now : Option (List ℕ)) → now ≡ before → ends Unable before now → EndsIn output read forced fresh held held ends Unable before now
 ends-unable None read forced fresh held ends before now same ended = (keeps-same held, ended)
 ends-unable (Some name) read forced fresh held ends before now same ended = (same, inl (refl, keeps-same held))
+
+-- what follows from what a subcommand did that met an event that differs, whatever it wrote to
+pub ends-anywhere : (output read : Option Text) (forced : Bool) (fresh : Option (List ℕ)) (old new : Held)
+    (ends : End → Option (List ℕ) → Option (List ℕ) → Type 0) (P : Type 0) (before now : Option (List ℕ))
+    → ((first last : Option (List ℕ)) → ends Differs first last → P) → EndsIn output read forced fresh old new ends Differs before now → P
+ends-anywhere None read forced fresh old new ends P before now all ended = all before now ended.1
+ends-anywhere (Some name) read forced fresh old new ends P before now all (same, inl (unable, keeps)) = cc
+ends-anywhere (Some name) read forced fresh old new ends P before now all (same, inr (left, empty, ended, settles)) = all fresh left ended

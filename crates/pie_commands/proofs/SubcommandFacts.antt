@@ -1,54 +1,45 @@
 -- What each subcommand promises, where it never began, where files hold more than they did, and where its words are found.
-use Rattle.pie_commands.proofs.Names.{◌≡◌, ◌∙◌, ℕ, List, [], ◌∷◌, Option, Some, None, Bool, true, false, codes, refl, inl, inr, subst, sym, IfErr}
-use Rattle.pie_commands.proofs.Names.{IfOk, IfSome, ◌⊎◌, Result, Ok, Err, if◌then◌else◌, option_map, bytes_eq, App, HasMatchesOf, Text}
-use Rattle.pie_commands.proofs.Names.{kind_of, subcommand_name_of, subcommand_rows_of, takes, records_of, FindsEither, End, Unable, Failed}
-use Rattle.pie_commands.proofs.Names.{Run, Audit, Explain, Cut, Migrate, Storm, Params, file_in, files_in, is_forced, is_joined, options_in, pie_app}
-use Rattle.pie_commands.proofs.Names.{name-found, options-in, same-word, subcommand-found, Joined, EndView, JoinsText, text_given, Held, Keeps}
-use Rattle.pie_commands.proofs.Names.{AreTold, Told, TellsText, EndsCut, EndsMigrate, EndsRun, EndsExplain, EndsEither, EndsOfFiles, elements_in, EndsAudit}
-use Rattle.pie_commands.proofs.Names.{choice_of, tale_of, wanted_of, is_named}
-use Rattle.pie_commands.proofs.Names.{Answers, EndsAs, EndsRead, EndsTo, Finds, may_differ}
-use Rattle.pie_commands.proofs.Names.{output_for}
+use Rattle.pie_commands.proofs.Names.{◌≡◌, ◌∙◌, ◌^◌, ℕ, List, [], ◌∷◌, Option, Some, None, Bool, true, false, codes, refl, inl, inr, subst, sym}
+use Rattle.pie_commands.proofs.Names.{IfErr, IfOk, Result, Ok, Err, if◌then◌else◌, option_map, bytes_eq, App, HasMatchesOf, Text, kind_of}
+use Rattle.pie_commands.proofs.Names.{subcommand_name_of, subcommand_rows_of, takes, records_of, FindsEither, End, Unable, Failed, Run, Audit}
+use Rattle.pie_commands.proofs.Names.{Explain, Cut, Migrate, Storm, Params, file_in, files_in, is_forced, is_joined, options_in, pie_app}
+use Rattle.pie_commands.proofs.Names.{subcommand_in, name-found, options-in, same-word, Joined, EndView, JoinsText, text_given, Held, Keeps, AreTold}
+use Rattle.pie_commands.proofs.Names.{Told, TellsText, EndsEither, EndsFiles, elements_in, choice_of, tale_of, told_by, wanted_of, is_named, Answers}
+use Rattle.pie_commands.proofs.Names.{EndsAs, EndsTask, EndsTo, Finds, Migrates, end_of, may_differ, output_for}
 use Rattle.clap.specs.Words.{Row}
-use Rattle.pie_excerpt.specs.Beginning.{is_resumed}
 use Rattle.clap.specs.declared.error.Error.{Error}
 use Rattle.clap.specs.declared.error.kind.ErrorKind.TheVariants.{OutOfMemory}
 use Rattle.clap.specs.declared.parser.matches.ArgMatches.{ArgMatches}
-use Rattle.pie_commands.specs.declared.end.End.TheVariants.{Differs}
-use Rattle.pie_commands.specs.declared.perform.Reads.{Reads}
-use Rattle.pie_commands.specs.declared.perform.Reads.TheVariants as reads
+use Rattle.pie_trace.specs.Resumed.{RunsEither}
 use Rattle.pie_options.specs.declared.subcommand.Subcommand.{Subcommand}
 use Rattle.pie_options.specs.Subcommands.{word_of}
-use Rattle.pie_commands.proofs.CutFacts.{cut-unable}
-use Rattle.pie_commands.proofs.EndFacts.{if-known, run-unable}
-use Rattle.pie_commands.proofs.ExplainFacts.{explain-unable}
-use Rattle.pie_commands.proofs.StormEndFacts.{storm-unable}
-use Rattle.pie_commands.proofs.OutputFacts.{ends-unable, ends-keep, keeps-same}
+use Rattle.pie_commands.specs.declared.end.End.TheVariants.{Differs}
+use Rattle.pie_commands.specs.declared.tasks.Task.{Task}
+use Rattle.pie_commands.specs.declared.tasks.Task.TheVariants as task
+use Rattle.pie_commands.proofs.EndFacts.{IsKept, by-kept, cut-kept, cut-unable, explain-kept, explain-unable, known-kept, no-difference}
+use Rattle.pie_commands.proofs.StormEndFacts.{storm-same, storm-unable}
+use Rattle.pie_commands.proofs.OutputFacts.{ends-anywhere, ends-keep, ends-unable, keeps-same}
 
 -- a subcommand that could not begin wrote nothing
-pub EndsRead-unable : (reads : Reads) (options : List Row) (text : List ℕ) (before now : Option (List ℕ)) → now ≡ before
-    → EndsRead reads options text Unable before now
-EndsRead-unable reads.Run options text before now same = run-unable (is_resumed (records_of text)) (records_of text) before now same
-EndsRead-unable reads.Explain options text before now same = explain-unable (choice_of options) (tale_of options) text before now same
-EndsRead-unable reads.Migrate options text before now same = same
+pub EndsTask-unable : (task : Task) (options : List Row) (known before now : Option (List ℕ)) → now ≡ before
+    → EndsTask task options known Unable before now
+EndsTask-unable task.Explain options known before now same = explain-unable (choice_of options) (told_by (tale_of options)) known before now same
+EndsTask-unable _ options known before now same = inl (refl, same)
 
 EndsAs-unable : (subcommand : Subcommand) (options : List Row) (input : Option (List ℕ)) (files : Held) (before now : Option (List ℕ)) → now ≡ before
     → EndsAs subcommand options input files Unable before now
-EndsAs-unable Run options input files before now same = if-known (text_given input files (file_in options))
-    (λ text. EndsRun text Unable before now) (λ text. EndsRead-unable reads.Run options text before now same)
 EndsAs-unable Audit options input files before now same = go (files_in options)
   where
     go : (names : List Text) → EndsEither (is_joined options) input files names Unable before now
-    go [] = if-known input (λ text. EndsAudit text Unable before now) (λ text. same)
+    go [] = inl (refl, same)
     go (name ∷ names) = inr (inl (refl, same))
-EndsAs-unable Explain options input files before now same = if-known (text_given input files (file_in options))
-    (λ text. EndsExplain options text Unable before now) (λ text. EndsRead-unable reads.Explain options text before now same)
-EndsAs-unable Cut options input files before now same = if-known (text_given input files (file_in options))
-    (λ text. EndsCut options (file_in options) text Unable before now)
-    (λ text. cut-unable (wanted_of options) (is_named (file_in options)) (records_of text) before now same)
-EndsAs-unable Migrate options input files before now same = if-known (text_given input files (file_in options))
-    (λ text. EndsMigrate text Unable before now) (λ text. same)
+EndsAs-unable Explain options input files before now same =
+    explain-unable (choice_of options) (told_by (tale_of options)) (text_given input files (file_in options)) before now same
+EndsAs-unable Cut options input files before now same =
+    cut-unable (wanted_of options) (is_named (file_in options)) (text_given input files (file_in options)) before now same
 EndsAs-unable Storm options input files before now same = storm-unable (elements_in options) options before now same
 EndsAs-unable Params options input files before now same = same
+EndsAs-unable _ options input files before now same = inl (refl, same)
 
 EndsTo-unable : (subcommand : Subcommand) (options : List Row) (input fresh : Option (List ℕ)) (files : Held) (before now : Option (List ℕ))
     → now ≡ before → EndsTo subcommand options input fresh files files Unable before now
@@ -58,27 +49,29 @@ EndsTo-unable subcommand options input fresh files before now same =
 
 -- ---- what is said of files that may hold more than they did holds of what they held
 
-known-kept : (old new : Option (List ℕ)) (P : List ℕ → Type 0) → ((text : List ℕ) → old ≡ Some text → new ≡ Some text) → IfSome new P → IfSome old P
-known-kept None new P keeps so = tt
-known-kept (Some text) new P keeps so = subst (λ (known : Option (List ℕ)). IfSome known P) (keeps text refl) so
-
-text-kept : (input : Option (List ℕ)) (old new : Held) (file : Option Text) (P : List ℕ → Type 0) → Keeps old new
-    → IfSome (text_given input new file) P → IfSome (text_given input old file) P
-text-kept input old new None P keeps so = so
-text-kept input old new (Some name) P keeps so = go (bytes_eq name (codes "-")) so
+given-kept : (input : Option (List ℕ)) (old new : Held) (file : Option Text) → Keeps old new
+    → IsKept (text_given input old file) (text_given input new file)
+given-kept input old new None keeps text is = is
+given-kept input old new (Some name) keeps text is = go (bytes_eq name (codes "-")) is
   where
-    go : (dash : Bool) → IfSome (if dash then input else new name) P → IfSome (if dash then input else old name) P
-    go true so = so
-    go false so = known-kept (old name) (new name) P (keeps name) so
+    go : (dash : Bool) → (if dash then input else old name) ≡ Some text → (if dash then input else new name) ≡ Some text
+    go true is = is
+    go false is = keeps name text is
 
 told-kept : (joined : Bool) (input : Option (List ℕ)) (old new : Held) → Keeps old new → (name : Text) (before : Option EndView)
     (told : Option Joined) (after : Option EndView) → TellsText joined (text_given input new (Some name)) before told after
     → TellsText joined (text_given input old (Some name)) before told after
 told-kept joined input old new keeps name before None after tells = tells
-told-kept true input old new keeps name before (Some told) after tells =
-    (tells.0, text-kept input old new (Some name) (λ text. JoinsText (records_of text) before told after) keeps tells.1)
-told-kept false input old new keeps name before (Some told) after tells =
-    (tells.0, text-kept input old new (Some name) (λ text. FindsEither (records_of text) (Ok told.finding)) keeps tells.1)
+told-kept true input old new keeps name before (Some told) after tells = (
+  tells.0,
+  known-kept (text_given input old (Some name)) (text_given input new (Some name)) (λ text. JoinsText (records_of text) before told after)
+      (given-kept input old new (Some name) keeps) tells.1,
+)
+told-kept false input old new keeps name before (Some told) after tells = (
+  tells.0,
+  known-kept (text_given input old (Some name)) (text_given input new (Some name)) (λ text. FindsEither (records_of text) (Ok told.finding))
+      (given-kept input old new (Some name) keeps) tells.1,
+)
 
 all-kept : (joined : Bool) (input : Option (List ℕ)) (old new : Held) → Keeps old new → (before : Option EndView) (told : List Told)
     (after : Option EndView) → AreTold joined input new before told after → AreTold joined input old before told after
@@ -90,7 +83,7 @@ all-kept joined input old new keeps before (one ∷ more) after told = (
 )
 
 files-kept : (joined : Bool) (input : Option (List ℕ)) (old new : Held) (names : List Text) (end : End) (before now : Option (List ℕ))
-    → Keeps old new → EndsOfFiles joined input new names end before now → EndsOfFiles joined input old names end before now
+    → Keeps old new → EndsFiles joined input new names end before now → EndsFiles joined input old names end before now
 files-kept joined input old new names end before now keeps (inl unwritten) = inl unwritten
 files-kept joined input old new names end before now keeps (inr (inl failed)) = inr (inl failed)
 files-kept joined input old new names end before now keeps (inr (inr worst)) =
@@ -120,28 +113,39 @@ pub EndsAs-kept : (subcommand : Subcommand) (options : List Row) (input : Option
     (before now : Option (List ℕ)) → Keeps old new → EndsAs subcommand options input new end before now
     → EndsAs subcommand options input old end before now
 EndsAs-kept Run options input old new end before now keeps ended =
-    text-kept input old new (file_in options) (λ text. EndsRun text end before now) keeps ended
+    by-kept end_of (RunsEither (2 ^ 32)) (text_given input old (file_in options)) (text_given input new (file_in options)) end before now
+    (given-kept input old new (file_in options) keeps) ended
 EndsAs-kept Audit options input old new end before now keeps ended =
     either-kept (is_joined options) input old new (files_in options) end before now keeps ended
 EndsAs-kept Explain options input old new end before now keeps ended =
-    text-kept input old new (file_in options) (λ text. EndsExplain options text end before now) keeps ended
+    explain-kept (choice_of options) (told_by (tale_of options)) (text_given input old (file_in options)) (text_given input new (file_in options)) end
+    before now (given-kept input old new (file_in options) keeps) ended
 EndsAs-kept Cut options input old new end before now keeps ended =
-    text-kept input old new (file_in options) (λ text. EndsCut options (file_in options) text end before now) keeps ended
+    cut-kept (wanted_of options) (is_named (file_in options)) (text_given input old (file_in options)) (text_given input new (file_in options)) end
+    before now (given-kept input old new (file_in options) keeps) ended
 EndsAs-kept Migrate options input old new end before now keeps ended =
-    text-kept input old new (file_in options) (λ text. EndsMigrate text end before now) keeps ended
-EndsAs-kept Storm options input old new end before now keeps ended = ended
-EndsAs-kept Params options input old new end before now keeps ended = ended
+    by-kept end_of Migrates (text_given input old (file_in options)) (text_given input new (file_in options)) end before now
+    (given-kept input old new (file_in options) keeps) ended
+EndsAs-kept _ options input old new end before now keeps ended = ended
+
+-- ---- an event can differ in three of them
+
+differs-as : (subcommand : Subcommand) (options : List Row) (input : Option (List ℕ)) (files : Held) (before now : Option (List ℕ))
+    → EndsAs subcommand options input files Differs before now → may_differ subcommand ≡ true
+differs-as Run options input files before now ended =
+    absurd (no-difference (RunsEither (2 ^ 32)) (text_given input files (file_in options)) before now ended)
+differs-as Migrate options input files before now ended = absurd (no-difference Migrates (text_given input files (file_in options)) before now ended)
+differs-as Storm options input files before now ended = absurd (storm-same options (elements_in options) before now ended)
+differs-as Params options input files before now ended = absurd ended
+differs-as _ options input files before now ended = refl
+
+differs-to : (subcommand : Subcommand) (options : List Row) (input fresh : Option (List ℕ)) (old new : Held) (before now : Option (List ℕ))
+    → EndsTo subcommand options input fresh old new Differs before now → may_differ subcommand ≡ true
+differs-to subcommand options input fresh old new before now ended =
+    ends-anywhere (output_for subcommand options) (file_in options) (is_forced options) fresh old new (EndsAs subcommand options input old)
+    (may_differ subcommand ≡ true) before now (λ b n. differs-as subcommand options input old b n) ended
 
 -- ---- the program over words
-
--- an event can differ in three of them
-pub may-differ : (found : Option Text)
-    → (subcommand : Subcommand) × (may_differ subcommand ≡ true) × (found ≡ Some (word_of subcommand))
-    → (found ≡ Some (codes "audit")) ⊎ (found ≡ Some (codes "explain")) ⊎ (found ≡ Some (codes "cut"))
-may-differ found (Audit, can, is) = inl is
-may-differ found (Explain, can, is) = inr (inl is)
-may-differ found (Cut, can, is) = inr (inr is)
-may-differ found (_, can, is) = cc
 
 -- what `clap` answers is what it finds in the words
 pub finds-so : (app : App) (words : List Text) (result : Result ArgMatches Error) → app ≡ pie_app → IfOk result (HasMatchesOf app words)
@@ -154,19 +158,18 @@ pub answers-performed : (words : List Text) (matches : ArgMatches) (subcommand :
     (old new : Held) (end : End) (before now : Option (List ℕ)) → HasMatchesOf pie_app words matches
     → Some (word_of subcommand) ≡ subcommand_name_of matches
     → Some rows ≡ option_map (λ (given : Text × List Row). given.1) (subcommand_rows_of matches)
-    → (end ≡ Differs → may_differ subcommand ≡ true) → EndsTo subcommand rows input fresh old new end before now
-    → Answers words input fresh old new end before now
-answers-performed words matches subcommand rows input fresh old new end before now matched name given differs ended =
-    let found = subcommand-found pie_app words matches (word_of subcommand) (word_of subcommand) refl matched name refl in
+    → EndsTo subcommand rows input fresh old new end before now → Answers words input fresh old new end before now
+answers-performed words matches subcommand rows input fresh old new end before now matched name given ended =
+    let found : subcommand_in words ≡ Some (word_of subcommand) = sym (name ∙ name-found words matches matched) in
     record {
       keeps = λ one. ends-keep (output_for subcommand rows) (file_in rows) (is_forced rows) fresh old new (EndsAs subcommand rows input old) end before now
           one ended;
-      differs = λ is. (subcommand, differs is, found);
+      differs = λ is. (subcommand, differs-to subcommand rows input fresh old new before now (rw is at ended), found);
       ends = λ other asks.
           subst (λ (s : Subcommand). EndsTo s (options_in words) input fresh old new end before now)
           (same-word subcommand other (sym found ∙ asks.found))
           (subst (λ (options : List Row). EndsTo subcommand options input fresh old new end before now)
-          (sym (options-in pie_app words matches rows refl matched given)) ended);
+          (sym (options-in words matches rows matched given)) ended);
     }
 
 -- no subcommand began, for want of memory or since the words ask for none

@@ -1,5 +1,8 @@
 -- Which events the words of `pie explain` choose, and how they are explained.
-use Rattle.std.specs.Prelude.{ℕ, ◌==◌, ◌&&◌, ◌||◌, Bool, true, false, not, List, Option, Some, None, Result, Ok, Err, codes, if◌then◌else◌, is_some, nat_le}
+use Rattle.std.specs.Prelude.{ℕ, ◌==◌, ◌&&◌, ◌||◌, Bool, true, false, not, List, Option, Some, None, Result, Ok, Err, codes, if◌then◌else◌, is_some}
+use Rattle.std.specs.Prelude.{nat_le, option_map}
+use Rattle.std.specs.Option.{option_transpose}
+use Rattle.std.specs.Result.{result_ok}
 use Rattle.clap.specs.Words.{Row, Text, one_of}
 use Rattle.pie_options.specs.Words.{flag_given, number_given}
 use Rattle.pie_explain.specs.declared.selection.Selection.{Selection}
@@ -19,6 +22,7 @@ use Rattle.pie_explain.specs.Output.{pages}
 use Rattle.pie_summary.specs.ByFlow.{flows_whole}
 use Rattle.pie_summary.specs.Summary.{summary_of}
 use Rattle.pie_commands.specs.declared.explain.Tale.{Tale}
+use Rattle.pie_commands.specs.declared.explain.Tale.TheVariants.{Each, Flows, Sums}
 
 -- ---- moments
 
@@ -28,29 +32,15 @@ units_of (Ok None) = Ok None
 units_of (Ok (Some moment)) = Ok (Some moment.0)
 units_of (Err why) = Err why
 
--- what was written, where something was
-abbrev pub written : {A E : Type 0} → Result A E → Result (Option A) E
-written (Ok read) = Ok (Some read)
-written (Err why) = Err why
-
--- what a text is read as, if there is one
-abbrev pub read_by : {A E : Type 0} → (Text → Result A E) → Option Text → Result (Option A) E
-read_by reads None = Ok None
-read_by reads (Some text) = written (reads text)
-
 -- the moment that an option is given
 abbrev pub moment_given : Text → List Row → Result (Option ℕ) MomentFault
-moment_given name options = read_by moment_in (one_of name options)
+moment_given name options = option_transpose (option_map moment_in (one_of name options))
 
 -- the bound that an option is given
 abbrev pub bound_given : Text → List Row → Result (Option When) WhenFault
-bound_given name options = read_by when_in (one_of name options)
+bound_given name options = option_transpose (option_map when_in (one_of name options))
 
 -- ---- the choice
-
--- these options ask for times of day
-abbrev pub is_by_wall : List Row → Bool
-is_by_wall options = flag_given (codes "wall") options
 
 -- the length of a period that an option is given, where it can be read
 abbrev pub every_in : Result (Option ℕ) MomentFault → Option ℕ
@@ -104,17 +94,16 @@ in_order (Some (when.Unix from)) (Some (when.Unix to)) = nat_le from to
 in_order _ _ = true
 
 -- these events, from one bound to another, where both can be read and so can the length of a period, which is above 0; and only where this holds
-abbrev pub choice_at : Option Which → Result (Option When) WhenFault → Result (Option When) WhenFault → Result (Option ℕ) MomentFault → Bool
-    → Option Selection
-choice_at (Some which) (Ok from) (Ok to) (Ok every) told =
+abbrev pub choice_at : Option Which → Option (Option When) → Option (Option When) → Option (Option ℕ) → Bool → Option Selection
+choice_at (Some which) (Some from) (Some to) (Some every) told =
     if lasts every && (told && in_order from to) then Some (record { which = which; from = from; to = to }) else None
 choice_at _ _ _ _ told = None
 
 -- what these options choose; nothing where they don't say it as they have to
 unfoldable pub choice_of : List Row → Option Selection
 choice_of options =
-    choice_at (which_of options) (bound_given (codes "from") options) (bound_given (codes "to") options) (moment_given (codes "every") options)
-    (is_either (is_digest options) (flows_of options))
+    choice_at (which_of options) (result_ok (bound_given (codes "from") options)) (result_ok (bound_given (codes "to") options))
+    (result_ok (moment_given (codes "every") options)) (is_either (is_digest options) (flows_of options))
 
 -- in words, and as CSV where the first holds; with times of day where the second does
 abbrev pub form_where : Bool → Bool → Form
@@ -124,18 +113,20 @@ form_where false true = TextByWall
 form_where false false = Words
 
 abbrev pub form_of : List Row → Form
-form_of options = form_where (flag_given (codes "csv") options) (is_by_wall options)
+form_of options = form_where (flag_given (codes "csv") options) (flag_given (codes "wall") options)
 
 -- what is told of the explained events: each; or sums by flow, of all or of each period; or such summaries, with the words for lost and marked
 -- packets or without
-abbrev pub tale_by : Bool → Bool → Option ℕ → Option ℕ → Form → List Explained → List ℕ
-tale_by true digest (Some most) every form = flows_whole (record { form = form; every = every; most = most })
-tale_by true digest None every form = summary_of (record { form = form; every = every; packets = digest })
-tale_by false digest flows every form = pages form
+abbrev pub tale_by : Bool → Bool → Option ℕ → Option ℕ → Form → Tale
+tale_by true packets (Some most) every form = Flows (record { form = form; every = every; most = most })
+tale_by true packets None every form = Sums (record { form = form; every = every; packets = packets })
+tale_by false packets flows every form = Each form
 
-abbrev pub tale_of : List Row → List Explained → List ℕ
+abbrev pub tale_of : List Row → Tale
 tale_of options = tale_by (is_summary options) (is_digest options) (flows_of options) (every_of options) (form_of options)
 
--- .. as this says
+-- .. in these words
 abbrev pub told_by : Tale → List Explained → List ℕ
-told_by tale = tale_by tale.summary tale.digest tale.flows tale.every tale.form
+told_by (Each form) = pages form
+told_by (Sums summaries) = summary_of summaries
+told_by (Flows by_flow) = flows_whole by_flow

@@ -1,10 +1,11 @@
 -- `pie cut`: what the words choose, and how it ends.
 use Rattle.std.specs.Prelude.{ℕ, ◌≡◌, ◌==◌, ◌+◌, ◌-◌, ◌^◌, ◌<◌, List, Bool, true, false, Option, Some, None, Result, Ok, Err, ⊤, codes, min, not}
-use Rattle.std.specs.Prelude.{if◌then◌else◌}
+use Rattle.std.specs.Prelude.{unwrap_or, if◌then◌else◌}
+use Rattle.std.specs.Result.{result_ok}
 use Rattle.std.specs.Str.{bytes_eq}
 use Rattle.clap.specs.Words.{Row, Text}
 use Rattle.pie_record.specs.declared.fault.TraceFault.{TraceFault}
-use Rattle.pie_record.specs.Text.{Row as Fields, records_of}
+use Rattle.pie_record.specs.Text.{Row as Fields}
 use Rattle.pie_excerpt.specs.Beginning.{is_resumed}
 use Rattle.pie_cut.specs.declared.fault.CutFault.{CutFault}
 use Rattle.pie_cut.specs.declared.fault.CutFault.TheVariants as fault
@@ -13,15 +14,13 @@ use Rattle.pie_cut.specs.Answer.{CutsEither, TextTold}
 use Rattle.pie_cut.specs.Last.{LastEither}
 use Rattle.pie_cut.specs.Segment.{IsInSegments, every_answer}
 use Rattle.pie_units.specs.declared.when.When.{When}
-use Rattle.pie_units.specs.declared.when.WhenFault.{WhenFault}
 use Rattle.pie_options.specs.Words.{number_given}
 use Rattle.pie_commands.specs.declared.end.End.{End}
 use Rattle.pie_commands.specs.declared.end.End.TheVariants.{Done, Differs, Fault, Failed}
 use Rattle.pie_commands.specs.declared.cut.Pieces.{Pieces}
-use Rattle.pie_commands.specs.declared.cut.Pieces.TheVariants.{One}
-use Rattle.pie_commands.specs.declared.cut.Pieces.TheVariants as pieces
+use Rattle.pie_commands.specs.declared.cut.Pieces.TheVariants.{Every, Part}
 use Rattle.pie_commands.specs.declared.cut.Wanted.{Wanted}
-use Rattle.pie_commands.specs.declared.cut.Wanted.TheVariants.{Part, Last, Every}
+use Rattle.pie_commands.specs.declared.cut.Wanted.TheVariants.{Last, Once}
 use Rattle.pie_commands.specs.Choice.{bound_given, in_order}
 use Rattle.pie_commands.specs.Ends.{EndsBy, WritesNothing}
 
@@ -44,34 +43,32 @@ abbrev pub within : Option When → Option When → Option Span
 within None None = None
 within from to = Some (between from to)
 
--- segments of some events
-abbrev pub segments : ℕ → Option Wanted
-segments every = if every == 0 then None else Some (Every every)
-
 -- what is chosen, where it is in exactly one way: an event, with some around it or none; the last ones; segments; or those within bounds
 abbrev pub chosen : Option ℕ → Option ℕ → Option ℕ → Option ℕ → Option Span → Option Wanted
-chosen (Some event) None None None None = Some (Part (around event 0))
-chosen (Some event) (Some more) None None None = Some (Part (around event more))
+chosen (Some event) more None None None = Some (Once (Part (around event (unwrap_or more 0))))
 chosen None None (Some many) None None = Some (Last many)
-chosen None None None (Some every) None = segments every
-chosen None None None None (Some span) = Some (Part span)
+chosen None None None (Some every) None = if every == 0 then None else Some (Once (Every every))
+chosen None None None None (Some span) = Some (Once (Part span))
 chosen _ _ _ _ _ = None
 
 -- .. where both bounds can be read, and the one isn't after the other
-abbrev pub wanted_at : Option ℕ → Option ℕ → Option ℕ → Option ℕ → Result (Option When) WhenFault → Result (Option When) WhenFault → Option Wanted
-wanted_at event more last every (Ok from) (Ok to) = if in_order from to then chosen event more last every (within from to) else None
+abbrev pub wanted_at : Option ℕ → Option ℕ → Option ℕ → Option ℕ → Option (Option When) → Option (Option When) → Option Wanted
+wanted_at event more last every (Some from) (Some to) = if in_order from to then chosen event more last every (within from to) else None
 wanted_at _ _ _ _ _ _ = None
 
 -- what these options choose; nothing where they don't say it as they have to
 unfoldable pub wanted_of : List Row → Option Wanted
 wanted_of options = wanted_at (number_given (codes "event") options) (number_given (codes "around") options) (number_given (codes "last") options)
-    (number_given (codes "every") options) (bound_given (codes "from") options) (bound_given (codes "to") options)
+    (number_given (codes "every") options) (result_ok (bound_given (codes "from") options)) (result_ok (bound_given (codes "to") options))
 
 -- segments have some events each
-abbrev pub HasSome : Wanted → Type 0
+abbrev pub HasSome : Pieces → Type 0
 HasSome (Part span) = ⊤
-HasSome (Last many) = ⊤
 HasSome (Every every) = 0 < every
+
+abbrev pub WantsSome : Wanted → Type 0
+WantsSome (Once pieces) = HasSome pieces
+WantsSome (Last many) = ⊤
 
 -- ---- the end
 
@@ -82,18 +79,10 @@ end_of_cut (Err (fault.Trace why)) = Fault why
 end_of_cut (Err (fault.Differs event)) = Differs
 end_of_cut (Err fault.NoEvents) = Failed
 
--- into segments
-abbrev pub CutsSegments : ℕ → List Fields → Result ℕ CutFault → Option (List ℕ) → Option (List ℕ) → Type 0
-CutsSegments every rows given before now = TextTold every_answer (IsInSegments every) (is_resumed rows) rows given before now
-
--- into pieces of either kind, which are wanted so
+-- into pieces of either kind
 abbrev pub CutsInto : Pieces → List Fields → Result ℕ CutFault → Option (List ℕ) → Option (List ℕ) → Type 0
-CutsInto (One span) rows given before now = CutsEither span rows given before now
-CutsInto (pieces.Every every) rows given before now = CutsSegments every rows given before now
-
-abbrev pub wanted_by : Pieces → Wanted
-wanted_by (One span) = Part span
-wanted_by (pieces.Every every) = Every every
+CutsInto (Part span) rows given before now = CutsEither span rows given before now
+CutsInto (Every every) rows given before now = TextTold every_answer (IsInSegments every) (is_resumed rows) rows given before now
 
 -- the last so many events, once this was found to be the number of the last, or a fault was found
 abbrev pub CutsUpTo : ℕ → Result ℕ TraceFault → List Fields → Result ℕ CutFault → Option (List ℕ) → Option (List ℕ) → Type 0
@@ -109,17 +98,16 @@ is_named None = false
 is_named (Some name) = not (bytes_eq name (codes "-"))
 
 -- the last events are those of such a file, which is read twice
-abbrev pub ends_last : Bool → ℕ → List Fields → End → Option (List ℕ) → Option (List ℕ) → Type 0
-ends_last false many rows end before now = WritesNothing end before now
-ends_last true many rows end before now = EndsBy end_of_cut (CutsLast many rows) end before now
+abbrev pub ends_last : Bool → ℕ → Option (List ℕ) → End → Option (List ℕ) → Option (List ℕ) → Type 0
+ends_last false many known = WritesNothing
+ends_last true many known = EndsBy end_of_cut (CutsLast many) known
 
--- a text of these records is cut, and the end is that of the answer; options that choose nothing fail, and nothing is written
-abbrev pub cut_ends : Option Wanted → Bool → List Fields → End → Option (List ℕ) → Option (List ℕ) → Type 0
-cut_ends None named rows end before now = WritesNothing end before now
-cut_ends (Some (Part span)) named rows end before now = EndsBy end_of_cut (CutsEither span rows) end before now
-cut_ends (Some (Last many)) named rows end before now = ends_last named many rows end before now
-cut_ends (Some (Every every)) named rows end before now = EndsBy end_of_cut (CutsSegments every rows) end before now
+-- a text is cut, and the end is that of the answer; options that choose nothing fail, and nothing is written
+abbrev pub cut_ends : Option Wanted → Bool → Option (List ℕ) → End → Option (List ℕ) → Option (List ℕ) → Type 0
+cut_ends None named known = WritesNothing
+cut_ends (Some (Once pieces)) named known = EndsBy end_of_cut (CutsInto pieces) known
+cut_ends (Some (Last many)) named known = ends_last named many known
 
 -- .. what is chosen being what these options say, and the file that they name
-abbrev pub EndsCut : List Row → Option Text → List ℕ → End → Option (List ℕ) → Option (List ℕ) → Type 0
-EndsCut options file input end before now = cut_ends (wanted_of options) (is_named file) (records_of input) end before now
+abbrev pub EndsCut : List Row → Option Text → Option (List ℕ) → End → Option (List ℕ) → Option (List ℕ) → Type 0
+EndsCut options file = cut_ends (wanted_of options) (is_named file)

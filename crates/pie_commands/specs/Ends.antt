@@ -1,16 +1,15 @@
 -- How a run, a migration and an audit end: the exit status, and what is written.
 use Rattle.std.specs.Prelude.{ℕ, ◌≡◌, ◌⊎◌, ◌^◌, ◌++◌, ◌&&◌, if◌then◌else◌, List, Bool, true, false, Option, Some, None, Result, Ok, Err, codes}
+use Rattle.std.specs.Prelude.{IfErr, IfOk, IfSome}
 use Rattle.std.specs.Fmt.{decimal}
 use Rattle.std.specs.Io.KnownBytes.{Appends}
 use Rattle.pie_record.specs.declared.fault.TraceFault.{TraceFault}
 use Rattle.pie_record.specs.declared.fault.TraceFault.TheVariants as trace_fault
-use Rattle.pie_record.specs.Fault.{is_device}
+use Rattle.pie_record.specs.Fault.{IsTold, is_device}
 use Rattle.pie_trace.specs.declared.run.RunEnd.{RunEnd}
-use Rattle.pie_trace.specs.Migrate.{history_fault, migrated_text}
-use Rattle.pie_trace.specs.Pass.{Writes}
-use Rattle.pie_trace.specs.Resumed.{run_by}
+use Rattle.pie_trace.specs.Migrate.{history_events, history_fault, migrated_text}
+use Rattle.pie_trace.specs.Resumed.{RunsEither}
 use Rattle.pie_record.specs.Text.{Row, records_of}
-use Rattle.pie_excerpt.specs.Beginning.{is_resumed}
 use Rattle.pie_audit.specs.declared.auditor.Finding.{Finding}
 use Rattle.pie_audit.specs.declared.auditor.Finding.TheVariants as finding
 use Rattle.pie_audit.specs.Text.{FindsEither, finding_line}
@@ -21,9 +20,7 @@ use Rattle.pie_commands.specs.declared.end.End.TheVariants.{Done, Differs, Fault
 abbrev pub status_of : End → ℕ
 status_of Done = 0
 status_of Differs = 2
-status_of (Fault why) = 1
-status_of Unable = 1
-status_of Failed = 1
+status_of _ = 1
 
 -- the writer failed
 abbrev pub is_unwritten : End → Bool
@@ -40,9 +37,11 @@ told_status closed end = if closed && is_unwritten end then 141 else status_of e
 abbrev pub WritesNothing : End → Option (List ℕ) → Option (List ℕ) → Type 0
 WritesNothing end before now = ((end ≡ Unable) ⊎ (end ≡ Failed)) × (now ≡ before)
 
--- it could not begin, and nothing was written; or it ended by what it answered
-abbrev pub EndsBy : {A : Type 0} → (A → End) → (A → Option (List ℕ) → Option (List ℕ) → Type 0) → End → Option (List ℕ) → Option (List ℕ) → Type 0
-EndsBy {A} end_for tells end before now = ((end ≡ Unable) × (now ≡ before)) ⊎ ((given : A) × (end ≡ end_for given) × tells given before now)
+-- it could not begin, and nothing was written; or it ended by what it answered to the records of a text, where that is known
+abbrev pub EndsBy : {A : Type 0} → (A → End) → (List Row → A → Option (List ℕ) → Option (List ℕ) → Type 0) → Option (List ℕ) → End → Option (List ℕ)
+    → Option (List ℕ) → Type 0
+EndsBy {A} end_for tells known end before now = ((end ≡ Unable) × (now ≡ before))
+    ⊎ ((given : A) × (end ≡ end_for given) × IfSome known (λ text. tells (records_of text) given before now))
 
 -- ---- `pie run`
 
@@ -51,24 +50,10 @@ abbrev pub end_of : {A : Type 0} → Result A TraceFault → End
 end_of (Ok end) = Done
 end_of (Err why) = Fault why
 
--- where this is the first fault of a trace, if it has one, and its history text is written so: the run ends well where there is no fault, and its
--- history text is written; or it ends at the fault, and the history text of the records before it is written. Or the reader, the writer
--- or memory failed; or it could not begin, and nothing is written
-abbrev pub run_ends : Option TraceFault → (Option (List ℕ) → Option (List ℕ) → Type 0) → End → Option (List ℕ) → Option (List ℕ) → Type 0
-run_ends found writes Done before now = (found ≡ None) × writes before now
-run_ends found writes Differs before now = ⊥
-run_ends found writes (Fault why) before now = is_device why ≡ false → (found ≡ Some why) × writes before now
-run_ends found writes Unable before now = now ≡ before
-run_ends found writes Failed before now = ⊥
-
--- .. a trace of these records, from its opening on; or one that goes on from the middle of a history, where what is written is as whatever history it
--- goes on after has it
-abbrev pub run_ends_by : Bool → List Row → End → Option (List ℕ) → Option (List ℕ) → Type 0
-run_ends_by kind rows = let run = run_by kind (2 ^ 32) rows in run_ends run.found (Writes run)
-
--- .. the trace being this input
-abbrev pub EndsRun : List ℕ → End → Option (List ℕ) → Option (List ℕ) → Type 0
-EndsRun input = run_ends_by (is_resumed (records_of input)) (records_of input)
+-- of a trace, from its opening on, or of one that goes on from the middle of a history: it ends well where there is no fault, and its history text is
+-- written; or it ends at the fault, and the history text of the records before it is written. Or the reader, the writer or memory failed
+abbrev pub EndsRun : Option (List ℕ) → End → Option (List ℕ) → Option (List ℕ) → Type 0
+EndsRun = EndsBy end_of (RunsEither (2 ^ 32))
 
 -- the line of how many events a run recorded, and how many records it refused
 abbrev pub counts_line : RunEnd → List ℕ
@@ -86,23 +71,19 @@ abbrev pub TellsFound : Result Finding TraceFault → End → Option (List ℕ) 
 TellsFound (Err why) end before now = (end ≡ Fault why) × (now ≡ before)
 TellsFound (Ok found) end before now = (end ≡ Fault trace_fault.Write) ⊎ ((end ≡ end_found found) × Appends before now (finding_line found))
 
--- a text is found to be so, and the line of that is written; or it has a fault, and nothing is written. Or the reader or memory failed,
--- or it could not begin, and nothing is written; or the line could not be written
-abbrev pub audit_ends : (Result Finding TraceFault → Type 0) → End → Option (List ℕ) → Option (List ℕ) → Type 0
-audit_ends finds Done before now = (events : ℕ) × finds (Ok (finding.Clean events)) × Appends before now (finding_line (finding.Clean events))
-audit_ends finds Differs before now = (event : ℕ) × finds (Ok (finding.Differs event)) × Appends before now (finding_line (finding.Differs event))
-audit_ends finds (Fault why) before now =
-    (is_device why ≡ false → finds (Err why)) × ((now ≡ before) ⊎ ((told : Finding) × finds (Ok told) × (why ≡ trace_fault.Write)))
-audit_ends finds Unable before now = now ≡ before
-audit_ends finds Failed before now = ⊥
-
--- .. the text being this input: a history, or one that goes on from the middle of a history
-abbrev pub EndsAudit : List ℕ → End → Option (List ℕ) → Option (List ℕ) → Type 0
-EndsAudit input = audit_ends (FindsEither (records_of input))
+-- of a history, or of one that goes on from the middle of a history: it is found to be so, and the line of that is written, or could not be; or it
+-- has a fault, and nothing is written. Or the reader or memory failed, or it could not begin, and nothing is written
+abbrev pub EndsAudit : Option (List ℕ) → End → Option (List ℕ) → Option (List ℕ) → Type 0
+EndsAudit known end before now = ((end ≡ Unable) × (now ≡ before))
+    ⊎ ((found : Result Finding TraceFault) × TellsFound found end before now × IfSome known (λ text. FindsEither (records_of text) found))
 
 -- ---- `pie migrate`
 
--- as a run: what is written are the records before the first fault, in version two
-abbrev pub EndsMigrate : List ℕ → End → Option (List ℕ) → Option (List ℕ) → Type 0
-EndsMigrate input =
-    run_ends (history_fault (2 ^ 32) (records_of input)) (λ before now. Appends before now (migrated_text (2 ^ 32) (records_of input)))
+-- a history of these records has no fault; or this is its first; and what is written are the records before that, in version two
+abbrev pub Migrates : List Row → Result ℕ TraceFault → Option (List ℕ) → Option (List ℕ) → Type 0
+Migrates rows given before now = IfOk given (λ events. (history_fault (2 ^ 32) rows ≡ None) × (events ≡ history_events (2 ^ 32) rows))
+    × IfErr given (λ why. is_device why ≡ false → history_fault (2 ^ 32) rows ≡ Some why)
+    × (IsTold given → Appends before now (migrated_text (2 ^ 32) rows))
+
+abbrev pub EndsMigrate : Option (List ℕ) → End → Option (List ℕ) → Option (List ℕ) → Type 0
+EndsMigrate = EndsBy end_of Migrates

@@ -108,20 +108,13 @@ pub record AuditsFiles (joined : Bool) (input : Option (List ℕ)) (files : Text
   pub any_broken : broken ≡ list_any (λ t. is_broken t.1) told
 
 -- .. and the end is the worst of all; or a line could not be written; or memory was wanting, and nothing was written
-abbrev pub EndsOfFiles : Bool → Option (List ℕ) → (Text → Option (List ℕ)) → List Text → End → Option (List ℕ) → Option (List ℕ) → Type 0
-EndsOfFiles joined input files names end before now =
+abbrev pub EndsFiles : Bool → Option (List ℕ) → (Text → Option (List ℕ)) → List Text → End → Option (List ℕ) → Option (List ℕ) → Type 0
+EndsFiles joined input files names end before now =
     (end ≡ Fault trace_fault.Write) ⊎ ((end ≡ Unable) × (now ≡ before))
     ⊎ ((unfound : Bool) × (broken : Bool) × (last : Option EndView) × (end ≡ worst unfound broken)
     × AuditsFiles joined input files names unfound broken last before now)
 
--- .. of any files, and of those of one history
-abbrev pub EndsFiles : Option (List ℕ) → (Text → Option (List ℕ)) → List Text → End → Option (List ℕ) → Option (List ℕ) → Type 0
-EndsFiles = EndsOfFiles false
-
-abbrev pub EndsJoined : Option (List ℕ) → (Text → Option (List ℕ)) → List Text → End → Option (List ℕ) → Option (List ℕ) → Type 0
-EndsJoined = EndsOfFiles true
-
 -- with no file it is the audit of the reader that is handed in, which has no joint
 abbrev pub EndsEither : Bool → Option (List ℕ) → (Text → Option (List ℕ)) → List Text → End → Option (List ℕ) → Option (List ℕ) → Type 0
-EndsEither joined input files [] end before now = IfSome input (λ text. EndsAudit text end before now)
-EndsEither joined input files (name ∷ names) end before now = EndsOfFiles joined input files (name ∷ names) end before now
+EndsEither joined input files [] = EndsAudit input
+EndsEither joined input files (name ∷ names) = EndsFiles joined input files (name ∷ names)

@@ -4,15 +4,13 @@ use Rattle.clap.specs.Words.{Text}
 use Rattle.pie_files.specs.Files.{file_of}
 use Rattle.pie_files.specs.Output.{Held, IsEmpty, Keeps, Settles}
 use Rattle.pie_commands.specs.declared.end.End.{End}
-use Rattle.pie_commands.specs.declared.end.End.TheVariants.{Done, Differs, Fault, Unable, Failed}
+use Rattle.pie_commands.specs.declared.end.End.TheVariants.{Done, Differs, Unable}
 
 -- all that there was to write was written
 abbrev pub is_whole : End → Bool
 is_whole Done = true
 is_whole Differs = true
-is_whole (Fault why) = false
-is_whole Unable = false
-is_whole Failed = false
+is_whole _ = false
 
 -- the end where what was written had to be put in its place, and is there or not
 abbrev pub settled : End → Bool → End

@@ -1,5 +1,5 @@
 -- What each subcommand promises: how it ends, and what it writes; and what the program does that finds one in words.
-use Rattle.std.specs.Prelude.{ℕ, ◌≡◌, Bool, true, false, List, Option, Some, None, Result, Ok, Err, IfSome}
+use Rattle.std.specs.Prelude.{ℕ, ◌≡◌, Bool, true, false, List, Option, Some, None, Result, Ok, Err, ⊤}
 use Rattle.clap.specs.Words.{HasMatchesOf, Row, Text, kind_of, takes}
 use Rattle.clap.specs.declared.error.Error.{Error}
 use Rattle.clap.specs.declared.error.kind.ErrorKind.TheVariants.{OutOfMemory}
@@ -11,33 +11,39 @@ use Rattle.pie_options.specs.Words.{Asks, file_in, files_in, is_forced, is_joine
 use Rattle.pie_files.specs.Files.{text_given}
 use Rattle.pie_files.specs.Output.{Held, Keeps}
 use Rattle.pie_commands.specs.declared.end.End.{End}
-use Rattle.pie_commands.specs.declared.perform.Reads.{Reads}
-use Rattle.pie_commands.specs.declared.perform.Reads.TheVariants as reads
+use Rattle.pie_commands.specs.declared.tasks.Task.{Task}
+use Rattle.pie_commands.specs.declared.tasks.Task.TheVariants as task
 use Rattle.pie_commands.specs.declared.end.End.TheVariants.{Differs}
-use Rattle.pie_commands.specs.CutEnds.{EndsCut}
-use Rattle.pie_commands.specs.Ends.{EndsMigrate, EndsRun, status_of}
+use Rattle.pie_commands.specs.CutEnds.{CutsInto, EndsCut, HasSome, end_of_cut}
+use Rattle.pie_commands.specs.Ends.{EndsAudit, EndsBy, EndsMigrate, EndsRun, status_of}
 use Rattle.pie_commands.specs.ExplainEnds.{EndsExplain}
 use Rattle.pie_commands.specs.FileAudits.{EndsEither}
 use Rattle.pie_commands.specs.Outputs.{EndsIn}
 use Rattle.pie_commands.specs.StormEnds.{EndsStorm}
 use Rattle.pie_commands.specs.Tuning.{EndsParams}
 
--- a subcommand that reads one text from its beginning to its end, by what it writes
-abbrev pub EndsRead : Reads → List Row → List ℕ → End → Option (List ℕ) → Option (List ℕ) → Type 0
-EndsRead reads.Run options text = EndsRun text
-EndsRead reads.Explain options text = EndsExplain options text
-EndsRead reads.Migrate options text = EndsMigrate text
+-- what is done with a text, by what it writes
+abbrev pub EndsTask : Task → List Row → Option (List ℕ) → End → Option (List ℕ) → Option (List ℕ) → Type 0
+EndsTask task.Run options = EndsRun
+EndsTask task.Audit options = EndsAudit
+EndsTask task.Explain options = EndsExplain options
+EndsTask (task.Cut pieces) options = EndsBy end_of_cut (CutsInto pieces)
+EndsTask task.Migrate options = EndsMigrate
+
+-- pieces that are cut have some events each
+abbrev pub CanDo : Task → Type 0
+CanDo (task.Cut pieces) = HasSome pieces
+CanDo _ = ⊤
 
 -- a subcommand with these options, over a reader of which this is known and files of which that is known, by what it writes
 abbrev pub EndsAs : Subcommand → List Row → Option (List ℕ) → Held → End → Option (List ℕ) → Option (List ℕ) → Type 0
-EndsAs Run options input files end before now = IfSome (text_given input files (file_in options)) (λ text. EndsRun text end before now)
-EndsAs Audit options input files end before now = EndsEither (is_joined options) input files (files_in options) end before now
-EndsAs Explain options input files end before now =
-    IfSome (text_given input files (file_in options)) (λ text. EndsExplain options text end before now)
-EndsAs Cut options input files end before now = IfSome (text_given input files (file_in options)) (λ text. EndsCut options (file_in options) text end before now)
-EndsAs Migrate options input files end before now = IfSome (text_given input files (file_in options)) (λ text. EndsMigrate text end before now)
-EndsAs Storm options input files end before now = EndsStorm options end before now
-EndsAs Params options input files end before now = EndsParams options end before now
+EndsAs Run options input files = EndsRun (text_given input files (file_in options))
+EndsAs Audit options input files = EndsEither (is_joined options) input files (files_in options)
+EndsAs Explain options input files = EndsExplain options (text_given input files (file_in options))
+EndsAs Cut options input files = EndsCut options (file_in options) (text_given input files (file_in options))
+EndsAs Migrate options input files = EndsMigrate (text_given input files (file_in options))
+EndsAs Storm options input files = EndsStorm options
+EndsAs Params options input files = EndsParams options
 
 -- the file that a subcommand is to write in place of the writer that is handed in
 abbrev pub output_for : Subcommand → List Row → Option Text

@@ -1,22 +1,22 @@
 //! `pie audit`: of one history, or of any number of files.
-ghost use Rattle.std.specs.Prelude.{◌≡◌, IfSome, map};
+ghost use Rattle.std.specs.Prelude.{◌≡◌, map};
 ghost use Rattle.clap.specs.Words.{found_of, rows_of};
-ghost use Rattle.pie_commands.specs.Ends.{EndsAudit, TellsFound, end_found};
+ghost use Rattle.pie_commands.specs.Ends.{TellsFound, end_found};
 ghost use Rattle.pie_commands.specs.FileAudits.{EndsEither};
 ghost use Rattle.pie_options.specs.Words.{files_in, is_joined};
 
 use crate::end::{End, faulted};
 use crate::file_audits::audit_files;
 use crate::screen::{Screen, shows_progress};
+use crate::tasks::{Task, perform_over};
 use clap::ArgMatches;
 use either::{Either, Left};
 use pie_audit::{Finding, write_finding};
-use pie_files::{NamedFiles, Watched};
+use pie_files::NamedFiles;
 use pie_options::flag;
 use pie_trace::TraceFault;
 use std::alloc::Global;
 use std::io::{Read, Write};
-use std::time::Clock;
 
 /// The end of an audit that found this.
 fn end_of(found: Finding) -> End
@@ -29,7 +29,7 @@ fn end_of(found: Finding) -> End
 }
 
 /// The end of an audit with this answer: the line of a finding is written, and a fault is told on `errors`.
-fn ended<W: Write, E: Write>(
+pub(crate) fn ended<W: Write, E: Write>(
     found: Result<Finding, TraceFault>,
     output: &mut W,
     errors: &mut E,
@@ -45,42 +45,35 @@ fn ended<W: Write, E: Write>(
     }
 }
 
-/// `pie audit` of what is handed in: a history with a fault ends at it and writes nothing; any other writes the line of its finding and
-/// ends as that says; or the end says what failed.
-fn audit_input<H: Clock, R: Read + Drop, W: Write, E: Write>(
+/// Audits these files, which are those of one history where the options say so, or with none what is handed in.
+fn audit_any<H: NamedFiles + Screen, R: Read + Drop, W: Write, E: Write>(
     rt: &H,
     alloc: Global,
-    is_shown: bool,
-    input: R,
-    output: &mut W,
-    errors: &mut E,
-) -> End
-    ensures { IfSome (R.remaining input) (λ text. EndsAudit text result (W.contents output.old) (W.contents output.new)) }
-{
-    let watched = Watched::new(input, &mut *errors, rt, is_shown);
-    let found = pie_audit::audit(alloc, watched);
-    ended(found, output, errors)
-}
-
-/// Audits these files, which are those of one history or any, or with none what is handed in.
-fn audit_any<H: NamedFiles + Clock, R: Read + Drop, W: Write, E: Write>(
-    rt: &H,
-    alloc: Global,
-    is_shown: bool,
-    are_joined: bool,
+    options: &ArgMatches<'_>,
     names: &[&str],
     input: R,
     output: &mut W,
     errors: &mut E,
 ) -> End
-    ensures { EndsEither are_joined (R.remaining input) (H.holds rt.now) (map (λ name. name.now) names.now) result (W.contents output.old)
-        (W.contents output.new) }
+    ensures { EndsEither (is_joined (rows_of (found_of options.now))) (R.remaining input) (H.holds rt.now) (map (λ name. name.now) names.now) result
+        (W.contents output.old) (W.contents output.new) }
 {
+    let is_shown = shows_progress(rt, options, false);
     if names.is_empty() {
         // Of the same type as what is read of a file, so that an audit is compiled once.
         let given: Either<R, H::File> = Left(input);
-        return audit_input(rt, alloc, is_shown, given, output, errors);
+        return perform_over(
+            rt,
+            alloc,
+            Task::Audit,
+            options,
+            is_shown,
+            given,
+            output,
+            errors,
+        );
     }
+    let are_joined = flag(options, "joined");
     audit_files(
         rt, alloc, is_shown, are_joined, names, input, output, errors,
     )
@@ -98,12 +91,8 @@ pub(crate) fn audit<H: NamedFiles + Screen, R: Read + Drop, W: Write, E: Write>(
     ensures { EndsEither (is_joined (rows_of (found_of options.now))) (R.remaining input) (H.holds rt.now)
         (files_in (rows_of (found_of options.now))) result (W.contents output.old) (W.contents output.new) }
 {
-    let is_shown = shows_progress(rt, options, false);
-    let are_joined = flag(options, "joined");
     match options.get_strs("file") {
-        Some(names) => audit_any(
-            rt, alloc, is_shown, are_joined, names, input, output, errors,
-        ),
-        None => audit_any(rt, alloc, is_shown, are_joined, &[], input, output, errors),
+        Some(names) => audit_any(rt, alloc, options, names, input, output, errors),
+        None => audit_any(rt, alloc, options, &[], input, output, errors),
     }
 }

@@ -6,17 +6,18 @@ ghost use Rattle.pie_record.specs.Text.{records_of};
 ghost use Rattle.pie_cut.specs.Last.{LastEither};
 ghost use Rattle.pie_files.specs.Files.{text_given};
 ghost use Rattle.pie_options.specs.Words.{file_in};
-ghost use Rattle.pie_commands.specs.CutEnds.{CutsInto, CutsLast, EndsCut, HasSome, chosen, cut_ends, end_of_cut, within};
+ghost use Rattle.pie_commands.specs.CutEnds.{CutsInto, CutsLast, EndsCut, HasSome, WantsSome, chosen, end_of_cut, ends_last, is_named};
+ghost use Rattle.pie_commands.specs.CutEnds.{wanted_of, within};
 ghost use Rattle.pie_commands.specs.Ends.{EndsBy};
-ghost use Rattle.pie_commands.specs.CutEnds.{ends_last, is_named, segments, wanted_by, wanted_of};
 
 use crate::end::{End, failed, faulted};
 use crate::moments::{NO_ORDER, bound, in_order, said};
 use crate::screen::{Screen, shows_progress};
+use crate::tasks::{Task, of_options};
 use clap::ArgMatches;
 use either::{Either, Right};
 use pie_cut::{CutFault, Span, cut_every, last_number};
-use pie_files::{NamedFiles, Watched, fault, named_fault, reader_of};
+use pie_files::{NamedFiles, Watched, fault, named_fault};
 use pie_options::{file, number};
 use pie_trace::TraceFault;
 use pie_units::When;
@@ -24,24 +25,22 @@ use std::alloc::Global;
 use std::io::{Read, Write};
 use std::time::Clock;
 
-/// What is to be cut out of a text.
-#[derive(Clone, Copy)]
-pub(crate) enum Wanted {
-    /// These events.
-    Part(Span),
-    /// The last so many.
-    Last(u64),
-    /// All, in segments of so many.
-    Every(u64),
-}
-
 /// What is cut out of a text while it is read.
 #[derive(Clone, Copy)]
 pub(crate) enum Pieces {
     /// One part, of these events.
-    One(Span),
+    Part(Span),
     /// All events, in segments of so many.
     Every(u64),
+}
+
+/// What is to be cut out of a text.
+#[derive(Clone, Copy)]
+pub(crate) enum Wanted {
+    /// These pieces of a text, which is read once.
+    Once(Pieces),
+    /// The last so many events of a text, which is read twice.
+    Last(u64),
 }
 
 /// What is said where the words don't choose events in exactly one way.
@@ -61,18 +60,6 @@ fn within(from: Option<When>, to: Option<When>) -> Option<Span>
     }
 }
 
-/// Segments of so many events, where these are some.
-fn segments(every: u64) -> Option<Wanted>
-    ensures segments { result ≡ segments every }
-    ensures some { IfSome result HasSome }
-{
-    if every == 0 {
-        None
-    } else {
-        Some(Wanted::Every(every))
-    }
-}
-
 /// What is chosen, where it is in exactly one way.
 fn chosen(
     event: Option<u64>,
@@ -82,16 +69,18 @@ fn chosen(
     span: Option<Span>,
 ) -> Option<Wanted>
     ensures chosen { result ≡ chosen event around last every span }
-    ensures some { IfSome result HasSome }
+    ensures some { IfSome result WantsSome }
 {
     match (event, around, last, every, span) {
-        (Some(event), None, None, None, None) => Some(Wanted::Part(Span::around(event, 0))),
-        (Some(event), Some(more), None, None, None) => {
-            Some(Wanted::Part(Span::around(event, more)))
+        (Some(event), more, None, None, None) => {
+            let span = Span::around(event, more.unwrap_or(0));
+            Some(Wanted::Once(Pieces::Part(span)))
         }
         (None, None, Some(many), None, None) => Some(Wanted::Last(many)),
-        (None, None, None, Some(every), None) => segments(every),
-        (None, None, None, None, Some(span)) => Some(Wanted::Part(span)),
+        (None, None, None, Some(every), None) if every != 0 => {
+            Some(Wanted::Once(Pieces::Every(every)))
+        }
+        (None, None, None, None, Some(span)) => Some(Wanted::Once(Pieces::Part(span))),
         _ => None,
     }
 }
@@ -100,14 +89,10 @@ fn chosen(
 #[tactic(auto, unfolding(crate::specs::CutEnds::wanted_of))]
 fn wanted_of<E: Write>(options: &ArgMatches<'_>, errors: &mut E) -> Option<Wanted>
     ensures chosen { result ≡ wanted_of (rows_of (found_of options.now)) }
-    ensures some { IfSome result HasSome }
+    ensures some { IfSome result WantsSome }
 {
-    let Ok(from) = said(bound(options, "from"), "from", errors) else {
-        return None;
-    };
-    let Ok(to) = said(bound(options, "to"), "to", errors) else {
-        return None;
-    };
+    let from = said(bound(options, "from"), "from", errors)?;
+    let to = said(bound(options, "to"), "to", errors)?;
     if !in_order(from, to) {
         fault(errors, NO_ORDER);
         return None;
@@ -122,7 +107,7 @@ fn wanted_of<E: Write>(options: &ArgMatches<'_>, errors: &mut E) -> Option<Wante
 }
 
 /// The end of a cut with this answer, with a line on `errors` where it is no `Ok`.
-fn ended<E: Write>(errors: &mut E, given: Result<u64, CutFault>) -> End
+pub(crate) fn ended<E: Write>(errors: &mut E, given: Result<u64, CutFault>) -> End
     ensures { result ≡ end_of_cut given }
 {
     match given {
@@ -137,73 +122,19 @@ fn ended<E: Write>(errors: &mut E, given: Result<u64, CutFault>) -> End
 }
 
 /// Cuts these pieces out of a text.
-fn cut_out<R: Read + Drop, W: Write>(
+pub(crate) fn cut_out<R: Read + Drop, W: Write>(
     alloc: Global,
     reader: R,
     output: &mut W,
     pieces: Pieces,
 ) -> Result<u64, CutFault>
-    requires { HasSome (wanted_by pieces) }
+    requires { HasSome pieces }
     ensures { IfSome (R.remaining reader) (λ text. CutsInto pieces (records_of text) result (W.contents output.old) (W.contents output.new)) }
 {
     match pieces {
-        Pieces::One(span) => pie_cut::cut(alloc, reader, output, span),
+        Pieces::Part(span) => pie_cut::cut(alloc, reader, output, span),
         Pieces::Every(every) => cut_every(alloc, reader, output, every),
     }
-}
-
-/// .. out of what is handed in. Progress is told on `errors` where it `is_shown`.
-fn cut_input<H: Clock, R: Read + Drop, W: Write, E: Write>(
-    rt: &H,
-    alloc: Global,
-    is_shown: bool,
-    pieces: Pieces,
-    input: R,
-    output: &mut W,
-    errors: &mut E,
-) -> End
-    requires { HasSome (wanted_by pieces) }
-    ensures { IfSome (R.remaining input) (λ text. EndsBy end_of_cut (CutsInto pieces (records_of text)) result (W.contents output.old)
-        (W.contents output.new)) }
-{
-    let watched = Watched::new(input, &mut *errors, rt, is_shown);
-    let given = cut_out(alloc, watched, output, pieces);
-    ended(errors, given)
-}
-
-/// .. out of what the options name.
-fn cut_pieces<H: NamedFiles + Clock, R: Read + Drop, W: Write, E: Write>(
-    rt: &H,
-    alloc: Global,
-    is_shown: bool,
-    pieces: Pieces,
-    name: Option<&str>,
-    input: R,
-    output: &mut W,
-    errors: &mut E,
-) -> End
-    requires { HasSome (wanted_by pieces) }
-    ensures { IfSome (text_given (R.remaining input) (H.holds rt.now) (option_map (λ name. name.now) name.entry))
-        (λ text. EndsBy end_of_cut (CutsInto pieces (records_of text)) result (W.contents output.old) (W.contents output.new)) }
-{
-    match reader_of(rt, name, input, errors) {
-        Some(reader) => cut_input(rt, alloc, is_shown, pieces, reader, output, errors),
-        None => End::Unable,
-    }
-}
-
-/// The number of the last event of the text that a reader has, or its fault.
-fn last_in<H: Clock, R: Read + Drop, E: Write>(
-    rt: &H,
-    alloc: Global,
-    is_shown: bool,
-    reader: R,
-    errors: &mut E,
-) -> Result<u64, TraceFault>
-    ensures { IfSome (R.remaining reader) (λ text. LastEither (records_of text) result) }
-{
-    let watched = Watched::new(reader, &mut *errors, rt, is_shown);
-    last_number(alloc, watched)
 }
 
 /// The number of the last event of the text in the file of this name, or its fault; or none, with a line on `errors`, where the file can't be
@@ -221,7 +152,8 @@ fn last_named<H: NamedFiles + Clock, R: Read + Drop, E: Write>(
         Ok(file) => {
             // Of the same type as what the cut reads, so that reading is compiled once.
             let reader: Either<R, H::File> = Right(file);
-            Some(last_in(rt, alloc, is_shown, reader, errors))
+            let watched = Watched::new(reader, &mut *errors, rt, is_shown);
+            Some(last_number(alloc, watched))
         }
         Err(why) => {
             named_fault(errors, name, why);
@@ -230,91 +162,55 @@ fn last_named<H: NamedFiles + Clock, R: Read + Drop, E: Write>(
     }
 }
 
-/// Cuts the last so many events out of the file of this name, which is read twice.
-fn cut_last<H: NamedFiles + Clock, R: Read + Drop, W: Write, E: Write>(
+/// Cuts the last so many events out of the file of this name, which the options name and which is read twice.
+fn cut_last<H: NamedFiles + Screen, R: Read + Drop, W: Write, E: Write>(
     rt: &H,
     alloc: Global,
-    is_shown: bool,
+    options: &ArgMatches<'_>,
     many: u64,
     name: &str,
     input: R,
     output: &mut W,
     errors: &mut E,
 ) -> End
-    ensures { bytes_eq name.now (codes "-") ≡ false → IfSome (H.holds rt.now name.now)
-        (λ text. EndsBy end_of_cut (CutsLast many (records_of text)) result (W.contents output.old) (W.contents output.new)) }
+    ensures { file_in (rows_of (found_of options.now)) ≡ Some name.now → bytes_eq name.now (codes "-") ≡ false
+        → EndsBy end_of_cut (CutsLast many) (H.holds rt.now name.now) result (W.contents output.old) (W.contents output.new) }
 {
+    let is_shown = shows_progress(rt, options, true);
     match last_named::<H, R, E>(rt, alloc, is_shown, name, errors) {
         None => End::Unable,
         Some(Err(why)) => faulted(errors, why),
         Some(Ok(number)) => {
-            let pieces = Pieces::One(Span::last(number, many));
-            cut_pieces(
-                rt,
-                alloc,
-                is_shown,
-                pieces,
-                Some(name),
-                input,
-                output,
-                errors,
-            )
+            let pieces = Pieces::Part(Span::last(number, many));
+            of_options(rt, alloc, Task::Cut(pieces), options, input, output, errors)
         }
     }
 }
 
-/// Cuts the last so many events out of a file that has a name. Standard input has none, which is told on `errors`.
-fn cut_last_of<H: NamedFiles + Clock, R: Read + Drop, W: Write, E: Write>(
+/// Cuts the last so many events out of a file that has a name, which the options name. Standard input has none, which is told on `errors`.
+fn cut_last_of<H: NamedFiles + Screen, R: Read + Drop, W: Write, E: Write>(
     rt: &H,
     alloc: Global,
-    is_shown: bool,
+    options: &ArgMatches<'_>,
     many: u64,
     name: Option<&str>,
     input: R,
     output: &mut W,
     errors: &mut E,
 ) -> End
-    ensures { IfSome (text_given (R.remaining input) (H.holds rt.now) (option_map (λ name. name.now) name.entry))
-        (λ text. ends_last (is_named (option_map (λ name. name.now) name.entry)) many (records_of text) result (W.contents output.old)
-        (W.contents output.new)) }
+    ensures { file_in (rows_of (found_of options.now)) ≡ option_map (λ name. name.now) name.entry
+        → ends_last (is_named (option_map (λ name. name.now) name.entry)) many
+        (text_given (R.remaining input) (H.holds rt.now) (option_map (λ name. name.now) name.entry)) result (W.contents output.old)
+        (W.contents output.new) }
 {
     match name {
         Some(name) => {
             if name == "-" {
                 return failed(errors, NO_NAME);
             }
-            cut_last(rt, alloc, is_shown, many, name, input, output, errors)
+            cut_last(rt, alloc, options, many, name, input, output, errors)
         }
         None => failed(errors, NO_NAME),
-    }
-}
-
-/// Cuts this out of the file of this name, or with none out of what is handed in.
-fn cut_wanted<H: NamedFiles + Clock, R: Read + Drop, W: Write, E: Write>(
-    rt: &H,
-    alloc: Global,
-    is_shown: bool,
-    wanted: Wanted,
-    name: Option<&str>,
-    input: R,
-    output: &mut W,
-    errors: &mut E,
-) -> End
-    requires { HasSome wanted }
-    ensures { IfSome (text_given (R.remaining input) (H.holds rt.now) (option_map (λ name. name.now) name.entry))
-        (λ text. cut_ends (Some wanted) (is_named (option_map (λ name. name.now) name.entry)) (records_of text) result (W.contents output.old)
-        (W.contents output.new)) }
-{
-    match wanted {
-        Wanted::Part(span) => {
-            let pieces = Pieces::One(span);
-            cut_pieces(rt, alloc, is_shown, pieces, name, input, output, errors)
-        }
-        Wanted::Every(every) => {
-            let pieces = Pieces::Every(every);
-            cut_pieces(rt, alloc, is_shown, pieces, name, input, output, errors)
-        }
-        Wanted::Last(many) => cut_last_of(rt, alloc, is_shown, many, name, input, output, errors),
     }
 }
 
@@ -327,15 +223,17 @@ pub(crate) fn cut<H: NamedFiles + Screen, R: Read + Drop, W: Write, E: Write>(
     output: &mut W,
     errors: &mut E,
 ) -> End
-    ensures { IfSome (text_given (R.remaining input) (H.holds rt.now) (file_in (rows_of (found_of options.now))))
-        (λ text. EndsCut (rows_of (found_of options.now)) (file_in (rows_of (found_of options.now))) text result (W.contents output.old)
-        (W.contents output.new)) }
+    ensures { EndsCut (rows_of (found_of options.now)) (file_in (rows_of (found_of options.now)))
+        (text_given (R.remaining input) (H.holds rt.now) (file_in (rows_of (found_of options.now)))) result (W.contents output.old)
+        (W.contents output.new) }
 {
     match wanted_of(options, errors) {
-        Some(wanted) => {
-            let is_shown = shows_progress(rt, options, true);
+        Some(Wanted::Once(pieces)) => {
+            of_options(rt, alloc, Task::Cut(pieces), options, input, output, errors)
+        }
+        Some(Wanted::Last(many)) => {
             let name = file(options);
-            cut_wanted(rt, alloc, is_shown, wanted, name, input, output, errors)
+            cut_last_of(rt, alloc, options, many, name, input, output, errors)
         }
         None => End::Failed,
     }

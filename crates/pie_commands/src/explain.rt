@@ -1,11 +1,11 @@
 //! `pie explain`: which events the words choose, and how explaining them ends.
-ghost use Rattle.std.specs.Prelude.{◌≡◌, IfSome, Some, true};
+ghost use Rattle.std.specs.Prelude.{◌≡◌, IfSome};
 ghost use Rattle.clap.specs.Words.{found_of, rows_of};
 ghost use Rattle.pie_record.specs.Text.{records_of};
 ghost use Rattle.pie_explain.specs.Either.{ExplainsEither};
 ghost use Rattle.pie_commands.specs.Choice.{choice_of, chosen, every_of, form_of, is_either, is_summary, lasts};
 ghost use Rattle.pie_commands.specs.Choice.{tale_by, tale_of, told_by, which_of};
-ghost use Rattle.pie_commands.specs.ExplainEnds.{EndsExplain, end_of_explain, explain_ends};
+ghost use Rattle.pie_commands.specs.ExplainEnds.{EndsExplain, end_of_explain};
 
 use crate::end::{End, failed, faulted};
 use crate::moments::{NO_ORDER, bound, in_order, moment, said};
@@ -105,15 +105,9 @@ fn choice_of<E: Write>(options: &ArgMatches<'_>, errors: &mut E) -> Option<Selec
         fault(errors, NO_CHOICE);
         return None;
     };
-    let Ok(from) = said(bound(options, "from"), "from", errors) else {
-        return None;
-    };
-    let Ok(to) = said(bound(options, "to"), "to", errors) else {
-        return None;
-    };
-    let Ok(every) = said(moment(options, "every"), "every", errors) else {
-        return None;
-    };
+    let from = said(bound(options, "from"), "from", errors)?;
+    let to = said(bound(options, "to"), "to", errors)?;
+    let every = said(moment(options, "every"), "every", errors)?;
     if !lasts(every) {
         fault(errors, NO_PERIOD);
         return None;
@@ -141,62 +135,41 @@ fn form_of(options: &ArgMatches<'_>) -> Form
     }
 }
 
-/// How the explanations of chosen events are told.
-#[derive(Clone, Copy)]
-pub(crate) struct Tale {
-    /// As summaries, of all or of each period.
-    summary: bool,
-    /// With what there is to say of lost and marked packets between them.
-    digest: bool,
-    /// By flow, so many with a row of their own.
-    flows: Option<u64>,
-    every: Option<u64>,
-    form: Form,
+/// What is told of the chosen events.
+pub(crate) enum Tale {
+    /// Each of them.
+    Each(Form),
+    /// Summaries, of all or of each period, with what there is to say of lost and marked packets between them or without.
+    Sums(Summary),
+    /// Sums by flow, so many with a row of their own.
+    Flows(ByFlow),
 }
 
-/// How these options want the explanations to be told.
+/// Each event, or with these choices sums over them.
+fn tale_by(summary: bool, packets: bool, flows: Option<u64>, every: Option<u64>, form: Form) -> Tale
+    ensures { result ≡ tale_by summary packets flows every form }
+{
+    match (summary, flows) {
+        (true, Some(most)) => Tale::Flows(ByFlow { form, every, most }),
+        (true, None) => Tale::Sums(Summary {
+            form,
+            every,
+            packets,
+        }),
+        (false, _) => Tale::Each(form),
+    }
+}
+
+/// What these options want to be told.
 fn tale_of(options: &ArgMatches<'_>) -> Tale
-    ensures { told_by result ≡ tale_of (rows_of (found_of options.now)) }
+    ensures { result ≡ tale_of (rows_of (found_of options.now)) }
 {
-    let (summary, digest) = (is_summary(options), flag(options, "digest"));
-    Tale {
-        summary,
-        digest,
-        flows: number(options, "flows"),
-        every: every_of(options),
-        form: form_of(options),
-    }
+    let (packets, flows) = (flag(options, "digest"), number(options, "flows"));
+    let (every, form) = (every_of(options), form_of(options));
+    tale_by(is_summary(options), packets, flows, every, form)
 }
 
-/// Writes sums over the chosen events: by flow, or summaries, or these and what there is to say of the lost and marked packets.
-fn tell_sums<R: Read + Drop, W: Write>(
-    alloc: Global,
-    input: R,
-    output: &mut W,
-    choice: Selection,
-    tale: Tale,
-) -> Result<u64, ExplainFault>
-    ensures { IfSome (R.remaining input) (λ text. ExplainsEither choice (tale_by true tale.digest tale.flows tale.every tale.form) (records_of text)
-        result (W.contents output.old) (W.contents output.new)) }
-{
-    let (form, every, packets) = (tale.form, tale.every, tale.digest);
-    match tale.flows {
-        Some(most) => {
-            let by_flow = ByFlow { form, every, most };
-            pie_explain::explain(alloc, input, output, choice, by_flow)
-        }
-        None => {
-            let summaries = Summary {
-                form,
-                every,
-                packets,
-            };
-            pie_explain::explain(alloc, input, output, choice, summaries)
-        }
-    }
-}
-
-/// Writes what there is to say of the chosen events: of each, or sums over them.
+/// Writes what there is to say of the chosen events.
 fn tell<R: Read + Drop, W: Write>(
     alloc: Global,
     input: R,
@@ -207,10 +180,10 @@ fn tell<R: Read + Drop, W: Write>(
     ensures { IfSome (R.remaining input) (λ text. ExplainsEither choice (told_by tale) (records_of text) result (W.contents output.old)
         (W.contents output.new)) }
 {
-    if tale.summary {
-        tell_sums(alloc, input, output, choice, tale)
-    } else {
-        pie_explain::explain(alloc, input, output, choice, tale.form)
+    match tale {
+        Tale::Each(form) => pie_explain::explain(alloc, input, output, choice, form),
+        Tale::Sums(summaries) => pie_explain::explain(alloc, input, output, choice, summaries),
+        Tale::Flows(by_flow) => pie_explain::explain(alloc, input, output, choice, by_flow),
     }
 }
 
@@ -229,28 +202,10 @@ fn ended<E: Write>(errors: &mut E, given: Result<u64, ExplainFault>) -> End
     }
 }
 
-/// Explains the chosen events of what is handed in, and tells progress on `errors` where it `is_shown`.
-fn explain_chosen<H: Clock, R: Read + Drop, W: Write, E: Write>(
-    rt: &H,
-    alloc: Global,
-    is_shown: bool,
-    choice: Selection,
-    tale: Tale,
-    input: R,
-    output: &mut W,
-    errors: &mut E,
-) -> End
-    ensures { IfSome (R.remaining input) (λ text. explain_ends (Some choice) (told_by tale) text result (W.contents output.old)
-        (W.contents output.new)) }
-{
-    let watched = Watched::new(input, &mut *errors, rt, is_shown);
-    let given = tell(alloc, watched, output, choice, tale);
-    ended(errors, given)
-}
-
 /// `pie explain`: writes what there is to say of the chosen events of a history, or of a text that goes on from the middle of one, up to its first
 /// fault and the first event that differs, at which it ends so. It has failed where the history has a fault, where the options choose no events,
-/// where no event is the chosen one, and where the reader, the writer or memory fails: each is told on `errors`.
+/// where no event is the chosen one, and where the reader, the writer or memory fails: each is told on `errors`. Progress is told there too, where it
+/// `is_shown`.
 pub(crate) fn explain<H: Clock, R: Read + Drop, W: Write, E: Write>(
     rt: &H,
     alloc: Global,
@@ -260,13 +215,13 @@ pub(crate) fn explain<H: Clock, R: Read + Drop, W: Write, E: Write>(
     output: &mut W,
     errors: &mut E,
 ) -> End
-    ensures { IfSome (R.remaining input) (λ text. EndsExplain (rows_of (found_of options.now)) text result (W.contents output.old)
-        (W.contents output.new)) }
+    ensures { EndsExplain (rows_of (found_of options.now)) (R.remaining input) result (W.contents output.old) (W.contents output.new) }
 {
     match choice_of(options, errors) {
         Some(choice) => {
-            let tale = tale_of(options);
-            explain_chosen(rt, alloc, is_shown, choice, tale, input, output, errors)
+            let watched = Watched::new(input, &mut *errors, rt, is_shown);
+            let given = tell(alloc, watched, output, choice, tale_of(options));
+            ended(errors, given)
         }
         None => End::Failed,
     }

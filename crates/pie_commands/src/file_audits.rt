@@ -1,7 +1,7 @@
 //! `pie audit FILE..`: of files, each in turn; with `--joined` of those of one history, in its order.
 ghost use Rattle.std.specs.Prelude.{◌≡◌, ◌<◌, ◌||◌, [], IfOk, None, OnErr, OnOk, Some, get_or, length, map, true};
 ghost use Rattle.std.specs.Io.KnownBytes.{Appends};
-ghost use Rattle.pie_commands.specs.FileAudits.{EndsOfFiles, TellsRead, TellsText, is_broken, is_unfound, line_of_joint, lines_of};
+ghost use Rattle.pie_commands.specs.FileAudits.{EndsFiles, TellsRead, TellsText, is_broken, is_unfound, line_of_joint, lines_of};
 ghost use Rattle.pie_commands.specs.FileAudits.{named_line, worst};
 ghost use Rattle.pie_files.specs.Files.{ReadsNamed, left_for};
 
@@ -37,30 +37,7 @@ fn found_in<R: Read + Drop>(
     }
 }
 
-/// The same of the text of a file of this name; or none, with a line on `errors`, where it has a fault.
-fn told_of<H: Clock, R: Read + Drop, E: Write>(
-    rt: &H,
-    alloc: Global,
-    is_shown: bool,
-    are_joined: bool,
-    name: &str,
-    reader: R,
-    end: &mut Option<TextEnd>,
-    errors: &mut E,
-) -> Option<Joined>
-    ensures { TellsText are_joined (R.remaining reader) end.old result end.new }
-{
-    let watched = Watched::new(reader, &mut *errors, rt, is_shown);
-    match found_in(alloc, are_joined, watched, end) {
-        Ok(joined) => Some(joined),
-        Err(why) => {
-            named_fault(errors, name, why);
-            None
-        }
-    }
-}
-
-/// The same of the file of this name; or none, where it can't be opened either.
+/// The same of the text of the file of this name; or none, with a line on `errors`, where it has a fault or can't be opened.
 fn told_named<H: NamedFiles + Clock, R: Read + Drop, E: Write>(
     rt: &H,
     alloc: Global,
@@ -74,10 +51,15 @@ fn told_named<H: NamedFiles + Clock, R: Read + Drop, E: Write>(
     ensures told { TellsRead are_joined (ReadsNamed R.remaining input.old (H.holds rt.now) name.now) end.old result end.new }
     ensures input { input.new ≡ left_for name.now input.old }
 {
-    match reader_named(rt, name, input, errors) {
-        Some(reader) => told_of(rt, alloc, is_shown, are_joined, name, reader, end, errors),
-        None => {
-            *end = None;
+    let Some(reader) = reader_named(rt, name, input, errors) else {
+        *end = None;
+        return None;
+    };
+    let watched = Watched::new(reader, &mut *errors, rt, is_shown);
+    match found_in(alloc, are_joined, watched, end) {
+        Ok(joined) => Some(joined),
+        Err(why) => {
+            named_fault(errors, name, why);
             None
         }
     }
@@ -201,7 +183,7 @@ pub(crate) fn audit_files<H: NamedFiles + Clock, R: Read + Drop, W: Write, E: Wr
     output: &mut W,
     errors: &mut E,
 ) -> End
-    ensures { EndsOfFiles are_joined (R.remaining input) (H.holds rt.now) (map (λ name. name.now) names.now) result (W.contents output.old)
+    ensures { EndsFiles are_joined (R.remaining input) (H.holds rt.now) (map (λ name. name.now) names.now) result (W.contents output.old)
         (W.contents output.new) }
 {
     let mut given = Some(input);

@@ -1,5 +1,6 @@
 //! The moments and times of day that options are given.
 ghost use Rattle.std.specs.Prelude.{◌≡◌};
+ghost use Rattle.std.specs.Result.{result_ok};
 ghost use Rattle.clap.specs.Words.{found_of, rows_of};
 ghost use Rattle.pie_commands.specs.Choice.{bound_given, in_order, moment_given, units_of};
 
@@ -33,19 +34,19 @@ pub(crate) fn bound(options: &ArgMatches<'_>, name: &str) -> Result<Option<When>
     options.try_get_one::<When>(name)
 }
 
-/// What was read of an option, with a line on `errors` where its text is none of its kind.
+/// What was read of an option; none, with a line on `errors`, where its text is none of its kind.
 pub(crate) fn said<T: Copy, F: Copy + Display, E: Write>(
     read: Result<T, F>,
     name: &str,
     errors: &mut E,
-) -> Result<T, F>
-    ensures { result ≡ read }
+) -> Option<T>
+    ensures { result ≡ result_ok read }
 {
     match read {
-        Ok(given) => Ok(given),
+        Ok(given) => Some(given),
         Err(why) => {
             let _ = writeln!(errors, "pie: --{name}: {why}");
-            Err(why)
+            None
         }
     }
 }

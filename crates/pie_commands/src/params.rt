@@ -1,6 +1,6 @@
 //! `pie params`: the parameters and the choices that `tc`'s options ask for, as the record that opens a book.
-ghost use Rattle.std.specs.Prelude.{◌≡◌, ℕ, codes, IfSome, None, Ok};
-ghost use Rattle.clap.specs.Words.{first_of, found_of, rows_of};
+ghost use Rattle.std.specs.Prelude.{◌≡◌, ℕ, IfSome, None, Ok, option_map};
+ghost use Rattle.clap.specs.Words.{found_of, rows_of};
 ghost use Rattle.pie_tuning.specs.Units.{packets_of, rate_of, time_of};
 ghost use Rattle.pie_tuning.specs.declared.options.TuningOptions.{TuningOptions};
 ghost use Rattle.pie_commands.specs.Tuning.{AsksFor, EndsParams, given_or};
@@ -9,7 +9,7 @@ use crate::end::{End, failed, faulted};
 use crate::storm::decay_of;
 use clap::ArgMatches;
 use pie_book::Limits;
-use pie_options::{flag, number, number_or};
+use pie_options::{flag, number, number_or, text};
 use pie_params::{Params, RawParams};
 use pie_trace::TraceFault;
 use pie_tuning::{
@@ -18,31 +18,31 @@ use pie_tuning::{
 };
 use std::io::Write;
 
-/// The time that an option is given, and 15 ms without it; and why where its text tells no time.
-fn time_in(options: &ArgMatches<'_>, name: &str) -> Result<u64, OptionFault>
-    ensures { result ≡ given_or time_of 15_000_000 (first_of name.now (rows_of (found_of options.now))) }
+/// The time that a text tells, and 15 ms without one; and why where it tells no time.
+fn time_in(text: Option<&str>) -> Result<u64, OptionFault>
+    ensures { result ≡ given_or time_of 15_000_000 (option_map (λ text. text.now) text.entry) }
 {
-    match options.get_str(name) {
+    match text {
         Some(text) => time_of(text),
         None => Ok(15_000_000),
     }
 }
 
-/// The rate that the options give, and 0 without one; and why where its text tells no rate.
-fn rate_in(options: &ArgMatches<'_>) -> Result<u64, OptionFault>
-    ensures { result ≡ given_or rate_of 0 (first_of (codes "rate") (rows_of (found_of options.now))) }
+/// The rate that a text tells, and 0 without one; and why where it tells no rate.
+fn rate_in(text: Option<&str>) -> Result<u64, OptionFault>
+    ensures { result ≡ given_or rate_of 0 (option_map (λ text. text.now) text.entry) }
 {
-    match options.get_str("rate") {
+    match text {
         Some(text) => rate_of(text),
         None => Ok(0),
     }
 }
 
-/// How many packets may wait, and 1000 where the options don't say; and why where the text tells no such number.
-fn packets_in(options: &ArgMatches<'_>) -> Result<u64, OptionFault>
-    ensures { result ≡ given_or packets_of 1000 (first_of (codes "limit") (rows_of (found_of options.now))) }
+/// How many packets may wait, as a text tells it, and 1000 without one; and why where it tells no such number.
+fn packets_in(text: Option<&str>) -> Result<u64, OptionFault>
+    ensures { result ≡ given_or packets_of 1000 (option_map (λ text. text.now) text.entry) }
 {
-    match options.get_str("limit") {
+    match text {
         Some(text) => packets_of(text),
         None => Ok(1000),
     }
@@ -67,18 +67,10 @@ fn asked_in<E: Write>(options: &ArgMatches<'_>, errors: &mut E) -> Option<Tuning
     ensures asked { IfSome result (AsksFor (rows_of (found_of options.now))) }
     ensures none { result ≡ None → (asked : TuningOptions) → AsksFor (rows_of (found_of options.now)) asked → ⊥ }
 {
-    let Some(rate) = read_of(rate_in(options), "rate", errors) else {
-        return None;
-    };
-    let Some(target) = read_of(time_in(options, "target"), "target", errors) else {
-        return None;
-    };
-    let Some(t_update) = read_of(time_in(options, "tupdate"), "tupdate", errors) else {
-        return None;
-    };
-    let Some(packets) = read_of(packets_in(options), "limit", errors) else {
-        return None;
-    };
+    let rate = read_of(rate_in(text(options, "rate")), "rate", errors)?;
+    let target = read_of(time_in(text(options, "target")), "target", errors)?;
+    let t_update = read_of(time_in(text(options, "tupdate")), "tupdate", errors)?;
+    let packets = read_of(packets_in(text(options, "limit")), "limit", errors)?;
     let Some(decay) = decay_of(options) else {
         let _ = writeln!(errors, "pie: --decay is zero or half");
         return None;

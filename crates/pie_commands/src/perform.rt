@@ -1,82 +1,26 @@
 //! A subcommand with its options, over the writer that is handed in or the file that the options name.
-ghost use Rattle.std.specs.Prelude.{◌≡◌, IfSome, option_map, true};
+ghost use Rattle.std.specs.Prelude.{◌≡◌, option_map};
 ghost use Rattle.clap.specs.Words.{found_of, rows_of};
-ghost use Rattle.pie_files.specs.Files.{file_of, text_given};
+ghost use Rattle.pie_files.specs.Files.{file_of};
 ghost use Rattle.pie_options.specs.Words.{file_in, is_forced};
-ghost use Rattle.pie_commands.specs.declared.end.End.{End};
 ghost use Rattle.pie_commands.specs.Outputs.{EndsAt};
-ghost use Rattle.pie_commands.specs.declared.perform.Reads.{Reads};
-ghost use Rattle.pie_commands.specs.Subcommands.{EndsAs, EndsRead, EndsTo, may_differ, output_for};
+ghost use Rattle.pie_commands.specs.Subcommands.{EndsAs, EndsTo, output_for};
 
 use crate::audit::audit;
 use crate::cut::cut;
 use crate::end::End;
-use crate::explain::explain;
-use crate::migrate::migrate;
 use crate::params::params;
-use crate::run::run;
-use crate::screen::{Screen, shows_progress};
+use crate::screen::Screen;
 use crate::storm::make_storm;
+use crate::tasks::{Task, of_options};
 use clap::ArgMatches;
-use pie_files::{NamedFiles, make_for, reader_of, settle};
+use pie_files::{NamedFiles, make_for, settle};
 use pie_options::{Subcommand, file, flag, output};
 use std::alloc::Global;
 use std::io::{Read, Write};
 use std::marker::Sync;
 use std::sync::Wait;
 use std::thread::Threads;
-use std::time::Clock;
-
-/// A subcommand that reads one text from its beginning to its end.
-#[derive(Clone, Copy)]
-pub(crate) enum Reads {
-    Run,
-    Explain,
-    Migrate,
-}
-
-/// Performs such a subcommand over what is handed in. Progress is told on `errors` where it `is_shown`.
-fn perform_read<H: Clock, R: Read + Drop, W: Write, E: Write>(
-    rt: &H,
-    alloc: Global,
-    reads: Reads,
-    options: &ArgMatches<'_>,
-    is_shown: bool,
-    input: R,
-    output: &mut W,
-    errors: &mut E,
-) -> End
-    ensures differs { result ≡ End.Differs → reads ≡ Reads.Explain }
-    ensures ends { IfSome (R.remaining input) (λ text. EndsRead reads (rows_of (found_of options.now)) text result (W.contents output.old)
-        (W.contents output.new)) }
-{
-    match reads {
-        Reads::Run => run(rt, alloc, options, is_shown, input, output, errors),
-        Reads::Explain => explain(rt, alloc, options, is_shown, input, output, errors),
-        Reads::Migrate => migrate(rt, alloc, is_shown, input, output, errors),
-    }
-}
-
-/// .. over what the options name.
-fn of_named<H: NamedFiles + Screen, R: Read + Drop, W: Write, E: Write>(
-    rt: &H,
-    alloc: Global,
-    reads: Reads,
-    options: &ArgMatches<'_>,
-    input: R,
-    output: &mut W,
-    errors: &mut E,
-) -> End
-    ensures differs { result ≡ End.Differs → reads ≡ Reads.Explain }
-    ensures ends { IfSome (text_given (R.remaining input) (H.holds rt.now) (file_in (rows_of (found_of options.now))))
-        (λ text. EndsRead reads (rows_of (found_of options.now)) text result (W.contents output.old) (W.contents output.new)) }
-{
-    let is_shown = shows_progress(rt, options, true);
-    match reader_of(rt, file(options), input, errors) {
-        Some(reader) => perform_read(rt, alloc, reads, options, is_shown, reader, output, errors),
-        None => End::Unable,
-    }
-}
 
 /// Performs a subcommand with its options, and writes to `output`.
 fn perform<H: Threads + Wait + Sync + NamedFiles + Screen, R: Read + Drop, W: Write, E: Write>(
@@ -88,16 +32,15 @@ fn perform<H: Threads + Wait + Sync + NamedFiles + Screen, R: Read + Drop, W: Wr
     output: &mut W,
     errors: &mut E,
 ) -> End
-    ensures differs { result ≡ End.Differs → may_differ subcommand ≡ true }
-    ensures ends { EndsAs subcommand (rows_of (found_of options.now)) (R.remaining input) (H.holds rt.now) result (W.contents output.old)
+    ensures { EndsAs subcommand (rows_of (found_of options.now)) (R.remaining input) (H.holds rt.now) result (W.contents output.old)
         (W.contents output.new) }
 {
     match subcommand {
-        Subcommand::Run => of_named(rt, alloc, Reads::Run, options, input, output, errors),
+        Subcommand::Run => of_options(rt, alloc, Task::Run, options, input, output, errors),
         Subcommand::Audit => audit(rt, alloc, options, input, output, errors),
-        Subcommand::Explain => of_named(rt, alloc, Reads::Explain, options, input, output, errors),
+        Subcommand::Explain => of_options(rt, alloc, Task::Explain, options, input, output, errors),
         Subcommand::Cut => cut(rt, alloc, options, input, output, errors),
-        Subcommand::Migrate => of_named(rt, alloc, Reads::Migrate, options, input, output, errors),
+        Subcommand::Migrate => of_options(rt, alloc, Task::Migrate, options, input, output, errors),
         Subcommand::Storm => make_storm(rt, alloc, options, output, errors),
         Subcommand::Params => params(options, output, errors),
     }
@@ -113,8 +56,7 @@ fn perform_for<H: Threads + Wait + Sync + NamedFiles + Screen, R: Read + Drop, E
     input: R,
     errors: &mut E,
 ) -> End
-    ensures differs { result ≡ End.Differs → may_differ subcommand ≡ true }
-    ensures ends { EndsAt (file_of (file_in (rows_of (found_of options.now)))) (is_forced (rows_of (found_of options.now))) name.now H.fresh
+    ensures { EndsAt (file_of (file_in (rows_of (found_of options.now)))) (is_forced (rows_of (found_of options.now))) name.now H.fresh
         (H.holds rt.old) (H.holds rt.new) (EndsAs subcommand (rows_of (found_of options.now)) (R.remaining input) (H.holds rt.old)) result }
 {
     let is_forced = flag(options, "force");
@@ -151,8 +93,7 @@ pub(crate) fn performed<
     output: &mut W,
     errors: &mut E,
 ) -> End
-    ensures differs { result ≡ End.Differs → may_differ subcommand ≡ true }
-    ensures ends { EndsTo subcommand (rows_of (found_of options.now)) (R.remaining input) H.fresh (H.holds rt.old) (H.holds rt.new) result
+    ensures { EndsTo subcommand (rows_of (found_of options.now)) (R.remaining input) H.fresh (H.holds rt.old) (H.holds rt.new) result
         (W.contents output.old) (W.contents output.new) }
 {
     match output_for(subcommand, options) {

@@ -1,22 +1,15 @@
 //! The whole program over a list of words, a reader, files and two writers.
-ghost use Rattle.std.specs.Prelude.{◌≡◌, ◌≤◌, ◌⊎◌, ◌∷◌, List, IfSome, None, Some, codes, false, true, map, option_map, string_bytes};
+ghost use Rattle.std.specs.Prelude.{◌≡◌, ◌≤◌, List, IfSome, None, Some, map, option_map, string_bytes, true};
 ghost use Rattle.clap.specs.Matches.{subcommand_name_of};
 ghost use Rattle.clap.specs.Words.{Row, Text, found_of, kind_of, rows_of, subcommand_rows_of};
 ghost use Rattle.clap.specs.declared.error.kind.ErrorKind.{ErrorKind};
 ghost use Rattle.pie_options.specs.Subcommands.{word_of};
 ghost use Rattle.pie_options.specs.declared.subcommand.Subcommand.{Subcommand};
-ghost use Rattle.pie_options.specs.Words.{AskFor, Asks, file_in, files_in, is_forced, is_joined, options_in, output_in, subcommand_in};
-ghost use Rattle.pie_files.specs.Files.{text_given};
+ghost use Rattle.pie_options.specs.Words.{Asks, options_in, subcommand_in};
 ghost use Rattle.pie_files.specs.Output.{Keeps};
 ghost use Rattle.pie_commands.specs.declared.end.End.{End};
-ghost use Rattle.pie_commands.specs.CutEnds.{EndsCut};
-ghost use Rattle.pie_commands.specs.Ends.{EndsAudit, EndsMigrate, EndsRun, status_of};
-ghost use Rattle.pie_commands.specs.ExplainEnds.{EndsExplain};
-ghost use Rattle.pie_commands.specs.FileAudits.{EndsFiles, EndsJoined};
-ghost use Rattle.pie_commands.specs.Outputs.{EndsIn};
-ghost use Rattle.pie_commands.specs.StormEnds.{EndsStorm};
-ghost use Rattle.pie_commands.specs.Subcommands.{Answers, Finds};
-ghost use Rattle.pie_commands.specs.Tuning.{EndsParams};
+ghost use Rattle.pie_commands.specs.Ends.{status_of};
+ghost use Rattle.pie_commands.specs.Subcommands.{Answers, EndsTo, Finds, may_differ};
 
 use crate::end::{End, failed, faulted, unable};
 use crate::perform::performed;
@@ -82,46 +75,11 @@ pub fn command<H: Threads + Wait + Sync + NamedFiles + Screen, R: Read + Drop, W
 ) -> End
     ensures status { status_of result ≤ 2 }
     ensures keeps { status_of result ≡ 1 → Keeps (H.holds rt.old) (H.holds rt.new) }
-    ensures differs { result ≡ End.Differs → (subcommand_in (map string_bytes words.now) ≡ Some (codes "audit"))
-        ⊎ (subcommand_in (map string_bytes words.now) ≡ Some (codes "explain"))
-        ⊎ (subcommand_in (map string_bytes words.now) ≡ Some (codes "cut")) }
-    ensures runs { AskFor (codes "run") (map string_bytes words.now)
-        → IfSome (R.remaining input) (λ text. EndsRun text result (W.contents output.old) (W.contents output.new)) }
-    ensures audits { AskFor (codes "audit") (map string_bytes words.now)
-        → IfSome (R.remaining input) (λ text. EndsAudit text result (W.contents output.old) (W.contents output.new)) }
-    ensures migrates { AskFor (codes "migrate") (map string_bytes words.now)
-        → IfSome (R.remaining input) (λ text. EndsMigrate text result (W.contents output.old) (W.contents output.new)) }
-    ensures runs_file { Asks (codes "run") (map string_bytes words.now)
-        → EndsIn (output_in (options_in (map string_bytes words.now))) (file_in (options_in (map string_bytes words.now)))
-        (is_forced (options_in (map string_bytes words.now))) H.fresh (H.holds rt.old) (H.holds rt.new)
-        (λ end before now. IfSome (text_given (R.remaining input) (H.holds rt.old) (file_in (options_in (map string_bytes words.now))))
-        (λ text. EndsRun text end before now)) result (W.contents output.old) (W.contents output.new) }
-    ensures audits_files { Asks (codes "audit") (map string_bytes words.now) → is_joined (options_in (map string_bytes words.now)) ≡ false
-        → (name : Text) (names : List Text) → files_in (options_in (map string_bytes words.now)) ≡ name ∷ names
-        → EndsFiles (R.remaining input) (H.holds rt.old) (name ∷ names) result (W.contents output.old) (W.contents output.new) }
-    ensures joins_files { Asks (codes "audit") (map string_bytes words.now) → is_joined (options_in (map string_bytes words.now)) ≡ true
-        → (name : Text) (names : List Text) → files_in (options_in (map string_bytes words.now)) ≡ name ∷ names
-        → EndsJoined (R.remaining input) (H.holds rt.old) (name ∷ names) result (W.contents output.old) (W.contents output.new) }
-    ensures migrates_file { Asks (codes "migrate") (map string_bytes words.now)
-        → EndsIn (output_in (options_in (map string_bytes words.now))) (file_in (options_in (map string_bytes words.now)))
-        (is_forced (options_in (map string_bytes words.now))) H.fresh (H.holds rt.old) (H.holds rt.new)
-        (λ end before now. IfSome (text_given (R.remaining input) (H.holds rt.old) (file_in (options_in (map string_bytes words.now))))
-        (λ text. EndsMigrate text end before now)) result (W.contents output.old) (W.contents output.new) }
-    ensures explains { Asks (codes "explain") (map string_bytes words.now)
-        → EndsIn (output_in (options_in (map string_bytes words.now))) (file_in (options_in (map string_bytes words.now)))
-        (is_forced (options_in (map string_bytes words.now))) H.fresh (H.holds rt.old) (H.holds rt.new)
-        (λ end before now. IfSome (text_given (R.remaining input) (H.holds rt.old) (file_in (options_in (map string_bytes words.now))))
-        (λ text. EndsExplain (options_in (map string_bytes words.now)) text end before now)) result (W.contents output.old)
-        (W.contents output.new) }
-    ensures cuts { Asks (codes "cut") (map string_bytes words.now)
-        → EndsIn (output_in (options_in (map string_bytes words.now))) (file_in (options_in (map string_bytes words.now)))
-        (is_forced (options_in (map string_bytes words.now))) H.fresh (H.holds rt.old) (H.holds rt.new)
-        (λ end before now. IfSome (text_given (R.remaining input) (H.holds rt.old) (file_in (options_in (map string_bytes words.now))))
-        (λ text. EndsCut (options_in (map string_bytes words.now)) (file_in (options_in (map string_bytes words.now))) text end before now)) result (W.contents output.old) (W.contents output.new) }
-    ensures storms { Asks (codes "storm") (map string_bytes words.now)
-        → EndsStorm (options_in (map string_bytes words.now)) result (W.contents output.old) (W.contents output.new) }
-    ensures params { Asks (codes "params") (map string_bytes words.now)
-        → EndsParams (options_in (map string_bytes words.now)) result (W.contents output.old) (W.contents output.new) }
+    ensures differs { result ≡ End.Differs → (subcommand : Subcommand) × (may_differ subcommand ≡ true)
+        × (subcommand_in (map string_bytes words.now) ≡ Some (word_of subcommand)) }
+    ensures performs { (subcommand : Subcommand) → Asks (word_of subcommand) (map string_bytes words.now)
+        → EndsTo subcommand (options_in (map string_bytes words.now)) (R.remaining input) H.fresh (H.holds rt.old) (H.holds rt.new) result
+        (W.contents output.old) (W.contents output.new) }
 {
     let found = matches_of(alloc, words);
     let end = answer(rt, alloc, &found, input, output, errors);
@@ -166,13 +124,8 @@ fn asked_of<'a, 'b>(matches: &'b ArgMatches<'a>) -> Option<(Subcommand, &'b ArgM
         ≡ option_map (λ (given : Text × List Row). given.1) (subcommand_rows_of matches.now)) }
     ensures none { result ≡ None → (subcommand : Subcommand) → subcommand_name_of matches.now ≡ Some (word_of subcommand) → ⊥ }
 {
-    let Some((name, options)) = matches.subcommand() else {
-        return None;
-    };
-    match Subcommand::named(name) {
-        Some(subcommand) => Some((subcommand, options)),
-        None => None,
-    }
+    let (name, options) = matches.subcommand()?;
+    Some((Subcommand::named(name)?, options))
 }
 
 /// What `clap` says of the words: help, or a mistake.

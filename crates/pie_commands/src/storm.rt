@@ -1,15 +1,15 @@
 //! `pie storm`: the storm that the options ask for, whose history is written.
-ghost use Rattle.std.specs.Prelude.{◌≡◌, Some, codes};
+ghost use Rattle.std.specs.Prelude.{◌≡◌, Some, codes, option_map};
 ghost use Rattle.clap.specs.Words.{found_of, rows_of};
-ghost use Rattle.pie_commands.specs.StormEnds.{EndsStorm, choice_in, decay_in, delay_in, elements_in, numbers_in, picking_in};
-ghost use Rattle.pie_commands.specs.StormEnds.{profile_by, size_in, step_in};
+ghost use Rattle.pie_commands.specs.StormEnds.{EndsStorm, choice_by, decay_in, elements_in, numbers_in};
+ghost use Rattle.pie_commands.specs.StormEnds.{profile_by};
 ghost use Rattle.pie_options.specs.Words.{number_or};
 ghost use Rattle.pie_storm.specs.StormPlan.{HasStormRange};
 
 use crate::end::{End, failed, faulted, unable};
 use clap::ArgMatches;
 use pie_book::{Event, Profile};
-use pie_options::{flag, number_or};
+use pie_options::{flag, number_or, text};
 use pie_params::{Decay, Delay, Elements, Picking, Size, Step};
 use pie_record::first_record::which_of;
 use pie_record::words::{decay_word, delay_word, picking_word, size_word, step_word};
@@ -22,110 +22,33 @@ use std::sync::Wait;
 use std::thread::Threads;
 use std::time::Clock;
 
-/// How many senders a storm has where the words name no number.
-const SENDERS: u64 = 2;
-/// How many packets each sender has where the words name no number.
-const PACKETS: u64 = 100;
-/// The seed of the random words where the words name none.
-const SEED: u64 = 1;
-/// How many packets come for each hundred that the link sends, where the words name no number.
-const LOAD: u64 = 100;
-
 /// What is said where the word of a choice is none of its own.
 const NO_CHOICE: &str =
     "storm: --delay is rate or stamp, --picking derandomized or random, --step capped or uncapped, --size unscaled or scaled, \
 --decay zero or half";
 
-/// Which of two choices an option names: the first where the words don't give it, and none where they give another word.
-fn choice<T: Copy>(
-    options: &ArgMatches<'_>,
-    name: &str,
-    first: &[u8],
-    one: T,
-    second: &[u8],
-    other: T,
-) -> Option<T>
-    ensures { result ≡ choice_in name.now first.now one second.now other (rows_of (found_of options.now)) }
+/// Which of two choices a word names: the first with no word, and none with another one.
+fn choice<T: Copy>(word: Option<&str>, first: &[u8], one: T, second: &[u8], other: T) -> Option<T>
+    ensures { result ≡ choice_by first.now one second.now other (option_map (λ word. word.now) word.entry) }
 {
-    match options.get_str(name) {
+    match word {
         Some(word) => which_of(first, one, second, other, word.as_bytes()),
         None => Some(one),
     }
 }
 
-/// Where an update takes the delay from.
-fn delay_of(options: &ArgMatches<'_>) -> Option<Delay>
-    ensures { result ≡ delay_in (rows_of (found_of options.now)) }
-{
-    let (one, other) = (Delay::Rate, Delay::Stamp);
-    choice(
-        options,
-        "delay",
-        delay_word(one),
-        one,
-        delay_word(other),
-        other,
-    )
-}
-
-/// How a packet is picked.
-fn picking_of(options: &ArgMatches<'_>) -> Option<Picking>
-    ensures { result ≡ picking_in (rows_of (found_of options.now)) }
-{
-    let (one, other) = (Picking::Derandomized, Picking::Random);
-    choice(
-        options,
-        "picking",
-        picking_word(one),
-        one,
-        picking_word(other),
-        other,
-    )
-}
-
-/// How far an update may raise the probability.
-fn step_of(options: &ArgMatches<'_>) -> Option<Step>
-    ensures { result ≡ step_in (rows_of (found_of options.now)) }
-{
-    let (one, other) = (Step::Capped, Step::Uncapped);
-    choice(
-        options,
-        "step",
-        step_word(one),
-        one,
-        step_word(other),
-        other,
-    )
-}
-
-/// Whether a packet's size counts when it is picked.
-fn size_of(options: &ArgMatches<'_>) -> Option<Size>
-    ensures { result ≡ size_in (rows_of (found_of options.now)) }
-{
-    let (one, other) = (Size::Unscaled, Size::Scaled);
-    choice(
-        options,
-        "size",
-        size_word(one),
-        one,
-        size_word(other),
-        other,
-    )
+/// Which of two choices an option names, whose words a function tells.
+macro_rules! chosen {
+    ($name:literal in $options:ident: $word:ident, $one:expr, $other:expr) => {
+        choice(text($options, $name), $word($one), $one, $word($other), $other)
+    };
 }
 
 /// At which delays the probability decays.
 pub(crate) fn decay_of(options: &ArgMatches<'_>) -> Option<Decay>
     ensures { result ≡ decay_in (rows_of (found_of options.now)) }
 {
-    let (one, other) = (Decay::Zero, Decay::Half);
-    choice(
-        options,
-        "decay",
-        decay_word(one),
-        one,
-        decay_word(other),
-        other,
-    )
+    chosen!("decay" in options: decay_word, Decay::Zero, Decay::Half)
 }
 
 /// RFC 8033's optional elements that these options choose; none where a word names no choice.
@@ -133,10 +56,11 @@ pub(crate) fn decay_of(options: &ArgMatches<'_>) -> Option<Decay>
 fn elements_of(options: &ArgMatches<'_>) -> Option<Elements>
     ensures { result ≡ elements_in (rows_of (found_of options.now)) }
 {
-    let delay = delay_of(options)?;
-    let picking = picking_of(options)?;
-    let step = step_of(options)?;
-    let size = size_of(options)?;
+    let delay = chosen!("delay" in options: delay_word, Delay::Rate, Delay::Stamp)?;
+    let picking =
+        chosen!("picking" in options: picking_word, Picking::Derandomized, Picking::Random)?;
+    let step = chosen!("step" in options: step_word, Step::Capped, Step::Uncapped)?;
+    let size = chosen!("size" in options: size_word, Size::Unscaled, Size::Scaled)?;
     let decay = decay_of(options)?;
     Some(Elements {
         delay,
@@ -158,17 +82,17 @@ fn profile_of(options: &ArgMatches<'_>) -> Profile
     }
 }
 
-/// The numbers of the plan that these options ask for, with these elements.
+/// The numbers of the plan that these options ask for, with these elements; each has one that it is where the words name none.
 fn numbers_of(options: &ArgMatches<'_>, elements: Elements) -> StormNumbers
     ensures asked { result ≡ numbers_in elements (rows_of (found_of options.now)) }
     ensures ranges { HasStormRange result }
 {
     StormNumbers {
-        senders: number_or(options, "senders", 2, 8, SENDERS) as u16,
-        packets: number_or(options, "packets", 1, 10_000, PACKETS) as u32,
+        senders: number_or(options, "senders", 2, 8, 2) as u16,
+        packets: number_or(options, "packets", 1, 10_000, 100) as u32,
         burst: number_or(options, "burst", 1, 1024, 1) as u16,
-        seed: number_or(options, "seed", 0, u64::MAX, SEED),
-        load: number_or(options, "load", 50, 200, LOAD),
+        seed: number_or(options, "seed", 0, u64::MAX, 1),
+        load: number_or(options, "load", 50, 200, 100),
         changes: number_or(options, "changes", 0, 100, 0),
         folds: number_or(options, "folds", 0, 100, 0),
         profile: profile_of(options),
@@ -207,15 +131,10 @@ pub(crate) fn make_storm<H: Threads + Wait + Clock + Sync, W: Write, E: Write>(
 
 /// How often the caller of an event is another than that of the event before it.
 fn changes_of_caller(events: &[Event]) -> u64 {
-    let mut changes = 0u64;
-    let mut last = None;
-    for event in events {
-        if last != Some(event.caller) {
-            changes = changes.saturating_add(1);
-        }
-        last = Some(event.caller);
-    }
-    changes.saturating_sub(1)
+    let pairs = events.iter().zip(events.iter().skip(1));
+    pairs
+        .filter(|(one, next)| one.caller != next.caller)
+        .count() as u64
 }
 
 /// Says on `errors` how many events there are, and how many changes of caller, where the options ask for it. A failed write is passed over.

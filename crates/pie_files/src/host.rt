@@ -119,14 +119,9 @@ fn create_beside(rt: &HostRuntime, name: &str, replaced: Option<&Metadata>) -> i
     for count in 1..=MOST_NAMES {
         let made = name_beside(rt, name, count)?;
         match create(rt, made.as_str(), replaced) {
-            Ok(file) => {
-                return Ok(Output::new(Right(file), Some(made)));
-            }
-            Err(why) => {
-                if why.kind() != ErrorKind::AlreadyExists {
-                    return Err(why);
-                }
-            }
+            Ok(file) => return Ok(Output::new(Right(file), Some(made))),
+            Err(why) if why.kind() == ErrorKind::AlreadyExists => {}
+            Err(why) => return Err(why),
         }
     }
     Err(Error::new(
@@ -241,11 +236,7 @@ impl NamedFiles for HostRuntime {
     }
 
     fn leave(&mut self, made: Output) -> Option<String> {
-        let Output {
-            to,
-            made,
-            is_closed: _,
-        } = made;
+        let Output { to, made, .. } = made;
         let other = made?;
         let Right(file) = to else {
             return None;

@@ -15,7 +15,24 @@ asks name = (
   record { taken = refl; found = refl },
 )
 
--- .. and what they give its options
+-- a subcommand's word alone asks for it, and names no file to be read or written
+alone : (name : Text) → let run = name ∷ codes "run" ∷ [] in let audit = name ∷ codes "audit" ∷ [] in let migrate = name ∷ codes "migrate" ∷ [] in
+    Asks (codes "run") run × (file_in (options_in run) ≡ None) × (output_in (options_in run) ≡ None)
+    × Asks (codes "audit") audit × (files_in (options_in audit) ≡ [])
+    × Asks (codes "migrate") migrate × (file_in (options_in migrate) ≡ None) × (output_in (options_in migrate) ≡ None)
+unfolding clap_on_literals
+alone name = (
+  record { taken = refl; found = refl },
+  refl,
+  refl,
+  record { taken = refl; found = refl },
+  refl,
+  record { taken = refl; found = refl },
+  refl,
+  refl,
+)
+
+-- .. and what other words give its options
 files : (name : Text) → (files_in (options_in (name ∷ codes "audit" ∷ codes "a" ∷ codes "-" ∷ [])) ≡ codes "a" ∷ codes "-" ∷ [])
     × (is_joined (options_in (name ∷ codes "audit" ∷ codes "--joined" ∷ codes "a" ∷ codes "b" ∷ [])) ≡ true)
     × (file_in (options_in (name ∷ codes "run" ∷ codes "a" ∷ codes "--count" ∷ [])) ≡ Some (codes "a"))

@@ -8,11 +8,11 @@ pub use Rattle.std.specs.Str.Parse.{ExplainsUnsignedError, HasUnsignedDigitsIfOk
 unfoldable pub use Rattle.clap.proofs.OnLiterals.{clap_on_literals}
 pub use Rattle.clap.proofs.WalkLemmas.{first_value-rows, one_text-rows}
 pub use Rattle.clap.specs.Matches.{ReadsOne, subcommand_name_of}
-pub use Rattle.clap.specs.Words.{AddsSubcommand, App, HasMatchesOf, Row, Rule, Text, app_of, found_of, is_simple, new_app, new_rule, one_text}
-pub use Rattle.clap.specs.Words.{rows_of, subcommand_rows_of, takes, with_subcommand}
+pub use Rattle.clap.specs.Words.{AddsSubcommand, App, HasMatchesOf, Row, Text, app_of, found_of, is_simple, new_app, one_text}
+pub use Rattle.clap.specs.Words.{rows_of, subcommand_rows_of, with_rule, with_subcommand}
 pub use Rattle.pie_options.specs.Arguments.{rule_for}
-pub use Rattle.pie_options.specs.Building.{WantsRules, WantsSubcommands}
-pub use Rattle.pie_options.specs.Words.{AskFor, Asks, app_for, file_in, file_made, files_in, is_joined, number_of, number_or, options_in, output_in}
+pub use Rattle.pie_options.specs.Building.{Wants}
+pub use Rattle.pie_options.specs.Words.{Asks, adds, app_for, file_in, files_in, is_joined, number_of, number_or, options_in, output_in}
 pub use Rattle.pie_options.specs.Words.{pie_alone, pie_app, subcommand_in, with_rules, with_subcommands}
 pub use Rattle.pie_options.specs.declared.subcommand.Subcommand.{Subcommand}
 pub use Rattle.pie_options.specs.declared.subcommand.Subcommand.TheVariants.{Audit, Cut, Explain, Migrate, Params, Run, Storm}

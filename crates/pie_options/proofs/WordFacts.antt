@@ -1,40 +1,23 @@
 -- What `clap` makes of the words that ask for a subcommand.
-use Rattle.pie_options.proofs.Names.{◌≡◌, ◌∙◌, List, [], Option, Some, None, true, false, codes, refl, sym, subst, ap, option_and_then}
-use Rattle.pie_options.proofs.Names.{option_map, unwrap_or, if◌then◌else◌, bytes_eq, App, HasMatchesOf, Row, Text, found_of, is_simple, rows_of}
+use Rattle.pie_options.proofs.Names.{◌≡◌, ◌∙◌, List, [], Option, Some, None, true, false, codes, refl, sym, ap, option_and_then}
+use Rattle.pie_options.proofs.Names.{option_map, unwrap_or, if◌then◌else◌, bytes_eq, HasMatchesOf, Row, Text, found_of, is_simple, rows_of}
 use Rattle.pie_options.proofs.Names.{subcommand_rows_of, subcommand_name_of, clap_on_literals, Subcommand, Run, Audit, Explain, Cut, Migrate}
-use Rattle.pie_options.proofs.Names.{Storm, Params, AskFor, Asks, file_in, files_in, options_in, output_in, pie_app, subcommand_in}
+use Rattle.pie_options.proofs.Names.{Storm, Params, options_in, pie_app, subcommand_in}
 use Rattle.std.specs.Box.{box_value}
 use Rattle.clap.specs.declared.parser.matches.ArgMatches.{ArgMatches}
 use Rattle.clap.specs.declared.parser.matches.ArgMatches.TheViews.{out-ArgMatches, out-SubCommand}
 use Rattle.pie_options.specs.Subcommands.{word_of}
 
--- ---- a subcommand's word alone is taken, whatever the program's own name is, asks for that subcommand and names no file
-
-pub run-alone : (words : List Text) → AskFor (codes "run") words
-    → Asks (codes "run") words × (file_in (options_in words) ≡ None) × (output_in (options_in words) ≡ None)
-unfolding clap_on_literals
-run-alone words asks = rw asks.1 (record { taken = refl; found = refl }, refl, refl)
-
-pub audit-alone : (words : List Text) → AskFor (codes "audit") words → Asks (codes "audit") words × (files_in (options_in words) ≡ [])
-unfolding clap_on_literals
-audit-alone words asks = rw asks.1 (record { taken = refl; found = refl }, refl)
-
-pub migrate-alone : (words : List Text) → AskFor (codes "migrate") words
-    → Asks (codes "migrate") words × (file_in (options_in words) ≡ None) × (output_in (options_in words) ≡ None)
-unfolding clap_on_literals
-migrate-alone words asks = rw asks.1 (record { taken = refl; found = refl }, refl, refl)
-
--- ---- and what its options are given
+-- ---- what `clap` finds in the words
 
 simple : is_simple pie_app ≡ true
 unfolding clap_on_literals
 simple = refl
 
-pub options-in : (app : App) (words : List Text) (matches : ArgMatches) (rows : List Row) → app ≡ pie_app → HasMatchesOf app words matches
+pub options-in : (words : List Text) (matches : ArgMatches) (rows : List Row) → HasMatchesOf pie_app words matches
     → Some rows ≡ option_map (λ (p : Text × List Row). p.1) (subcommand_rows_of matches) → options_in words ≡ rows
-options-in app words matches rows is has met =
-    let found = subst (λ (a : App). HasMatchesOf a words matches) is has simple in
-    sym (ap (λ (o : Option (List Row)). unwrap_or o []) (met ∙ ap (option_map (λ (p : Text × List Row). p.1)) found.1))
+options-in words matches rows has met =
+    sym (ap (λ (o : Option (List Row)). unwrap_or o []) (met ∙ ap (option_map (λ (p : Text × List Row). p.1)) (has simple).1))
 
 -- the name that `clap` tells of a subcommand stands before its options
 first-of : {A : Type 0} (g : A → Text × List Row) (o : Option A)
@@ -51,14 +34,6 @@ name-rows matches =
 pub name-found : (words : List Text) (matches : ArgMatches) → HasMatchesOf pie_app words matches → subcommand_name_of matches ≡ subcommand_in words
 name-found words matches has = name-rows matches ∙ ap (option_map (λ (p : Text × List Row). p.0)) (has simple).1
 
--- the subcommand that `clap` found is that of the words
-pub subcommand-found : (app : App) (words : List Text) (matches : ArgMatches) (name subcommand : Text) → app ≡ pie_app
-    → HasMatchesOf app words matches
-    → Some name ≡ subcommand_name_of matches → name ≡ subcommand → subcommand_in words ≡ Some subcommand
-subcommand-found app words matches name subcommand is has met same =
-    let found = subst (λ (a : App). HasMatchesOf a words matches) is has simple in
-    sym (met ∙ name-rows matches ∙ ap (option_map (λ (p : Text × List Row). p.0)) found.1) ∙ ap (λ (n : Text). Some n) same
-
 -- ---- no two subcommands are asked for by one word
 abbrev asked_by : Text → Option Subcommand
 asked_by word = if bytes_eq word (codes "run") then Some Run
@@ -72,12 +47,7 @@ asked_by word = if bytes_eq word (codes "run") then Some Run
 
 asked-word : (subcommand : Subcommand) → asked_by (word_of subcommand) ≡ Some subcommand
 asked-word Run = refl
-asked-word Audit = refl
-asked-word Explain = refl
-asked-word Cut = refl
-asked-word Migrate = refl
-asked-word Storm = refl
-asked-word Params = refl
+asked-word _ = refl
 
 pub same-word : (one other : Subcommand) → Some (word_of one) ≡ Some (word_of other) → one ≡ other
 same-word one other same =

@@ -46,10 +46,14 @@ output_rule = record (new_rule (codes "output")) { long = Some (codes "output");
 abbrev pub force_rule : Rule
 force_rule = flag_rule (codes "force")
 
--- a command with these rules, one after the other
+-- a command to which each of a list is added, one after the other
+abbrev pub with_each : {A : Type 0} → (App → A → App) → App → List A → App
+with_each add app [] = app
+with_each add app (one ∷ more) = with_each add (add app one) more
+
+-- .. these rules
 abbrev pub with_rules : App → List Rule → App
-with_rules app [] = app
-with_rules app (rule ∷ rules) = with_rules (with_rule app rule) rules
+with_rules = with_each with_rule
 
 -- what each subcommand takes
 abbrev pub rules_for : Subcommand → List Rule
@@ -75,19 +79,17 @@ rules_for Params = text_rule (codes "rate") ∷ text_rule (codes "target") ∷ t
 abbrev pub app_for : Subcommand → App
 app_for subcommand = with_rules (new_app (word_of subcommand)) (rules_for subcommand)
 
--- `pie` with these subcommands, one after the other, and with all of them
+-- `pie` with one more subcommand, with these, and with all of them
+abbrev pub adds : App → Subcommand → App
+adds app subcommand = with_subcommand app (app_for subcommand).top
+
 abbrev pub with_subcommands : App → List Subcommand → App
-with_subcommands app [] = app
-with_subcommands app (subcommand ∷ subcommands) = with_subcommands (with_subcommand app (app_for subcommand).top) subcommands
+with_subcommands = with_each adds
 
 abbrev pub pie_app : App
 pie_app = with_subcommands pie_alone (Run ∷ Audit ∷ Explain ∷ Cut ∷ Migrate ∷ Storm ∷ Params ∷ [])
 
 -- ---- subcommands
-
--- the words are the program's own name, whatever it is, and this subcommand's
-abbrev pub AskFor : Text → List Text → Type 0
-AskFor subcommand words = (name : Text) × (words ≡ name ∷ subcommand ∷ [])
 
 -- the subcommand that `clap` finds in any words
 abbrev pub subcommand_in : List Text → Option Text

@@ -48,33 +48,29 @@ pub(crate) struct Page<'a> {
     pub(crate) arguments: &'a [Argument],
 }
 
+/// A row of a table of arguments: the name, what it takes, and what `--help` says of it.
+macro_rules! row {
+    ($name:literal: $takes:ident $(($($of:expr),+))?, $help:literal) => {
+        Argument { name: $name, takes: Takes::$takes $(($($of),+))?, help: $help }
+    };
+}
+
+pub(crate) use row;
+
 /// What asks to be told how far reading has come.
-pub(crate) const PROGRESS: Argument = Argument {
-    name: "progress",
-    takes: Takes::Nothing,
-    help: "Show on standard error how much was read, as is done where that is a terminal",
-};
+pub(crate) const PROGRESS: Argument =
+    row!("progress": Nothing, "Show on standard error how much was read, as is done where that is a terminal");
 
 /// The file to write in place of standard output.
-pub(crate) const OUTPUT: Argument = Argument {
-    name: "output",
-    takes: Takes::Lettered('o', "FILE"),
-    help: "Write to this file, which is there once all of it was written, and not to standard output",
-};
+pub(crate) const OUTPUT: Argument = row!("output": Lettered('o', "FILE"),
+    "Write to this file, which is there once all of it was written, and not to standard output");
 
 /// What allows that file to be replaced.
-pub(crate) const FORCE: Argument = Argument {
-    name: "force",
-    takes: Takes::Nothing,
-    help: "Replace the file that -o names, where it is there already",
-};
+pub(crate) const FORCE: Argument =
+    row!("force": Nothing, "Replace the file that -o names, where it is there already");
 
 /// A file that may be named.
-pub(crate) const FILE: Argument = Argument {
-    name: "file",
-    takes: Takes::File,
-    help: "The file to read; - or none: standard input",
-};
+pub(crate) const FILE: Argument = row!("file": File, "The file to read; - or none: standard input");
 
 /// An argument of this name, before it is known what it takes.
 fn named<'a>(alloc: Global, name: &'a str, help: &'a str) -> Arg<'a>

@@ -1,6 +1,6 @@
 //! The words of `pie audit`: what it takes, and what `--help` says of it.
 
-use crate::argument::{Argument, PROGRESS, Page, Takes};
+use crate::argument::{Argument, PROGRESS, Page, Takes, row};
 
 /// The words of `pie audit`.
 pub(crate) const PAGE: Page<'static> = Page {
@@ -44,16 +44,8 @@ A verdict that was changed is found, and the line is differs,1:
 
   printf 'open,0,4,16,100\\narrive,1,10,7,1500,ect0,0\\ndepart,2,25\\n' | pie run | sed s/enqueue/mark/ | pie audit",
     arguments: &[
-        Argument {
-            name: "joined",
-            takes: Takes::Nothing,
-            help: "The files are of one history, in order: tell whether each goes on where the one before it ends",
-        },
+        row!("joined": Nothing, "The files are of one history, in order: tell whether each goes on where the one before it ends"),
         PROGRESS,
-        Argument {
-            name: "file",
-            takes: Takes::Files,
-            help: "The files to audit; -: standard input",
-        },
+        row!("file": Files, "The files to audit; -: standard input"),
     ],
 };

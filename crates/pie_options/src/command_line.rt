@@ -1,10 +1,10 @@
 //! The command line of `pie`: the command of `clap`, made from what each subcommand takes.
 ghost use Rattle.std.specs.Prelude.{◌≡◌, ◌<◌, ◌∷◌, IfOk, List, [], get_or, length, map};
-ghost use Rattle.clap.specs.Words.{App, Rule, app_of, new_app, new_rule};
+ghost use Rattle.clap.specs.Words.{App, Rule, app_of, new_app, new_rule, with_rule};
 ghost use Rattle.pie_options.specs.Arguments.{rule_for};
-ghost use Rattle.pie_options.specs.Building.{WantsRules, WantsSubcommands};
+ghost use Rattle.pie_options.specs.Building.{Wants};
 ghost use Rattle.pie_options.specs.Subcommands.{word_of};
-ghost use Rattle.pie_options.specs.Words.{app_for, pie_alone, pie_app, rules_for, with_rules, with_subcommands};
+ghost use Rattle.pie_options.specs.Words.{adds, app_for, pie_alone, pie_app, rules_for, with_rules, with_subcommands};
 
 use crate::argument::{Argument, Page, arg_of};
 use crate::subcommand::Subcommand;
@@ -36,7 +36,7 @@ fn with_argument<'a>(
     begun: Result<Command<'a>, AllocError>,
     argument: Argument,
 ) -> Result<Command<'a>, AllocError>
-    ensures { (rules : List Rule) (whole : App) → WantsRules (rule_for argument ∷ rules) whole begun.entry → WantsRules rules whole result }
+    ensures { (rules : List Rule) (whole : App) → Wants with_rule (rule_for argument ∷ rules) whole begun.entry → Wants with_rule rules whole result }
 {
     match begun {
         Ok(command) => command.arg(arg_of(alloc, argument)),
@@ -110,8 +110,8 @@ fn with_subcommand<'a>(
     begun: Result<Command<'a>, AllocError>,
     subcommand: Subcommand,
 ) -> Result<Command<'a>, AllocError>
-    ensures { (subcommands : List Subcommand) (whole : App) → WantsSubcommands (subcommand ∷ subcommands) whole begun.entry
-        → WantsSubcommands subcommands whole result }
+    ensures { (subcommands : List Subcommand) (whole : App) → Wants adds (subcommand ∷ subcommands) whole begun.entry
+        → Wants adds subcommands whole result }
 {
     match begun {
         Ok(pie) => match command_for(alloc, subcommand) {

@@ -1,6 +1,6 @@
 //! The words of `pie cut`: what it takes, and what `--help` says of it.
 
-use crate::argument::{Argument, FILE, FORCE, OUTPUT, PROGRESS, Page, Takes};
+use crate::argument::{Argument, FILE, FORCE, OUTPUT, PROGRESS, Page, Takes, row};
 
 /// The words of `pie cut`.
 pub(crate) const PAGE: Page<'static> = Page {
@@ -39,36 +39,12 @@ Files of a million events each, day.0000 and so on, and their audit:
   pie cut --every 1000000 day | csplit -z -n 4 -f day. - '/^resume,/' '{*}'
   pie audit day.*",
     arguments: &[
-        Argument {
-            name: "from",
-            takes: Takes::Value("MOMENT"),
-            help: "Cut out the events at this moment or time of day and later, such as 1.5ms",
-        },
-        Argument {
-            name: "to",
-            takes: Takes::Value("MOMENT"),
-            help: "Cut out the events at this moment or time of day and earlier",
-        },
-        Argument {
-            name: "event",
-            takes: Takes::Number(1, u64::MAX),
-            help: "Cut out the event with this number, counted from 1",
-        },
-        Argument {
-            name: "around",
-            takes: Takes::Number(0, u64::MAX),
-            help: "With an event: so many before and after it too",
-        },
-        Argument {
-            name: "last",
-            takes: Takes::Number(1, u64::MAX),
-            help: "Cut out the last N events of a file",
-        },
-        Argument {
-            name: "every",
-            takes: Takes::Number(1, u64::MAX),
-            help: "Cut all events into segments of N, one after another",
-        },
+        row!("from": Value("MOMENT"), "Cut out the events at this moment or time of day and later, such as 1.5ms"),
+        row!("to": Value("MOMENT"), "Cut out the events at this moment or time of day and earlier"),
+        row!("event": Number(1, u64::MAX), "Cut out the event with this number, counted from 1"),
+        row!("around": Number(0, u64::MAX), "With an event: so many before and after it too"),
+        row!("last": Number(1, u64::MAX), "Cut out the last N events of a file"),
+        row!("every": Number(1, u64::MAX), "Cut all events into segments of N, one after another"),
         PROGRESS,
         OUTPUT,
         FORCE,

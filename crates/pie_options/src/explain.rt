@@ -1,6 +1,6 @@
 //! The words of `pie explain`: what it takes, and what `--help` says of it.
 
-use crate::argument::{Argument, FILE, FORCE, OUTPUT, PROGRESS, Page, Takes};
+use crate::argument::{Argument, FILE, FORCE, OUTPUT, PROGRESS, Page, Takes, row};
 
 /// The words of `pie explain`.
 pub(crate) const PAGE: Page<'static> = Page {
@@ -64,71 +64,19 @@ writes why the last packet of that trace was dropped:
     before it: 3 packets, 2548 bytes, a delay of 2.488281 ms (2488281 ns)
     probability 90.3954 % (903954174169), set by event 9; last update at 1.001002 ms (1001002 ns); burst allowance 0.000000 ms (0 ns)",
     arguments: &[
-        Argument {
-            name: "event",
-            takes: Takes::Number(1, u64::MAX),
-            help: "Explain the event with this number, counted from 1",
-        },
-        Argument {
-            name: "tag",
-            takes: Takes::Number(0, u64::MAX),
-            help: "Explain each event of the packets with this tag",
-        },
-        Argument {
-            name: "lost",
-            takes: Takes::Nothing,
-            help: "Explain each arrival whose packet was dropped",
-        },
-        Argument {
-            name: "marked",
-            takes: Takes::Nothing,
-            help: "Explain each arrival whose packet was marked",
-        },
-        Argument {
-            name: "all",
-            takes: Takes::Nothing,
-            help: "Explain every event",
-        },
-        Argument {
-            name: "from",
-            takes: Takes::Value("MOMENT"),
-            help: "Only the chosen events at this moment or time of day and later, such as 1.5ms",
-        },
-        Argument {
-            name: "to",
-            takes: Takes::Value("MOMENT"),
-            help: "Only the chosen events at this moment or time of day and earlier",
-        },
-        Argument {
-            name: "summary",
-            takes: Takes::Nothing,
-            help: "Sum up the chosen events, in place of each; all of them where none are chosen",
-        },
-        Argument {
-            name: "every",
-            takes: Takes::Value("TIME"),
-            help: "Sum up the events of each period of this length, such as 100ms or 1m",
-        },
-        Argument {
-            name: "flows",
-            takes: Takes::Number(1, 1000),
-            help: "Sum up by flow: the N flows with the most bytes, and all others in one",
-        },
-        Argument {
-            name: "digest",
-            takes: Takes::Nothing,
-            help: "Sum up, and between the summaries explain each packet that was lost or marked",
-        },
-        Argument {
-            name: "csv",
-            takes: Takes::Nothing,
-            help: "Write CSV, a header and a record an event or a summary, in place of words",
-        },
-        Argument {
-            name: "wall",
-            takes: Takes::Nothing,
-            help: "Tell moments as times of day, in UTC, where the history tells them",
-        },
+        row!("event": Number(1, u64::MAX), "Explain the event with this number, counted from 1"),
+        row!("tag": Number(0, u64::MAX), "Explain each event of the packets with this tag"),
+        row!("lost": Nothing, "Explain each arrival whose packet was dropped"),
+        row!("marked": Nothing, "Explain each arrival whose packet was marked"),
+        row!("all": Nothing, "Explain every event"),
+        row!("from": Value("MOMENT"), "Only the chosen events at this moment or time of day and later, such as 1.5ms"),
+        row!("to": Value("MOMENT"), "Only the chosen events at this moment or time of day and earlier"),
+        row!("summary": Nothing, "Sum up the chosen events, in place of each; all of them where none are chosen"),
+        row!("every": Value("TIME"), "Sum up the events of each period of this length, such as 100ms or 1m"),
+        row!("flows": Number(1, 1000), "Sum up by flow: the N flows with the most bytes, and all others in one"),
+        row!("digest": Nothing, "Sum up, and between the summaries explain each packet that was lost or marked"),
+        row!("csv": Nothing, "Write CSV, a header and a record an event or a summary, in place of words"),
+        row!("wall": Nothing, "Tell moments as times of day, in UTC, where the history tells them"),
         PROGRESS,
         OUTPUT,
         FORCE,

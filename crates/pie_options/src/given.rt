@@ -1,6 +1,6 @@
 //! What the words give the options of a subcommand.
 ghost use Rattle.std.specs.Prelude.{◌≡◌, ◌≤◌, option_map};
-ghost use Rattle.clap.specs.Words.{found_of, rows_of};
+ghost use Rattle.clap.specs.Words.{first_of, found_of, rows_of};
 ghost use Rattle.pie_options.specs.Words.{file_in, file_made, flag_given, number_given, number_or, output_in};
 
 use clap::ArgMatches;
@@ -32,11 +32,18 @@ pub fn flag(options: &ArgMatches<'_>, name: &str) -> bool
     options.get_one::<bool>(name).unwrap_or(false)
 }
 
+/// The text that an option is given.
+pub fn text<'a>(options: &ArgMatches<'a>, name: &str) -> Option<&'a str>
+    ensures { option_map (λ text. text.now) result ≡ first_of name.now (rows_of (found_of options.now)) }
+{
+    options.get_str(name)
+}
+
 /// The file that the words name to be read, where they name one.
 pub fn file<'a>(options: &ArgMatches<'a>) -> Option<&'a str>
     ensures { option_map (λ name. name.now) result ≡ file_in (rows_of (found_of options.now)) }
 {
-    options.get_str("file")
+    text(options, "file")
 }
 
 /// The file of this name: none for `-`, which is standard output.
@@ -53,5 +60,5 @@ fn file_made<'a>(name: Option<&'a str>) -> Option<&'a str>
 pub fn output<'a>(options: &ArgMatches<'a>) -> Option<&'a str>
     ensures { option_map (λ name. name.now) result ≡ output_in (rows_of (found_of options.now)) }
 {
-    file_made(options.get_str("output"))
+    file_made(text(options, "output"))
 }

@@ -17,5 +17,5 @@ mod storm;
 mod subcommand;
 
 pub use command_line::options;
-pub use given::{file, flag, number, number_or, output};
+pub use given::{file, flag, number, number_or, output, text};
 pub use subcommand::Subcommand;

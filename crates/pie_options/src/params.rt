@@ -1,6 +1,6 @@
 //! The words of `pie params`: what it takes, and what `--help` says of it.
 
-use crate::argument::{Argument, Page, Takes};
+use crate::argument::{Argument, Page, Takes, row};
 
 /// The words of `pie params`.
 pub(crate) const PAGE: Page<'static> = Page {
@@ -32,70 +32,18 @@ writes, in one line,
   open3,1,rate,derandomized,capped,unscaled,rolling,0,1000,1000,140737488355328,
   20000000,15000000,150000000,125,1250,1024,2500000,100000000000,16384",
     arguments: &[
-        Argument {
-            name: "rate",
-            takes: Takes::Value("RATE"),
-            help: "The link's rate, as 100mbit, of which limit_bytes is 200 ms",
-        },
-        Argument {
-            name: "target",
-            takes: Takes::Value("TIME"),
-            help: "The wanted delay; 15ms by default",
-        },
-        Argument {
-            name: "tupdate",
-            takes: Takes::Value("TIME"),
-            help: "The time between two updates; 15ms by default",
-        },
-        Argument {
-            name: "limit",
-            takes: Takes::Value("PACKETS"),
-            help: "How many packets may wait, as 1000p; 1000 by default",
-        },
-        Argument {
-            name: "alpha",
-            takes: Takes::Number(0, 32),
-            help: "The gain alpha of tc; 2 by default",
-        },
-        Argument {
-            name: "beta",
-            takes: Takes::Number(0, 32),
-            help: "The gain beta of tc; 20 by default",
-        },
-        Argument {
-            name: "ecn",
-            takes: Takes::Nothing,
-            help: "Mark packets of ECN-capable endpoints",
-        },
-        Argument {
-            name: "bytemode",
-            takes: Takes::Nothing,
-            help: "Pick a packet below the MTU less often, in proportion to its size",
-        },
-        Argument {
-            name: "mtu",
-            takes: Takes::Number(1, 65535),
-            help: "The link's MTU in bytes, for --bytemode; 1514 by default",
-        },
-        Argument {
-            name: "dq_rate_estimator",
-            takes: Takes::Nothing,
-            help: "Take delays from the departure rate, not from time stamps",
-        },
-        Argument {
-            name: "no_derandomization",
-            takes: Takes::Nothing,
-            help: "Pick packets by the random word alone",
-        },
-        Argument {
-            name: "no_cap_drop_adjustment",
-            takes: Takes::Nothing,
-            help: "Raise the probability as far as the control law says",
-        },
-        Argument {
-            name: "decay",
-            takes: Takes::Value("zero|half"),
-            help: "Decay at delays of 0, or below half the target; zero by default",
-        },
+        row!("rate": Value("RATE"), "The link's rate, as 100mbit, of which limit_bytes is 200 ms"),
+        row!("target": Value("TIME"), "The wanted delay; 15ms by default"),
+        row!("tupdate": Value("TIME"), "The time between two updates; 15ms by default"),
+        row!("limit": Value("PACKETS"), "How many packets may wait, as 1000p; 1000 by default"),
+        row!("alpha": Number(0, 32), "The gain alpha of tc; 2 by default"),
+        row!("beta": Number(0, 32), "The gain beta of tc; 20 by default"),
+        row!("ecn": Nothing, "Mark packets of ECN-capable endpoints"),
+        row!("bytemode": Nothing, "Pick a packet below the MTU less often, in proportion to its size"),
+        row!("mtu": Number(1, 65535), "The link's MTU in bytes, for --bytemode; 1514 by default"),
+        row!("dq_rate_estimator": Nothing, "Take delays from the departure rate, not from time stamps"),
+        row!("no_derandomization": Nothing, "Pick packets by the random word alone"),
+        row!("no_cap_drop_adjustment": Nothing, "Raise the probability as far as the control law says"),
+        row!("decay": Value("zero|half"), "Decay at delays of 0, or below half the target; zero by default"),
     ],
 };

@@ -1,6 +1,6 @@
 //! The words of `pie run`: what it takes, and what `--help` says of it.
 
-use crate::argument::{Argument, FILE, FORCE, OUTPUT, PROGRESS, Page, Takes};
+use crate::argument::{Argument, FILE, FORCE, OUTPUT, PROGRESS, Page, Takes, row};
 
 /// The words of `pie run`.
 pub(crate) const PAGE: Page<'static> = Page {
@@ -89,11 +89,7 @@ ends with
   arrive,1,1001003,5,500,ect0,0,mark
   arrive,2,1001003,6,500,not,0,early",
     arguments: &[
-        Argument {
-            name: "count",
-            takes: Takes::Nothing,
-            help: "Say on standard error how many events and refused records there were",
-        },
+        row!("count": Nothing, "Say on standard error how many events and refused records there were"),
         PROGRESS,
         OUTPUT,
         FORCE,

@@ -1,6 +1,6 @@
 //! The words of `pie storm`: what it takes, and what `--help` says of it.
 
-use crate::argument::{Argument, Page, Takes};
+use crate::argument::{Argument, Page, Takes, row};
 
 /// The words of `pie storm`.
 pub(crate) const PAGE: Page<'static> = Page {
@@ -27,75 +27,20 @@ Example: three senders with ten packets each, and the audit of what was recorded
 
   pie storm --senders 3 --packets 10 | pie audit",
     arguments: &[
-        Argument {
-            name: "senders",
-            takes: Takes::Number(2, 8),
-            help: "How many senders there are, 2 to 8; 2 by default",
-        },
-        Argument {
-            name: "packets",
-            takes: Takes::Number(1, 10_000),
-            help: "How many packets each sender has, 1 to 10000; 100 by default",
-        },
-        Argument {
-            name: "burst",
-            takes: Takes::Number(1, 1024),
-            help: "How many packets a sender hands in at once, 1 to 1024; 1 by default",
-        },
-        Argument {
-            name: "seed",
-            takes: Takes::Number(0, u64::MAX),
-            help: "What the random words are made of, 0 to 2^64 - 1; 1 by default",
-        },
-        Argument {
-            name: "load",
-            takes: Takes::Number(50, 200),
-            help: "How many packets come for each hundred that the link sends, 50 to 200; 100 by default",
-        },
-        Argument {
-            name: "changes",
-            takes: Takes::Number(0, 100),
-            help: "How often the parameters change, 0 to 100; 0 by default",
-        },
-        Argument {
-            name: "folds",
-            takes: Takes::Number(0, 100),
-            help: "How often recorded events are taken out of the link, 0 to 100; 0 by default",
-        },
-        Argument {
-            name: "profile",
-            takes: Takes::Number(1, 2),
-            help: "1: the controller is always active; 2: it turns itself off and on (5.3); 1 by default",
-        },
-        Argument {
-            name: "delay",
-            takes: Takes::Value("rate|stamp"),
-            help: "Where an update takes the delay from: the departure rate (5.2), or time stamps (4.3); rate by default",
-        },
-        Argument {
-            name: "picking",
-            takes: Takes::Value("derandomized|random"),
-            help: "Whether probabilities accumulate (5.4), or the random word alone picks; derandomized by default",
-        },
-        Argument {
-            name: "step",
-            takes: Takes::Value("capped|uncapped"),
-            help: "Whether an update's rise is capped at 2 % from a probability of 10 % on (5.5); capped by default",
-        },
-        Argument {
-            name: "size",
-            takes: Takes::Value("unscaled|scaled"),
-            help: "Whether packets below mean_pkt are picked less often, in proportion; unscaled by default",
-        },
-        Argument {
-            name: "decay",
-            takes: Takes::Value("zero|half"),
-            help: "Whether the probability decays at delays of 0 (4.2), or below half the target; zero by default",
-        },
-        Argument {
-            name: "count",
-            takes: Takes::Nothing,
-            help: "Say on standard error how many events and changes of caller there were",
-        },
+        row!("senders": Number(2, 8), "How many senders there are, 2 to 8; 2 by default"),
+        row!("packets": Number(1, 10_000), "How many packets each sender has, 1 to 10000; 100 by default"),
+        row!("burst": Number(1, 1024), "How many packets a sender hands in at once, 1 to 1024; 1 by default"),
+        row!("seed": Number(0, u64::MAX), "What the random words are made of, 0 to 2^64 - 1; 1 by default"),
+        row!("load": Number(50, 200), "How many packets come for each hundred that the link sends, 50 to 200; 100 by default"),
+        row!("changes": Number(0, 100), "How often the parameters change, 0 to 100; 0 by default"),
+        row!("folds": Number(0, 100), "How often recorded events are taken out of the link, 0 to 100; 0 by default"),
+        row!("profile": Number(1, 2), "1: the controller is always active; 2: it turns itself off and on (5.3); 1 by default"),
+        row!("delay": Value("rate|stamp"), "Where an update takes the delay from: the departure rate (5.2), or time stamps (4.3); rate by default"),
+        row!("picking": Value("derandomized|random"),
+            "Whether probabilities accumulate (5.4), or the random word alone picks; derandomized by default"),
+        row!("step": Value("capped|uncapped"), "Whether an update's rise is capped at 2 % from a probability of 10 % on (5.5); capped by default"),
+        row!("size": Value("unscaled|scaled"), "Whether packets below mean_pkt are picked less often, in proportion; unscaled by default"),
+        row!("decay": Value("zero|half"), "Whether the probability decays at delays of 0 (4.2), or below half the target; zero by default"),
+        row!("count": Nothing, "Say on standard error how many events and changes of caller there were"),
     ],
 };

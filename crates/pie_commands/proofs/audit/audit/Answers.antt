@@ -3,11 +3,8 @@ use Rattle.pie_commands.proofs.audit.audit.Goals as goal
 
 pub returns-in-Some : goal.returns-in-Some
 returns-in-Some g c =
-    rw (
-      c.flag-are_joined.ensures,
-      ap (λ (o : Option (List Text)). unwrap_or o [])
-          (c.in-Some.ensures ∙ raw_values-rows (found_of c.args.options.now) (codes "file")),
-    ) at c.audit_any.ensures
+    rw (ap (λ (o : Option (List Text)). unwrap_or o []) (c.in-Some.ensures ∙ raw_values-rows (found_of c.args.options.now) (codes "file")))
+    at c.audit_any.ensures
 
 pub returns-in-None : goal.returns-in-None
 returns-in-None g c =

@@ -1,4 +1,5 @@
-use Rattle.pie_commands.proofs.Names.{◌∙◌, ap, found_of, one_text, one_text-rows, read_by}
+use Rattle.pie_commands.proofs.Names.{◌∙◌, ap, found_of, one_text, one_text-rows, option_map, Option, Text}
+use Rattle.std.specs.Option.{option_transpose}
 use Rattle.pie_units.specs.When.{when_in}
 use Rattle.pie_commands.proofs.MomentFacts.{bound-given}
 use Rattle.pie_commands.proofs.moments.bound.Goals as goal
@@ -8,4 +9,4 @@ returns c =
     let found = found_of c.args.options.now in
     let name = c.args.name.now in
     bound-given (one_text found name) c.try_get_one.result c.try_get_one.ensures.none c.try_get_one.ensures.value
-    ∙ ap (read_by when_in) (one_text-rows found name)
+    ∙ ap (λ (given : Option Text). option_transpose (option_map when_in given)) (one_text-rows found name)

@@ -4,8 +4,8 @@ use Rattle.pie_commands.proofs.OutputFacts.{ends-settled}
 use Rattle.pie_commands.proofs.SubcommandFacts.{EndsAs-kept}
 use Rattle.pie_commands.proofs.perform.perform_for.Goals as goal
 
-pub returns-clause-ends : goal.returns-clause-ends
-returns-clause-ends g c =
+pub returns : goal.returns
+returns g c =
     let options = rows_of (found_of c.args.options.now) in
     let old = g.H.NamedFiles.holds c.args.rt.now in
     let mid = g.H.NamedFiles.holds c.make_for.new.rt in
@@ -16,7 +16,7 @@ returns-clause-ends g c =
     let ends = EndsAs c.args.subcommand options input old in
     let read = option_map (λ name. name.now) c.file.result in
     let wrote = subst (λ (made : Option (List ℕ)). EndsAs c.args.subcommand options input mid c.perform-end.result made left) c.in-Some.ensures.fresh
-    c.perform-end.ensures.ends in
+    c.perform-end.ensures in
     let ended = EndsAs-kept c.args.subcommand options input old mid c.perform-end.result fresh left c.make_for.ensures.keeps wrote in
     let at : EndsAt (file_of read) c.flag-is_forced.result c.args.name.now fresh old new ends (settled c.perform-end.result c.settle-is_there.result) =
     ends-settled (file_of read) c.flag-is_forced.result c.args.name.now old mid new ends c.perform-end.result c.settle-is_there.result fresh left

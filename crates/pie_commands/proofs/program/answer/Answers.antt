@@ -7,7 +7,7 @@ returns-in-Some g c words finds =
     answers-performed words c.in-Ok.matches c.in-Some.subcommand (rows_of (found_of c.in-Some.options.now))
     (g.R.Read.remaining c.args.input) g.H.NamedFiles.fresh (g.H.NamedFiles.holds c.args.rt.now) (g.H.NamedFiles.holds c.performed.new.rt) c.performed.result
     (g.W.Write.contents c.args.output.now) (g.W.Write.contents c.performed.new.output) (rw c.in-Ok.is at finds) c.in-Some.ensures.name
-    c.in-Some.ensures.rows c.performed.ensures.differs c.performed.ensures.ends
+    c.in-Some.ensures.rows c.performed.ensures
 
 pub returns-in-None : goal.returns-in-None
 returns-in-None g c words finds =

@@ -1,0 +1,116 @@
+//! What is done with one text, from its beginning to its end.
+ghost use Rattle.std.specs.Prelude.{OnOk};
+ghost use Rattle.std.specs.Io.KnownBytes.{Appends};
+ghost use Rattle.clap.specs.Words.{found_of, rows_of};
+ghost use Rattle.pie_files.specs.Files.{text_given};
+ghost use Rattle.pie_options.specs.Words.{file_in};
+ghost use Rattle.pie_commands.specs.Ends.{counts_line};
+ghost use Rattle.pie_commands.specs.Subcommands.{CanDo, EndsTask};
+
+use crate::cut::{Pieces, cut_out};
+use crate::end::{End, ended};
+use crate::explain::explain;
+use crate::screen::{Screen, shows_progress};
+use crate::{audit, cut};
+use clap::ArgMatches;
+use pie_files::{NamedFiles, Watched, reader_of};
+use pie_options::{file, flag};
+use pie_trace::{RunEnd, TraceFault, migrate, run_trace};
+use std::alloc::Global;
+use std::io;
+use std::io::{Read, Write};
+use std::time::Clock;
+
+/// What is done with a text.
+#[derive(Clone, Copy)]
+pub(crate) enum Task {
+    Run,
+    Audit,
+    Explain,
+    Cut(Pieces),
+    Migrate,
+}
+
+/// Writes how many events a run recorded, and how many records it refused.
+fn write_counts<E: Write>(end: &RunEnd, errors: &mut E) -> io::Result<()>
+    ensures { OnOk result (Appends (E.contents errors.old) (E.contents errors.new) (counts_line end.now)) }
+{
+    let (events, refused) = (end.events, end.refused);
+    writeln!(errors, "pie: {events} events, {refused} refused records")
+}
+
+/// Says on `errors` how many events and refused records a run without a fault had, where the options ask for it. A failed write is passed over.
+fn say_counts<E: Write>(
+    options: &ArgMatches<'_>,
+    given: &Result<RunEnd, TraceFault>,
+    errors: &mut E,
+) {
+    if let Ok(end) = given {
+        if flag(options, "count") {
+            let _ = write_counts(end, errors);
+        }
+    }
+}
+
+/// Does this with what is handed in. Progress is told on `errors` where it `is_shown`, and after a run without a fault how many events and refused
+/// records there were, where the options ask for it.
+pub(crate) fn perform_over<H: Clock, R: Read + Drop, W: Write, E: Write>(
+    rt: &H,
+    alloc: Global,
+    task: Task,
+    options: &ArgMatches<'_>,
+    is_shown: bool,
+    input: R,
+    output: &mut W,
+    errors: &mut E,
+) -> End
+    requires { CanDo task }
+    ensures { EndsTask task (rows_of (found_of options.now)) (R.remaining input) result (W.contents output.old) (W.contents output.new) }
+{
+    match task {
+        Task::Run => {
+            let watched = Watched::new(input, &mut *errors, rt, is_shown);
+            let given = run_trace(alloc, watched, output);
+            say_counts(options, &given, errors);
+            ended(errors, given)
+        }
+        Task::Audit => {
+            let watched = Watched::new(input, &mut *errors, rt, is_shown);
+            let found = pie_audit::audit(alloc, watched);
+            audit::ended(found, output, errors)
+        }
+        Task::Explain => explain(rt, alloc, options, is_shown, input, output, errors),
+        Task::Cut(pieces) => {
+            let watched = Watched::new(input, &mut *errors, rt, is_shown);
+            let given = cut_out(alloc, watched, output, pieces);
+            cut::ended(errors, given)
+        }
+        Task::Migrate => {
+            let watched = Watched::new(input, &mut *errors, rt, is_shown);
+            let given = migrate(alloc, watched, output);
+            ended(errors, given)
+        }
+    }
+}
+
+/// .. with the file that the options name, or with none what is handed in.
+pub(crate) fn of_options<H: NamedFiles + Screen, R: Read + Drop, W: Write, E: Write>(
+    rt: &H,
+    alloc: Global,
+    task: Task,
+    options: &ArgMatches<'_>,
+    input: R,
+    output: &mut W,
+    errors: &mut E,
+) -> End
+    requires { CanDo task }
+    ensures { EndsTask task (rows_of (found_of options.now))
+        (text_given (R.remaining input) (H.holds rt.now) (file_in (rows_of (found_of options.now)))) result (W.contents output.old)
+        (W.contents output.new) }
+{
+    let is_shown = shows_progress(rt, options, true);
+    match reader_of(rt, file(options), input, errors) {
+        Some(reader) => perform_over(rt, alloc, task, options, is_shown, reader, output, errors),
+        None => End::Unable,
+    }
+}

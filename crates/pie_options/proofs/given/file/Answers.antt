@@ -1,5 +1,0 @@
-use Rattle.pie_options.proofs.Names.{◌∙◌, codes, found_of, first_value-rows}
-use Rattle.pie_options.proofs.given.file.Goals as goal
-
-pub returns : goal.returns
-returns c = c.get_str.ensures ∙ first_value-rows (found_of c.args.options.now) (codes "file")

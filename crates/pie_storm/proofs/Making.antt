@@ -14,12 +14,12 @@ use Rattle.pie_event.specs.declared.refusal.FoldRefusal.{FoldRefusal}
 use Rattle.pie_event.specs.declared.refusal.FoldRefusal.TheVariants.{TooMany, Memory}
 use Rattle.pie_event.specs.declared.refusal.Refusal.TheVariants.{TooSoon, Moment, Size, Exhausted, HistoryFull}
 use Rattle.pie_book.specs.Decision.{is_too_soon}
-use Rattle.pie_kept.specs.Commands.{IsWhy, refusal_in}
-use Rattle.pie_link.specs.Commands.{Answers, IsRefused, IsTaken}
-use Rattle.pie_link.specs.Folds.{Folds, IsFoldMade, IsFoldRefused}
+use Rattle.pie_link.specs.Commands.{Answers}
+use Rattle.pie_link.specs.Folds.{Folds}
 use Rattle.pie_storm.specs.Storms.{IsEntryOf, TakenIn, WasPassedOver, added_by}
-use Rattle.pie_kept.specs.Bursts.{burst_within, entries_by, entries_within, refused_or_told, replies_within, reply_in}
-use Rattle.pie_link.specs.Bursts.{AnswersAll, AnswersWithin, IsBurstWithin}
+use Rattle.pie_kept.specs.Bursts.{burst_within, entries_by, entries_within, refused_or_told, replies_within, reply_in, refusal_in}
+use Rattle.pie_link.specs.Bursts.{AnswersAll, AnswersWithin}
+use Rattle.pie_link.specs.Views.{IsTurn}
 use Rattle.pie_storm.proofs.PlanFacts.{IsCallOf, all_at, calls_are}
 
 -- one more fold of the caller
@@ -156,8 +156,13 @@ which None false why is = absurd (cc)
 which None true why is = inr (refl, cc, refl)
 which (Some other) full why is = inl is
 
+-- why a command is refused, where its reply is a refusal
+refused_why : (why : Option Refusal) (told : Told Answer) (w : Refusal) → refused_or_told why told ≡ Err w → why ≡ Some w
+refused_why None told w e = absurd (cc e)
+refused_why (Some other) told w e = cc e
+
 -- a refusal as too soon is the rules'
-pub too_soon_by_rule : (opening : Opening) (history : List Entry) (command : Command) (due : ℕ) → IsWhy opening history command (TooSoon due)
+pub too_soon_by_rule : (opening : Opening) (history : List Entry) (command : Command) (due : ℕ) → refusal_in opening history command ≡ Some (TooSoon due)
     → refusal_by_rule opening (events_in history) command ≡ Some (TooSoon due)
 too_soon_by_rule opening history command due why =
     ⊎_elim (λ e. e) (λ e. absurd (cc (e.1)))
@@ -178,7 +183,7 @@ full_tail : (mode : Mode) (held room : ℕ) → is_refused_full mode (held == ro
 full_tail Bounded held room full = grind (arith, nat_tests, full)
 full_tail Rolling held room full = absurd (cc full)
 
-pub full_after : (opening : Opening) (history : List Entry) (command : Command) (why : Refusal) → IsFair command → IsWhy opening history command why
+pub full_after : (opening : Opening) (history : List Entry) (command : Command) (why : Refusal) → IsFair command → refusal_in opening history command ≡ Some why
     → ((d : ℕ) → why ≡ TooSoon d → ⊥) → min opening.limits.tail opening.limits.events ≤ length (events_in history)
 full_after opening history command why fair is not_soon =
     let events = events_in history in
@@ -223,13 +228,13 @@ module _ (plan : Plan) (number : ℕ) where
 
   -- what comes of a command that is refused
   module _ (h front : List Entry) (command : Command) (its : IsCallOf plan number (Ask command)) (shown : front ≡ h) where
-    cut_short : (why : Refusal) → IsWhy (opening_of plan) h command why → ((d : ℕ) → why ≡ TooSoon d → ⊥)
+    cut_short : (why : Refusal) → refusal_in (opening_of plan) h command ≡ Some why → ((d : ℕ) → why ≡ TooSoon d → ⊥)
         → IsCutShort plan number h (Ask command ∷ []) front
     cut_short why because not_soon =
         subst (λ (l : List Entry). IsCutShort plan number h (Ask command ∷ []) l) (sym shown)
         (record { asks = its.0; full = full_after (opening_of plan) h command why its.1 because not_soon; fewer = omega arith })
 
-    refused_by : (why : Refusal) → IsWhy (opening_of plan) h command why → CameBy plan number h (Ask command ∷ []) front (added_by (Err why))
+    refused_by : (why : Refusal) → refusal_in (opening_of plan) h command ≡ Some why → CameBy plan number h (Ask command ∷ []) front (added_by (Err why))
     unfolding CameBy added_by
     refused_by (TooSoon due) because =
         one_passed (Ask command) h front (record { due = due; refused = too_soon_by_rule (opening_of plan) h command due because }) shown
@@ -254,16 +259,17 @@ module _ (plan : Plan) (number k : ℕ) (link : LinkView) (link_for : IsFor plan
   unfolding Answers CameBy added_by
   asked_next command there (Ok told) answers =
       let a = answers (opening_of plan) link_for.opened in
-      let taken : IsTaken (opening_of plan) before command told after a.0 = a.1 in
+      let taken : IsTurn (opening_of plan) before _ _ after a.0 = a.1 in
       one_came (Ask command) a.0 (Some 0) there taken.from.goes_on
       (one_made plan number (Ask command) a.0 (Made (event_of before.first command told.answer)) after.front (at.first, refl)
-      (ap (λ (c : CallerView). c.front) taken.recorded))
+      (ap (λ (c : CallerView). c.front) taken.seen))
   asked_next command there (Err why) answers =
       let a = answers (opening_of plan) link_for.opened in
-      let refused : IsRefused (opening_of plan) before command why after a.0 = a.1 in
+      let refused : IsTurn (opening_of plan) before _ _ after a.0 = a.1 in
       let its = all_at (IsCallOf plan number) (calls_of plan number) k (Ask command) (calls_are plan link_for.sound number) there in
       one_came (Ask command) a.0 (added_by (Err why)) there refused.from.goes_on
-      (refused_by plan number a.0 after.front command its (ap (λ (c : CallerView). c.front) refused.seen) why refused.because)
+      (refused_by plan number a.0 after.front command its (ap (λ (c : CallerView). c.front) refused.seen ∙ append-nil a.0) why
+      (refused_why (refusal_in (opening_of plan) a.0 command) _ why (sym refused.said)))
 
   -- .. where it is a fold, of which the caller keeps what it is handed
   module _ (law : EntriesLookBack) (n : ℕ) (there : slice_get (calls_of plan number) k ≡ Some (Fold n)) (old new : List Event) where
@@ -276,23 +282,23 @@ module _ (plan : Plan) (number k : ℕ) (link : LinkView) (link_for : IsFor plan
     unfolding Folds TakenIn CameBy
     folded_next passed (Ok told) answers kept =
         let a = answers (opening_of plan) link_for.opened in
-        let made : IsFoldMade (opening_of plan) before n told after a.0 = a.1 in
+        let made : IsTurn (opening_of plan) before _ _ after a.0 = a.1 in
         let on = seen link number before a.0 at made.from.goes_on in
-        let shown : after.front ≡ a.0 ++ Folded before.first n ∷ [] = ap (λ (c : CallerView). c.front) made.recorded in (
+        let shown : after.front ≡ a.0 ++ Folded before.first n ∷ [] = ap (λ (c : CallerView). c.front) made.seen in (
           subst Came (sym kept.1) (one_came (Fold n) a.0 (Some 0) there made.from.goes_on
               (one_made plan number (Fold n) a.0 (Folded before.first n) after.front (at.first, refl) shown)),
           λ had. kept.0 ∙ (ap (λ (es : List Event). es ++ told.answer.items) (handed_before a.0 on had)
-              ∙ (ap (λ (es : List Event). handed_to (is_number number) (opening_of plan) [] a.0 ++ es) made.folded.oldest
+              ∙ (ap (λ (es : List Event). handed_to (is_number number) (opening_of plan) [] a.0 ++ es) made.said.oldest
               ∙ (sym (handed_more law (opening_of plan) number a.0 n before.first at.first)
               ∙ ap (λ (h : List Entry). handed_to (is_number number) (opening_of plan) [] h) (sym shown)))),
         )
     folded_next passed (Err (TooMany held)) answers kept =
         let a = answers (opening_of plan) link_for.opened in
-        let refused : IsFoldRefused (opening_of plan) before n (TooMany held) after a.0 = a.1 in
+        let refused : IsTurn (opening_of plan) before _ _ after a.0 = a.1 in
         let on = seen link number before a.0 at refused.from.goes_on in
-        let shown : after.front ≡ a.0 = ap (λ (c : CallerView). c.front) refused.seen in (
+        let shown : after.front ≡ a.0 = ap (λ (c : CallerView). c.front) refused.seen ∙ append-nil a.0 in (
           subst Came (sym kept.1) (one_came (Fold n) a.0 (Some 1) there refused.from.goes_on
-              (one_passed plan number (Fold n) a.0 after.front (omega (arith, refused.because.0, refused.because.1)) shown)),
+              (one_passed plan number (Fold n) a.0 after.front (omega (arith, refused.said.0, refused.said.1)) shown)),
           λ had. kept.0 ∙ (handed_before a.0 on had
               ∙ ap (λ (h : List Entry). handed_to (is_number number) (opening_of plan) [] h) (sym shown)),
         )
@@ -338,13 +344,8 @@ module _ (plan : Plan) (number k : ℕ) (front : List Entry) (passed : ℕ)
       inl (subst (λ (calls : List Call). AreMade (opening_of plan) number [] calls front passed)
       (ap (λ (n : ℕ). take n (calls_of plan number)) all ∙ take-length (calls_of plan number)) made)
 
--- why a command is refused, where its reply is a refusal
-refused_why : (why : Option Refusal) (told : Told Answer) (w : Refusal) → refused_or_told why told ≡ Err w → why ≡ Some w
-refused_why None told w e = absurd (cc e)
-refused_why (Some other) told w e = cc e
-
 -- an arrival is never too soon
-arrives_in_time : (opening : Opening) (h : List Entry) (a : Arrival) (why : Refusal) → IsWhy opening h (arrive a) why
+arrives_in_time : (opening : Opening) (h : List Entry) (a : Arrival) (why : Refusal) → refusal_in opening h (arrive a) ≡ Some why
     → (d : ℕ) → why ≡ TooSoon d → ⊥
 arrives_in_time opening h a why e d is =
     let events = events_in h in
@@ -425,7 +426,7 @@ module _ (law : EntriesLookBack) (plan : Plan) (caller : ℕ) where
       let cut = so (inr ((λ all. not_all.0 (All-cons IsOk (Ok told) replies refl all)), refl)) in
       record { asks = cut.asks; full = cut.full; fewer = omega (arith, cut.fewer, (grows_by g a (Ok told)).0) }
   first_came g end a later replies None (Err why) is its more so (inr not_all) =
-      let refused : IsWhy (opening_of plan) g (arrive a) why = refused_why (refusal_in (opening_of plan) g (arrive a)) (record {
+      let refused : refusal_in (opening_of plan) g (arrive a) ≡ Some why = refused_why (refusal_in (opening_of plan) g (arrive a)) (record {
         answer = decision (opening_of plan) (events_in g) (arrive a);
         number = length (events_in g) + 1;
       }) why is in
@@ -469,7 +470,7 @@ burst_next law plan number k n link link_for before after at [] replies some lon
 burst_next law plan number k n link link_for before after at (a ∷ later) replies some long is answers passed added =
     let b = answers (opening_of plan) link_for.opened in
     let burst = a ∷ later in
-    let told : IsBurstWithin None always (opening_of plan) before (map arrive burst) [] replies after b.0 = b.1 in
+    let told : IsTurn (opening_of plan) before _ _ after b.0 = b.1 in
     let same = is_answered law plan number b.0 [] burst in
     let h = b.0 ++ [] in
     let none : h ≡ b.0 = append-nil b.0 in
@@ -477,9 +478,9 @@ burst_next law plan number k n link link_for before after at (a ∷ later) repli
     let its = subst (All Its) (sym is)
     (All-take Its n (drop k (calls_of plan number)) (All-drop Its k (calls_of plan number) (calls_are plan link_for.sound number))) in
     let front_is : after.front ≡ after_all law plan number h burst =
-    ap (λ (c : CallerView). c.front) told.recorded ∙ ap (λ (first : ℕ). b.0 ++ recorded law plan first b.0 [] burst) at.first ∙ same.1 in
+    ap (λ (c : CallerView). c.front) told.seen ∙ ap (λ (first : ℕ). b.0 ++ recorded law plan first b.0 [] burst) at.first ∙ same.1 in
     let replies_are : replies ≡ replies_to law plan number h burst =
-    told.answered ∙ ap (λ (first : ℕ). answered law plan first b.0 [] burst) at.first ∙ same.0 in
+    told.said ∙ ap (λ (first : ℕ). answered law plan first b.0 [] burst) at.first ∙ same.0 in
     subst (λ (calls : List Call). CameBy plan number before.front calls after.front passed) is
     (came_from plan number before.front h (map arriving burst) after.front passed
     (subst (λ (g : List Entry). HasNoMore number before.front g) (sym none) (seen link number before b.0 at told.from.goes_on))

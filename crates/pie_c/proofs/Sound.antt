@@ -1,8 +1,8 @@
 -- A state says what a controller holds, and is sound where that is.
 use Rattle.pie_c.specs.{Begun, count_of, flag, flag_of, start_of}
-use Rattle.pie_c.proofs.Names.{RawParams, params_of, ◌≡◌, ◌<◌, ◌^◌, ◌≤◌, ◌==◌, if◌then◌else◌, ℕ, suc, Bool, true, None, arith, refl, ap, nat_tests, first_bad}
-use Rattle.pie_c.proofs.Names.{One, Held, IsSound, PieParams, PieState, raw_of, are_in_range, held_in, is_activity_sound, is_rate_sound, is_sound}
-use Rattle.pie_c.proofs.Names.{profile_number, profile_of, Stamp, state_of, choices_of, elements_of, usual}
+use Rattle.pie_c.proofs.Names.{RawParams, params_of, ◌≡◌, ◌<◌, ◌^◌, ◌≤◌, ◌==◌, if◌then◌else◌, ℕ, suc, Bool, true, None, arith, refl, ap, nat_tests}
+use Rattle.pie_c.proofs.Names.{first_bad, One, Held, IsSound, PieParams, PieState, raw_of, are_in_range, held_in, is_activity_sound, is_rate_sound}
+use Rattle.pie_c.proofs.Names.{is_sound, profile_number, profile_of, Stamp, state_of, choices_of, elements_of, usual}
 use Rattle.std.proofs.Common.{Option, is_none, zero}
 use Rattle.pie_event.specs.declared.profile.Profile.{Profile}
 use Rattle.pie_params.specs.declared.elements.Elements.{Elements}

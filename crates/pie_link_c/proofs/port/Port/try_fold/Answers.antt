@@ -1,5 +1,6 @@
 use Rattle.pie_link_c.specs.{TriesToFoldInto, fold_code, written_events}
-use Rattle.pie_link_c.proofs.Names.{◌≡◌, ◌≤◌, ◌-◌, ℕ, List, [], length, min, arith, sym, ap, ◌∙◌, subst, Event, CallerView, LinkView, StaysOne, params_after}
+use Rattle.pie_link_c.proofs.Names.{◌≡◌, ◌≤◌, ◌-◌, ℕ, List, [], length, min, arith, sym, ap, ◌∙◌, subst, Event, CallerView, LinkView, StaysOne}
+use Rattle.pie_link_c.proofs.Names.{params_after}
 use Rattle.std.proofs.Common.{vec_capacity, vec_len}
 use Rattle.pie_link_c.proofs.port.Port.try_fold.Goals as goal
 

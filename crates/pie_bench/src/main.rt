@@ -1,9 +1,10 @@
-//! `pie_bench`: what an event costs, measured. Its argument names the measurement.
+//! `pie_bench`: what an event costs in each part of the controller, measured. Its argument names the measurement.
 #![tactic(auto)]
 
 mod book;
 mod link;
 mod lock;
+mod parts;
 mod places;
 mod report;
 mod words;
@@ -33,6 +34,7 @@ fn measure<R: Threads + Wait + Clock + Print + Sync>(
     name: &str,
 ) {
     match name {
+        "parts" => parts::measure(report, alloc),
         "book" => book::measure(report, alloc),
         "lock" => lock::measure(report, alloc),
         "link" => link::measure(report, alloc),
@@ -41,6 +43,6 @@ fn measure<R: Threads + Wait + Clock + Print + Sync>(
 }
 
 fn usage<R: Clock + Print>(report: &mut Report<R>) {
-    let said = println!(report.rt; "pie_bench: name a measurement: book, lock or link");
+    let said = println!(report.rt; "pie_bench: name a measurement: parts, book, lock or link");
     report.printed(said);
 }

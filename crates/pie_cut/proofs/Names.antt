@@ -21,8 +21,9 @@ pub use Rattle.pie_cut.specs.{is_past, is_past_at, is_reached_at, is_resumed, is
 pub use Rattle.pie_cut.specs.{next_number, number_told, opening_refusal, part_rows, past_by, place_after, queued_row, reached_by, records_of}
 pub use Rattle.pie_cut.specs.{resume_with, segment, set_by_after, start_after, text_of, up_to, waiting_after, whole_lines, within}
 unfoldable pub use Rattle.pie_cut.specs.{chosen, event_count, events_of, excerpt_lines, finding, first_difference, line_places, resume_row, rows_text}
-pub use Rattle.pie_audit.proofs.LegalFacts.{all-made, event_count-push, legal-clean, made-events}
-pub use Rattle.pie_audit.proofs.AuditorFacts.{event_count-append, few-events, made-count, none_of}
+pub use Rattle.pie_audit.proofs.LegalFacts.{all-made, event_count-push, legal-clean, made-events, difference_here, events_of-none}
+pub use Rattle.pie_audit.proofs.LegalFacts.{first_difference-push, legal-of-clean, line_places-push}
+pub use Rattle.pie_audit.proofs.AuditorFacts.{event_count-append, few-events, made-count, none_of, Audits-finding}
 pub use Rattle.pie_audit.specs.Begun.{WholeBegun}
 pub use Rattle.pie_audit.specs.Finding.{agrees, event_in, finding_by}
 pub use Rattle.pie_audit.specs.Text.{FindsAfter, FindsBy, TellsPart, lines_after}
@@ -44,3 +45,5 @@ pub use Rattle.pie_record.specs.Text.{HasField}
 pub use Rattle.pie_record.specs.Write.{line_rows, told_alone, without_notes}
 pub use Rattle.pie_record.specs.declared.version.Version.{Version}
 pub use Rattle.pie_record.specs.declared.version.Version.TheVariants.{Three}
+pub use Rattle.pie_audit.proofs.ToldFacts.{part-begun, text-faulted, text-found}
+pub use Rattle.pie_explain.proofs.ExplainFacts.{all-written, appends-more, appends-page, by-lines}

@@ -45,5 +45,5 @@ pub use Rattle.pie_record.specs.Text.{HasField}
 pub use Rattle.pie_record.specs.Write.{line_rows, told_alone, without_notes}
 pub use Rattle.pie_record.specs.declared.version.Version.{Version}
 pub use Rattle.pie_record.specs.declared.version.Version.TheVariants.{Three}
-pub use Rattle.pie_audit.proofs.ToldFacts.{part-begun, text-faulted, text-found}
+pub use Rattle.pie_audit.proofs.ToldFacts.{begun-faulted, begun-found, part-begun}
 pub use Rattle.pie_explain.proofs.ExplainFacts.{all-written, appends-more, appends-page, by-lines}

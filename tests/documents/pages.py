@@ -11,7 +11,7 @@ The copy has the program and the library that are built here, and stand-ins for 
 there on this machine, and one of a folder whose missing.sh says that something is, are told as NOT RUN.
 
 usage: tests/documents/pages.py [--rt] [PAGE..]
-needs: program, library
+needs: program, pie_why, library
 """
 import os
 import re
@@ -24,7 +24,7 @@ from pathlib import Path
 sys.path.insert(0, f"{os.path.dirname(os.path.abspath(__file__))}/../shared")
 from checks import NAME, ROOT, check, finish  # noqa: E402
 
-BUILT = ["crates/pie/out/pie", "crates/pie_c/out/libpie_c.a", "crates/pie_link_c/out/libpie_link_c.a"]
+BUILT = ["crates/pie/out/pie", "crates/pie_why/out/pie_why", "crates/pie_c/out/libpie_c.a", "crates/pie_link_c/out/libpie_link_c.a"]
 RUN = ["README.md", "bindings/**/*.md", "examples/**/*.md"]
 LINKED = [*RUN, "*.md", "docs/*.md", "bench/*.md"]
 LINK = re.compile(r"\]\(([^)\s]+)\)")

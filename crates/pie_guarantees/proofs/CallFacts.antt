@@ -1,8 +1,7 @@
 -- What a call leaves, way by way: what each way leaves so is so after the call.
 use Rattle.pie_guarantees.proofs.Names.{◌≡◌, ◌+◌, ◌-◌, ◌&&◌, ◌||◌, ◌==◌, ℕ, Bool, true, false, refl, if◌then◌else◌, nat_lt, not, Enqueue}
 use Rattle.pie_guarantees.proofs.Names.{is_considered, is_picked, joined, counted, picked_choice, deed, is_update, Held, anew, bytes_with, arith}
-use Rattle.pie_guarantees.proofs.Names.{chosen, judged, nat_tests, is_calm, offered, ArrivingPacket, Verdict, Command, Arrive, Depart, Update, Answer}
-use Rattle.pie_guarantees.proofs.Names.{Enqueued}
+use Rattle.pie_guarantees.proofs.Names.{chosen, judged, nat_tests, is_calm, offered, ArrivingPacket, Verdict, Command, Update, Answer}
 use Rattle.pie_event.specs.declared.verdict.Verdict.TheVariants as verdict
 use Rattle.pie_aqm.specs.Steps as Steps
 
@@ -80,8 +79,4 @@ asks_update (Update moment) = true
 asks_update _ = false
 
 pub update-is : (command : Command) (answer : Answer) → is_update (deed command answer) ≡ asks_update command
-update-is (Arrive moment packet word) Enqueued = refl
-update-is (Arrive moment packet word) _ = refl
-update-is (Depart moment) Enqueued = refl
-update-is (Depart moment) _ = refl
-update-is _ answer = refl
+update-is command answer = grind (arith, nat_tests)

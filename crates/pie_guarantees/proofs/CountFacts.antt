@@ -3,10 +3,10 @@ use Rattle.pie_guarantees.proofs.Names.{◌≡◌, ◌≤◌, ◌+◌, ◌*◌, 
 use Rattle.pie_guarantees.proofs.Names.{AtEachEvent, BetweenAny}
 use Rattle.pie_guarantees.proofs.Names.{inl, inr, length, arith, subst, All, Some, Option, sum_by, append-nil, append_assoc, length-map, map-append}
 use Rattle.pie_guarantees.proofs.Names.{filter_map-append, sum_by_push, sum_by-cons, bytes_of, Deed, deed, deed_of, departure, with_ce, answer_of}
-use Rattle.pie_guarantees.proofs.Names.{after_call, Held, filter_map-push, with_one, Packet, Waiting, Verdict, Command, Arrive, Depart, SetParams}
+use Rattle.pie_guarantees.proofs.Names.{after_call, Held, filter_map-push, with_one, Packet, Waiting, Verdict, Command, Arrive, Depart}
 use Rattle.pie_guarantees.proofs.Names.{Answer, Event, Opening, arrival_of, call_of, answer_by, held_after, params_after, bytes_after}
 use Rattle.pie_guarantees.proofs.Names.{effective_moment, waiting_after, count_of, is_dropped_bytes, is_dropped_early, is_dropped_packets, is_marked}
-use Rattle.pie_guarantees.proofs.Names.{is_queued, waiting_next, first_shows, ArrivingPacket, IsLawful, arrival_deed, eqb-false, nat_tests, take}
+use Rattle.pie_guarantees.proofs.Names.{is_queued, waiting_next, first_shows, ArrivingPacket, IsLawful, eqb-false, nat_tests, take}
 use Rattle.pie_guarantees.proofs.Names.{take-append_seam}
 use Rattle.std.proofs.lemmas.List.{append_cancel_left, length_push}
 use Rattle.std.proofs.lemmas.List.Recursion.{is_sum_by}
@@ -15,7 +15,6 @@ use Rattle.pie_guarantees.specs.{packets_waiting, time_of}
 use Rattle.pie_event.specs.declared.verdict.Verdict.TheVariants as verdict
 use Rattle.pie_event.specs.Verdict as Verdicts
 use Rattle.pie_aqm.specs.Steps as Steps
-use Rattle.pie_guarantees.proofs.CallFacts.{after-arrival}
 use Rattle.pie_guarantees.proofs.LawfulFacts.{IsStep, all_along, along, beginning, first-held, step_at, throughout}
 
 -- ---- counts
@@ -41,14 +40,8 @@ ways d = cond (is_queued d) 1 0 + cond (is_marked d) 1 0 + cond (is_dropped_earl
 -- one command counts once
 once-more : (h : Held) (waiting : List Waiting) (packets : ℕ) (command : Command)
     → cond (hands_in command) 1 0 ≡ ways (deed command (answer_by h waiting packets command))
-once-more h waiting packets (Arrive moment packet word) = by (Steps.verdict h (arrival_of waiting packets packet word))
-  where
-    by : (v : Verdict) → 1 ≡ ways (arrival_deed packet (answer_of v))
-    by verdict.Enqueued = refl
-    by _ = refl
-once-more h [] packets (Depart moment) = refl
-once-more h (oldest ∷ others) packets (Depart moment) = refl
-once-more h waiting packets _ = refl
+unfolding Steps.verdict
+once-more h waiting packets command = grind (arith, nat_tests)
 
 adds-next : (opening : Opening) (before : List Event) (event : Event) → IsStep opening before event → Adds before → Adds (before ++ event ∷ [])
 adds-next opening before event step old =
@@ -71,28 +64,13 @@ each_once opening history lawful = throughout Adds opening refl (adds-next openi
 abbrev packets-of : List Waiting → List Packet
 packets-of waiting = map (λ (entry : Waiting). entry.packet) waiting
 
-one-new : (gone all : List Packet) (waiting : List Waiting) (new : Waiting) → gone ++ packets-of waiting ≡ all
-    → gone ++ packets-of (waiting ++ new ∷ []) ≡ all ++ new.packet ∷ []
-one-new gone all waiting new e =
-    rw (map-append (λ (entry : Waiting). entry.packet) waiting (new ∷ []), ← append_assoc gone (packets-of waiting) (new.packet ∷ []))
-    (ap (λ (ps : List Packet). ps ++ new.packet ∷ []) e)
-
 in-order : (h : Held) (waiting : List Waiting) (packets : ℕ) (command : Command) (now : ℕ) (gone all : List Packet)
     → gone ++ packets-of waiting ≡ all
     → with_one gone (departure (deed command (answer_by h waiting packets command)))
     ++ packets-of (waiting_next waiting now (deed command (answer_by h waiting packets command)))
     ≡ with_one all (packet_queued (deed command (answer_by h waiting packets command)))
-in-order h waiting packets (Arrive moment packet word) now gone all e = by (Steps.verdict h (arrival_of waiting packets packet word))
-  where
-    by : (v : Verdict) → with_one gone (departure (deed (Arrive moment packet word) (answer_of v)))
-        ++ packets-of (waiting_next waiting now (deed (Arrive moment packet word) (answer_of v)))
-        ≡ with_one all (packet_queued (deed (Arrive moment packet word) (answer_of v)))
-    by verdict.Enqueued = one-new gone all waiting (record { packet = packet; since = now }) e
-    by verdict.Marked = one-new gone all waiting (record { packet = with_ce packet; since = now }) e
-    by _ = e
-in-order h [] packets (Depart moment) now gone all e = e
-in-order h (oldest ∷ others) packets (Depart moment) now gone all e = rw (append_assoc gone (oldest.packet ∷ []) (packets-of others)) e
-in-order h waiting packets _ now gone all e = e
+unfolding Steps.verdict
+in-order h waiting packets command now gone all e = grind (arith, nat_tests, append_assoc, map-append)
 
 abbrev Ordered : Opening → List Event → Type 0
 Ordered opening history = packets_departed history ++ packets_waiting opening history ≡ packets_queued history
@@ -189,12 +167,7 @@ room_for_bytes opening before event later lawful packet is =
 -- the limit in force after a call
 limit-next : (most : ℕ) (h : Held) (waiting : List Waiting) (packets : ℕ) (command : Command) → h.params.limit_bytes ≤ most
     → SetsLimit most command → (after_call h (call_of waiting packets command)).params.limit_bytes ≤ most
-limit-next most h waiting packets (Arrive moment packet word) low set =
-    after-arrival (λ (g : Held). g.params.limit_bytes ≤ most) h (arrival_of waiting packets packet word) moment low (λ on. low)
-limit-next most h [] packets (Depart moment) low set = low
-limit-next most h (oldest ∷ others) packets (Depart moment) low set = low
-limit-next most h waiting packets (SetParams moment params) low set = set
-limit-next most h waiting packets _ low set = low
+limit-next most h waiting packets command low set = grind (arith, nat_tests)
 
 record Below (most : ℕ) (opening : Opening) (history : List Event) : Type 0 where
   limit : (params_after opening history).limit_bytes ≤ most

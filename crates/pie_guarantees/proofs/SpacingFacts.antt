@@ -6,7 +6,7 @@ use Rattle.pie_guarantees.proofs.Names.{is_picked, joined, deed, answer_of, afte
 use Rattle.pie_guarantees.proofs.Names.{Arrive, Depart, Reset, Answer, Event, Opening, arrival_of, call_of, answer_by, held_after, waiting_after}
 use Rattle.pie_guarantees.proofs.Names.{is_dropped_bytes, is_dropped_packets, is_reset, AllAlong, IsLawful, IsEarly, is_early, held_of}
 use Rattle.pie_params.specs.declared.elements.Picking.{Picking}
-use Rattle.pie_params.specs.declared.elements.Picking.TheVariants.{Derandomized, Random}
+use Rattle.pie_params.specs.declared.elements.Picking.TheVariants.{Derandomized}
 use Rattle.pie_guarantees.specs.{arriving_size, CountsAtLeast, CountsAtMost, GoesOn, considered_in, counted_at, had_room, was_considered}
 use Rattle.pie_aqm.specs.Steps as Steps
 use Rattle.pie_book.specs.Estimates as Book
@@ -29,8 +29,7 @@ abbrev considers : Held → ℕ → Command → Answer → Bool
 considers h bytes command answer = had_room (deed command answer) && con-of h bytes
 
 joined-most : (picking : Picking) (accu q : ℕ) → joined picking accu q ≤ accu + q
-joined-most Derandomized accu q = omega arith
-joined-most Random accu q = omega arith
+joined-most picking accu q = grind (arith, nat_tests)
 
 grows : (h : Held) (waiting : List Waiting) (packets : ℕ) (command : Command)
     → (after_call h (call_of waiting packets command)).accu
@@ -50,9 +49,8 @@ grows h waiting packets _ = omega arith
 -- ---- a pick starts anew
 
 left-zero : (h : Held) (a : ArrivingPacket) → is_early (answer_of (Steps.verdict h a)) ≡ true → Steps.accu_left h a ≡ 0
-left-zero h a =
-    after-verdict h a (λ (v : Verdict) (left : ℕ). is_early (answer_of v) ≡ true → left ≡ 0) (λ e. refl) (λ e. refl) (λ unseen e. cc)
-    (λ on seen picked e. refl) (λ seen none e. refl) (λ seen some e. cc)
+unfolding Steps.verdict Steps.accu_left
+left-zero h a e = grind (arith, nat_tests)
 
 pub starts_anew : AtEachEvent (λ opening before event. IsEarly event → Book.accu_after opening (before ++ event ∷ []) ≡ 0)
 starts_anew opening before event later lawful early =
@@ -88,8 +86,7 @@ grows-at opening before event step =
 -- what is left of a bound where a packet is considered, or none
 more-at-most : (b : Bool) (n most accu q next total : ℕ) → accu + ((if b then 1 else 0) + n) * most ≤ total → next ≤ accu + (if b then q else 0)
     → (b ≡ true → q ≤ most) → next + n * most ≤ total
-more-at-most true n most accu q next total old less few = let small = few refl in grind arith
-more-at-most false n most accu q next total old less few = grind arith
+more-at-most b n most accu q next total old less few = grind (arith, nat_tests)
 
 far : (most : ℕ) (opening : Opening) (before between later : List Event) → IsLawful opening (before ++ between ++ later)
     → Book.accu_after opening before ≡ 0 → AllAlong (CountsAtMost most opening) before between
@@ -133,13 +130,10 @@ far_apart most opening before between event later lawful spaced none few last ea
 -- ---- as long as it goes on
 
 joined-keeps : (picking : Picking) (accu q least : ℕ) → picking ≡ Derandomized → least ≤ q → accu + least ≤ joined picking accu q
-joined-keeps Derandomized accu q least spaced much = omega arith
-joined-keeps Random accu q least spaced much = cc
+joined-keeps picking accu q least spaced much = grind (arith, nat_tests)
 
 pick-early : (a b : Bool) → is_early (answer_of (chosen (if a && b then Mark else Drop))) ≡ true
-pick-early true true = refl
-pick-early true false = refl
-pick-early false b = refl
+pick-early a b = grind (arith, nat_tests)
 
 off-before : (active large : Bool) → not active && large ≡ true → active ≡ false
 off-before active large e = grind (arith, nat_tests)
@@ -195,8 +189,7 @@ keeps-at least opening before event step spaced some large on =
 
 more-at-least : (b : Bool) (n least accu next total : ℕ) → total ≤ accu + ((if b then 1 else 0) + n) * least
     → accu + (if b then least else 0) ≤ next → total ≤ next + n * least
-more-at-least true n least accu next total old more = grind arith
-more-at-least false n least accu next total old more = grind arith
+more-at-least b n least accu next total old more = grind (arith, nat_tests)
 
 -- two properties that each event has
 both : (P Q : List Event → Event → Type 0) (before between : List Event) → AllAlong P before between → AllAlong Q before between

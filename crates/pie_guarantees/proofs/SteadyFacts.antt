@@ -1,10 +1,10 @@
 -- How far updates at one delay move the probability, by the table of auto-tuning.
-use Rattle.pie_guarantees.proofs.Names.{◌≡◌, ◌≤◌, ◌<◌, ◌+◌, ◌*◌, ◌-◌, ◌/◌, ◌^◌, ℕ, zero, suc, false, refl, ap, ◌∙◌, arith, subst, min, ℤ, pos, negsuc}
-use Rattle.pie_guarantees.proofs.Names.{◌+ℤ◌, ◌-ℤ◌, ◌*ℤ◌, ◌≤ℤ◌, int_div, nat_tests, clamps, ints, le-div, mul-le, div-mul-le_self, lt-mul-div-succ}
+use Rattle.pie_guarantees.proofs.Names.{◌≡◌, ◌≤◌, ◌<◌, ◌+◌, ◌*◌, ◌-◌, ◌/◌, ◌^◌, ℕ, zero, suc, false, refl, ap, ◌∙◌, arith, subst, min, ℤ, pos}
+use Rattle.pie_guarantees.proofs.Names.{◌+ℤ◌, ◌-ℤ◌, ◌≤ℤ◌, int_div, nat_tests, clamps, ints, le-div, mul-le, div-mul-le_self, lt-mul-div-succ}
 use Rattle.pie_guarantees.proofs.Names.{bounded_of, Elements, Step, decayed, decays, next, raw_step, tuned_step, tuning_divisor, bounded_of-below}
 use Rattle.pie_guarantees.proofs.Names.{after_updates, next-hold, least_rise, untuned_fall, untuned_rise, updates_from, updates_to_a_tenth}
 use Rattle.pie_params.specs.declared.raw.RawParams.{RawParams}
-use Rattle.pie_guarantees.proofs.NextFacts.{decayed-less, divisor-some, next_down, next_up, none_decays, tuned-by}
+use Rattle.pie_guarantees.proofs.NextFacts.{decayed-less, divisor-some, next_down, next_up, none_decays}
 
 -- ---- the table of auto-tuning
 
@@ -21,53 +21,35 @@ divisor-falls low high le = grind (arith, nat_tests)
 
 raw-above : (params : RawParams) (delay : ℕ) → params.target ≤ delay → raw_step params delay delay ≡ pos (untuned_rise params delay)
 unfolding raw_step
-raw-above params delay above =
-    let far : pos delay -ℤ pos params.target ≡ pos (delay - params.target) = omega (arith, ints) in
-    let none : pos delay -ℤ pos delay ≡ pos 0 = omega (arith, ints) in
-    rw (far, none) (omega (arith, ints))
-
-zero-less : (n : ℕ) → pos 0 -ℤ pos (suc n) ≡ negsuc n
-zero-less n = omega (arith, ints)
-
-product-below : (a n : ℕ) → pos a *ℤ (pos 0 -ℤ pos n) ≡ pos 0 -ℤ pos (a * n)
-product-below a zero = omega (arith, ints)
-product-below a (suc n) = rw (zero-less n) (omega (arith, ints))
+raw-above params delay above = grind (arith, ints)
 
 raw-below : (params : RawParams) (delay : ℕ) → delay ≤ params.target → raw_step params delay delay ≡ pos 0 -ℤ pos (untuned_fall params delay)
 unfolding raw_step
-raw-below params delay below =
-    let far : pos delay -ℤ pos params.target ≡ pos 0 -ℤ pos (params.target - delay) = omega (arith, ints) in
-    let none : pos delay -ℤ pos delay ≡ pos 0 = omega (arith, ints) in
-    rw (far, none, product-below params.alpha (params.target - delay)) (omega (arith, ints))
+raw-below params delay below = grind (arith, ints)
 
 -- toward zero
 quotient-below : (n d : ℕ) → int_div (pos 0 -ℤ pos n) (pos d) ≡ pos 0 -ℤ pos (n / d)
-quotient-below zero d = omega (arith, ints)
-quotient-below (suc n) d = rw (zero-less n) (omega (arith, ints))
+quotient-below n d = grind (arith, ints)
 
 fallen : (z : ℤ) (prob fall : ℕ) → z ≡ pos prob +ℤ (pos 0 -ℤ pos fall) → bounded_of z ≡ min (10 ^ 12) (prob - fall)
-fallen (pos a) prob fall e = omega (arith, ints, e)
-fallen (negsuc a) prob fall e = omega (arith, ints, e)
+fallen z prob fall e = grind (arith, ints)
 
 tuned-below : (step : Step) (prob n : ℕ) → tuned_step step prob (pos 0 -ℤ pos n) ≡ pos 0 -ℤ pos (n / tuning_divisor prob)
-tuned-below step prob n =
-    let q = quotient-below n (tuning_divisor prob) in
-    tuned-by (λ (z w : ℤ). z ≡ pos 0 -ℤ pos (n / tuning_divisor prob)) step prob (pos 0 -ℤ pos n) (pos 0) (rw q (omega (arith, ints, clamps))) q
+unfolding tuned_step
+tuned-below step prob n = let q = quotient-below n (tuning_divisor prob) in grind (arith, nat_tests, ints, clamps)
 
 least-tuned : (step : Step) (params : RawParams) (delay prob : ℕ)
     → pos (least_rise params delay prob) ≤ℤ tuned_step step prob (pos (untuned_rise params delay))
-least-tuned step params delay prob =
-    tuned-by (λ (z w : ℤ). pos (least_rise params delay prob) ≤ℤ z) step prob (pos (untuned_rise params delay)) (pos 0)
-    (omega (arith, ints, clamps)) (omega (arith, ints, clamps))
+unfolding tuned_step
+least-tuned step params delay prob = grind (arith, nat_tests, ints, clamps)
 
 tuned-most : (step : Step) (prob n : ℕ) → tuned_step step prob (pos n) ≤ℤ pos (n / tuning_divisor prob)
-tuned-most step prob n =
-    tuned-by (λ (z w : ℤ). z ≤ℤ pos (n / tuning_divisor prob)) step prob (pos n) (pos 0) (omega (arith, ints, clamps)) (omega (arith, ints))
+unfolding tuned_step
+tuned-most step prob n = grind (arith, nat_tests, ints, clamps)
 
 -- a sum that is at least this is as a probability
 least-bounded : (prob rise : ℕ) (x : ℤ) → pos rise ≤ℤ x → min (10 ^ 12) (prob + rise) ≤ bounded_of (pos prob +ℤ x)
-least-bounded prob rise (pos a) le = omega (arith, ints, le)
-least-bounded prob rise (negsuc a) le = absurd (omega (arith, ints, le))
+least-bounded prob rise x le = grind (arith, ints, clamps)
 
 one-rise : (elements : Elements) (params : RawParams) (prob delay : ℕ) → 0 < params.target → params.target ≤ delay
     → min (10 ^ 12) (prob + least_rise params delay prob) ≤ next elements params prob delay delay

@@ -1,12 +1,11 @@
 -- How the burst allowance goes down from update to update, and how far updates are apart.
-use Rattle.pie_guarantees.proofs.Names.{◌≡◌, ◌≤◌, ◌+◌, ◌*◌, ℕ, List, [], ◌∷◌, ◌++◌, true, false, refl, sym, cond, arith, subst, max, All}
-use Rattle.pie_guarantees.proofs.Names.{append_assoc, ltb-false, bytes_of, deed, is_update, after_call, Held, Waiting, Command, Arrive}
-use Rattle.pie_guarantees.proofs.Names.{Depart, Update, Reset, SetParams, Answer, Event, Opening, arrival_of, call_of, is_too_soon, held_after}
+use Rattle.pie_guarantees.proofs.Names.{◌≡◌, ◌≤◌, ◌+◌, ◌*◌, ℕ, List, [], ◌∷◌, ◌++◌, true, false, sym, cond, arith, subst, max, All}
+use Rattle.pie_guarantees.proofs.Names.{append_assoc, deed, is_update, after_call, Held, Waiting, Command}
+use Rattle.pie_guarantees.proofs.Names.{Update, Answer, Event, Opening, call_of, is_too_soon, held_after}
 use Rattle.pie_guarantees.proofs.Names.{params_after, parts_after, effective_moment, waiting_after, AllAllow, Allows, IsAllowed, KeepsParams}
 use Rattle.pie_guarantees.proofs.Names.{SetsAllow, nat_tests, burst_left, updates_in, IsLawful, IsEarly, get_or}
 use Rattle.pie_aqm.specs.Steps as Steps
 use Rattle.pie_guarantees.proofs.LawfulFacts.{IsStep, all_along, along, counted-cons, first-held, sound_at, step_at}
-use Rattle.pie_guarantees.proofs.CallFacts.{after-arrival, burst-updated, last-updated}
 use Rattle.pie_guarantees.proofs.EarlyFacts.{early_at}
 
 -- ---- what a controller holds, from call to call
@@ -32,48 +31,19 @@ module _ (burst least most start last : ℕ) where
     later : start ≤ h.moment
     sound : h.control.last ≤ h.moment
 
-  -- after a call that is no update
-  carried : (n : ℕ) (h g : Held) (moment : ℕ) → Holds n h → g.control.last ≡ h.control.last → g.moment ≡ max h.moment moment
-      → Allows burst least most g.params → burst ≤ g.control.burst + n * most → Holds n g
-  carried n h g moment old same now allows whole = record {
-    allows = allows;
-    whole = whole;
-    apart = rw same old.apart;
-    since = rw same old.since;
-    later = omega arith;
-    sound = omega arith;
-  }
-
-  -- an update that isn't too soon takes one `t_update` at most
-  updated-holds : (n : ℕ) (h : Held) (queued moment : ℕ) → Holds n h → h.control.last + h.params.t_update ≤ max h.moment moment
-      → Holds (n + 1) (Steps.updated h queued moment)
-  updated-holds n h queued moment old due =
-      let first = one-more n most in
-      let second = one-more n least in
-      let is = last-updated h queued (max h.moment moment) in
-      let left = burst-updated (λ (b : ℕ). burst ≤ b + (n * most + most)) h queued (max h.moment moment) (omega arith) (omega arith)
-      (omega arith) in
-      record {
-        allows = old.allows;
-        whole = omega arith;
-        apart = omega arith;
-        since = omega arith;
-        later = omega arith;
-        sound = omega arith;
-      }
-
   call-holds : (n : ℕ) (h : Held) (waiting : List Waiting) (packets : ℕ) (command : Command) → Holds n h → SetsAllow burst least most command
       → is_too_soon h.moment (Steps.due h) command ≡ false → Holds (counted_with command n) (after_call h (call_of waiting packets command))
-  call-holds n h waiting packets (Arrive moment packet word) old set due =
-      after-arrival (Holds n) h (arrival_of waiting packets packet word) moment (carried n h _ moment old refl refl old.allows old.whole)
-      (λ on. carried n h _ moment old refl refl old.allows (omega arith))
-  call-holds n h [] packets (Depart moment) old set due = carried n h _ moment old refl refl old.allows old.whole
-  call-holds n h (oldest ∷ others) packets (Depart moment) old set due = carried n h _ moment old refl refl old.allows old.whole
-  call-holds n h waiting packets (Update moment) old set due =
-      updated-holds n h (bytes_of waiting) moment old (ltb-false (max h.moment moment) (h.control.last + h.params.t_update) due)
-  call-holds n h waiting packets (Reset moment) old set due =
-      carried n h _ moment old refl refl old.allows (omega arith)
-  call-holds n h waiting packets (SetParams moment params) old set due = carried n h _ moment old refl refl set old.whole
+  call-holds n h waiting packets command old set due =
+      let first = one-more n most in
+      let second = one-more n least in
+      record {
+        allows = grind (arith, nat_tests);
+        whole = grind (arith, nat_tests);
+        apart = grind (arith, nat_tests);
+        since = grind (arith, nat_tests);
+        later = grind (arith, nat_tests);
+        sound = grind (arith, nat_tests);
+      }
 
 -- ---- along a lawful history
 

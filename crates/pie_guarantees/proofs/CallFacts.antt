@@ -1,7 +1,7 @@
 -- What a call leaves, way by way: what each way leaves so is so after the call.
-use Rattle.pie_guarantees.proofs.Names.{◌≡◌, ◌+◌, ◌-◌, ◌&&◌, ◌||◌, ◌==◌, ℕ, Bool, true, false, refl, if◌then◌else◌, nat_lt, not, Enqueue}
+use Rattle.pie_guarantees.proofs.Names.{◌≡◌, ◌+◌, ◌&&◌, ◌||◌, ◌==◌, ℕ, Bool, true, false, refl, if◌then◌else◌, nat_lt, not, Enqueue}
 use Rattle.pie_guarantees.proofs.Names.{is_considered, is_picked, joined, counted, picked_choice, deed, is_update, Held, anew, bytes_with, arith}
-use Rattle.pie_guarantees.proofs.Names.{chosen, judged, nat_tests, is_calm, offered, ArrivingPacket, Verdict, Command, Update, Answer}
+use Rattle.pie_guarantees.proofs.Names.{chosen, judged, nat_tests, offered, ArrivingPacket, Verdict, Command, Update, Answer}
 use Rattle.pie_event.specs.declared.verdict.Verdict.TheVariants as verdict
 use Rattle.pie_aqm.specs.Steps as Steps
 
@@ -52,25 +52,6 @@ after-verdict h a P bytes packets unseen picked none some =
     by false false true true false true is c z p = picked is c p
     by false false true true true false is c z p = none (rw (is, c) refl) z
     by false false true true false false is c z p = some (rw (is, c) refl) z
-
--- ---- an update
-
--- the burst allowance is whole, or less by an update, or as it was where the controller is inactive
-pub burst-updated : (P : ℕ → Type 0) (h : Held) (queued now : ℕ) → P h.params.max_burst → P (h.control.burst - h.params.t_update)
-    → P h.control.burst → P (Steps.control_after h queued now).burst
-burst-updated P h queued now whole less same = by h.active
-  where
-    left : (calm : Bool) → P (if calm then h.params.max_burst else (h.control.burst - h.params.t_update))
-    left true = whole
-    left false = less
-
-    by : (active : Bool) → P (if active then Steps.control_updated h.elements h.params h.control (Steps.delay_in h queued) now
-        else record h.control { last = now }).burst
-    by true = left (is_calm h queued)
-    by false = same
-
-pub last-updated : (h : Held) (queued now : ℕ) → (Steps.control_after h queued now).last ≡ now
-last-updated h queued now = grind (arith, nat_tests)
 
 -- ---- which commands are updates
 

@@ -1,8 +1,8 @@
 -- How the next probability follows the delay.
-use Rattle.pie_guarantees.proofs.Names.{◌≡◌, ◌≤◌, ◌<◌, ◌+◌, ◌*◌, ◌/◌, ◌^◌, ℕ, Bool, true, false, arith, ℤ, pos}
-use Rattle.pie_guarantees.proofs.Names.{negsuc, ◌+ℤ◌, ◌-ℤ◌, ◌*ℤ◌, ◌≤ℤ◌, int_div, nat_tests, clamps, ints, le-div, mul-le}
-use Rattle.pie_guarantees.proofs.Names.{div-mul-le_self, bounded_of, Elements, Step, is_capped, decayed, decays, next, raw_step, tuned_step}
-use Rattle.pie_guarantees.proofs.Names.{tuning_divisor, bounded_of-below}
+use Rattle.pie_guarantees.proofs.Names.{◌≡◌, ◌≤◌, ◌<◌, ◌+◌, ◌*◌, ◌/◌, ◌^◌, ℕ, true, false, arith, ℤ, pos}
+use Rattle.pie_guarantees.proofs.Names.{◌-ℤ◌, ◌*ℤ◌, ◌≤ℤ◌, int_div, nat_tests, clamps, ints, le-div, mul-le}
+use Rattle.pie_guarantees.proofs.Names.{div-mul-le_self, Elements, Step, is_capped, decayed, decays, next, raw_step, tuned_step}
+use Rattle.pie_guarantees.proofs.Names.{tuning_divisor}
 use Rattle.pie_params.specs.declared.raw.RawParams.{RawParams}
 use Rattle.pie_params.specs.declared.elements.Decay.{Decay}
 
@@ -37,28 +37,16 @@ unfolding tuned_step
 tuned-mono step prob x y le =
     let quotients = div-mono-int x y (tuning_divisor prob) (divisor-some prob) le in grind (arith, nat_tests, ints, clamps)
 
--- what decays wherever more does is no more, once both are bounded
-decayed-mono : (d m : Bool) (x y : ℤ) → (m ≡ true → d ≡ true) → x ≤ℤ y → bounded_of (decayed d x) ≤ bounded_of (decayed m y)
-unfolding decayed
-decayed-mono d m x y both le = grind (arith, nat_tests, ints, clamps)
-
 -- ---- the next probability
-
--- where it decays at a delay it does so at a lower one
-decays-below : (choice : Decay) (params : RawParams) (old delay more : ℕ) → delay ≤ more → decays choice params more old ≡ true
-    → decays choice params delay old ≡ true
-decays-below choice params old delay more le is = grind (arith, nat_tests)
 
 -- a higher delay never gives a lower next probability, all else the same
 pub next_mono : (elements : Elements) (params : RawParams) (prob old delay more : ℕ) → delay ≤ more
     → next elements params prob delay old ≤ next elements params prob more old
-unfolding next
+unfolding next decayed
 next_mono elements params prob old delay more le =
     let t = tuned-mono elements.step prob (raw_step params delay old) (raw_step params more old)
     (raw-mono params old old delay more le (omega (arith, ints))) in
-    decayed-mono (decays elements.decay params delay old) (decays elements.decay params more old)
-    (pos prob +ℤ tuned_step elements.step prob (raw_step params delay old)) (pos prob +ℤ tuned_step elements.step prob (raw_step params more old))
-    (decays-below elements.decay params old delay more le) (omega (arith, ints, t))
+    grind (arith, nat_tests, ints, clamps)
 
 -- ---- up and down
 
@@ -80,11 +68,6 @@ tuned-down step prob params delay old below fallen =
     rw (raw-zero params, tuned-zero step prob) at
     (tuned-mono step prob (raw_step params delay old) (raw_step params params.target params.target) raw)
 
--- what decays or not is at most what doesn't
-pub decayed-less : (decays : Bool) (x : ℤ) → bounded_of (decayed decays x) ≤ bounded_of x
-unfolding decayed
-decayed-less decays x = grind (arith, nat_tests, ints, clamps)
-
 -- it does not decay at the target or above it
 pub none_decays : (choice : Decay) (params : RawParams) (delay old : ℕ) → 0 < params.target → params.target ≤ delay
     → decays choice params delay old ≡ false
@@ -94,38 +77,19 @@ pub next_up : (elements : Elements) (params : RawParams) (prob delay old : ℕ) 
     → old ≤ delay → prob ≤ next elements params prob delay old
 unfolding next decayed
 next_up elements params prob delay old within some above risen =
-    rw (none_decays elements.decay params delay old some above) (by (pos prob +ℤ tuned_step elements.step prob (raw_step params delay old))
-    (let t = tuned-up elements.step prob params delay old above risen in omega (arith, ints, t)))
-  where
-    by : (x : ℤ) → pos prob ≤ℤ x → prob ≤ bounded_of x
-    by (pos a) le = let b : prob ≤ a = omega (arith, ints, le) in omega (arith, b, within)
-    by (negsuc a) le = absurd (omega (arith, ints, le))
+    let t = tuned-up elements.step prob params delay old above risen in
+    rw (none_decays elements.decay params delay old some above) (grind (arith, ints, clamps))
 
 pub next_down : (elements : Elements) (params : RawParams) (prob delay old : ℕ) → delay ≤ params.target → delay ≤ old
     → next elements params prob delay old ≤ prob
-unfolding next
+unfolding next decayed
 next_down elements params prob delay old below fallen =
-    let t = tuned-down elements.step prob params delay old below fallen in
-    let less = decayed-less (decays elements.decay params delay old) (pos prob +ℤ tuned_step elements.step prob (raw_step params delay old)) in
-    let few = bounded_of-below (pos prob +ℤ tuned_step elements.step prob (raw_step params delay old)) prob (omega (arith, ints, t)) in
-    omega (arith, less, few)
-
-tuned-capped : (step : Step) (prob : ℕ) (x : ℤ) → is_capped step ≡ true → 10 ^ 11 ≤ prob → tuned_step step prob x ≤ℤ pos 20_000_000_000
-unfolding tuned_step
-tuned-capped step prob x capped large = grind (arith, nat_tests, ints, clamps)
+    let t = tuned-down elements.step prob params delay old below fallen in grind (arith, nat_tests, ints, clamps)
 
 pub next_capped : (elements : Elements) (params : RawParams) (prob delay old : ℕ) → is_capped elements.step ≡ true → 10 ^ 11 ≤ prob
     → next elements params prob delay old ≤ prob + 20_000_000_000
-unfolding next
-next_capped elements params prob delay old capped large =
-    let t = tuned-capped elements.step prob (raw_step params delay old) capped large in
-    let less = decayed-less (decays elements.decay params delay old) (pos prob +ℤ tuned_step elements.step prob (raw_step params delay old)) in
-    let few = bounded_of-below (pos prob +ℤ tuned_step elements.step prob (raw_step params delay old)) (prob + 20_000_000_000)
-    (omega (arith, ints, t)) in
-    omega (arith, less, few)
-
-decayed-share : (prob : ℕ) (x : ℤ) → x ≤ℤ pos prob → bounded_of (int_div (x *ℤ pos 98) (pos 100)) * 100 ≤ prob * 98
-decayed-share prob x le = grind (arith, ints, clamps)
+unfolding next decayed tuned_step
+next_capped elements params prob delay old capped large = grind (arith, nat_tests, ints, clamps)
 
 -- where it decays the delay is below the target, or 0
 pub decays_low : (choice : Decay) (params : RawParams) (delay old : ℕ) → decays choice params delay old ≡ true → delay ≤ params.target
@@ -137,4 +101,4 @@ pub next_decays : (elements : Elements) (params : RawParams) (prob delay old : �
 unfolding next decayed
 next_decays elements params prob delay old is fallen =
     let t = tuned-down elements.step prob params delay old (decays_low elements.decay params delay old is) fallen in
-    rw is (decayed-share prob (pos prob +ℤ tuned_step elements.step prob (raw_step params delay old)) (omega (arith, ints, t)))
+    grind (arith, nat_tests, ints, clamps)

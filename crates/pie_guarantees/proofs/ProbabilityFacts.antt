@@ -8,7 +8,6 @@ use Rattle.pie_guarantees.proofs.Names.{Answer, Event, Opening, call_of, delay_a
 use Rattle.pie_guarantees.proofs.Names.{KeepsParams, updates_in, AllAlong, IsActiveUpdate, IsSteady, after_updates, old_delay_after}
 use Rattle.pie_guarantees.proofs.Names.{probability_after, RawParams}
 use Rattle.pie_aqm.specs.Steps as Steps
-use Rattle.pie_guarantees.proofs.CallFacts.{asks_update, update-is}
 use Rattle.pie_guarantees.proofs.LawfulFacts.{IsStep, along, counted-cons}
 use Rattle.pie_guarantees.proofs.NextFacts.{decays_low, next_decays}
 use Rattle.pie_guarantees.proofs.SteadyFacts.{after_both, stays_down}
@@ -19,10 +18,11 @@ elements-is opening history = refl
 
 -- ---- an update of an active controller
 
-updated-prob : (h : Held) (waiting : List Waiting) (packets : ℕ) (command : Command) → asks_update command ≡ true → h.active ≡ true
+updated-prob : (h : Held) (waiting : List Waiting) (packets : ℕ) (command : Command) (answer : Answer) → is_update (deed command answer) ≡ true
+    → h.active ≡ true
     → (after_call h (call_of waiting packets command)).control.prob
     ≡ next h.elements h.params h.control.prob (Steps.delay_in h (bytes_of waiting)) h.control.old_delay
-updated-prob h waiting packets command asks on = grind (arith, nat_tests)
+updated-prob h waiting packets command answer asks on = grind (arith, nat_tests)
 
 pub prob-next : (opening : Opening) (before : List Event) (event : Event) → IsStep opening before event → IsActiveUpdate opening before event
     → probability_after opening (before ++ event ∷ [])
@@ -31,8 +31,7 @@ pub prob-next : (opening : Opening) (before : List Event) (event : Event) → Is
 prob-next opening before event step active =
     let h = held_after opening before in
     ap (λ (g : Held). g.control.prob) step.held
-    ∙ updated-prob h (waiting_after opening before) opening.limits.packets event.command
-    (sym (update-is event.command event.answer) ∙ active.update) active.active
+    ∙ updated-prob h (waiting_after opening before) opening.limits.packets event.command event.answer active.update active.active
     ∙ ap (λ (e : Elements). next e h.params h.control.prob (delay_after opening before) h.control.old_delay) (elements-is opening before)
 
 -- ---- any other event
@@ -52,9 +51,9 @@ record Next (delay : ℕ) (elements : Elements) (h g : Held) (updates : Bool) : 
 
 same-next : (delay : ℕ) (h : Held) (waiting : List Waiting) (packets : ℕ) (command : Command) (answer : Answer) → KeepsParams command
     → is_reset (deed command answer) ≡ false → h.active ≡ true
-    → (asks_update command ≡ true → Steps.delay_in h (bytes_of waiting) ≡ delay)
-    → (asks_update command ≡ true → h.control.old_delay ≡ delay)
-    → Next delay h.elements h (after_call h (call_of waiting packets command)) (asks_update command)
+    → (is_update (deed command answer) ≡ true → Steps.delay_in h (bytes_of waiting) ≡ delay)
+    → (is_update (deed command answer) ≡ true → h.control.old_delay ≡ delay)
+    → Next delay h.elements h (after_call h (call_of waiting packets command)) (is_update (deed command answer))
 same-next delay h waiting packets command answer keeps unreset on now old =
     record { params = grind (arith, nat_tests); prob = grind (arith, nat_tests) }
 
@@ -90,9 +89,8 @@ steadily delay opening before between later lawful steady =
         subst (λ (e : Elements). Next delay e h (held_after opening (earlier ++ event ∷ [])) (is_update (deed_of event)))
         (elements-is opening earlier)
         (subst (λ (g : Held). Next delay h.elements h g (is_update (deed_of event))) (sym step.held)
-        (rw (update-is event.command event.answer) (same-next delay h (waiting_after opening earlier) opening.limits.packets event.command
-        event.answer here.keeps here.unreset here.active (λ is. here.delay_now (update-is event.command event.answer ∙ is))
-        (λ is. here.delay_old (update-is event.command event.answer ∙ is))))) in
+        (same-next delay h (waiting_after opening earlier) opening.limits.packets event.command event.answer here.keeps here.unreset here.active
+        here.delay_now here.delay_old)) in
         rw (
           moved.params,
           moved.prob,

@@ -1,5 +1,5 @@
-//! The calls on a state. Those for each packet read the state's numbers as they are: their rules are total, so nothing of the state
-//! is checked. The others refuse a state that isn't sound. Each refuses what it is handed out of its range, lets the controller
+//! The calls on a state. Those for each packet read the state's numbers as they are: their rules are total, so it need not be
+//! sound. The others refuse a state that isn't. Each refuses what it is handed out of its range, lets the controller
 //! make its step, and writes back what that changed.
 ghost use Rattle.std.specs.Prelude.{◌≡◌, ◌<◌, ◌+◌, ◌-◌, ◌^◌, ◌≤◌, ℕ, if◌then◌else◌, min, true};
 ghost use Rattle.pie_c.specs.{Change, Depart, Restart, arrived, capped, cause, departed, verdict, raw_of, elements_of, held_in, is_sound};

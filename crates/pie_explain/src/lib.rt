@@ -6,7 +6,7 @@
 //!
 //! `explain` reads a history as an audit does and decides each event again; it explains the chosen ones from what the core held
 //! before them. The definitions that the contracts cite stand in `specs/`. Wherever no reader, writer or memory failed,
-//! `explain` answers exactly what `answer` says of a whole history, and has written exactly its `output`: the record or the words of each chosen
+//! `explain` answers exactly what `answer_since` says, and has written exactly what `IsSaid` has: the record or the words of each chosen
 //! event, in order; and of a text that goes on what the whole history gives from there on (`ExplainsEither`).
 #![tactic(auto)]
 

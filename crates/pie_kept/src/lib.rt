@@ -5,8 +5,8 @@
 //! what all folds handed out, in their order, and then the tail are all events. Of each history that it tells, the calls promise what looking
 //! back over that gives:
 //!
-//! - `apply` has the decision there (`decided`), or the refusal there (`because`), and at Ok tells the history with the event (`recorded`).
-//! - `fold` hands out the oldest events of the tail (`folded`), or says why not (`because`), and at Ok tells the history with the fold; `fold_into`
+//! - `apply` has the decision there, or the refusal there (`reply`), and at Ok tells the history with the event (`kept`).
+//! - `fold` hands out the oldest events of the tail, or says why not (`folded`), and at Ok tells the history with the fold (`kept`); `fold_into`
 //!   hands out as many as there are into a vector that has room, and is never refused.
 //! - `answer_all` makes a burst of such commands, one after another (`replies`, `made`, `kept`), for whatever is a `Burst`: `Arrivals` and
 //!   `Departures` push their replies to a vector. With a budget the packets that depart in it come to no more bytes than that

@@ -1,7 +1,7 @@
 #!/usr/bin/env bash
 # One event decided (and recorded) by pie_book, or one at a link, beside the same by an earlier one, both in turn, so many times (21),
 # and of each the least and the median, and their ratios. It ends with status 1 where the two decide otherwise.
-# usage: bench/pie_before.sh PIE_BENCH_OF_THE_EARLIER_COMMIT PIE_BENCH [RUNS] [book|link]
+# usage: bench/pie_before.sh TESTS_OF_THE_EARLIER_COMMIT TESTS [RUNS] [book|link]     TESTS: crates/pie_library_tests/out/pie_library_tests
 . "$(dirname "$0")/shared.sh"
 runs=${3:-21}
 part=${4:-book}

@@ -1,6 +1,6 @@
 /* One event of PIE in plain C by the steps of pie_book's `Core::step`: the checks, the queue (a ring), the decision of an
  * arrival, the departure and its rate estimate, the update (pie_step.h has these three), and the fifteen statistics, over
- * the stream of `pie_bench book`. Its checksum is `pie_bench`'s `book_decided_checksum`.
+ * the stream of `pie_library_tests book`. Its checksum is `book_decided_checksum` there.
  *
  * usage: bench/pie_book.sh runs it
  */

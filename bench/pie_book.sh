@@ -1,13 +1,13 @@
 #!/usr/bin/env bash
 # One event decided (and recorded) by pie_book beside the same steps in C: both in turn, so many times (9), and of each the
 # least and the median, and their ratios. It ends with status 1 where the two come to other results.
-# usage: bench/pie_book.sh PIE_BENCH [RUNS]
+# usage: bench/pie_book.sh TESTS [RUNS]     TESTS: crates/pie_library_tests/out/pie_library_tests
 . "$(dirname "$0")/shared.sh"
-bench=$1
+tests=$1
 runs=${2:-9}
 ${CC:-cc} -O2 -o "$work/pie_book" "$here/pie_book.c"
 for _ in $(seq "$runs"); do
-    "$bench" book
+    "$tests" book
     "$work/pie_book"
 done > "$work/lines"
 pairs="book_decided_checksum/c_book_checksum"

@@ -1,12 +1,12 @@
 #!/usr/bin/env bash
 # Events at a link beside the same book behind a mutex, uncontended and by 1, 2, 4 and 8 threads that enqueue with one that
 # sends: so many runs (9) of both in turn, and of each the best and the median, and their ratios. (Bursts: bench/pie_link_c.sh.)
-# usage: bench/pie_link.sh PIE_BENCH [RUNS]
+# usage: bench/pie_link.sh TESTS [RUNS]     TESTS: crates/pie_library_tests/out/pie_library_tests
 . "$(dirname "$0")/shared.sh"
-bench=$1
+tests=$1
 runs=${2:-9}
 for _ in $(seq "$runs"); do
-    "$bench" link
+    "$tests" link
 done > "$work/lines"
 pairs="link_uncontended/link_mutex_uncontended"
 for threads in 1 2 4 8; do

@@ -3,13 +3,13 @@
 # threads of which one holds the lock for 200 milliseconds while the others wait. No clause speaks of them. It ends with status 1
 # where a lock that nobody waits for makes any (a put that always wakes), where none of those who wait sleeps, or where they
 # yield time and again (a waiter that never sleeps).
-# usage: bench/pie_lock_calls.sh PIE_BENCH TESTS     TESTS: crates/pie_library_tests/out/pie_library_tests, as the gate leaves it
+# usage: bench/pie_lock_calls.sh TESTS     TESTS: crates/pie_library_tests/out/pie_library_tests, as the gate leaves it
 set -eu
 command -v strace >/dev/null || { echo "bench/pie_lock_calls.sh: NOT RUN: no strace" >&2; exit 2; }
 python3 - "$@" <<'PY'
 import os, re, signal, subprocess, sys
 
-bench, tests = sys.argv[1:]
+(tests,) = sys.argv[1:]
 SLEEPERS = "sleepers"
 # So many calls are enough to tell, and so many yields are those of four waiters who look again some 500 times before they sleep.
 ENOUGH, FEW = 10_000, 2_500
@@ -47,7 +47,7 @@ def told(found):
     return ", ".join(f"{count} {name}" for name, count in sorted(found.items())) or "none"
 
 
-free, ended = calls([bench, "lock"], until="lock_uncontended")
+free, ended = calls([tests, "lock"], until="lock_uncontended")
 print(f"10000000 takes and puts of one thread: {told(free)}" + ("" if ended else ", and then it was stopped"))
 held, _ = calls([tests, SLEEPERS])
 print(f"four threads, of which one holds the lock: {told(held)}")

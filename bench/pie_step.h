@@ -165,7 +165,7 @@ STEP void updated(struct control *control, const struct params *p, uint64_t dela
 
 static uint64_t last = 1;
 
-/* The next word: a linear congruential generator by Knuth's factor, as in crates/pie_bench/src/words.rt. */
+/* The next word: a linear congruential generator by Knuth's factor, as in crates/pie_library_tests/src/event_costs.rt. */
 __attribute__((unused)) static uint64_t word(void) {
     last = last * 6364136223846793005ull + 1442695040888963407ull;
     return last ^ (last >> 32);

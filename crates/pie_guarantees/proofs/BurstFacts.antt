@@ -1,12 +1,11 @@
 -- How the burst allowance goes down from update to update, and how far updates are apart.
-use Rattle.pie_guarantees.proofs.Names.{◌≡◌, ◌≤◌, ◌+◌, ◌*◌, ◌&&◌, ℕ, List, [], ◌∷◌, ◌++◌, true, false, refl, sym, ◌∙◌, cond, arith, subst, max, All}
-use Rattle.pie_guarantees.proofs.Names.{append_assoc, ltb-false, bytes_of, deed, is_update, after_call, Held, is_calm, Waiting, Command, Arrive}
-use Rattle.pie_guarantees.proofs.Names.{Depart, Update, Reset, SetParams, Answer, Event, Opening, arrival_of, call_of, is_too_soon, held_after}
+use Rattle.pie_guarantees.proofs.Names.{◌≡◌, ◌≤◌, ◌+◌, ◌*◌, ℕ, List, [], ◌∷◌, ◌++◌, true, false, sym, cond, arith, subst, max, All}
+use Rattle.pie_guarantees.proofs.Names.{append_assoc, deed, is_update, after_call, Held, Waiting, Command}
+use Rattle.pie_guarantees.proofs.Names.{Update, Answer, Event, Opening, call_of, is_too_soon, held_after}
 use Rattle.pie_guarantees.proofs.Names.{params_after, parts_after, effective_moment, waiting_after, AllAllow, Allows, IsAllowed, KeepsParams}
-use Rattle.pie_guarantees.proofs.Names.{SetsAllow, burst_left, updates_in, IsLawful, IsEarly, get_or}
+use Rattle.pie_guarantees.proofs.Names.{SetsAllow, nat_tests, burst_left, updates_in, IsLawful, IsEarly, get_or}
 use Rattle.pie_aqm.specs.Steps as Steps
 use Rattle.pie_guarantees.proofs.LawfulFacts.{IsStep, all_along, along, counted-cons, first-held, sound_at, step_at}
-use Rattle.pie_guarantees.proofs.CallFacts.{after-arrival, asks_update, burst-updated, last-updated, update-is}
 use Rattle.pie_guarantees.proofs.EarlyFacts.{early_at}
 
 -- ---- what a controller holds, from call to call
@@ -20,11 +19,7 @@ counted_with (Update moment) n = n + 1
 counted_with _ n = n
 
 counted-with : (command : Command) (answer : Answer) (n : ℕ) → n + cond (is_update (deed command answer)) 1 0 ≡ counted_with command n
-counted-with command answer n = rw (update-is command answer) (by command)
-  where
-    by : (command : Command) → n + cond (asks_update command) 1 0 ≡ counted_with command n
-    by (Update moment) = refl
-    by _ = omega arith
+counted-with command answer n = grind (arith, nat_tests)
 
 module _ (burst least most start last : ℕ) where
   -- after so many updates since a moment: what is left of a burst, the last update's moment, and now
@@ -36,48 +31,19 @@ module _ (burst least most start last : ℕ) where
     later : start ≤ h.moment
     sound : h.control.last ≤ h.moment
 
-  -- after a call that is no update
-  carried : (n : ℕ) (h g : Held) (moment : ℕ) → Holds n h → g.control.last ≡ h.control.last → g.moment ≡ max h.moment moment
-      → Allows burst least most g.params → burst ≤ g.control.burst + n * most → Holds n g
-  carried n h g moment old same now allows whole = record {
-    allows = allows;
-    whole = whole;
-    apart = rw same old.apart;
-    since = rw same old.since;
-    later = omega arith;
-    sound = omega arith;
-  }
-
-  -- an update that isn't too soon takes one `t_update` at most
-  updated-holds : (n : ℕ) (h : Held) (queued moment : ℕ) → Holds n h → h.control.last + h.params.t_update ≤ max h.moment moment
-      → Holds (n + 1) (Steps.updated h queued moment)
-  updated-holds n h queued moment old due =
-      let first = one-more n most in
-      let second = one-more n least in
-      let is = last-updated h queued (max h.moment moment) in
-      let left = burst-updated (λ (b : ℕ). burst ≤ b + (n * most + most)) h queued (max h.moment moment) (omega arith) (omega arith)
-      (omega arith) in
-      record {
-        allows = old.allows;
-        whole = omega arith;
-        apart = omega arith;
-        since = omega arith;
-        later = omega arith;
-        sound = omega arith;
-      }
-
   call-holds : (n : ℕ) (h : Held) (waiting : List Waiting) (packets : ℕ) (command : Command) → Holds n h → SetsAllow burst least most command
       → is_too_soon h.moment (Steps.due h) command ≡ false → Holds (counted_with command n) (after_call h (call_of waiting packets command))
-  call-holds n h waiting packets (Arrive moment packet word) old set due =
-      after-arrival (Holds n) h (arrival_of waiting packets packet word) moment (carried n h _ moment old refl refl old.allows old.whole)
-      (λ on. carried n h _ moment old refl refl old.allows (omega arith))
-  call-holds n h [] packets (Depart moment) old set due = carried n h _ moment old refl refl old.allows old.whole
-  call-holds n h (oldest ∷ others) packets (Depart moment) old set due = carried n h _ moment old refl refl old.allows old.whole
-  call-holds n h waiting packets (Update moment) old set due =
-      updated-holds n h (bytes_of waiting) moment old (ltb-false (max h.moment moment) (h.control.last + h.params.t_update) due)
-  call-holds n h waiting packets (Reset moment) old set due =
-      carried n h _ moment old refl refl old.allows (omega arith)
-  call-holds n h waiting packets (SetParams moment params) old set due = carried n h _ moment old refl refl set old.whole
+  call-holds n h waiting packets command old set due =
+      let first = one-more n most in
+      let second = one-more n least in
+      record {
+        allows = grind (arith, nat_tests);
+        whole = grind (arith, nat_tests);
+        apart = grind (arith, nat_tests);
+        since = grind (arith, nat_tests);
+        later = grind (arith, nat_tests);
+        sound = grind (arith, nat_tests);
+      }
 
 -- ---- along a lawful history
 
@@ -158,8 +124,7 @@ module _ (burst least most : ℕ) (opening : Opening) (before between : List Eve
       omega (arith, whole, none)
 
 keeps-allows : (burst least most : ℕ) (command : Command) → KeepsParams command → SetsAllow burst least most command
-keeps-allows burst least most (SetParams moment params) keep = absurd keep
-keeps-allows burst least most _ keep = tt
+keeps-allows burst least most command keep = grind (arith, nat_tests)
 
 allow-own : (opening : Opening) (before between : List Event) → IsAllowed opening before → All (λ event. KeepsParams event.command) between
     → AllAllow (burst_left opening before) (params_after opening before).t_update (params_after opening before).t_update opening before between
@@ -204,14 +169,7 @@ Within h = h.control.burst ≤ h.params.max_burst
 
 within-next : (h : Held) (waiting : List Waiting) (packets : ℕ) (command : Command) → Within h → KeepsParams command
     → Within (after_call h (call_of waiting packets command))
-within-next h waiting packets (Arrive moment packet word) old keep =
-    after-arrival Within h (arrival_of waiting packets packet word) moment old (λ on. omega arith)
-within-next h [] packets (Depart moment) old keep = old
-within-next h (oldest ∷ others) packets (Depart moment) old keep = old
-within-next h waiting packets (Update moment) old keep =
-    burst-updated (λ (b : ℕ). b ≤ h.params.max_burst) h (bytes_of waiting) (max h.moment moment) (omega arith) (omega (arith, old)) old
-within-next h waiting packets (Reset moment) old keep = omega arith
-within-next h waiting packets (SetParams moment params) old keep = absurd keep
+within-next h waiting packets command old keep = grind (arith, nat_tests)
 
 pub allowed_where_kept : (opening : Opening) (before : List Event) (later : List Event) → IsLawful opening (before ++ later)
     → All (λ event. KeepsParams event.command) before → IsAllowed opening before
@@ -226,13 +184,4 @@ allowed_where_kept opening before later lawful keep =
 pub wakes-whole : (h : Held) (waiting : List Waiting) (packets : ℕ) (command : Command) → h.active ≡ false
     → (after_call h (call_of waiting packets command)).active ≡ true
     → (after_call h (call_of waiting packets command)).control.burst ≡ (after_call h (call_of waiting packets command)).params.max_burst
-wakes-whole h waiting packets (Arrive moment packet word) off on =
-    after-arrival (λ (g : Held). g.active ≡ true → g.control.burst ≡ g.params.max_burst) h (arrival_of waiting packets packet word) moment
-    (λ on. let wrong : false ≡ true = sym off ∙ on in cc) (λ wakes on. refl) on
-wakes-whole h [] packets (Depart moment) off on = let wrong : false ≡ true = sym off ∙ on in cc
-wakes-whole h (oldest ∷ others) packets (Depart moment) off on = let wrong : false ≡ true = sym off ∙ on in cc
-wakes-whole h waiting packets (Update moment) off on =
-    let same : (h.active && Steps.stays_active h.profile (is_calm h (bytes_of waiting))) ≡ false = rw off refl in
-    let wrong : false ≡ true = sym same ∙ on in cc
-wakes-whole h waiting packets (Reset moment) off on = refl
-wakes-whole h waiting packets (SetParams moment params) off on = let wrong : false ≡ true = sym off ∙ on in cc
+wakes-whole h waiting packets command off on = grind (arith, nat_tests)

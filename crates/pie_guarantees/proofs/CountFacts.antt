@@ -1,21 +1,19 @@
 -- What becomes of every packet.
-use Rattle.pie_guarantees.proofs.Names.{◌≡◌, ◌≤◌, ◌+◌, ◌*◌, ◌==◌, ◌^◌, ℕ, List, [], ◌∷◌, ◌++◌, map, Bool, true, false, refl, sym, ap, ◌∙◌, cond, ◌⊎◌}
-use Rattle.pie_guarantees.proofs.Names.{AtEachEvent, BetweenAny}
-use Rattle.pie_guarantees.proofs.Names.{inl, inr, length, arith, subst, All, Some, Option, sum_by, append-nil, append_assoc, length-map, map-append}
-use Rattle.pie_guarantees.proofs.Names.{filter_map-append, sum_by_push, sum_by-cons, bytes_of, Deed, deed, deed_of, departure, with_ce, answer_of}
-use Rattle.pie_guarantees.proofs.Names.{after_call, Held, filter_map-push, with_one, Packet, Waiting, Verdict, Command, Arrive, Depart, SetParams}
+use Rattle.pie_guarantees.proofs.Names.{◌≡◌, ◌≤◌, ◌+◌, ◌*◌, ◌^◌, ℕ, List, [], ◌∷◌, ◌++◌, map, Bool, refl, sym, ap, ◌∙◌, cond, ◌⊎◌}
+use Rattle.pie_guarantees.proofs.Names.{AtEachEvent, BetweenAny, if◌then◌else◌}
+use Rattle.pie_guarantees.proofs.Names.{inl, length, arith, subst, All, Some, Option, sum_by, append-nil, append_assoc, length-map, map-append}
+use Rattle.pie_guarantees.proofs.Names.{filter_map-append, sum_by_push, sum_by-cons, bytes_of, Deed, deed, deed_of, departure, answer_of}
+use Rattle.pie_guarantees.proofs.Names.{after_call, Held, filter_map-push, with_one, Packet, Waiting, Verdict, Command, Arrive, Depart}
 use Rattle.pie_guarantees.proofs.Names.{Answer, Event, Opening, arrival_of, call_of, answer_by, held_after, params_after, bytes_after}
 use Rattle.pie_guarantees.proofs.Names.{effective_moment, waiting_after, count_of, is_dropped_bytes, is_dropped_early, is_dropped_packets, is_marked}
-use Rattle.pie_guarantees.proofs.Names.{is_queued, waiting_next, first_shows, ArrivingPacket, IsLawful, arrival_deed, eqb-false, nat_tests, take}
+use Rattle.pie_guarantees.proofs.Names.{is_queued, waiting_next, first_shows, IsLawful, nat_tests, take}
 use Rattle.pie_guarantees.proofs.Names.{take-append_seam}
 use Rattle.std.proofs.lemmas.List.{append_cancel_left, length_push}
 use Rattle.std.proofs.lemmas.List.Recursion.{is_sum_by}
 use Rattle.pie_guarantees.specs.{Carries, SetsLimit, bytes_departed, hands_in, packet_queued, packets_departed, packets_handed_in, packets_queued}
 use Rattle.pie_guarantees.specs.{packets_waiting, time_of}
-use Rattle.pie_event.specs.declared.verdict.Verdict.TheVariants as verdict
 use Rattle.pie_event.specs.Verdict as Verdicts
 use Rattle.pie_aqm.specs.Steps as Steps
-use Rattle.pie_guarantees.proofs.CallFacts.{after-arrival}
 use Rattle.pie_guarantees.proofs.LawfulFacts.{IsStep, all_along, along, beginning, first-held, step_at, throughout}
 
 -- ---- counts
@@ -41,14 +39,8 @@ ways d = cond (is_queued d) 1 0 + cond (is_marked d) 1 0 + cond (is_dropped_earl
 -- one command counts once
 once-more : (h : Held) (waiting : List Waiting) (packets : ℕ) (command : Command)
     → cond (hands_in command) 1 0 ≡ ways (deed command (answer_by h waiting packets command))
-once-more h waiting packets (Arrive moment packet word) = by (Steps.verdict h (arrival_of waiting packets packet word))
-  where
-    by : (v : Verdict) → 1 ≡ ways (arrival_deed packet (answer_of v))
-    by verdict.Enqueued = refl
-    by _ = refl
-once-more h [] packets (Depart moment) = refl
-once-more h (oldest ∷ others) packets (Depart moment) = refl
-once-more h waiting packets _ = refl
+unfolding Steps.verdict
+once-more h waiting packets command = grind (arith, nat_tests)
 
 adds-next : (opening : Opening) (before : List Event) (event : Event) → IsStep opening before event → Adds before → Adds (before ++ event ∷ [])
 adds-next opening before event step old =
@@ -71,28 +63,13 @@ each_once opening history lawful = throughout Adds opening refl (adds-next openi
 abbrev packets-of : List Waiting → List Packet
 packets-of waiting = map (λ (entry : Waiting). entry.packet) waiting
 
-one-new : (gone all : List Packet) (waiting : List Waiting) (new : Waiting) → gone ++ packets-of waiting ≡ all
-    → gone ++ packets-of (waiting ++ new ∷ []) ≡ all ++ new.packet ∷ []
-one-new gone all waiting new e =
-    rw (map-append (λ (entry : Waiting). entry.packet) waiting (new ∷ []), ← append_assoc gone (packets-of waiting) (new.packet ∷ []))
-    (ap (λ (ps : List Packet). ps ++ new.packet ∷ []) e)
-
 in-order : (h : Held) (waiting : List Waiting) (packets : ℕ) (command : Command) (now : ℕ) (gone all : List Packet)
     → gone ++ packets-of waiting ≡ all
     → with_one gone (departure (deed command (answer_by h waiting packets command)))
     ++ packets-of (waiting_next waiting now (deed command (answer_by h waiting packets command)))
     ≡ with_one all (packet_queued (deed command (answer_by h waiting packets command)))
-in-order h waiting packets (Arrive moment packet word) now gone all e = by (Steps.verdict h (arrival_of waiting packets packet word))
-  where
-    by : (v : Verdict) → with_one gone (departure (deed (Arrive moment packet word) (answer_of v)))
-        ++ packets-of (waiting_next waiting now (deed (Arrive moment packet word) (answer_of v)))
-        ≡ with_one all (packet_queued (deed (Arrive moment packet word) (answer_of v)))
-    by verdict.Enqueued = one-new gone all waiting (record { packet = packet; since = now }) e
-    by verdict.Marked = one-new gone all waiting (record { packet = with_ce packet; since = now }) e
-    by _ = e
-in-order h [] packets (Depart moment) now gone all e = e
-in-order h (oldest ∷ others) packets (Depart moment) now gone all e = rw (append_assoc gone (oldest.packet ∷ []) (packets-of others)) e
-in-order h waiting packets _ now gone all e = e
+unfolding Steps.verdict
+in-order h waiting packets command now gone all e = grind (arith, nat_tests, append_assoc, map-append)
 
 abbrev Ordered : Opening → List Event → Type 0
 Ordered opening history = packets_departed history ++ packets_waiting opening history ≡ packets_queued history
@@ -124,48 +101,29 @@ in_order opening history lawful =
 
 -- ---- limits
 
--- a packet is queued only where the ring and the limit have room for it
-room-of : (h : Held) (a : ArrivingPacket) → Verdicts.is_queued (Steps.verdict h a) ≡ true
-    → (a.is_full ≡ false) × (a.queued + a.size ≤ h.params.limit_bytes)
-unfolding Steps.verdict
-room-of h a queued = (grind (arith, nat_tests), grind (arith, nat_tests))
-
 -- the packets that wait after a command: fewer or as many, or one more that ring and limit have room for
 record Bounded (limit packets : ℕ) (before after : List Waiting) (queued : Option Packet) : Type 0 where
   ring : length before ≤ packets → length after ≤ packets
   or : (bytes_of after ≤ bytes_of before) ⊎ (bytes_of after ≤ limit)
   queue : (packet : Packet) → queued ≡ Some packet → bytes_of after ≤ limit
 
+bytes-queued : (packet : Packet) (waiting : List Waiting) (moment word now : ℕ) (v : Verdict)
+    → bytes_of (waiting_next waiting now (deed (Arrive moment packet word) (answer_of v)))
+    ≡ bytes_of waiting + (if Verdicts.is_queued v then packet.size else 0)
+bytes-queued packet waiting moment word now v = grind (arith, nat_tests, sum_by_push)
+
 bounded : (h : Held) (waiting : List Waiting) (packets : ℕ) (command : Command) (now : ℕ)
     → Bounded h.params.limit_bytes packets waiting (waiting_next waiting now (deed command (answer_by h waiting packets command)))
     (packet_queued (deed command (answer_by h waiting packets command)))
+unfolding Steps.verdict
 bounded h waiting packets (Arrive moment packet word) now =
-    by (Steps.verdict h (arrival_of waiting packets packet word)) (room-of h (arrival_of waiting packets packet word))
-  where
-    more : (new : Waiting) → new.packet.size ≡ packet.size
-        → ((length waiting == packets) ≡ false) × (bytes_of waiting + packet.size ≤ h.params.limit_bytes)
-        → Bounded h.params.limit_bytes packets waiting (waiting ++ new ∷ []) (Some new.packet)
-    more new size room =
-        let one : bytes_of (waiting ++ new ∷ []) ≡ bytes_of waiting + new.packet.size = sum_by_push (λ (w : Waiting). w.packet.size) waiting new in
-        let longer = length_push waiting new in
-        record {
-          ring = λ within. omega (arith, longer, within, eqb-false (length waiting) packets room.0);
-          or = inr (omega (arith, one, size, room.1));
-          queue = λ packet is. omega (arith, one, size, room.1);
-        }
-
-    by : (v : Verdict) → (Verdicts.is_queued v ≡ true
-        → ((length waiting == packets) ≡ false) × (bytes_of waiting + packet.size ≤ h.params.limit_bytes))
-        → Bounded h.params.limit_bytes packets waiting (waiting_next waiting now (deed (Arrive moment packet word) (answer_of v)))
-        (packet_queued (deed (Arrive moment packet word) (answer_of v)))
-    by verdict.Enqueued room = more (record { packet = packet; since = now }) refl (room refl)
-    by verdict.Marked room = more (record { packet = with_ce packet; since = now }) refl (room refl)
-    by _ room = record { ring = λ within. within; or = inl (omega arith); queue = λ packet is. cc }
+    let bytes = bytes-queued packet waiting moment word now (Steps.verdict h (arrival_of waiting packets packet word)) in
+    record { ring = grind (arith, nat_tests, length_push); or = grind (arith, nat_tests); queue = λ new is. grind (arith, nat_tests) }
 bounded h (oldest ∷ others) packets (Depart moment) now =
     let first = sum_by-cons (λ (entry : Waiting). entry.packet.size) oldest others in
     record { ring = λ within. omega arith; or = inl (omega (arith, first)); queue = λ packet is. cc }
-bounded h [] packets (Depart moment) now = record { ring = λ within. within; or = inl (omega arith); queue = λ packet is. cc }
-bounded h waiting packets _ now = record { ring = λ within. within; or = inl (omega arith); queue = λ packet is. cc }
+bounded h waiting packets _ now =
+    record { ring = grind (arith, nat_tests); or = grind (arith, nat_tests); queue = λ packet is. grind (arith, nat_tests) }
 
 bounded-at : (opening : Opening) (before : List Event) (event : Event) → IsStep opening before event
     → Bounded (held_after opening before).params.limit_bytes opening.limits.packets (waiting_after opening before)
@@ -189,12 +147,7 @@ room_for_bytes opening before event later lawful packet is =
 -- the limit in force after a call
 limit-next : (most : ℕ) (h : Held) (waiting : List Waiting) (packets : ℕ) (command : Command) → h.params.limit_bytes ≤ most
     → SetsLimit most command → (after_call h (call_of waiting packets command)).params.limit_bytes ≤ most
-limit-next most h waiting packets (Arrive moment packet word) low set =
-    after-arrival (λ (g : Held). g.params.limit_bytes ≤ most) h (arrival_of waiting packets packet word) moment low (λ on. low)
-limit-next most h [] packets (Depart moment) low set = low
-limit-next most h (oldest ∷ others) packets (Depart moment) low set = low
-limit-next most h waiting packets (SetParams moment params) low set = set
-limit-next most h waiting packets _ low set = low
+limit-next most h waiting packets command low set = grind (arith, nat_tests)
 
 record Below (most : ℕ) (opening : Opening) (history : List Event) : Type 0 where
   limit : (params_after opening history).limit_bytes ≤ most

@@ -1,10 +1,9 @@
 -- What is known of a packet that was marked or dropped early.
-use Rattle.pie_guarantees.proofs.Names.{◌≡◌, ◌≤◌, ◌<◌, ◌+◌, ◌*◌, ◌⊎◌, ℕ, List, [], ◌∷◌, ◌++◌, true, false, refl, sym, ap, ◌∙◌, arith, nat_tests}
+use Rattle.pie_guarantees.proofs.Names.{◌≡◌, ◌≤◌, ◌<◌, ◌+◌, ◌*◌, ◌⊎◌, ℕ, List, ◌∷◌, ◌++◌, true, false, refl, sym, ap, ◌∙◌, arith, nat_tests}
 use Rattle.pie_guarantees.proofs.Names.{is_capable, bytes_of, counted, is_considered, is_picked, picked_choice, Held, chosen, offered, verdict}
-use Rattle.pie_guarantees.proofs.Names.{Verdict, answer_of, Packet, Waiting, ArrivingPacket, Arrive, Depart, Answer, DroppedEarly, Marked, Command}
+use Rattle.pie_guarantees.proofs.Names.{answer_of, Packet, Waiting, ArrivingPacket, Arrive, Answer, DroppedEarly, Marked, Command}
 use Rattle.pie_guarantees.proofs.Names.{Event, Opening, arrival_of, answer_by, held_after, waiting_after, IsLawful, IsArrivalOf, is_early, RawParams}
 use Rattle.pie_queue.specs.declared.ecn.Ecn.{Ecn}
-use Rattle.pie_guarantees.proofs.CallFacts.{after-verdict}
 use Rattle.pie_guarantees.proofs.LawfulFacts.{IsStep, step_at}
 
 -- what is known of the controller where a packet was picked
@@ -14,10 +13,10 @@ pub record IsPicked (h : Held) (bytes : ℕ) : Type 0 where
   pub long : 2 * h.params.mean_pkt < bytes
   pub high : (h.params.target ≤ 2 * h.control.old_delay) ⊎ (200_000_000_000 ≤ h.control.prob)
 
-considered-facts : (h : Held) (bytes : ℕ) → h.active ≡ true → is_considered h.params h.control bytes ≡ true → IsPicked h bytes
-unfolding is_considered
-considered-facts h bytes on e =
-    record { active = on; no_burst = grind (arith, nat_tests); long = grind (arith, nat_tests); high = grind (arith, nat_tests) }
+picked-facts : (h : Held) (a : ArrivingPacket) → is_early (answer_of (verdict h a)) ≡ true → IsPicked h a.queued
+unfolding verdict is_considered
+picked-facts h a e =
+    record { active = grind (arith, nat_tests); no_burst = grind (arith, nat_tests); long = grind (arith, nat_tests); high = grind (arith, nat_tests) }
 
 pub record IsChosen (h : Held) (a : ArrivingPacket) : Type 0 where
   pub picked : IsPicked h a.queued
@@ -26,11 +25,8 @@ pub record IsChosen (h : Held) (a : ArrivingPacket) : Type 0 where
   pub verdict : verdict h a ≡ chosen (picked_choice h.params h.control.prob a.ecn)
 
 chosen-of : (h : Held) (a : ArrivingPacket) → is_early (answer_of (verdict h a)) ≡ true → IsChosen h a
-chosen-of h a e =
-    after-verdict h a (λ (v : Verdict) (left : ℕ). verdict h a ≡ v → is_early (answer_of v) ≡ true → IsChosen h a) (λ v e. cc) (λ v e. cc)
-    (λ off v e. cc)
-    (λ on considered picked v e. record { picked = considered-facts h a.queued on considered; by_sum = picked; verdict = v })
-    (λ on none v e. cc) (λ on some v e. cc) refl e
+unfolding verdict
+chosen-of h a e = record { picked = picked-facts h a e; by_sum = grind (arith, nat_tests); verdict = grind (arith, nat_tests) }
 
 -- the arrival that was marked or dropped early
 pub record IsEarlyArrival (h : Held) (waiting : List Waiting) (packets : ℕ) (command : Command) : Type 0 where
@@ -44,9 +40,7 @@ early-arrival : (h : Held) (waiting : List Waiting) (packets : ℕ) (command : C
     → IsEarlyArrival h waiting packets command
 early-arrival h waiting packets (Arrive moment packet word) e =
     record { moment = moment; packet = packet; word = word; is = refl; chosen = chosen-of h (arrival_of waiting packets packet word) e }
-early-arrival h [] packets (Depart moment) e = cc
-early-arrival h (oldest ∷ others) packets (Depart moment) e = cc
-early-arrival h waiting packets _ e = cc
+early-arrival h waiting packets _ e = absurd (grind (arith, nat_tests))
 
 -- ---- at a place of a lawful history
 

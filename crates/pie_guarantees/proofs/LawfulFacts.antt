@@ -2,7 +2,7 @@
 use Rattle.pie_guarantees.proofs.Names.{◌≡◌, ◌≤◌, ◌<◌, ◌+◌, ℕ, List, [], ◌∷◌, ◌++◌, false, sym, subst, ap, ◌∙◌, arith, ⊤, All, None, length, ◌^◌}
 use Rattle.pie_guarantees.proofs.Names.{AtEachEvent}
 use Rattle.pie_guarantees.proofs.Names.{append-nil, append_assoc, All-head, All-tail, first_bad, deed_of, handed_in, IsTaken, after_call, Held}
-use Rattle.pie_guarantees.proofs.Names.{IsSound, places, place_of, Waiting, Command, Depart, SetParams, Event, Opening, call_of, departure_call}
+use Rattle.pie_guarantees.proofs.Names.{IsSound, places, place_of, Waiting, Command, Event, Opening, call_of}
 use Rattle.pie_guarantees.proofs.Names.{IsLegalAt, has_bad_size, is_too_soon, refusal_by_rule, due_after, held_after, effective_moment, waiting_after}
 use Rattle.pie_guarantees.proofs.Names.{after_command, call_in, waiting_next, at_place, departed-of-legal, held-is, first_shows, first_core}
 use Rattle.pie_guarantees.proofs.Names.{next-core, next-legal, AllAlong, IsLawful, SetsInRange, nat_tests, map, drop, All-cons, All-nil, Place}
@@ -45,13 +45,7 @@ stands-first opening good params = record {
 -- ---- one more event
 
 call-taken : (core : CoreView) (command : Command) → handed_in command < 2 ^ 60 → SetsInRange command → IsTaken (call_in core command)
-call-taken core (Depart moment) handed fit = by core.waiting
-  where
-    by : (waiting : List Waiting) → IsTaken (departure_call waiting moment)
-    by [] = handed
-    by (oldest ∷ others) = handed
-call-taken core (SetParams moment params) handed fit = (handed, fit)
-call-taken core _ handed fit = handed
+call-taken core command handed fit = grind (arith, nat_tests)
 
 stands-next : (opening : Opening) (before : List Event) (event : Event) → Stands opening before → IsLegalAt opening (place_of before event)
     → SetsInRange event.command → Stands opening (before ++ event ∷ [])

@@ -1,6 +1,5 @@
 mod Names
 pub mod LawfulFacts
-pub mod CallFacts
 pub mod EarlyFacts
 pub mod BurstFacts
 pub mod CountFacts

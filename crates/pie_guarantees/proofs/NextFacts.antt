@@ -1,35 +1,19 @@
 -- How the next probability follows the delay.
-use Rattle.pie_guarantees.proofs.Names.{◌≡◌, ◌≤◌, ◌<◌, ◌+◌, ◌*◌, ◌/◌, ◌&&◌, ◌^◌, ℕ, suc, Bool, true, false, refl, arith, if◌then◌else◌, ℤ, pos}
-use Rattle.pie_guarantees.proofs.Names.{negsuc, ◌+ℤ◌, ◌-ℤ◌, ◌*ℤ◌, ◌≤ℤ◌, int_div, nat_le, int_min, nat_tests, clamps, ints, le-div, mul-le}
-use Rattle.pie_guarantees.proofs.Names.{div-mul-le_self, bounded_of, Elements, Step, is_capped, decayed, decays, next, raw_step, tuned_step}
-use Rattle.pie_guarantees.proofs.Names.{tuning_divisor, bounded_of-below, decay-below}
+use Rattle.pie_guarantees.proofs.Names.{◌≡◌, ◌≤◌, ◌<◌, ◌+◌, ◌*◌, ◌/◌, ◌^◌, ℕ, true, false, arith, ℤ, pos}
+use Rattle.pie_guarantees.proofs.Names.{◌-ℤ◌, ◌*ℤ◌, ◌≤ℤ◌, int_div, nat_tests, clamps, ints, le-div, mul-le}
+use Rattle.pie_guarantees.proofs.Names.{div-mul-le_self, Elements, Step, is_capped, decayed, decays, next, raw_step, tuned_step}
+use Rattle.pie_guarantees.proofs.Names.{tuning_divisor}
 use Rattle.pie_params.specs.declared.raw.RawParams.{RawParams}
 use Rattle.pie_params.specs.declared.elements.Decay.{Decay}
-use Rattle.pie_params.specs.declared.elements.Decay.TheVariants.{Half, Zero}
 
 div-mono : (a b d : ℕ) → 0 < d → a ≤ b → a / d ≤ b / d
 div-mono a b d some le = le-div (a / d) b d some (omega (arith, div-mul-le_self a d, le))
 
 mul-mono : (g : ℕ) (x y : ℤ) → x ≤ℤ y → (pos g *ℤ x) ≤ℤ (pos g *ℤ y)
-mul-mono g (pos a) (pos b) le = omega (arith, ints, mul-le g a g b (omega arith) (omega (arith, ints, le)))
-mul-mono g (negsuc a) (pos b) le = omega (arith, ints)
-mul-mono g (pos a) (negsuc b) le = omega (arith, ints, le)
-mul-mono g (negsuc a) (negsuc b) le = omega (arith, ints, mul-le g (suc b) g (suc a) (omega arith) (omega (arith, ints, le)))
+mul-mono g x y le = grind (arith, ints, mul-le)
 
 div-mono-int : (x y : ℤ) (d : ℕ) → 0 < d → x ≤ℤ y → int_div x (pos d) ≤ℤ int_div y (pos d)
-div-mono-int (pos a) (pos b) d some le = omega (arith, ints, div-mono a b d some (omega (arith, ints, le)))
-div-mono-int (negsuc a) (pos b) d some le = omega (arith, ints)
-div-mono-int (pos a) (negsuc b) d some le = omega (arith, ints, le)
-div-mono-int (negsuc a) (negsuc b) d some le = omega (arith, ints, div-mono (suc b) (suc a) d some (omega (arith, ints, le)))
-
-min-mono : (x y z : ℤ) → x ≤ℤ y → int_min x z ≤ℤ int_min y z
-min-mono x y z le = omega (arith, ints, clamps)
-
-bounded-mono : (x y : ℤ) → x ≤ℤ y → bounded_of x ≤ bounded_of y
-bounded-mono (pos a) (pos b) le = omega (arith, ints)
-bounded-mono (negsuc a) (pos b) le = omega (arith, ints)
-bounded-mono (pos a) (negsuc b) le = omega (arith, ints, le)
-bounded-mono (negsuc a) (negsuc b) le = omega (arith, ints)
+div-mono-int x y d some le = grind (arith, ints, div-mono)
 
 raw-mono : (params : RawParams) (old old' delay more : ℕ) → delay ≤ more → (pos delay -ℤ pos old) ≤ℤ (pos more -ℤ pos old')
     → raw_step params delay old ≤ℤ raw_step params more old'
@@ -48,64 +32,27 @@ pub divisor-some : (prob : ℕ) → 0 < tuning_divisor prob
 unfolding tuning_divisor
 divisor-some prob = grind (arith, nat_tests)
 
--- tuned steps are the quotients, or where they are capped the less of each and two hundredths
-pub tuned-by : (P : ℤ → ℤ → Type 0) (step : Step) (prob : ℕ) (x y : ℤ)
-    → P (int_min (int_div x (pos (tuning_divisor prob))) (pos 20_000_000_000)) (int_min (int_div y (pos (tuning_divisor prob))) (pos 20_000_000_000))
-    → P (int_div x (pos (tuning_divisor prob))) (int_div y (pos (tuning_divisor prob))) → P (tuned_step step prob x) (tuned_step step prob y)
-unfolding tuned_step
-tuned-by P step prob x y capped whole = by (is_capped step && nat_le (10 ^ 11) prob)
-  where
-    by : (b : Bool)
-        → P (if b then int_min (int_div x (pos (tuning_divisor prob))) (pos 20_000_000_000) else int_div x (pos (tuning_divisor prob)))
-        (if b then int_min (int_div y (pos (tuning_divisor prob))) (pos 20_000_000_000) else int_div y (pos (tuning_divisor prob)))
-    by true = capped
-    by false = whole
-
 tuned-mono : (step : Step) (prob : ℕ) (x y : ℤ) → x ≤ℤ y → tuned_step step prob x ≤ℤ tuned_step step prob y
+unfolding tuned_step
 tuned-mono step prob x y le =
-    let quotients = div-mono-int x y (tuning_divisor prob) (divisor-some prob) le in
-    tuned-by (λ (z w : ℤ). z ≤ℤ w) step prob x y
-    (min-mono (int_div x (pos (tuning_divisor prob))) (int_div y (pos (tuning_divisor prob))) (pos 20_000_000_000) quotients) quotients
-
--- a decay never gives more than what decays, once both are bounded
-decay-less : (x : ℤ) → bounded_of (int_div (x *ℤ pos 98) (pos 100)) ≤ bounded_of x
-decay-less (pos a) = omega (arith, ints)
-decay-less (negsuc a) = bounded_of-below (int_div (negsuc a *ℤ pos 98) (pos 100)) 0 (decay-below (negsuc a) 0 (omega (arith, ints)))
-
-decay-mono : (x y : ℤ) → x ≤ℤ y → int_div (x *ℤ pos 98) (pos 100) ≤ℤ int_div (y *ℤ pos 98) (pos 100)
-decay-mono x y le = div-mono-int (x *ℤ pos 98) (y *ℤ pos 98) 100 (omega arith) (omega (arith, ints, le))
-
--- what decays wherever more does is no more, once both are bounded
-decayed-mono : (d m : Bool) (x y : ℤ) → (m ≡ true → d ≡ true) → x ≤ℤ y → bounded_of (decayed d x) ≤ bounded_of (decayed m y)
-unfolding decayed
-decayed-mono true true x y both le = bounded-mono (int_div (x *ℤ pos 98) (pos 100)) (int_div (y *ℤ pos 98) (pos 100)) (decay-mono x y le)
-decayed-mono true false x y both le = let less = decay-less x in let more = bounded-mono x y le in omega (arith, less, more)
-decayed-mono false true x y both le = let wrong : false ≡ true = both refl in cc
-decayed-mono false false x y both le = bounded-mono x y le
+    let quotients = div-mono-int x y (tuning_divisor prob) (divisor-some prob) le in grind (arith, nat_tests, ints, clamps)
 
 -- ---- the next probability
-
--- where it decays at a delay it does so at a lower one
-decays-below : (choice : Decay) (params : RawParams) (old delay more : ℕ) → delay ≤ more → decays choice params more old ≡ true
-    → decays choice params delay old ≡ true
-decays-below Zero params old delay more le is = grind (arith, nat_tests)
-decays-below Half params old delay more le is = grind (arith, nat_tests)
 
 -- a higher delay never gives a lower next probability, all else the same
 pub next_mono : (elements : Elements) (params : RawParams) (prob old delay more : ℕ) → delay ≤ more
     → next elements params prob delay old ≤ next elements params prob more old
-unfolding next
+unfolding next decayed
 next_mono elements params prob old delay more le =
     let t = tuned-mono elements.step prob (raw_step params delay old) (raw_step params more old)
     (raw-mono params old old delay more le (omega (arith, ints))) in
-    decayed-mono (decays elements.decay params delay old) (decays elements.decay params more old)
-    (pos prob +ℤ tuned_step elements.step prob (raw_step params delay old)) (pos prob +ℤ tuned_step elements.step prob (raw_step params more old))
-    (decays-below elements.decay params old delay more le) (omega (arith, ints, t))
+    grind (arith, nat_tests, ints, clamps)
 
 -- ---- up and down
 
 tuned-zero : (step : Step) (prob : ℕ) → tuned_step step prob (pos 0) ≡ pos 0
-tuned-zero step prob = tuned-by (λ (z w : ℤ). z ≡ pos 0) step prob (pos 0) (pos 0) (omega (arith, ints, clamps)) (omega (arith, ints))
+unfolding tuned_step
+tuned-zero step prob = grind (arith, nat_tests, ints, clamps)
 
 tuned-up : (step : Step) (prob : ℕ) (params : RawParams) (delay old : ℕ) → params.target ≤ delay → old ≤ delay
     → pos 0 ≤ℤ tuned_step step prob (raw_step params delay old)
@@ -121,68 +68,32 @@ tuned-down step prob params delay old below fallen =
     rw (raw-zero params, tuned-zero step prob) at
     (tuned-mono step prob (raw_step params delay old) (raw_step params params.target params.target) raw)
 
--- what decays or not is at most what doesn't
-pub decayed-less : (decays : Bool) (x : ℤ) → bounded_of (decayed decays x) ≤ bounded_of x
-unfolding decayed
-decayed-less true x = decay-less x
-decayed-less false x = omega arith
-
 -- it does not decay at the target or above it
 pub none_decays : (choice : Decay) (params : RawParams) (delay old : ℕ) → 0 < params.target → params.target ≤ delay
     → decays choice params delay old ≡ false
-none_decays Zero params delay old some above = grind (arith, nat_tests)
-none_decays Half params delay old some above = grind (arith, nat_tests)
+none_decays choice params delay old some above = grind (arith, nat_tests)
 
 pub next_up : (elements : Elements) (params : RawParams) (prob delay old : ℕ) → prob ≤ 10 ^ 12 → 0 < params.target → params.target ≤ delay
     → old ≤ delay → prob ≤ next elements params prob delay old
 unfolding next decayed
 next_up elements params prob delay old within some above risen =
-    rw (none_decays elements.decay params delay old some above) (by (pos prob +ℤ tuned_step elements.step prob (raw_step params delay old))
-    (let t = tuned-up elements.step prob params delay old above risen in omega (arith, ints, t)))
-  where
-    by : (x : ℤ) → pos prob ≤ℤ x → prob ≤ bounded_of x
-    by (pos a) le = let b : prob ≤ a = omega (arith, ints, le) in omega (arith, b, within)
-    by (negsuc a) le = absurd (omega (arith, ints, le))
+    let t = tuned-up elements.step prob params delay old above risen in
+    rw (none_decays elements.decay params delay old some above) (grind (arith, ints, clamps))
 
 pub next_down : (elements : Elements) (params : RawParams) (prob delay old : ℕ) → delay ≤ params.target → delay ≤ old
     → next elements params prob delay old ≤ prob
-unfolding next
+unfolding next decayed
 next_down elements params prob delay old below fallen =
-    let t = tuned-down elements.step prob params delay old below fallen in
-    let less = decayed-less (decays elements.decay params delay old) (pos prob +ℤ tuned_step elements.step prob (raw_step params delay old)) in
-    let few = bounded_of-below (pos prob +ℤ tuned_step elements.step prob (raw_step params delay old)) prob (omega (arith, ints, t)) in
-    omega (arith, less, few)
-
-tuned-capped : (step : Step) (prob : ℕ) (x : ℤ) → is_capped step ≡ true → 10 ^ 11 ≤ prob → tuned_step step prob x ≤ℤ pos 20_000_000_000
-unfolding tuned_step
-tuned-capped step prob x capped large =
-    let many : nat_le (10 ^ 11) prob ≡ true = grind (arith, nat_tests) in
-    rw (capped, many) (min-below (int_div x (pos (tuning_divisor prob))))
-  where
-    min-below : (z : ℤ) → int_min z (pos 20_000_000_000) ≤ℤ pos 20_000_000_000
-    min-below z = omega (arith, ints, clamps)
+    let t = tuned-down elements.step prob params delay old below fallen in grind (arith, nat_tests, ints, clamps)
 
 pub next_capped : (elements : Elements) (params : RawParams) (prob delay old : ℕ) → is_capped elements.step ≡ true → 10 ^ 11 ≤ prob
     → next elements params prob delay old ≤ prob + 20_000_000_000
-unfolding next
-next_capped elements params prob delay old capped large =
-    let t = tuned-capped elements.step prob (raw_step params delay old) capped large in
-    let less = decayed-less (decays elements.decay params delay old) (pos prob +ℤ tuned_step elements.step prob (raw_step params delay old)) in
-    let few = bounded_of-below (pos prob +ℤ tuned_step elements.step prob (raw_step params delay old)) (prob + 20_000_000_000)
-    (omega (arith, ints, t)) in
-    omega (arith, less, few)
-
-decayed-share : (prob : ℕ) (x : ℤ) → x ≤ℤ pos prob → bounded_of (int_div (x *ℤ pos 98) (pos 100)) * 100 ≤ prob * 98
-decayed-share prob x le =
-    let d = decay-mono x (pos prob) le in
-    let b = bounded-mono (int_div (x *ℤ pos 98) (pos 100)) (int_div (pos prob *ℤ pos 98) (pos 100)) d in
-    let q = div-mul-le_self (prob * 98) 100 in
-    omega (arith, ints, b, q)
+unfolding next decayed tuned_step
+next_capped elements params prob delay old capped large = grind (arith, nat_tests, ints, clamps)
 
 -- where it decays the delay is below the target, or 0
 pub decays_low : (choice : Decay) (params : RawParams) (delay old : ℕ) → decays choice params delay old ≡ true → delay ≤ params.target
-decays_low Zero params delay old is = let none : delay ≡ 0 = grind (arith, nat_tests) in omega (arith, none)
-decays_low Half params delay old is = grind (arith, nat_tests)
+decays_low choice params delay old is = grind (arith, nat_tests)
 
 -- where it decays, and the delay has not risen, it falls to 98 hundredths at most
 pub next_decays : (elements : Elements) (params : RawParams) (prob delay old : ℕ) → decays elements.decay params delay old ≡ true → delay ≤ old
@@ -190,4 +101,4 @@ pub next_decays : (elements : Elements) (params : RawParams) (prob delay old : �
 unfolding next decayed
 next_decays elements params prob delay old is fallen =
     let t = tuned-down elements.step prob params delay old (decays_low elements.decay params delay old is) fallen in
-    rw is (decayed-share prob (pos prob +ℤ tuned_step elements.step prob (raw_step params delay old)) (omega (arith, ints, t)))
+    grind (arith, nat_tests, ints, clamps)

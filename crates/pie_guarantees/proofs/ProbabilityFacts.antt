@@ -1,14 +1,13 @@
 -- How the probability follows the delay, at each event of a lawful history.
-use Rattle.pie_guarantees.proofs.Names.{◌≡◌, ◌≤◌, ◌<◌, ◌+◌, ◌*◌, ◌-◌, ◌^◌, ◌⊎◌, inl, inr, ℕ, zero, suc, List, [], ◌∷◌, ◌++◌, Bool, true, false, refl}
-use Rattle.pie_guarantees.proofs.Names.{BetweenAny}
+use Rattle.pie_guarantees.proofs.Names.{◌≡◌, ◌≤◌, ◌<◌, ◌+◌, ◌*◌, ◌-◌, ◌^◌, ◌⊎◌, ℕ, zero, suc, List, [], ◌∷◌, ◌++◌, Bool, true, false, refl}
+use Rattle.pie_guarantees.proofs.Names.{BetweenAny, nat_tests}
 use Rattle.pie_guarantees.proofs.Names.{sym, ap, ◌∙◌, cond, if◌then◌else◌, arith, subst, mul-le, le_of_mul-le-mul_right, pow-suc, usual}
 use Rattle.pie_guarantees.proofs.Names.{default_profile, Elements, bytes_of, decayed, decays, next, raw_step, tuned_step, tuning_divisor, deed}
-use Rattle.pie_guarantees.proofs.Names.{deed_of, is_update, after_call, Held, held_of, Waiting, Command, Arrive, Depart, Update, Reset, SetParams}
-use Rattle.pie_guarantees.proofs.Names.{Answer, Event, Opening, arrival_of, call_of, delay_after, held_after, params_after, waiting_after, is_reset}
+use Rattle.pie_guarantees.proofs.Names.{deed_of, is_update, after_call, Held, held_of, Waiting, Command}
+use Rattle.pie_guarantees.proofs.Names.{Answer, Event, Opening, call_of, delay_after, held_after, params_after, waiting_after, is_reset}
 use Rattle.pie_guarantees.proofs.Names.{KeepsParams, updates_in, AllAlong, IsActiveUpdate, IsSteady, after_updates, old_delay_after}
 use Rattle.pie_guarantees.proofs.Names.{probability_after, RawParams}
 use Rattle.pie_aqm.specs.Steps as Steps
-use Rattle.pie_guarantees.proofs.CallFacts.{after-arrival, asks_update, update-is}
 use Rattle.pie_guarantees.proofs.LawfulFacts.{IsStep, along, counted-cons}
 use Rattle.pie_guarantees.proofs.NextFacts.{decays_low, next_decays}
 use Rattle.pie_guarantees.proofs.SteadyFacts.{after_both, stays_down}
@@ -19,11 +18,11 @@ elements-is opening history = refl
 
 -- ---- an update of an active controller
 
-updated-prob : (h : Held) (waiting : List Waiting) (packets : ℕ) (command : Command) → asks_update command ≡ true → h.active ≡ true
+updated-prob : (h : Held) (waiting : List Waiting) (packets : ℕ) (command : Command) (answer : Answer) → is_update (deed command answer) ≡ true
+    → h.active ≡ true
     → (after_call h (call_of waiting packets command)).control.prob
     ≡ next h.elements h.params h.control.prob (Steps.delay_in h (bytes_of waiting)) h.control.old_delay
-updated-prob h waiting packets (Update moment) asks on = rw on refl
-updated-prob h waiting packets _ asks on = cc
+updated-prob h waiting packets command answer asks on = grind (arith, nat_tests)
 
 pub prob-next : (opening : Opening) (before : List Event) (event : Event) → IsStep opening before event → IsActiveUpdate opening before event
     → probability_after opening (before ++ event ∷ [])
@@ -32,8 +31,7 @@ pub prob-next : (opening : Opening) (before : List Event) (event : Event) → Is
 prob-next opening before event step active =
     let h = held_after opening before in
     ap (λ (g : Held). g.control.prob) step.held
-    ∙ updated-prob h (waiting_after opening before) opening.limits.packets event.command
-    (sym (update-is event.command event.answer) ∙ active.update) active.active
+    ∙ updated-prob h (waiting_after opening before) opening.limits.packets event.command event.answer active.update active.active
     ∙ ap (λ (e : Elements). next e h.params h.control.prob (delay_after opening before) h.control.old_delay) (elements-is opening before)
 
 -- ---- any other event
@@ -42,13 +40,7 @@ prob-next opening before event step active =
 pub stays-or-zero : (h : Held) (waiting : List Waiting) (packets : ℕ) (command : Command) (answer : Answer)
     → (is_update (deed command answer) ≡ false) ⊎ (h.active ≡ false)
     → (after_call h (call_of waiting packets command)).control.prob ≤ h.control.prob
-stays-or-zero h waiting packets (Arrive moment packet word) answer other =
-    after-arrival (λ (g : Held). g.control.prob ≤ h.control.prob) h (arrival_of waiting packets packet word) moment (omega arith) (λ on. omega arith)
-stays-or-zero h [] packets (Depart moment) answer other = omega arith
-stays-or-zero h (oldest ∷ others) packets (Depart moment) answer other = omega arith
-stays-or-zero h waiting packets (Update moment) answer (inl none) = cc
-stays-or-zero h waiting packets (Update moment) answer (inr off) = rw off (omega arith)
-stays-or-zero h waiting packets _ answer other = omega arith
+stays-or-zero h waiting packets command answer other = grind (arith, nat_tests)
 
 -- ---- one delay all along
 
@@ -59,20 +51,11 @@ record Next (delay : ℕ) (elements : Elements) (h g : Held) (updates : Bool) : 
 
 same-next : (delay : ℕ) (h : Held) (waiting : List Waiting) (packets : ℕ) (command : Command) (answer : Answer) → KeepsParams command
     → is_reset (deed command answer) ≡ false → h.active ≡ true
-    → (asks_update command ≡ true → Steps.delay_in h (bytes_of waiting) ≡ delay)
-    → (asks_update command ≡ true → h.control.old_delay ≡ delay)
-    → Next delay h.elements h (after_call h (call_of waiting packets command)) (asks_update command)
-same-next delay h waiting packets (Arrive moment packet word) answer keeps unreset on now old =
-    after-arrival (λ (g : Held). Next delay h.elements h g false) h (arrival_of waiting packets packet word) moment
-    (record { params = refl; prob = refl }) (λ wakes. let wrong = rw on at wakes in cc)
-same-next delay h [] packets (Depart moment) answer keeps unreset on now old = record { params = refl; prob = refl }
-same-next delay h (oldest ∷ others) packets (Depart moment) answer keeps unreset on now old = record { params = refl; prob = refl }
-same-next delay h waiting packets (Update moment) answer keeps unreset on now old = record {
-  params = refl;
-  prob = updated-prob h waiting packets (Update moment) refl on ∙ rw (now refl, old refl) refl;
-}
-same-next delay h waiting packets (Reset moment) answer keeps unreset on now old = cc
-same-next delay h waiting packets (SetParams moment params) answer keeps unreset on now old = absurd keeps
+    → (is_update (deed command answer) ≡ true → Steps.delay_in h (bytes_of waiting) ≡ delay)
+    → (is_update (deed command answer) ≡ true → h.control.old_delay ≡ delay)
+    → Next delay h.elements h (after_call h (call_of waiting packets command)) (is_update (deed command answer))
+same-next delay h waiting packets command answer keeps unreset on now old =
+    record { params = grind (arith, nat_tests); prob = grind (arith, nat_tests) }
 
 one-update : (updates : Bool) (n : ℕ) (elements : Elements) (params : RawParams) (delay prob : ℕ)
     → after_updates n elements params delay (if updates then next elements params prob delay delay else prob)
@@ -106,9 +89,8 @@ steadily delay opening before between later lawful steady =
         subst (λ (e : Elements). Next delay e h (held_after opening (earlier ++ event ∷ [])) (is_update (deed_of event)))
         (elements-is opening earlier)
         (subst (λ (g : Held). Next delay h.elements h g (is_update (deed_of event))) (sym step.held)
-        (rw (update-is event.command event.answer) (same-next delay h (waiting_after opening earlier) opening.limits.packets event.command
-        event.answer here.keeps here.unreset here.active (λ is. here.delay_now (update-is event.command event.answer ∙ is))
-        (λ is. here.delay_old (update-is event.command event.answer ∙ is))))) in
+        (same-next delay h (waiting_after opening earlier) opening.limits.packets event.command event.answer here.keeps here.unreset here.active
+        here.delay_now here.delay_old)) in
         rw (
           moved.params,
           moved.prob,

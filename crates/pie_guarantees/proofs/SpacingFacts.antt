@@ -1,20 +1,18 @@
 -- How the accumulated probability grows, and where it starts anew.
 use Rattle.pie_guarantees.proofs.Names.{◌≡◌, ◌≤◌, ◌<◌, ◌+◌, ◌*◌, ◌&&◌, ℕ, List, [], ◌∷◌, ◌++◌, Bool, true, false, refl, sym, ap, ◌∙◌, if◌then◌else◌}
-use Rattle.pie_guarantees.proofs.Names.{AtEachEvent, BetweenAny}
-use Rattle.pie_guarantees.proofs.Names.{nat_lt, arith, subst, not, nat_tests, Elements, is_capable, bytes_of, Mark, Drop, counted_as, is_considered}
-use Rattle.pie_guarantees.proofs.Names.{is_picked, joined, deed, answer_of, after_call, Held, chosen, Waiting, ArrivingPacket, Verdict, Command}
-use Rattle.pie_guarantees.proofs.Names.{Arrive, Depart, Reset, Answer, Event, Opening, arrival_of, call_of, answer_by, held_after, waiting_after}
+use Rattle.pie_guarantees.proofs.Names.{AtEachEvent, BetweenAny, Packet}
+use Rattle.pie_guarantees.proofs.Names.{arith, subst, nat_tests, Elements, bytes_of, counted_as, is_considered}
+use Rattle.pie_guarantees.proofs.Names.{is_picked, deed, answer_of, after_call, Held, Waiting, ArrivingPacket, Command}
+use Rattle.pie_guarantees.proofs.Names.{Arrive, Answer, Event, Opening, arrival_of, call_of, answer_by, held_after, waiting_after}
 use Rattle.pie_guarantees.proofs.Names.{is_dropped_bytes, is_dropped_packets, is_reset, AllAlong, IsLawful, IsEarly, is_early, held_of}
 use Rattle.pie_params.specs.declared.elements.Picking.{Picking}
-use Rattle.pie_params.specs.declared.elements.Picking.TheVariants.{Derandomized, Random}
+use Rattle.pie_params.specs.declared.elements.Picking.TheVariants.{Derandomized}
 use Rattle.pie_guarantees.specs.{arriving_size, CountsAtLeast, CountsAtMost, GoesOn, considered_in, counted_at, had_room, was_considered}
 use Rattle.pie_aqm.specs.Steps as Steps
 use Rattle.pie_book.specs.Estimates as Book
 use Rattle.pie_guarantees.proofs.LawfulFacts.{IsStep, along, at-step, sound_at, step_at}
 use Rattle.pie_guarantees.proofs.ProbabilityFacts.{elements-is}
-use Rattle.pie_guarantees.proofs.CallFacts.{after-arrival, after-verdict}
 use Rattle.pie_guarantees.proofs.EarlyFacts.{early_arrival}
-use Rattle.std.proofs.lemmas.Bool.{eqb-true}
 
 -- ---- one command
 
@@ -28,45 +26,31 @@ con-of h bytes = h.active && is_considered h.params h.control bytes
 abbrev considers : Held → ℕ → Command → Answer → Bool
 considers h bytes command answer = had_room (deed command answer) && con-of h bytes
 
-joined-most : (picking : Picking) (accu q : ℕ) → joined picking accu q ≤ accu + q
-joined-most Derandomized accu q = omega arith
-joined-most Random accu q = omega arith
+grows-verdict : (h : Held) (a : ArrivingPacket) (moment word : ℕ) (packet : Packet) → Steps.accu_left h a
+    ≤ h.accu + (if considers h a.queued (Arrive moment packet word) (answer_of (Steps.verdict h a)) then q-of h a.size else 0)
+unfolding Steps.verdict Steps.accu_left
+grows-verdict h a moment word packet = grind (arith, nat_tests)
 
 grows : (h : Held) (waiting : List Waiting) (packets : ℕ) (command : Command)
     → (after_call h (call_of waiting packets command)).accu
     ≤ h.accu + (if considers h (bytes_of waiting) command (answer_by h waiting packets command) then q-of h (arriving_size command) else 0)
 grows h waiting packets (Arrive moment packet word) =
-    let a = arrival_of waiting packets packet word in
-    after-arrival (λ (g : Held). g.accu ≤ h.accu + (if considers h (bytes_of waiting) (Arrive moment packet word) (answer_of (Steps.verdict h
-    (arrival_of waiting packets packet word))) then q-of h packet.size else 0)) h (arrival_of waiting packets packet word) moment
-    (after-verdict h (arrival_of waiting packets packet word) (λ (v : Verdict) (left : ℕ). left
-    ≤ h.accu + (if considers h (bytes_of waiting) (Arrive moment packet word) (answer_of v) then q-of h packet.size else 0))
-    (omega arith) (omega arith) (λ unseen. omega arith) (λ on seen picked. omega arith) (λ seen none. omega arith)
-    (λ seen some. rw seen (joined-most h.elements.picking h.accu (q-of h packet.size)))) (λ on. omega arith)
-grows h [] packets (Depart moment) = omega arith
-grows h (oldest ∷ others) packets (Depart moment) = omega arith
-grows h waiting packets _ = omega arith
+    let more = grows-verdict h (arrival_of waiting packets packet word) moment word packet in grind (arith, nat_tests)
+grows h waiting packets _ = grind (arith, nat_tests)
 
 -- ---- a pick starts anew
 
-left-zero : (h : Held) (a : ArrivingPacket) → is_early (answer_of (Steps.verdict h a)) ≡ true → Steps.accu_left h a ≡ 0
-left-zero h a =
-    after-verdict h a (λ (v : Verdict) (left : ℕ). is_early (answer_of v) ≡ true → left ≡ 0) (λ e. refl) (λ e. refl) (λ unseen e. cc)
-    (λ on seen picked e. refl) (λ seen none e. refl) (λ seen some e. cc)
+left-zero : (h : Held) (waiting : List Waiting) (packets : ℕ) (command : Command) → is_early (answer_by h waiting packets command) ≡ true
+    → (after_call h (call_of waiting packets command)).accu ≡ 0
+unfolding Steps.verdict Steps.accu_left
+left-zero h waiting packets command e = grind (arith, nat_tests)
 
 pub starts_anew : AtEachEvent (λ opening before event. IsEarly event → Book.accu_after opening (before ++ event ∷ []) ≡ 0)
 starts_anew opening before event later lawful early =
     let step = step_at opening before event later lawful in
-    let it = early_arrival opening before event step early in
-    let h = held_after opening before in
-    let w = waiting_after opening before in
-    let a : ArrivingPacket = arrival_of w opening.limits.packets it.packet it.word in
-    let verdict : event.answer ≡ answer_of (Steps.verdict h a) =
-    step.here.answered ∙ ap (λ (c : Command). answer_by h w opening.limits.packets c) it.is in
     ap (λ (g : Held). g.accu) step.held
-    ∙ ap (λ (c : Command). (after_call h (call_of w opening.limits.packets c)).accu) it.is
-    ∙ after-arrival (λ (g : Held). g.accu ≡ 0) h a it.moment
-    (left-zero h a (ap (λ (x : Answer). is_early x) (sym verdict) ∙ early)) (λ on. refl)
+    ∙ left-zero (held_after opening before) (waiting_after opening before) opening.limits.packets event.command
+    (ap (λ (a : Answer). is_early a) (sym step.here.answered) ∙ early)
 
 -- ---- at a place
 
@@ -88,8 +72,7 @@ grows-at opening before event step =
 -- what is left of a bound where a packet is considered, or none
 more-at-most : (b : Bool) (n most accu q next total : ℕ) → accu + ((if b then 1 else 0) + n) * most ≤ total → next ≤ accu + (if b then q else 0)
     → (b ≡ true → q ≤ most) → next + n * most ≤ total
-more-at-most true n most accu q next total old less few = let small = few refl in grind arith
-more-at-most false n most accu q next total old less few = grind arith
+more-at-most b n most accu q next total old less few = grind (arith, nat_tests)
 
 far : (most : ℕ) (opening : Opening) (before between later : List Event) → IsLawful opening (before ++ between ++ later)
     → Book.accu_after opening before ≡ 0 → AllAlong (CountsAtMost most opening) before between
@@ -132,24 +115,19 @@ far_apart most opening before between event later lawful spaced none few last ea
 
 -- ---- as long as it goes on
 
-joined-keeps : (picking : Picking) (accu q least : ℕ) → picking ≡ Derandomized → least ≤ q → accu + least ≤ joined picking accu q
-joined-keeps Derandomized accu q least spaced much = omega arith
-joined-keeps Random accu q least spaced much = cc
-
-pick-early : (a b : Bool) → is_early (answer_of (chosen (if a && b then Mark else Drop))) ≡ true
-pick-early true true = refl
-pick-early true false = refl
-pick-early false b = refl
-
-off-before : (active large : Bool) → not active && large ≡ true → active ≡ false
-off-before active large e = grind (arith, nat_tests)
-
 -- what an answer is that picks no packet, and nothing else starts the accumulated probability anew
 record Keeps (command : Command) (answer : Answer) : Type 0 where
   unpicked : is_early answer ≡ false
   no_bytes : is_dropped_bytes (deed command answer) ≡ false
   no_packets : is_dropped_packets (deed command answer) ≡ false
   unreset : is_reset (deed command answer) ≡ false
+
+keeps-verdict : (h : Held) (least : ℕ) (a : ArrivingPacket) (moment word : ℕ) (packet : Packet) → h.elements.picking ≡ Derandomized
+    → Keeps (Arrive moment packet word) (answer_of (Steps.verdict h a)) → 0 < least
+    → (considers h a.queued (Arrive moment packet word) (answer_of (Steps.verdict h a)) ≡ true → least ≤ q-of h a.size)
+    → h.accu + (if considers h a.queued (Arrive moment packet word) (answer_of (Steps.verdict h a)) then least else 0) ≤ Steps.accu_left h a
+unfolding Steps.verdict Steps.accu_left
+keeps-verdict h least a moment word packet spaced on some large = grind (arith, nat_tests)
 
 keeps : (h : Held) (least : ℕ) (waiting : List Waiting) (packets : ℕ) (command : Command) → h.elements.picking ≡ Derandomized
     → Keeps command (answer_by h waiting packets command) → 0 < least
@@ -158,26 +136,8 @@ keeps : (h : Held) (least : ℕ) (waiting : List Waiting) (packets : ℕ) (comma
     → h.accu + (if considers h (bytes_of waiting) command (answer_by h waiting packets command) then least else 0)
     ≤ (after_call h (call_of waiting packets command)).accu
 keeps h least waiting packets (Arrive moment packet word) spaced on some large no_start =
-    after-arrival (λ (g : Held). (h.active ≡ false → g.active ≡ false) → h.accu + (if considers h (bytes_of waiting) (Arrive moment packet word)
-    (answer_of (Steps.verdict h a)) then least else 0) ≤ g.accu) h a moment
-    (λ still. after-verdict h a (λ (v : Verdict) (left : ℕ). Keeps (Arrive moment packet word) (answer_of v)
-    → (considers h (bytes_of waiting) (Arrive moment packet word) (answer_of v) ≡ true → least ≤ q-of h packet.size)
-    → h.accu + (if considers h (bytes_of waiting) (Arrive moment packet word) (answer_of v) then least else 0) ≤ left)
-    (λ on large. let wrong = on.no_bytes in cc)
-    (λ on large. let wrong = on.no_packets in cc)
-    (λ unseen on large. rw unseen (omega arith))
-    (λ active seen picked on large.
-    let wrong : true ≡ false = sym (pick-early (is_capable packet.ecn) (nat_lt h.control.prob h.params.mark_ecnth)) ∙ on.unpicked in cc)
-    (λ seen none on large. let much = large seen in absurd (omega (arith, much, some, eqb-true (q-of h packet.size) 0 none)))
-    (λ seen more on large. rw seen (joined-keeps h.elements.picking h.accu (q-of h packet.size) least spaced (large seen))) on large)
-    (λ wakes still. let wrong : true ≡ false = still (off-before h.active _ wakes) in cc) no_start
-  where
-    a : ArrivingPacket
-    a = arrival_of waiting packets packet word
-keeps h least [] packets (Depart moment) spaced on some large no_start = omega arith
-keeps h least (oldest ∷ others) packets (Depart moment) spaced on some large no_start = omega arith
-keeps h least waiting packets (Reset moment) spaced on some large no_start = let wrong = on.unreset in cc
-keeps h least waiting packets _ spaced on some large no_start = omega arith
+    let more = keeps-verdict h least (arrival_of waiting packets packet word) moment word packet spaced on some large in grind (arith, nat_tests)
+keeps h least waiting packets _ spaced on some large no_start = grind (arith, nat_tests)
 
 keeps-at : (least : ℕ) (opening : Opening) (before : List Event) (event : Event) → IsStep opening before event
     → opening.choices.elements.picking ≡ Derandomized → 0 < least → CountsAtLeast least opening before event → GoesOn opening before event
@@ -195,8 +155,7 @@ keeps-at least opening before event step spaced some large on =
 
 more-at-least : (b : Bool) (n least accu next total : ℕ) → total ≤ accu + ((if b then 1 else 0) + n) * least
     → accu + (if b then least else 0) ≤ next → total ≤ next + n * least
-more-at-least true n least accu next total old more = grind arith
-more-at-least false n least accu next total old more = grind arith
+more-at-least b n least accu next total old more = grind (arith, nat_tests)
 
 -- two properties that each event has
 both : (P Q : List Event → Event → Type 0) (before between : List Event) → AllAlong P before between → AllAlong Q before between

@@ -1,10 +1,10 @@
 -- How far updates at one delay move the probability, by the table of auto-tuning.
-use Rattle.pie_guarantees.proofs.Names.{◌≡◌, ◌≤◌, ◌<◌, ◌+◌, ◌*◌, ◌-◌, ◌/◌, ◌^◌, ℕ, zero, suc, false, refl, ap, ◌∙◌, arith, subst, min, ℤ, pos, negsuc}
-use Rattle.pie_guarantees.proofs.Names.{◌+ℤ◌, ◌-ℤ◌, ◌*ℤ◌, ◌≤ℤ◌, int_div, nat_tests, clamps, ints, le-div, mul-le, div-mul-le_self, lt-mul-div-succ}
-use Rattle.pie_guarantees.proofs.Names.{bounded_of, Elements, Step, decayed, decays, next, raw_step, tuned_step, tuning_divisor, bounded_of-below}
+use Rattle.pie_guarantees.proofs.Names.{◌≡◌, ◌≤◌, ◌<◌, ◌+◌, ◌*◌, ◌-◌, ◌/◌, ◌^◌, ℕ, zero, suc, false, refl, ap, ◌∙◌, arith, subst, min, ℤ, pos}
+use Rattle.pie_guarantees.proofs.Names.{◌-ℤ◌, int_div, nat_tests, clamps, ints, le-div, mul-le, div-mul-le_self, lt-mul-div-succ}
+use Rattle.pie_guarantees.proofs.Names.{Elements, Step, decayed, decays, next, raw_step, tuned_step, tuning_divisor}
 use Rattle.pie_guarantees.proofs.Names.{after_updates, next-hold, least_rise, untuned_fall, untuned_rise, updates_from, updates_to_a_tenth}
 use Rattle.pie_params.specs.declared.raw.RawParams.{RawParams}
-use Rattle.pie_guarantees.proofs.NextFacts.{decayed-less, divisor-some, next_down, next_up, none_decays, tuned-by}
+use Rattle.pie_guarantees.proofs.NextFacts.{divisor-some, next_down, next_up, none_decays}
 
 -- ---- the table of auto-tuning
 
@@ -21,70 +21,28 @@ divisor-falls low high le = grind (arith, nat_tests)
 
 raw-above : (params : RawParams) (delay : ℕ) → params.target ≤ delay → raw_step params delay delay ≡ pos (untuned_rise params delay)
 unfolding raw_step
-raw-above params delay above =
-    let far : pos delay -ℤ pos params.target ≡ pos (delay - params.target) = omega (arith, ints) in
-    let none : pos delay -ℤ pos delay ≡ pos 0 = omega (arith, ints) in
-    rw (far, none) (omega (arith, ints))
-
-zero-less : (n : ℕ) → pos 0 -ℤ pos (suc n) ≡ negsuc n
-zero-less n = omega (arith, ints)
-
-product-below : (a n : ℕ) → pos a *ℤ (pos 0 -ℤ pos n) ≡ pos 0 -ℤ pos (a * n)
-product-below a zero = omega (arith, ints)
-product-below a (suc n) = rw (zero-less n) (omega (arith, ints))
+raw-above params delay above = grind (arith, ints)
 
 raw-below : (params : RawParams) (delay : ℕ) → delay ≤ params.target → raw_step params delay delay ≡ pos 0 -ℤ pos (untuned_fall params delay)
 unfolding raw_step
-raw-below params delay below =
-    let far : pos delay -ℤ pos params.target ≡ pos 0 -ℤ pos (params.target - delay) = omega (arith, ints) in
-    let none : pos delay -ℤ pos delay ≡ pos 0 = omega (arith, ints) in
-    rw (far, none, product-below params.alpha (params.target - delay)) (omega (arith, ints))
+raw-below params delay below = grind (arith, ints)
 
 -- toward zero
 quotient-below : (n d : ℕ) → int_div (pos 0 -ℤ pos n) (pos d) ≡ pos 0 -ℤ pos (n / d)
-quotient-below zero d = omega (arith, ints)
-quotient-below (suc n) d = rw (zero-less n) (omega (arith, ints))
-
-fallen : (z : ℤ) (prob fall : ℕ) → z ≡ pos prob +ℤ (pos 0 -ℤ pos fall) → bounded_of z ≡ min (10 ^ 12) (prob - fall)
-fallen (pos a) prob fall e = omega (arith, ints, e)
-fallen (negsuc a) prob fall e = omega (arith, ints, e)
+quotient-below n d = grind (arith, ints)
 
 tuned-below : (step : Step) (prob n : ℕ) → tuned_step step prob (pos 0 -ℤ pos n) ≡ pos 0 -ℤ pos (n / tuning_divisor prob)
-tuned-below step prob n =
-    let q = quotient-below n (tuning_divisor prob) in
-    tuned-by (λ (z w : ℤ). z ≡ pos 0 -ℤ pos (n / tuning_divisor prob)) step prob (pos 0 -ℤ pos n) (pos 0) (rw q (omega (arith, ints, clamps))) q
+unfolding tuned_step
+tuned-below step prob n = let q = quotient-below n (tuning_divisor prob) in grind (arith, nat_tests, ints, clamps)
 
-least-tuned : (step : Step) (params : RawParams) (delay prob : ℕ)
-    → pos (least_rise params delay prob) ≤ℤ tuned_step step prob (pos (untuned_rise params delay))
-least-tuned step params delay prob =
-    tuned-by (λ (z w : ℤ). pos (least_rise params delay prob) ≤ℤ z) step prob (pos (untuned_rise params delay)) (pos 0)
-    (omega (arith, ints, clamps)) (omega (arith, ints, clamps))
-
-tuned-most : (step : Step) (prob n : ℕ) → tuned_step step prob (pos n) ≤ℤ pos (n / tuning_divisor prob)
-tuned-most step prob n =
-    tuned-by (λ (z w : ℤ). z ≤ℤ pos (n / tuning_divisor prob)) step prob (pos n) (pos 0) (omega (arith, ints, clamps)) (omega (arith, ints))
-
--- a sum that is at least this is as a probability
-least-bounded : (prob rise : ℕ) (x : ℤ) → pos rise ≤ℤ x → min (10 ^ 12) (prob + rise) ≤ bounded_of (pos prob +ℤ x)
-least-bounded prob rise (pos a) le = omega (arith, ints, le)
-least-bounded prob rise (negsuc a) le = absurd (omega (arith, ints, le))
-
+-- a rise is at least this, and at most that
 one-rise : (elements : Elements) (params : RawParams) (prob delay : ℕ) → 0 < params.target → params.target ≤ delay
-    → min (10 ^ 12) (prob + least_rise params delay prob) ≤ next elements params prob delay delay
-unfolding next decayed
+    → (min (10 ^ 12) (prob + least_rise params delay prob) ≤ next elements params prob delay delay)
+    × (next elements params prob delay delay ≤ prob + untuned_rise params delay / tuning_divisor prob)
+unfolding next decayed tuned_step
 one-rise elements params prob delay some above =
     rw (none_decays elements.decay params delay delay some above, raw-above params delay above)
-    (least-bounded prob (least_rise params delay prob) (tuned_step elements.step prob (pos (untuned_rise params delay)))
-    (least-tuned elements.step params delay prob))
-
-one-rise-most : (elements : Elements) (params : RawParams) (prob delay : ℕ) → 0 < params.target → params.target ≤ delay
-    → next elements params prob delay delay ≤ prob + untuned_rise params delay / tuning_divisor prob
-unfolding next decayed
-one-rise-most elements params prob delay some above =
-    rw (none_decays elements.decay params delay delay some above, raw-above params delay above)
-    (let t = tuned-most elements.step prob (untuned_rise params delay) in
-    bounded_of-below (pos prob +ℤ tuned_step elements.step prob (pos (untuned_rise params delay)))
-    (prob + untuned_rise params delay / tuning_divisor prob) (omega (arith, ints, t)))
+    (grind (arith, nat_tests, ints, clamps), grind (arith, nat_tests, ints, clamps))
 
 fallen-step : (elements : Elements) (params : RawParams) (prob delay : ℕ) → delay ≤ params.target
     → tuned_step elements.step prob (raw_step params delay delay) ≡ pos 0 -ℤ pos (untuned_fall params delay / tuning_divisor prob)
@@ -93,22 +51,14 @@ fallen-step elements params prob delay below =
 
 one-fall : (elements : Elements) (params : RawParams) (prob delay : ℕ) → delay ≤ params.target → 0 < next elements params prob delay delay
     → next elements params prob delay delay + untuned_fall params delay / tuning_divisor prob ≤ prob
-unfolding next
-one-fall elements params prob delay below some =
-    let fall = untuned_fall params delay / tuning_divisor prob in
-    let less : next elements params prob delay delay ≤ bounded_of (pos prob +ℤ (pos 0 -ℤ pos fall)) =
-    subst (λ (z : ℤ). next elements params prob delay delay ≤ bounded_of (pos prob +ℤ z)) (fallen-step elements params prob delay below)
-    (decayed-less (decays elements.decay params delay delay) (pos prob +ℤ tuned_step elements.step prob (raw_step params delay delay))) in
-    let is = fallen (pos prob +ℤ (pos 0 -ℤ pos fall)) prob fall refl in
-    omega (arith, less, is, some)
+unfolding next decayed
+one-fall elements params prob delay below some = let t = fallen-step elements params prob delay below in grind (arith, nat_tests, ints, clamps)
 
 one-fall-most : (elements : Elements) (params : RawParams) (prob delay : ℕ) → prob ≤ 10 ^ 12 → decays elements.decay params delay delay ≡ false
     → delay ≤ params.target → prob ≤ next elements params prob delay delay + untuned_fall params delay / tuning_divisor prob
 unfolding next decayed
 one-fall-most elements params prob delay within still below =
-    rw (still, fallen-step elements params prob delay below)
-    (let is = fallen (pos prob +ℤ (pos 0 -ℤ pos (untuned_fall params delay / tuning_divisor prob))) prob
-    (untuned_fall params delay / tuning_divisor prob) refl in omega (arith, is, within))
+    let t = fallen-step elements params prob delay below in grind (arith, nat_tests, ints, clamps)
 
 -- ---- several updates
 
@@ -163,14 +113,14 @@ module _ (elements : Elements) (params : RawParams) (delay : ℕ) where
         let up = next_up elements params prob delay delay within some above (omega arith) in
         let grows = rise-grows params delay prob (once prob) up in
         let rest = rises n rise most (once prob) (omega (arith, least, grows)) (once-within prob) in
-        let one = one-rise elements params prob delay some above in
+        let one = (one-rise elements params prob delay some above).0 in
         let times = more-times n rise in (
           omega (arith, up, rest.0),
           omega (arith, one, rest.1, times, least),
           λ below.
               let more = div-more (untuned_rise params delay) (tuning_divisor prob) (tuning_divisor most) (divisor-some most)
               (divisor-falls prob most (omega (arith, up, rest.0, below))) in
-              let one = one-rise-most elements params prob delay some above in
+              let one = (one-rise elements params prob delay some above).1 in
               let times = more-times n (untuned_rise params delay / tuning_divisor most) in
               let later = rest.2 below in omega (arith, one, later, more, times),
         )

@@ -19,22 +19,22 @@ pub(crate) fn limits(tail: u32) -> Limits {
     }
 }
 
-/// A packet of 100 bytes.
-pub(crate) fn packet(tag: u64) -> Packet
-    ensures { result.size ≡ 100 }
+/// A packet that understands no mark.
+pub(crate) fn packet(tag: u64, size: u32) -> Packet
+    ensures { result.size ≡ size }
 {
     Packet {
         tag,
-        size: 100,
+        size,
         ecn: Ecn::NotEct,
     }
 }
 
-/// The arrival of a packet with this tag.
+/// The arrival of a packet of 100 bytes with this tag.
 pub(crate) fn arrive(moment: u64, tag: u64) -> Command {
     Command::Arrive {
         moment,
-        packet: packet(tag),
+        packet: packet(tag, 100),
         word: 0,
     }
 }

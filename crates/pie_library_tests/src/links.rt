@@ -134,7 +134,7 @@ fn burst<R: Wait>(rt: &R, alloc: Global, link: &Link, caller: &mut Caller) -> u6
 {
     let one = Arrival {
         moment: 15_000_000,
-        packet: packet(1),
+        packet: packet(1, 100),
         word: 0,
     };
     let mut answers: Vec<Result<Told<Answer>, Refusal>> = Vec::new(alloc);

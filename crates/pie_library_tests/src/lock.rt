@@ -1,8 +1,9 @@
 //! The lock, over the counter that pie_lock has for tests. What its calls answer is proved but for this: that there is memory, that a free lock is
 //! taken and closed (src/links.rt), and that those who sleep at a lock that is held are woken: with a missed wake a test doesn't end.
-ghost use Rattle.std.specs.Prelude.{◌≡◌};
+ghost use Rattle.std.specs.Prelude.{◌≡◌, Some};
+ghost use Rattle.pie_lock.specs.Tally.{Tells};
 
-use pie_lock::{Counter, CounterEntry, Pass, RuledLock, no_entries, one_entry};
+use pie_lock::{Counter, CounterEntry, Held, Pass, RuledLock, no_entries, one_entry};
 use std::alloc::Global;
 use std::sync::Wait;
 use std::thread;
@@ -14,23 +15,38 @@ const LONG: u64 = 200;
 
 /// A thread at the lock.
 #[derive(Drop)]
-struct AtLock<'a> {
-    lock: &'a RuledLock<Counter>,
-    pass: Pass<Counter>,
+pub(crate) struct AtLock<'a> {
+    pub(crate) lock: &'a RuledLock<Counter>,
+    pub(crate) pass: Pass<Counter>,
     ghost own: { pass.lock ≡ lock.now },
+}
+
+/// Adds one, and puts the counter back.
+pub(crate) fn add_one(
+    lock: &RuledLock<Counter>,
+    mut held: Held<Counter>,
+    caller: u16,
+) -> Pass<Counter>
+    requires own { held.lock ≡ lock.now }
+    requires caller { held.first ≡ caller }
+    requires kept { (held.lock.origin ≡ Some tt) × Tells held.state held.front }
+    ensures { result.lock ≡ lock.now }
+{
+    if held.state().add(1) {
+        let entry = CounterEntry { caller, amount: 1 };
+        lock.put(held, one_entry(&entry))
+    } else {
+        lock.put(held, no_entries())
+    }
 }
 
 /// Takes the lock, has the state for long, and makes one call; the number is that of the calls.
 fn take_and_add<R: Wait + Clock>(rt: &R, one: AtLock) -> u64 {
     let AtLock { lock, pass } = one;
     let caller = pass.first();
-    let mut held = lock.take(rt, pass);
+    let held = lock.take(rt, pass);
     sleep(rt, Duration::from_millis(LONG));
-    if held.state().add(1) {
-        drop(lock.put(held, one_entry(&CounterEntry { caller, amount: 1 })));
-    } else {
-        drop(lock.put(held, no_entries()));
-    }
+    drop(add_one(lock, held, caller));
     1
 }
 

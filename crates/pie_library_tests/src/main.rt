@@ -1,21 +1,28 @@
-//! `pie_library_tests`: what no clause forces of the libraries and no script shows of the programs. Its argument names the part; with none it is all
-//! of them.
+//! `pie_library_tests`: what no clause forces of the libraries and no script shows of the programs, and what their calls cost. Its argument names the
+//! part; with none it is all of the tests.
 //!
 //! `calls` makes calls that can want memory, one after another, and says what they answered and what they left; `tests/libraries/refused_memory.py`
 //! refuses each request for memory of each call in turn. `tests` says of each test whether it holds, and `sleepers` so of the one whose system calls
-//! `bench/pie_lock_calls.sh` counts.
+//! `bench/pie_lock_calls.sh` counts. `book`, `lock` and `link` measure (bench/README.md).
 #![tactic(auto)]
 
 mod books;
+mod event_costs;
 mod flushes;
+mod link_costs;
 mod links;
 mod lock;
+mod lock_costs;
+mod places;
+mod report;
+mod rules;
 mod seen;
 mod storms;
 mod words;
 
 use crate::flushes::WRITES;
 use crate::links::How;
+use crate::report::Report;
 use crate::seen::{say, tell};
 use std::alloc::Global;
 use std::rt::Clock;
@@ -41,11 +48,27 @@ fn part<R: Threads + Wait + Clock + Print + Sync>(
     match name {
         "calls" => calls(rt, alloc),
         "sleepers" => sleepers(rt, alloc),
+        "book" | "lock" | "link" => measure(rt, alloc, name),
         _ => tests(rt, alloc),
     }
 }
 
-/// Every part.
+/// Makes the measurement that has this name.
+fn measure<R: Threads + Wait + Clock + Print + Sync>(
+    rt: &R,
+    alloc: Global,
+    name: &str,
+) -> io::Result<()> {
+    let mut report = Report::new(rt);
+    match name {
+        "book" => event_costs::measure(&mut report, alloc),
+        "lock" => lock_costs::measure(&mut report, alloc),
+        _ => link_costs::measure(&mut report, alloc),
+    }
+    report.end()
+}
+
+/// Every test.
 fn all<R: Threads + Wait + Clock + Print + Sync>(rt: &R, alloc: Global) -> io::Result<()> {
     calls(rt, alloc)?;
     tests(rt, alloc)
@@ -70,6 +93,7 @@ fn tests<R: Threads + Wait + Clock + Print + Sync>(rt: &R, alloc: Global) -> io:
     for (writes, name) in WRITES {
         say(rt, name, writes.tells_of_its_flush(alloc))?;
     }
+    say(rt, "rules_by_worked_rows", rules::are_worked_rows())?;
     say(rt, "refusals_in_words", words::refusals_in_words(alloc))?;
     say(rt, "the_largest_ring", words::the_largest_ring(alloc))?;
     let are_made = words::calls_that_nothing_else_makes(alloc);

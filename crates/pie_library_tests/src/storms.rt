@@ -52,7 +52,7 @@ fn arrivals(alloc: Global, of: &[u64]) -> Vec<Arrival> {
     for moment in of {
         let _ = list.push(Arrival {
             moment: *moment,
-            packet: packet(*moment),
+            packet: packet(*moment, 100),
             word: 0,
         });
     }

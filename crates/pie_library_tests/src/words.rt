@@ -100,11 +100,14 @@ fn shows_its_opening(alloc: Global) -> bool {
     }
 }
 
-/// Whether the default parameters have section 4.2's gains and interval.
+/// Whether the default parameters have section 4.2's gains and interval, and the other numbers that only checked parameters answer.
 fn are_defaults_read() -> bool {
     let params = Params::default_profile();
     let (alpha, beta) = (params.alpha().units(), params.beta().units());
-    alpha == 125 && beta == 1250 && params.t_update().units() == 15_000_000
+    let are_steps = alpha == 125 && beta == 1250 && params.t_update().units() == 15_000_000;
+    let (packet, all) = (params.mean_pkt(), params.limit_bytes());
+    let (marks, cycle) = (params.mark_ecnth().units(), params.dq_threshold());
+    are_steps && packet == 1024 && all == 262_144 && marks == 100_000_000_000 && cycle == 16_384
 }
 
 /// What is accumulated after one arrival that was considered at a tenth.

@@ -4,7 +4,7 @@ use std::io;
 use std::rt::Clock;
 use std::time::Instant;
 
-/// What is printed on, and the first failure of the clock, of memory or of the output: so no `?` stands beside what is measured.
+/// What is printed on, and the first failure of the clock or of the output: so no `?` stands beside what is measured.
 #[derive(Drop)]
 pub struct Report<'a, R> {
     pub rt: &'a R,
@@ -24,8 +24,7 @@ impl<'a, R: Clock + Print> Report<'a, R> {
         }
     }
 
-    /// Takes a failure in: of the clock, of the output, or for want of memory.
-    pub fn fail(&mut self, why: io::Error) {
+    fn fail(&mut self, why: io::Error) {
         if self.failure.is_none() {
             self.failure = Some(why);
         }

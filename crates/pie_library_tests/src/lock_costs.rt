@@ -1,10 +1,9 @@
 //! A take and a put of the ruled lock, beside `std::sync::Mutex` in the same run.
-ghost use Rattle.std.specs.Prelude.{◌≡◌, Some};
-ghost use Rattle.pie_lock.specs.Tally.{Tells};
 
+use crate::lock::{AtLock, add_one};
 use crate::places::{Place, THREADS, time};
 use crate::report::Report;
-use pie_lock::{Counter, CounterEntry, Held, Pass, RuledLock, no_entries, one_entry};
+use pie_lock::{Counter, RuledLock};
 use std::alloc::Global;
 use std::rt::Clock;
 use std::sync::{Mutex, Wait};
@@ -12,29 +11,6 @@ use std::thread::Threads;
 
 /// A pass for each of eight threads, and one that stays.
 const PASSES: u16 = 9;
-
-/// A thread at the lock.
-#[derive(Drop)]
-struct AtLock<'a> {
-    lock: &'a RuledLock<Counter>,
-    pass: Pass<Counter>,
-    ghost own: { pass.lock ≡ lock.now },
-}
-
-/// Adds one, and puts the counter back.
-fn add_one(lock: &RuledLock<Counter>, mut held: Held<Counter>, caller: u16) -> Pass<Counter>
-    requires own { held.lock ≡ lock.now }
-    requires caller { held.first ≡ caller }
-    requires kept { (held.lock.origin ≡ Some tt) × Tells held.state held.front }
-    ensures { result.lock ≡ lock.now }
-{
-    if held.state().add(1) {
-        let entry = CounterEntry { caller, amount: 1 };
-        lock.put(held, one_entry(&entry))
-    } else {
-        lock.put(held, no_entries())
-    }
-}
 
 impl Place for AtLock<'_> {
     fn share(&mut self) -> Option<Self> {

@@ -2,12 +2,12 @@
 //! are rolling, so that no tail is ever too full for an event. (Bursts at a link: bench/pie_link_c.sh.)
 ghost use Rattle.std.specs.Prelude.{◌≡◌};
 
-use crate::book::{open_book, opening};
+use crate::books::packet;
+use crate::event_costs::{open_book, opening};
 use crate::places::{Place, THREADS, time};
 use crate::report::Report;
 use pie_book::{Book, Command, Limits, Mode};
 use pie_link::{Caller, Link};
-use pie_queue::{Ecn, Packet};
 use std::alloc::Global;
 use std::rt::Clock;
 use std::sync::{Mutex, Wait};
@@ -31,15 +31,6 @@ struct AtLink<'a> {
     ghost own: { caller.lock ≡ link.now },
 }
 
-/// The packet of a turn.
-fn packet(turn: u64) -> Packet {
-    Packet {
-        tag: turn,
-        size: 1000,
-        ecn: Ecn::NotEct,
-    }
-}
-
 impl Place for AtLink<'_> {
     fn share(&mut self) -> Option<Self> {
         let link = self.link;
@@ -50,7 +41,7 @@ impl Place for AtLink<'_> {
     }
 
     fn call<R: Wait>(mut self, rt: &R, sends: bool, turn: u64) -> Self {
-        let (moment, packet) = (turn.wrapping_mul(BETWEEN), packet(turn));
+        let (moment, packet) = (turn.wrapping_mul(BETWEEN), packet(turn, 1000));
         if sends {
             let _ = self.link.depart(rt, &mut self.caller, moment);
         } else {
@@ -66,7 +57,7 @@ impl Place for &Mutex<Book> {
     }
 
     fn call<R: Wait>(self, rt: &R, sends: bool, turn: u64) -> Self {
-        let (moment, packet, word) = (turn.wrapping_mul(BETWEEN), packet(turn), 0);
+        let (moment, packet, word) = (turn.wrapping_mul(BETWEEN), packet(turn, 1000), 0);
         let command = if sends {
             Command::Depart { moment }
         } else {

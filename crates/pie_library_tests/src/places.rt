@@ -1,12 +1,11 @@
 //! Places at which several threads make calls: what a call costs one thread, and how many of them several threads make in a second.
 
 use crate::report::Report;
-use std::alloc::{AllocError, Global};
+use std::alloc::Global;
 use std::rt::Clock;
 use std::sync::Wait;
 use std::thread;
 use std::thread::Threads;
-use std::time::Instant;
 
 /// How many calls one thread makes while there is no other.
 const UNCONTENDED: u64 = 10_000_000;
@@ -33,21 +32,18 @@ struct Job<P> {
     sends: bool,
 }
 
-/// Jobs for so many threads, of which the first sends.
-fn jobs<P: Place + Drop>(
-    alloc: Global,
-    place: &mut P,
-    threads: u16,
-) -> Result<Vec<Job<P>>, AllocError> {
-    let mut jobs = Vec::with_capacity(alloc, usize::from(threads))?;
-    let mut sends = true;
-    for _ in 0..threads {
+/// Jobs for so many threads, of which the first sends. (Without memory there are fewer.)
+fn jobs_at<P: Place + Drop>(alloc: Global, place: &mut P, threads: u16) -> Vec<Job<P>> {
+    let mut jobs = Vec::new(alloc);
+    for nth in 0..threads {
         if let Some(place) = place.share() {
-            let _ = jobs.push(Job { place, sends });
+            let _ = jobs.push(Job {
+                place,
+                sends: nth == 0,
+            });
         }
-        sends = false;
     }
-    Ok(jobs)
+    jobs
 }
 
 /// The calls of one of several threads; the number is theirs.
@@ -57,27 +53,6 @@ fn toil<R: Wait, P: Place + Drop>(rt: &R, job: Job<P>) -> u64 {
         place = place.call(rt, sends, turn);
     }
     PER_THREAD
-}
-
-/// Has so many threads make their calls at once, and gives the moment at which they began.
-fn toil_at_once<R: Threads + Wait + Clock + Print + Sync, P: Place + Send + Drop>(
-    report: &mut Report<R>,
-    alloc: Global,
-    place: &mut P,
-    threads: u16,
-) -> Option<Instant> {
-    match jobs(alloc, place, threads) {
-        Ok(jobs) => {
-            let rt = report.rt;
-            let start = report.start();
-            let _ = thread::map_vec(rt, jobs, &|job: Job<P>| { toil(rt, job) });
-            start
-        }
-        Err(why) => {
-            report.fail(why.into());
-            None
-        }
-    }
 }
 
 /// Calls of one thread, in turn as one that sends and as another.
@@ -103,7 +78,9 @@ pub fn time<R: Threads + Wait + Clock + Print + Sync, P: Place + Send + Drop>(
         report.nanos(name, "uncontended", start, UNCONTENDED);
         return;
     }
-    let start = toil_at_once(report, alloc, &mut place, jobs);
+    let (rt, all) = (report.rt, jobs_at(alloc, &mut place, jobs));
+    let start = report.start();
+    let _ = thread::map_vec(rt, all, &|job: Job<P>| { toil(rt, job) });
     let rate = report.rate(start, u64::from(jobs) * PER_THREAD);
     let said = println!(report.rt; "{name}_threads_{threads} {rate} calls/s");
     report.printed(said);

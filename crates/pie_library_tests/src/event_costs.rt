@@ -1,10 +1,9 @@
 //! What an event costs, decided alone and decided and recorded, on a link with 8 per cent more arriving than leaving.
 
+use crate::books::packet;
 use crate::report::Report;
-use crate::words::Words;
 use pie_book::{Answer, Book, Choices, Command, Core, Limits, Mode, Opening};
 use pie_params::Params;
-use pie_queue::{Ecn, Packet};
 use std::alloc::Global;
 use std::rt::Clock;
 
@@ -30,7 +29,7 @@ struct Stream {
     departure: u64,
     update: u64,
     tag: u64,
-    words: Words,
+    random: u64,
 }
 
 impl Stream {
@@ -40,7 +39,7 @@ impl Stream {
             departure: BETWEEN_DEPARTURES,
             update: BETWEEN_UPDATES,
             tag: 0,
-            words: Words::new(),
+            random: 1,
         }
     }
 
@@ -50,16 +49,15 @@ impl Stream {
             let moment = self.arrival;
             self.arrival = moment.wrapping_add(BETWEEN_ARRIVALS);
             self.tag = self.tag.wrapping_add(1);
-            let packet = Packet {
-                tag: self.tag,
-                size: 1500,
-                ecn: Ecn::NotEct,
-            };
-            let word = self.words.next();
+            // A linear congruential generator modulo 2^64, by Knuth's factor.
+            self.random = self
+                .random
+                .wrapping_mul(6_364_136_223_846_793_005)
+                .wrapping_add(1_442_695_040_888_963_407);
             return Command::Arrive {
                 moment,
-                packet,
-                word,
+                packet: packet(self.tag, 1500),
+                word: self.random ^ (self.random >> 32),
             };
         }
         if self.departure <= self.update {

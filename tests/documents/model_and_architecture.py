@@ -1,8 +1,8 @@
 #!/usr/bin/env python3
 """Holds the documents to the code: docs/MODEL.md names each definition that a clause of a public function cites, and each function,
 definition and wrong body of its table of rules exists; map and list of crates in docs/ARCHITECTURE.md are those of crates.txt
-(docs/map.py --check), and the picture of margins what docs/margins.py draws. And each `==` of a type is derived, so that it compares every field:
-what a test or an audit finds equal is the same.
+(docs/map.py --check), and the picture of margins what docs/margins.py draws. What PROMISES, ARCHITECTURE and GUARANTEES name is a word of
+the code. And each `==` of a type is derived, so that it compares every field: what a test or an audit finds equal is the same.
 It reads by the layout that `rt fmt` writes. Exit status 1 where something is missing.
 
 usage: tests/documents/model_and_architecture.py
@@ -84,6 +84,16 @@ def missing_of_rules(model):
             yield f"docs/MODEL.md: {rule}: no wrong body {name}"
 
 
+def missing_words():
+    """What the pages that stand nearest to the code name, and the code doesn't have."""
+    files = [path for kind in ("rt", "antt") for path in (ROOT / "crates").glob(f"*/s*/**/*.{kind}")]
+    words = {word for path in [*files, ROOT / "crates.txt", *(ROOT / "include").glob("*.h")] for word in re.findall(r"\w+", path.read_text())}
+    for page in ("PROMISES.md", "ARCHITECTURE.md", "GUARANTEES.md"):
+        for name in QUOTED.findall((ROOT / "docs" / page).read_text()):
+            if re.fullmatch(r"[A-Za-z_][\w:]*", name) and name.split("::")[-1] not in words:
+                yield f"docs/{page}: the code has no {name}"
+
+
 def written_equalities():
     """Each `==` that is written by hand, and not derived. One that skips a field would meet every contract."""
     for path in sorted((ROOT / "crates").glob("*/src/**/*.rt")):
@@ -93,7 +103,7 @@ def written_equalities():
 
 def main():
     model = (ROOT / "docs" / "MODEL.md").read_text()
-    missing = [*missing_definitions(model), *missing_of_rules(model), *written_equalities()]
+    missing = [*missing_definitions(model), *missing_of_rules(model), *missing_words(), *written_equalities()]
     print("\n".join(missing) or f"{NAME}: the model names what the code has", flush=True)
     drawn = [subprocess.run([ROOT / "docs" / name, "--check"], check=False).returncode for name in ("map.py", "margins.py")]
     sys.exit(bool(missing) or any(drawn))

@@ -10,7 +10,7 @@ use Rattle.pie_aqm.specs.{wait_shown, waited_noted, waited_of, control_shown, de
 use Rattle.pie_aqm.specs.{departures_of, early_at, arrivals_shown, early_of, early_shown, events_of, is_active, is_active_in, is_calm_noted, now_of}
 use Rattle.pie_aqm.specs.{note, noted, noted_after, params_of, parts_of, turns_on_by, Place, last_or, places, keeps_wait, measures, Picking, Choice}
 use Rattle.pie_aqm.specs.{Enqueue, ArrivingPacket, considered_where, verdict_shown, accu_left, chosen, offered, verdict, Elements, departure}
-use Rattle.pie_aqm.specs.{Estimate, Parts, Arrive, Call, Change, Depart, HasThreshold, Pass, Restart, Update, after_call, shown_by, Arrived, Departed}
+use Rattle.pie_aqm.specs.{Estimate, Parts, Arrive, Call, Change, Depart, HasThreshold, Pass, Restart, Update, after_call, shown_by, ShowsCall, Arrived, Departed}
 use Rattle.pie_aqm.specs.{Updated, Reset, Changed, Shows, estimate_of, held_of, greatest, anew, bytes_with, capped, control_after, control_updated}
 use Rattle.pie_aqm.specs.{delay_in, departed, is_calm, judged, no_estimate, opened, opens_active, passed, renewed, stays_active, turns_on, updated}
 use Rattle.pie_aqm.specs.{wait_of}
@@ -253,17 +253,17 @@ active-update Two true false = refl
 
 -- ---- with no event
 
-pub Shows_opened : (profile : Profile) (elements : Elements) (params : RawParams) (moment : ℕ)
-    → Shows (record { profile = profile; elements = elements; params = params; moment = moment }) [] (opened profile elements params moment)
+pub Shows_opened : (profile : Profile) (elements : Elements) (params : RawParams) (moment : ℕ) (new : Held) → new ≡ opened profile elements params moment
+    → Shows (record { profile = profile; elements = elements; params = params; moment = moment }) [] new
 unfolding Shows held_of now_of params_of departures_shown departures_of waited_of waited_noted updates_shown control_of arrivals_shown early_of noted
     noted_after places greatest last_or Control.probability Control.last_delay Control.last_moment Control.granted_burst Control.burst_allowance
     Early.accumulated
-Shows_opened profile elements params moment =
+Shows_opened profile elements params moment new is =
     let now : moment ≡ max moment 0 = omega arith in
     let burst : params.max_burst ≡ params.max_burst - 0 = omega arith in
     let active = active-opened profile elements params moment in
     let none = none-is params.dq_threshold in
-    λ i. record {
+    is ∙ λ i. record {
       profile = profile;
       elements = elements;
       params = params;
@@ -438,6 +438,11 @@ held_is o events held shows = shows
 -- the same held, told otherwise
 pub moved : (o : Opened) (events : List ControllerEvent) (held new : Held) → new ≡ held → Shows o events held → Shows o events new
 moved o events held new e shows = subst (λ (h : Held). Shows o events h) (sym e) shows
+
+-- a call on what is held
+pub shows_with : (held new : Held) (call : Call) → new ≡ after_call held call → HasThreshold held call → ShowsCall held call new
+unfolding ShowsCall
+shows_with held new call is small opened events shows = moved opened _ _ new is (Shows_call opened events held shows call small)
 
 -- a departure, where the threshold is no greater than it may be
 pub uncapped : (h g : Held) (size left since moment : ℕ) → h.params.dq_threshold ≤ 65536

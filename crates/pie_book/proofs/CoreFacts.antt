@@ -7,7 +7,7 @@ use Rattle.std.proofs.lemmas.Bool.Decides.{nat_tests}
 use Rattle.std.proofs.lemmas.List.{map-append, drop-append-le, append_assoc}
 use Rattle.std.proofs.lemmas.List.Elements.{All-cons, All-head, All-nil, All-push, All-tail, All-pop}
 use Rattle.std.proofs.lemmas.List.Sums.{sum_by_push}
-use Rattle.pie_book.specs.{ArrivingPacket, Packet, Waiting, One, Verdict, Held, Command, Arrive, Depart, Answer, Enqueued, Event, Opening, opened_by}
+use Rattle.pie_book.specs.{Packet, Waiting, One, Verdict, Held, Command, Arrive, Depart, Answer, Event, Opening, opened_by}
 use Rattle.pie_book.specs.{arrival_of, departure_call, cause_after, CoreView, Shows, counted, refusal_of, registers_of, with_queue, IsLegal}
 use Rattle.pie_book.specs.{IsLegalAt, answer_by, answer_to_departure, decision, refusal_by_rule, delay_after, delay_answered, held_after, admitted}
 use Rattle.pie_book.specs.{bytes_after, departed_count, effective_moment, waiting_after, registers_after, event_of, opened_of, shown, age_of_oldest}
@@ -107,8 +107,7 @@ count_of-push test history event =
 -- no bytes depart where no packet does
 some_bytes : (d : Option Packet) (n : ℕ)
     → n + option_map_or (λ (packet : Packet). packet.size) d 0 ≡ (if is_some d then n + option_map_or (λ (packet : Packet). packet.size) d 0 else n)
-some_bytes None n = let e : n + 0 ≡ n = omega arith in e
-some_bytes (Some packet) n = refl
+some_bytes d n = grind (arith, nat_tests)
 
 bytes-push : (history : List Event) (event : Event)
     → sum_by (λ (e : Event). bytes_departed (deed_of e)) (history ++ event ∷ [])
@@ -183,28 +182,11 @@ stats_after-push opening history event =
 -- a departure lets a packet go only where one waits
 departs-some : (opening : Opening) (history : List Event) (command : Command)
     → is_some (departure (deed command (decision opening history command))) ≡ true → 0 < length (waiting_after opening history)
-departs-some opening history (Depart moment) = by (waiting_after opening history)
-  where
-    by : (waiting : List Waiting) → is_some (departure (departure_deed (answer_to_departure waiting))) ≡ true → 0 < length waiting
-    by [] some = cc
-    by (oldest ∷ others) some = omega arith
-departs-some opening history (Arrive moment packet word) = by_answer (decision opening history (Arrive moment packet word))
-  where
-    by_answer : (answer : Answer) → is_some (departure (arrival_deed packet answer)) ≡ true → 0 < length (waiting_after opening history)
-    by_answer Enqueued some = cc
-    by_answer _ some = cc
-departs-some opening history _ = λ some. cc
+departs-some opening history command some = grind (arith, nat_tests, some)
 
 -- each command is answered as it can be
 pub answer_fits : (h : Held) (waiting : List Waiting) (packets : ℕ) (command : Command) → fits command (answer_by h waiting packets command) ≡ true
-answer_fits h waiting packets (Arrive moment packet word) = by (Steps.verdict h (arrival_of waiting packets packet word))
-  where
-    by : (v : Verdict) → fits (Arrive moment packet word) (answer_of v) ≡ true
-    by verdict.Enqueued = refl
-    by _ = refl
-answer_fits h [] packets (Depart moment) = refl
-answer_fits h (oldest ∷ others) packets (Depart moment) = refl
-answer_fits h waiting packets _ = refl
+answer_fits h waiting packets command = grind (arith, nat_tests)
 
 -- what holds of each place of a history holds of the place between these events
 pub at_place : (P : Place Event → Type 0) (before : List Event) (event : Event) (rest : List Event) → All P (places (before ++ event ∷ rest))
@@ -293,7 +275,7 @@ first_shows opening = record {
   count = refl;
   moment = let start : max opening.moment 0 ≡ opening.moment = omega arith in sym start;
   waiting = refl;
-  controller = Shows_opened opening.choices.profile opening.choices.elements opening.params opening.moment;
+  controller = Shows_opened opening.choices.profile opening.choices.elements opening.params opening.moment _ refl;
   stats = refl;
 }
 
@@ -330,17 +312,8 @@ command-shown core now (Depart moment) = by core.waiting
 command-shown core now _ = refl
 
 -- the effective moment after a call
-arrived-moment : (h : Held) (a : ArrivingPacket) (moment : ℕ) → (Steps.arrived h a moment).moment ≡ max h.moment moment
-arrived-moment h a moment = grind (arith, nat_tests)
-
 moment-next : (core : CoreView) (command : Command) → (after_call core.held (call_in core command)).moment ≡ now_at core.held (handed_in command)
-moment-next core (Arrive moment packet word) = arrived-moment core.held (arrival_of core.waiting core.packets packet word) moment
-moment-next core (Depart moment) = by core.waiting
-  where
-    by : (waiting : List Waiting) → (after_call core.held (departure_call waiting moment)).moment ≡ max core.held.moment moment
-    by [] = refl
-    by (oldest ∷ others) = refl
-moment-next core _ = refl
+moment-next core command = grind (arith, nat_tests)
 
 shown-push : (opening : Opening) (history : List Event) (event : Event)
     → shown opening (history ++ event ∷ []) ≡ shown opening history ++ shown_at opening (place_of history event) ∷ []
@@ -392,17 +365,12 @@ module _ (opening : Opening) (core : CoreView) (history : List Event) (shows : S
 
 -- ---- parameters stay in their ranges
 
-params-arrived : (h : Held) (a : ArrivingPacket) (moment : ℕ) → (Steps.arrived h a moment).params ≡ h.params
-params-arrived h a moment = grind (arith, nat_tests)
-
 pub good-next : (core : CoreView) (command : Command) → first_bad core.held.params ≡ None → CommandFits command
     → first_bad (after_call core.held (call_in core command)).params ≡ None
-good-next core (Arrive moment packet word) good fit = rw (params-arrived core.held (arrival_of core.waiting core.packets packet word) moment) good
-good-next core (Depart moment) good fit = by core.waiting
-  where
-    by : (waiting : List Waiting) → first_bad (after_call core.held (departure_call waiting moment)).params ≡ None
-    by [] = good
-    by (oldest ∷ others) = good
+good-next core (Arrive moment packet word) good fit =
+    let kept : (after_call core.held (call_in core (Arrive moment packet word))).params ≡ core.held.params = grind (arith, nat_tests) in rw kept good
+good-next core (Depart moment) good fit =
+    let kept : (after_call core.held (call_in core (Depart moment))).params ≡ core.held.params = grind (arith, nat_tests) in rw kept good
 good-next core (SetParams moment params) good fit = fit.1.in_range
 good-next core _ good fit = good
 

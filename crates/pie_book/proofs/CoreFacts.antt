@@ -131,12 +131,7 @@ largest_delay-push : (opening : Opening) (history : List Event) (event : Event)
 unfolding largest_delay
 largest_delay-push opening history event =
     ap greatest (from_places-push (delay_at opening) history event)
-    ∙ by (filter_map (delay_at opening) (places history)) (is_update (deed_of event)) (delay_answered opening history)
-  where
-    by : (delays : List ℕ) (b : Bool) (delay : ℕ)
-        → greatest (with_one delays (if b then Some delay else None)) ≡ (if b then max (greatest delays) delay else greatest delays)
-    by delays true delay = greatest-push delays delay
-    by delays false delay = refl
+    ∙ (let more = greatest-push (filter_map (delay_at opening) (places history)) (delay_answered opening history) in grind (arith, nat_tests))
 
 waited-push : (opening : Opening) (history : List Event) (event : Event)
     → waited opening (history ++ event ∷ [])
@@ -284,31 +279,18 @@ first_shown opening core is = subst (λ (c : CoreView). Shows opening c []) (sym
 
 -- ---- one event more
 
--- an arrival as the controller is shown it
-arrival-shown : (packet : Packet) (now : ℕ) (waiting : List Waiting) (moment : ℕ) (v : Verdict)
-    → event_shown (arrival_deed packet (answer_of v)) packet.size (oldest_since waiting) (bytes_of waiting)
-    (bytes_of (waiting_next waiting now (arrival_deed packet (answer_of v)))) moment
-    ≡ Arrived v packet.size (bytes_of waiting) (bytes_with v (bytes_of waiting) packet.size) moment
-arrival-shown packet now waiting moment verdict.Enqueued = ap (λ (n : ℕ). Arrived verdict.Enqueued packet.size (bytes_of waiting) n moment)
-    (sum_by_push (λ (w : Waiting). w.packet.size) waiting (record { packet = packet; since = now }))
-arrival-shown packet now waiting moment verdict.Marked = ap (λ (n : ℕ). Arrived verdict.Marked packet.size (bytes_of waiting) n moment)
-    (sum_by_push (λ (w : Waiting). w.packet.size) waiting (record { packet = with_ce packet; since = now }))
-arrival-shown packet now waiting moment v = refl
-
 -- each command's event is what its call shows the controller
 command-shown : (core : CoreView) (now : ℕ) (command : Command)
     → event_shown (deed command (answer_in core command)) (arriving_size command) (oldest_since core.waiting) (bytes_of core.waiting)
     (bytes_of (waiting_next core.waiting now (deed command (answer_in core command)))) (handed_in command)
     ≡ shown_by core.held (call_in core command)
 command-shown core now (Arrive moment packet word) =
-    arrival-shown packet now core.waiting moment (Steps.verdict core.held (arrival_of core.waiting core.packets packet word))
-command-shown core now (Depart moment) = by core.waiting
-  where
-    by : (waiting : List Waiting) → event_shown (departure_deed (answer_to_departure waiting)) 0 (oldest_since waiting) (bytes_of waiting)
-        (bytes_of (waiting_next waiting now (departure_deed (answer_to_departure waiting)))) moment
-        ≡ shown_by core.held (departure_call waiting moment)
-    by [] = refl
-    by (oldest ∷ others) = refl
+    let sum : (packet : Packet) → bytes_of (core.waiting ++ (record { packet = packet; since = now }) ∷ []) ≡ bytes_of core.waiting + packet.size =
+    λ packet. sum_by_push (λ (w : Waiting). w.packet.size) core.waiting (record { packet = packet; since = now }) in
+    let queued = sum packet in
+    let marked = sum (with_ce packet) in
+    grind (arith, nat_tests)
+command-shown core now (Depart moment) = grind (arith, nat_tests)
 command-shown core now _ = refl
 
 -- the effective moment after a call

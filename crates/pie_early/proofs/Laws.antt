@@ -1,20 +1,19 @@
 -- How the accumulated probability changes when one more event joins the list at its end.
 use Rattle.pie_early.proofs.Names.{◌≡◌, ℕ, ◌+◌, ◌*◌, ◌<◌, Bool, true, false, cond, List, [], ◌∷◌, ◌++◌, refl, sym, ap, ◌∙◌, arith, if◌then◌else◌}
-use Rattle.pie_early.proofs.Names.{ne_eqb, Derandomized, Enqueue, EarlyEvent, arrival, accumulated, Shows, ◌≤◌, nat_tests, RawParams, Picking, Random}
-use Rattle.pie_early.proofs.Names.{accumulates, cleared, Parts, Ecn, Choice, Mark, Drop, never_picked, always_picked, is_considered}
+use Rattle.pie_early.proofs.Names.{ne_eqb, Derandomized, Enqueue, EarlyEvent, arrival, accumulated, Shows, ◌≤◌, nat_tests, RawParams, Picking}
+use Rattle.pie_early.proofs.Names.{accumulates, cleared, Parts, Ecn, Choice, always_picked, is_considered}
 use Rattle.pie_early.proofs.Names.{is_picked}
 use Rattle.pie_early.proofs.Names.{picked_choice, accu_at, choice_at, Elements, name_of, place_of_cause, Offered, fate_of, counted}
-use Rattle.std.proofs.Common.{zero, suc, ◌-◌, not, length, drop, filter, replicate, zero-add, add-one, append_assoc, add-zero, inr, ltb, ◌↔◌}
-use Rattle.std.proofs.Common.{◌&&◌, ◌==◌, ◌||◌, ◌/◌}
-use Rattle.std.specs.Prelude.{sum_by, IsTrue, nat_le, nat_lt}
+use Rattle.std.proofs.Common.{zero, suc, ◌-◌, not, length, drop, filter, replicate, add-one, append_assoc, ◌↔◌}
+use Rattle.std.proofs.Common.{◌&&◌, ◌/◌}
+use Rattle.std.specs.Prelude.{sum_by, IsTrue, nat_le}
 use Rattle.std.specs.List.{after_last, suffix_len}
 use Rattle.std.proofs.lemmas.List.{drop-append-le, drop_all, length_push, reverse-append, replicate_more}
 use Rattle.std.proofs.lemmas.List.Elements.{filter-append}
 use Rattle.std.proofs.lemmas.List.Sums.{sum_by-append, suffix_len-le-length}
 use Rattle.pie_early.specs.Events.{is_clearing, joins, prob_of}
-use Rattle.pie_queue.specs.Ecn.{is_capable}
-use Rattle.pie_early.specs.Decision.{is_pick, IsPicked, joined, chosen}
-use Rattle.pie_event.specs.declared.cause.Cause.TheVariants.{NoProbability, PickedBySum, PickedByWord}
+use Rattle.pie_early.specs.Decision.{is_pick, IsPicked, chosen}
+use Rattle.pie_event.specs.declared.cause.Cause.TheVariants.{PickedBySum, PickedByWord}
 use Rattle.pie_event.specs.declared.cause.Fate.{Fate}
 use Rattle.pie_event.specs.declared.verdict.Verdict.TheVariants.{Enqueued}
 use Rattle.pie_early.specs.Cause.{considered_cause, early_cause}
@@ -80,14 +79,10 @@ accu_next held event = if is_clearing event then 0 else if joins event then held
 pub shows-next : (events : List EarlyEvent) (held : ℕ) (event : EarlyEvent) → Shows events held → Shows (events ++ event ∷ []) (accu_next held event)
 shows-next events held event shown = by (is_clearing event) refl
   where
-    grown : (b : Bool) → (if b then held + prob_of event else held) ≡ accumulated events + cond b (prob_of event) 0
-    grown true = ap (λ n. n + prob_of event) shown
-    grown false = shown ∙ sym (add-zero (accumulated events))
-
     by : (clears : Bool) → is_clearing event ≡ clears
         → (if clears then 0 else if joins event then held + prob_of event else held) ≡ accumulated (events ++ event ∷ [])
     by true is = sym (accumulated-clearing events event is)
-    by false is = grown (joins event) ∙ sym (accumulated-push events event is)
+    by false is = let sum = accumulated-push events event is in grind (arith, nat_tests)
 
 -- ---- What the tests of the decision say in facts
 
@@ -173,20 +168,6 @@ module _ (elements : Elements) (params : RawParams) (parts : Parts) (offered : O
       ≡ considered_cause elements.picking (counted elements params parts offered) accu (fate_of params parts.prob offered.ecn) offered.word
   unfolding early_cause is_considered
   cause-considered e = grind (arith, nat_tests)
-
--- .. where nothing can pick it
-pub cause-nothing : (picking : Picking) (prob accu : ℕ) (fate : Fate) (word : ℕ) → prob ≡ 0
-    → considered_cause picking prob accu fate word ≡ NoProbability
-unfolding considered_cause
-cause-nothing picking prob accu fate word none = rw none refl
-
--- .. where it isn't picked: the place of its cause by the sum
-pub place-unpicked : (picking : Picking) (prob accu : ℕ) (fate : Fate) (word : ℕ) → 0 < prob
-    → is_picked picking prob (accu + prob) word ≡ false
-    → place_of_cause (name_of (considered_cause picking prob accu fate word))
-    ≡ (if accumulates picking && nat_lt (accu + prob) never_picked then 7 else 14)
-unfolding considered_cause is_picked
-place-unpicked picking prob accu fate word some unpicked = grind (arith, nat_tests)
 
 -- .. where it is picked: by the sum, or by the word
 pub cause-picked : (picking : Picking) (prob accu : ℕ) (fate : Fate) (word : ℕ) → is_picked picking prob (accu + prob) word ≡ true

@@ -1,25 +1,25 @@
 -- What one more event does to each list that the parts are shown, and to whether the controller is active.
-use Rattle.std.proofs.Common.{◌≡◌, ℕ, List, [], ◌∷◌, ◌++◌, map, Bool, true, false, refl, ap, ◌∙◌, sym, ◌+◌, ◌&&◌, if◌then◌else◌, ◌≤◌, ◌-◌, subst}
+use Rattle.std.proofs.Common.{◌≡◌, ℕ, List, [], ◌∷◌, ◌++◌, map, Bool, true, false, refl, ap, ◌∙◌, sym, ◌&&◌, if◌then◌else◌, ◌≤◌, ◌-◌, subst}
 use Rattle.std.proofs.Common.{arith}
-use Rattle.std.specs.Prelude.{max, Option, Some, None, unwrap_or, nat_lt, min}
+use Rattle.std.specs.Prelude.{max, Option, Some, None, unwrap_or, min}
 use Rattle.std.specs.List.{filter_map, after_last}
+use Rattle.std.proofs.lemmas.Bool.Decides.{nat_tests}
 use Rattle.std.proofs.lemmas.List.{append-nil, append_assoc, map-append}
 use Rattle.pie_aqm.specs.{RawParams, Departure, Profile, One, Two, ControllerEvent, Opened, moment_of, params_set, Noted, active_of, change_at}
 use Rattle.pie_aqm.specs.{change_by, clears_rate, clears_rate_at, clears_wait, clears_wait_at, control_at, updates_shown, control_of, wait_at}
 use Rattle.pie_aqm.specs.{wait_shown, waited_noted, waited_of, control_shown, delay_noted, departure_at, departure_shown, departures_shown}
 use Rattle.pie_aqm.specs.{departures_of, early_at, arrivals_shown, early_of, early_shown, events_of, is_active, is_active_in, is_calm_noted, now_of}
-use Rattle.pie_aqm.specs.{note, noted, noted_after, params_of, parts_of, turns_on_by, Place, last_or, places, keeps_wait, measures, Picking, Choice}
-use Rattle.pie_aqm.specs.{Enqueue, ArrivingPacket, considered_where, verdict_shown, accu_left, chosen, offered, verdict, Elements, departure}
+use Rattle.pie_aqm.specs.{note, noted, noted_after, params_of, parts_of, turns_on_by, Place, last_or, places, keeps_wait, measures}
+use Rattle.pie_aqm.specs.{Enqueue, ArrivingPacket, considered_where, verdict_shown, accu_left, offered, verdict, Elements, departure}
 use Rattle.pie_aqm.specs.{Estimate, Parts, Arrive, Call, Change, Depart, HasThreshold, Pass, Restart, Update, after_call, shown_by, ShowsCall, Arrived, Departed}
 use Rattle.pie_aqm.specs.{Updated, Reset, Changed, Shows, estimate_of, held_of, greatest, anew, bytes_with, capped, control_after, control_updated}
 use Rattle.pie_aqm.specs.{delay_in, departed, is_calm, judged, no_estimate, opened, opens_active, passed, renewed, stays_active, turns_on, updated}
 use Rattle.pie_aqm.specs.{wait_of}
 use Rattle.pie_aqm.proofs.Places.{filter_map-push, from_places-push, greatest-push, last_or-one, place_of, since-push, with_one}
 use Rattle.pie_aqm.specs.Held.{Held}
-use Rattle.pie_early.specs.Decision.{accu_after, choice_of, counted, is_considered}
+use Rattle.pie_early.specs.Decision.{counted}
 use Rattle.pie_early.specs.Events.{EarlyEvent, arrival, cleared}
 use Rattle.pie_early.proofs.Laws.{shows_arrival, shows-next}
-use Rattle.pie_event.specs.declared.verdict.Verdict.TheVariants.{DroppedBytes, DroppedPackets}
 use Rattle.pie_rate.specs.Estimate.{after_departure}
 use Rattle.pie_rate.proofs.Laws.{nothing_shown, shows_after}
 use Rattle.pie_control.specs.Events.{ControlEvent, idled, reset, update_at}
@@ -108,8 +108,7 @@ active-push opened events event =
     shown = rw (events-noted opened events) refl
 
     in_one : (change : Option Bool) → true ≡ active_next One true change
-    in_one None = refl
-    in_one (Some new) = refl
+    in_one change = grind (arith, nat_tests)
 
     in_two : (changes : List Bool) (change : Option Bool) → last_or false (with_one changes change) ≡ active_next Two (last_or false changes) change
     in_two changes None = refl
@@ -191,32 +190,17 @@ early-push opened events event = rw (filtered-push (early_at opened) opened even
 
 -- ---- What an arrival does to what early drop holds, whichever list it shows
 
-shown-chosen : (choice : Choice) (considered : Bool) (prob : ℕ) (picking : Picking)
-    → verdict_shown (chosen choice) considered prob picking ≡ arrival considered prob picking choice
-shown-chosen Enqueue considered prob picking = refl
-shown-chosen _ considered prob picking = refl
-
 -- after an arrival and its verdict
 pub early-step : (h : Held) (a : ArrivingPacket) (events : List EarlyEvent) → Early.Shows events h.accu
     → Early.Shows (events ++ verdict_shown (verdict h a) (considered_where h.active h.params h.control a.queued)
     (counted h.elements h.params h.control (offered a)) h.elements.picking ∷ []) (accu_left h a)
 unfolding verdict accu_left
-early-step h a events shown = by (nat_lt h.params.limit_bytes (a.queued + a.size)) a.is_full h.active
-  where
-    by : (over full active : Bool)
-        → Early.Shows (events ++ verdict_shown (if over then DroppedBytes else if full then DroppedPackets else chosen
-        (if active then choice_of h.elements h.params h.control (offered a) h.accu else Enqueue))
-        (active && is_considered h.params h.control a.queued) (counted h.elements h.params h.control (offered a)) h.elements.picking ∷ [])
-        (if over then 0 else if full then 0 else if active then accu_after h.elements h.params h.control (offered a) h.accu else h.accu)
-    by true full active = shows-next events h.accu cleared shown
-    by false true active = shows-next events h.accu cleared shown
-    by false false false =
-        shows-next events h.accu (arrival false (counted h.elements h.params h.control (offered a)) h.elements.picking Enqueue) shown
-    by false false true =
-        rw (shown-chosen (choice_of h.elements h.params h.control (offered a) h.accu) (is_considered h.params h.control a.queued)
-        (counted h.elements h.params h.control (offered a)) h.elements.picking)
-        (shows_arrival h.elements.picking h.params h.control (counted h.elements h.params h.control (offered a)) a.queued a.word h.accu events a.ecn
-        shown)
+early-step h a events shown =
+    let as_cleared = shows-next events h.accu cleared shown in
+    let unseen = shows-next events h.accu (arrival false (counted h.elements h.params h.control (offered a)) h.elements.picking Enqueue) shown in
+    let seen = shows_arrival h.elements.picking h.params h.control (counted h.elements h.params h.control (offered a)) a.queued a.word h.accu events
+    a.ecn shown in
+    grind (arith, nat_tests)
 
 -- ---- A controller that shows some events shows one more after each call
 
@@ -240,16 +224,11 @@ active-opened One elements params moment = refl
 active-opened Two elements params moment = refl
 
 active-on : (profile : Profile) (active : Bool) → active_next profile active (Some true) ≡ true
-active-on One active = refl
-active-on Two active = refl
+active-on profile active = grind (arith, nat_tests)
 
 active-update : (profile : Profile) (active calm : Bool)
     → active_next profile active (if active then (if calm then Some false else None) else None) ≡ (active && stays_active profile calm)
-active-update profile false calm = refl
-active-update One true true = refl
-active-update Two true true = refl
-active-update One true false = refl
-active-update Two true false = refl
+active-update profile active calm = grind (arith, nat_tests)
 
 -- ---- with no event
 
@@ -351,8 +330,7 @@ module _ (o : Opened) (events : List ControllerEvent) where
 
       kept : (b : Bool) → unwrap_or (if b then Some (wait_of left since (max (now_of o events) moment)) else None) (waited_of o events)
           ≡ (if b then wait_of left since (max (now_of o events) moment) else waited_of o events)
-      kept true = refl
-      kept false = refl
+      kept b = grind (arith, nat_tests)
 
   update-next : (queued moment : ℕ) → next_if false (Updated queued moment) ≡ updated (held_of o events) queued moment
   unfolding held_of

@@ -154,23 +154,7 @@ pub stats_after-push : (opening : Opening) (history : List Event) (event : Event
     (bytes_after opening (history ++ event ∷ []))
 unfolding stats_after
 stats_after-push opening history event =
-    rw (
-      count_of-push is_arrival history event,
-      count_of-push is_queued history event,
-      count_of-push is_marked history event,
-      count_of-push is_dropped_early history event,
-      count_of-push is_dropped_bytes history event,
-      count_of-push is_dropped_packets history event,
-      count_of-push is_departure history event,
-      bytes-push history event,
-      count_of-push is_found_none history event,
-      count_of-push is_update history event,
-      count_of-push is_reset history event,
-      count_of-push sets_params history event,
-      largest_queue-push opening history event,
-      largest_delay-push opening history event,
-      waited-push opening history event,
-    ) refl
+    simp (count_of-push, bytes-push, largest_queue-push, largest_delay-push, waited-push)
 
 -- ---- legal histories
 

@@ -277,17 +277,7 @@ module _ (o : Opened) (events : List ControllerEvent) where
 
   held-push : (event : ControllerEvent) → held_of o (events ++ event ∷ []) ≡ next_if (turned_on o events event) event
   unfolding held_of
-  held-push event = λ i. record {
-    profile = o.profile;
-    elements = o.elements;
-    params = params-push o events event i;
-    moment = moment-push o events event i;
-    active = active-push o events event i;
-    rate = estimate_of (params-push o events event i).dq_threshold (departures-push o events event i);
-    waited = waited-push o events event i;
-    control = parts_of o (control-push o events event i);
-    accu = Early.accumulated (early-push o events event i);
-  }
+  held-push event = simp (params-push, moment-push, active-push, departures-push, waited-push, control-push, early-push)
 
   delay-is : (queued : ℕ) → delay_noted o (noted o events) queued ≡ delay_in (held_of o events) queued
   unfolding held_of delay_noted departures_shown waited_of

@@ -120,10 +120,7 @@ bytes-push history event =
 largest_queue-push : (opening : Opening) (history : List Event) (event : Event)
     → largest_queue opening (history ++ event ∷ []) ≡ max (largest_queue opening history) (bytes_after opening (history ++ event ∷ []))
 unfolding largest_queue
-largest_queue-push opening history event =
-    ap (λ xs. greatest (map (λ (place : Place Event). bytes_after opening (up_to place)) xs)) (places-push history event)
-    ∙ ap greatest (map-append (λ (place : Place Event). bytes_after opening (up_to place)) (places history) (place_of history event ∷ []))
-    ∙ greatest-push (map (λ (place : Place Event). bytes_after opening (up_to place)) (places history)) (bytes_after opening (history ++ event ∷ []))
+largest_queue-push opening history event = simp (places-push, map-append, greatest-push)
 
 largest_delay-push : (opening : Opening) (history : List Event) (event : Event)
     → largest_delay opening (history ++ event ∷ [])
@@ -139,11 +136,7 @@ waited-push : (opening : Opening) (history : List Event) (event : Event)
     (waiting_after opening history)
     else waited opening history)
 unfolding waited
-waited-push opening history event =
-    ap (λ xs. sum_by (wait_at opening) xs) (places-push history event)
-    ∙ sum_by_push (wait_at opening) (places history) (place_of history event)
-    ∙ more_of (is_departure (deed_of event)) (sum_by (wait_at opening) (places history))
-    (age_of_oldest (effective_moment opening (history ++ event ∷ [])) (waiting_after opening history))
+waited-push opening history event = simp (places-push, sum_by_push) (more_of (is_departure (deed_of event)) _ _)
 
 -- the statistics after one more event
 pub stats_after-push : (opening : Opening) (history : List Event) (event : Event)
@@ -284,9 +277,7 @@ moment-next core command = grind (arith, nat_tests)
 shown-push : (opening : Opening) (history : List Event) (event : Event)
     → shown opening (history ++ event ∷ []) ≡ shown opening history ++ shown_at opening (place_of history event) ∷ []
 unfolding shown
-shown-push opening history event =
-    ap (λ (ps : List (Place Event)). map (shown_at opening) ps) (places-push history event)
-    ∙ map-append (shown_at opening) (places history) (place_of history event ∷ [])
+shown-push opening history event = simp (places-push, map-append)
 
 module _ (opening : Opening) (core : CoreView) (history : List Event) (shows : Shows opening core history) where
   pub next-shows : (caller : ℕ) (command : Command) → HasThreshold core.held (call_in core command) → refusal_of core command ≡ None
@@ -410,8 +401,7 @@ module _ (P : List Event → CoreView → Type 0) (opening : Opening) (stays : S
 calls-push : (opening : Opening) (history : List Event) (event : Event)
     → calls_of opening (history ++ event ∷ []) ≡ calls_of opening history ++ call_at opening (place_of history event) ∷ []
 unfolding calls_of
-calls-push opening history event = ap (λ (ps : List (Place Event)). map (call_at opening) ps) (places-push history event)
-    ∙ map-append (call_at opening) (places history) (place_of history event ∷ [])
+calls-push opening history event = simp (places-push, map-append)
 
 after-push : (h : Held) (calls : List Call) (call : Call) → after_calls h (calls ++ call ∷ []) ≡ after_call (after_calls h calls) call
 unfolding after_calls

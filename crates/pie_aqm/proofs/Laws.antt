@@ -40,8 +40,7 @@ pub params-push : (opened : Opened) (events : List ControllerEvent) (event : Con
     → params_of opened (events ++ event ∷ []) ≡ unwrap_or (params_set event) (params_of opened events)
 unfolding params_of
 params-push opened events event =
-    ap (λ (xs : List RawParams). last_or opened.params xs) (filter_map-push params_set events event)
-    ∙ last_or-one opened.params (filter_map params_set events) (params_set event)
+    simp (filter_map-push, last_or-one)
 
 -- ---- notes
 
@@ -83,8 +82,7 @@ last_place opened events event = place_of (noted opened events) (note opened (no
 filtered-push : {Y : Type 0} (h : Place Noted → Option Y) (opened : Opened) (events : List ControllerEvent) (event : ControllerEvent)
     → filter_map h (places (noted opened (events ++ event ∷ [])))
     ≡ with_one (filter_map h (places (noted opened events))) (h (last_place opened events event))
-filtered-push h opened events event = ap (λ (n : List Noted). filter_map h (places n)) (noted-push opened events event)
-    ∙ from_places-push h (noted opened events) (note opened (noted opened events) event)
+filtered-push h opened events event = simp (noted-push, from_places-push)
 
 -- ---- activity
 
@@ -136,13 +134,7 @@ pub departures-push : (opened : Opened) (events : List ControllerEvent) (event :
     ≡ departures_next event (measures (active_of opened events) opened.elements.delay) (turned_on opened events event)
     (departures_shown opened events) (max (now_of opened events) (moment_of event))
 unfolding departures_shown departures_of active_of
-departures-push opened events event =
-    rw (
-      noted-push opened events event,
-      since-push (clears_rate_at opened) (departure_at opened) (noted opened events) (note opened (noted opened events) event),
-      events-noted opened events,
-      moment-push opened events event,
-    ) refl
+departures-push opened events event = simp (noted-push, since-push, events-noted, moment-push)
 
 -- what the packet had waited that departed last, after one more event at this moment
 abbrev pub waited_next : ControllerEvent → Bool → Bool → ℕ → ℕ → ℕ
@@ -154,10 +146,9 @@ pub waited-push : (opened : Opened) (events : List ControllerEvent) (event : Con
     (max (now_of opened events) (moment_of event))
 unfolding waited_of waited_noted active_of last_or
 waited-push opened events event =
-    ap (λ (n : List Noted). last_or 0 (filter_map (wait_at opened) (after_last (clears_wait_at opened) (places n)))) (noted-push opened events event)
-    ∙ ap (λ (xs : List ℕ). last_or 0 xs)
-    (since-push (clears_wait_at opened) (wait_at opened) (noted opened events) (note opened (noted opened events) event))
-    ∙ by (clears_wait_at opened (last_place opened events event)) (wait_at opened (last_place opened events event)) ∙ shown
+    simp (noted-push, since-push, events-noted, moment-push)
+    (by (clears_wait event (turned_on opened events event))
+    (wait_shown event (keeps_wait (active_of opened events) opened.elements.delay) (max (now_of opened events) (moment_of event))))
   where
     before : List ℕ
     before = filter_map (wait_at opened) (after_last (clears_wait_at opened) (places (noted opened events)))
@@ -165,13 +156,6 @@ waited-push opened events event =
     by : (b : Bool) (wait : Option ℕ) → last_or 0 (if b then [] else with_one before wait) ≡ (if b then 0 else unwrap_or wait (last_or 0 before))
     by true wait = refl
     by false wait = last_or-one 0 before wait
-
-    shown : (if clears_wait_at opened (last_place opened events event) then 0
-        else unwrap_or (wait_at opened (last_place opened events event)) (last_or 0 before))
-        ≡ waited_next event (keeps_wait (is_active opened (noted opened events)) opened.elements.delay)
-        (turns_on_by event (is_active opened (noted opened events)) (params_of opened events)) (last_or 0 before)
-        (max (now_of opened events) (moment_of event))
-    shown = rw (events-noted opened events, moment-push opened events event) refl
 
 pub control-push : (opened : Opened) (events : List ControllerEvent) (event : ControllerEvent)
     → updates_shown opened (events ++ event ∷ [])

@@ -45,10 +45,7 @@ effective_moment-push opening history event =
 admitted-push : (opening : Opening) (history : List Event) (event : Event) → admitted opening (history ++ event ∷ [])
     ≡ with_one (admitted opening history) (admission (max (effective_moment opening history) (handed_in event.command)) (deed_of event))
 unfolding admitted
-admitted-push opening history event =
-    from_places-push (admitted_at opening) history event
-    ∙ ap (λ now. with_one (filter_map (admitted_at opening) (places history)) (admission now (deed_of event)))
-    (effective_moment-push opening history event)
+admitted-push opening history event = simp (from_places-push, effective_moment-push)
 
 -- how many departed, after one more event
 departed_count-push : (history : List Event) (event : Event)

@@ -6,8 +6,8 @@ use Rattle.std.specs.List.{filter_map, after_last}
 use Rattle.std.proofs.lemmas.Bool.Decides.{nat_tests}
 use Rattle.std.proofs.lemmas.List.{append-nil, append_assoc, map-append}
 use Rattle.pie_aqm.specs.{RawParams, Departure, Profile, One, Two, ControllerEvent, Opened, moment_of, params_set, Noted, active_of, change_at}
-use Rattle.pie_aqm.specs.{change_by, clears_rate, clears_rate_at, clears_wait, clears_wait_at, control_at, updates_shown, control_of, wait_at}
-use Rattle.pie_aqm.specs.{wait_shown, waited_noted, waited_of, control_shown, delay_noted, departure_at, departure_shown, departures_shown}
+use Rattle.pie_aqm.specs.{change_by, clears_rate, clears_wait, clears_wait_at, control_at, updates_shown, control_of, wait_at}
+use Rattle.pie_aqm.specs.{wait_shown, waited_noted, waited_of, control_shown, delay_noted, departure_shown, departures_shown}
 use Rattle.pie_aqm.specs.{departures_of, early_at, arrivals_shown, early_of, early_shown, events_of, is_active, is_active_in, is_calm_noted, now_of}
 use Rattle.pie_aqm.specs.{note, noted, noted_after, params_of, parts_of, turns_on_by, Place, last_or, places, keeps_wait, measures}
 use Rattle.pie_aqm.specs.{Enqueue, ArrivingPacket, considered_where, verdict_shown, accu_left, offered, verdict, Elements, departure}

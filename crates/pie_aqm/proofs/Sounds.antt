@@ -6,7 +6,7 @@ use Rattle.std.proofs.lemmas.Bool.Decides.{nat_tests}
 use Rattle.pie_params.specs.declared.raw.RawParams.{RawParams}
 use Rattle.pie_params.specs.Range.{IsInRange, first_bad}
 use Rattle.pie_fixed.specs.Fixed.{bounded_of}
-use Rattle.pie_aqm.specs.Types.{Elements, Delay, Rate, Stamp, departure, Begun, Estimate, Parts, Profile, One, Two, ArrivingPacket}
+use Rattle.pie_aqm.specs.Types.{Elements, departure, Begun, Estimate, Parts, Profile, One, ArrivingPacket}
 use Rattle.pie_rate.proofs.Laws.{with_sample-within}
 use Rattle.pie_rate.specs.Estimate.{after_departure, step_from}
 use Rattle.pie_control.specs.Delay.{delay_of}
@@ -15,7 +15,7 @@ use Rattle.pie_early.specs.Decision.{counted}
 use Rattle.pie_early.proofs.Laws.{accu_below}
 use Rattle.pie_aqm.specs.Calls.{Arrive, Call, Change, Depart, IsTaken, Pass, Restart, Update, after_call}
 use Rattle.pie_aqm.specs.Held.{Held, IsSound, IsWithin}
-use Rattle.pie_aqm.specs.Steps.{accu_left, anew, bytes_with, control_updated, delay_in, is_calm, judged, now_at, delay_by, keeps_wait}
+use Rattle.pie_aqm.specs.Steps.{accu_left, anew, bytes_with, control_updated, delay_in, is_calm, judged, now_at, keeps_wait}
 use Rattle.pie_aqm.specs.Steps.{measures, offered, opened, opens_active, stays_active, turns_on, verdict, wait_of}
 use Rattle.pie_aqm.specs.{first_unsound}
 
@@ -52,10 +52,6 @@ accu-small h a small =
 
 -- ---- the departure rate
 
-later-within : (threshold m n : ℕ) (o : Option Begun) → m ≤ n → IsWithin threshold m o → IsWithin threshold n o
-later-within threshold m n None le w = w
-later-within threshold m n (Some cycle) le w = (omega (arith, w.0), w.1)
-
 step-holds : (threshold average size left now : ℕ) (begun : Option Begun) → 0 < threshold → threshold ≤ 65536 → now < 2 ^ 60 → average < 2 ^ 60
     → IsWithin threshold now begun
     → let e : Estimate = step_from threshold average (departure size left now) begun in (e.average < 2 ^ 60) × IsWithin threshold now e.begun
@@ -78,17 +74,6 @@ pub delay-hold : (bytes average threshold : ℕ) → delay_of bytes average thre
 unfolding delay_of
 delay-hold bytes average threshold = omega arith
 
-pub delay-by-hold : (choice : Delay) (waited estimate : ℕ) → waited ≤ 2 ^ 40 → estimate ≤ 2 ^ 40 → delay_by choice waited estimate ≤ 2 ^ 40
-delay-by-hold Rate waited estimate w e = e
-delay-by-hold Stamp waited estimate w e = w
-
-pub either : (b : Bool) (x y z : ℕ) → x ≤ z → y ≤ z → (if b then x else y) ≤ z
-either b x y z p q = grind (arith, nat_tests)
-
-stays-in-one : (profile : Profile) (active calm : Bool) → profile ≡ One → active ≡ true → (active && stays_active profile calm) ≡ true
-stays-in-one One active calm one on = rw on refl
-stays-in-one Two active calm one on = cc
-
 -- ---- each call
 
 pub Sound_opened : (profile : Profile) (elements : Elements) (params : RawParams) (moment : ℕ) → first_bad params ≡ None → moment < 2 ^ 60
@@ -107,7 +92,7 @@ module _ (h : Held) (sound : IsSound h) (moment : ℕ) (within : moment < 2 ^ 60
   passed-moment = let before = sound.moment in omega arith
 
   cycle : IsWithin h.params.dq_threshold (now_at h moment) h.rate.begun
-  cycle = later-within h.params.dq_threshold h.moment (now_at h moment) h.rate.begun (omega arith) sound.cycle
+  cycle = let before = sound.cycle in grind (arith, nat_tests)
 
   last : h.control.last ≤ now_at h moment
   last = let before = sound.last in omega arith
@@ -141,24 +126,19 @@ module _ (h : Held) (sound : IsSound h) (moment : ℕ) (within : moment < 2 ^ 60
 
   update-sound : (queued : ℕ) → IsSound (after_call h (Update queued moment))
   update-sound queued =
-      search (
-        rules,
-        sound,
-        passed-moment,
-        cycle,
-        by h.active,
-        λ (one : h.profile ≡ One). stays-in-one h.profile h.active (is_calm h queued) one (sound.active one),
-      )
+      let always : h.profile ≡ One → (h.active && stays_active h.profile (is_calm h queued)) ≡ true =
+      λ one. let on = sound.active one in grind (arith, nat_tests) in
+      search (rules, sound, passed-moment, cycle, by h.active, always)
     where
       by : (active : Bool) → let parts : Parts = if active then control_updated h.elements h.params h.control (delay_in h queued) (now_at h moment)
           else record h.control { last = now_at h moment } in
           (parts.prob ≤ 10 ^ 12) × (parts.old_delay ≤ 2 ^ 40) × (parts.burst ≤ 10 ^ 12) × (parts.last ≤ now_at h moment)
       by true =
-          let before = sound.burst in (
+          let delay = delay-hold queued h.rate.average h.params.dq_threshold in
+          let most = (in-range h.params sound.params).max_burst in (
             next-hold h.elements h.params h.control.prob (delay_in h queued) h.control.old_delay,
-            delay-by-hold h.elements.delay h.waited (delay_of queued h.rate.average h.params.dq_threshold) sound.waited
-                (delay-hold queued h.rate.average h.params.dq_threshold),
-            either (is_calm h queued) h.params.max_burst (h.control.burst - h.params.t_update) (10 ^ 12) (in-range h.params sound.params).max_burst (omega arith),
+            grind (arith, nat_tests, sound.waited),
+            grind (arith, nat_tests, sound.burst),
             omega arith,
           )
       by false = (sound.prob, sound.old_delay, sound.burst, omega arith)

@@ -1,33 +1,30 @@
 -- What a core holds, where it shows a history, is what looking back over the history gives; and it shows the history with one event more
 -- after each command.
 use Rattle.std.proofs.Common.{◌≡◌, ◌≤◌, ◌<◌, ◌+◌, ℕ, List, [], ◌∷◌, ◌++◌, map, length, true, refl, ap, subst, ◌∙◌, sym, arith, length-append, max}
-use Rattle.std.proofs.Common.{None, Some, All, is_some, append-nil, ◌-◌, drop, Bool, cond, Option, filter_map, drop-drop, length-drop, false}
+use Rattle.std.proofs.Common.{None, Some, All, is_some, append-nil, ◌-◌, drop, Bool, cond, Option, filter_map, drop-drop, length-drop}
 use Rattle.std.proofs.Common.{if◌then◌else◌, sum_by, ◌↔◌}
 use Rattle.std.proofs.lemmas.Bool.Decides.{nat_tests}
 use Rattle.std.proofs.lemmas.List.{map-append, drop-append-le, append_assoc}
 use Rattle.std.proofs.lemmas.List.Elements.{All-cons, All-head, All-nil, All-push, All-tail, All-pop}
 use Rattle.std.proofs.lemmas.List.Sums.{sum_by_push}
-use Rattle.pie_book.specs.{Packet, Waiting, One, Verdict, Held, Command, Arrive, Depart, Answer, Event, Opening, opened_by}
-use Rattle.pie_book.specs.{arrival_of, departure_call, cause_after, CoreView, Shows, counted, refusal_of, registers_of, with_queue, IsLegal}
-use Rattle.pie_book.specs.{IsLegalAt, answer_by, answer_to_departure, decision, refusal_by_rule, delay_after, delay_answered, held_after, admitted}
+use Rattle.pie_book.specs.{Packet, Waiting, One, Held, Command, Arrive, Depart, Answer, Event, Opening, opened_by}
+use Rattle.pie_book.specs.{arrival_of, cause_after, CoreView, Shows, counted, refusal_of, registers_of, with_queue, IsLegal}
+use Rattle.pie_book.specs.{IsLegalAt, answer_by, decision, refusal_by_rule, delay_after, delay_answered, held_after, admitted}
 use Rattle.pie_book.specs.{bytes_after, departed_count, effective_moment, waiting_after, registers_after, event_of, opened_of, shown, age_of_oldest}
 use Rattle.pie_book.specs.{largest_delay, largest_queue, stats_after, waited, answer_in, call_in, waiting_next, bytes_of, HasThreshold}
-use Rattle.pie_book.specs.{after_call, Place, places, greatest, answer_of, Deed, arrival_deed, deed, departure, departure_deed, fits, handed_in}
-use Rattle.pie_book.specs.{deed_of, admission, departed, marked, queued, count_of, is_queued, is_marked, is_dropped_early, is_dropped_bytes}
-use Rattle.pie_book.specs.{is_dropped_packets, is_departure, is_found_none, is_reset, bytes_departed, is_arrival, is_update, up_to, first_bad}
+use Rattle.pie_book.specs.{after_call, Place, places, greatest, Deed, deed, departure, fits, handed_in}
+use Rattle.pie_book.specs.{deed_of, admission, departed, marked, queued, count_of}
+use Rattle.pie_book.specs.{is_departure, bytes_departed, is_update, first_bad}
 use Rattle.pie_book.specs.{SetParams, IsNext, CommandFits, refusal_with, active_after, arriving_size, event_shown, oldest_since, shown_at}
-use Rattle.pie_book.specs.{admitted_at, wait_at, delay_at, core_after, first_core, registers_with, after_calls, call_at, calls_of, held_after_calls}
+use Rattle.pie_book.specs.{delay_at, core_after, first_core, registers_with, after_calls, call_at, calls_of, held_after_calls}
 use Rattle.pie_book.specs.{Follows}
 use Rattle.pie_aqm.specs.Steps.{cause, bytes_with, now_at}
 use Rattle.pie_aqm.proofs.Places.{place_of, places-push, from_places-push, greatest-push, with_one}
-use Rattle.std.specs.Option.{option_map_or}
-use Rattle.pie_event.specs.Deed.{sets_params, with_ce}
+use Rattle.pie_event.specs.Deed.{with_ce}
 use Rattle.pie_aqm.proofs.Sounds.{threshold-holds}
 use Rattle.pie_aqm.specs.Calls.{shown_by, Call}
-use Rattle.pie_aqm.specs.Events.{Arrived}
 use Rattle.pie_aqm.specs.Places.{after}
 use Rattle.pie_aqm.proofs.Laws.{Shows_call, Shows_opened, held_is, has_threshold, one_is_active}
-use Rattle.pie_event.specs.declared.verdict.Verdict.TheVariants as verdict
 use Rattle.pie_aqm.specs.History as Controller
 use Rattle.pie_aqm.specs.Steps as Steps
 
@@ -102,17 +99,13 @@ count_of-push test history event =
     sum_by_push (λ (e : Event). cond (test (deed_of e)) 1 0) history event ∙ more_of (test (deed_of event)) (count_of test history) 1
 
 -- no bytes depart where no packet does
-some_bytes : (d : Option Packet) (n : ℕ)
-    → n + option_map_or (λ (packet : Packet). packet.size) d 0 ≡ (if is_some d then n + option_map_or (λ (packet : Packet). packet.size) d 0 else n)
-some_bytes d n = grind (arith, nat_tests)
-
 bytes-push : (history : List Event) (event : Event)
     → sum_by (λ (e : Event). bytes_departed (deed_of e)) (history ++ event ∷ [])
     ≡ (if is_departure (deed_of event) then sum_by (λ (e : Event). bytes_departed (deed_of e)) history + bytes_departed (deed_of event)
     else sum_by (λ (e : Event). bytes_departed (deed_of e)) history)
 bytes-push history event =
     sum_by_push (λ (e : Event). bytes_departed (deed_of e)) history event
-    ∙ some_bytes (departure (deed_of event)) (sum_by (λ (e : Event). bytes_departed (deed_of e)) history)
+    ∙ grind (arith, nat_tests)
 
 largest_queue-push : (opening : Opening) (history : List Event) (event : Event)
     → largest_queue opening (history ++ event ∷ []) ≡ max (largest_queue opening history) (bytes_after opening (history ++ event ∷ []))

@@ -15,7 +15,7 @@ use Rattle.pie_rate.specs.Cycles.{begun, cycles, cycles_from, first_closing, fir
 use Rattle.pie_control.specs.Delay.{delay_of}
 use Rattle.pie_control.specs.History.{burst_allowance, granted_burst, last_delay, last_moment, probability}
 use Rattle.pie_control.specs.Next.{raw_step, tuning_divisor, tuned_step, decayed, next}
-use Rattle.pie_early.specs.Cause.{early_cause}
+use Rattle.pie_early.specs.Cause.{considered_cause, early_cause}
 use Rattle.pie_early.specs.Decision.{is_considered, is_picked}
 use Rattle.pie_early.specs.History.{accumulated}
 use Rattle.pie_event.specs.declared.cause.Cause.TheVariants.{NoRoomInBytes, NoRoomInPackets, Inactive, BurstAllowed}
@@ -25,7 +25,7 @@ unfoldable pub worked : Type 0
 unfolding held_of now_of params_of active_of departures_shown updates_shown arrivals_shown departures_of waited_of waited_noted delay_noted control_of
     early_of is_active noted noted_after places greatest last_or average samples begun cycles cycles_from first_position first_opening first_closing
     first_cycle delay_of probability last_delay last_moment granted_burst burst_allowance next raw_step tuning_divisor tuned_step decayed verdict
-    accu_left is_considered is_picked accumulated cause early_cause count_kept_open is_unmeasured first_unsound
+    accu_left is_considered is_picked accumulated cause early_cause considered_cause count_kept_open is_unmeasured first_unsound
 worked = ⊤
 
 -- 3000 bytes are a third of the limit, half the target is two nanoseconds, and one update takes the whole burst allowance

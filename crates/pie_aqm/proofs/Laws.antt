@@ -17,6 +17,8 @@ use Rattle.pie_aqm.specs.{delay_in, departed, is_calm, judged, no_estimate, open
 use Rattle.pie_aqm.specs.{wait_of}
 use Rattle.pie_aqm.proofs.Places.{filter_map-push, from_places-push, greatest-push, last_or-one, place_of, since-push, with_one}
 use Rattle.pie_aqm.specs.Held.{Held}
+use Rattle.pie_aqm.proofs.Sounds.{threshold-holds}
+use Rattle.pie_params.specs.Range.{first_bad}
 use Rattle.pie_early.specs.Decision.{counted}
 use Rattle.pie_early.specs.Events.{EarlyEvent, arrival, cleared}
 use Rattle.pie_early.proofs.Laws.{shows_arrival, shows-next}
@@ -374,9 +376,13 @@ Shows_call o events held shows =
     subst (λ (h : Held). (call : Call) → HasThreshold h call → after_call h call ≡ held_of o (events ++ shown_by h call ∷ [])) (sym shows)
     (λ call small. sym (held-push o events (shown_by (held_of o events) call) ∙ call-next o events call small))
 
-pub has_threshold : (held : Held) (call : Call) → held.params.dq_threshold ≤ 65536 → HasThreshold held call
+has_threshold : (held : Held) (call : Call) → held.params.dq_threshold ≤ 65536 → HasThreshold held call
 has_threshold held (Depart size left since moment) small = small
 has_threshold held _ small = tt
+
+-- parameters that are in their ranges have a threshold that may be set
+pub threshold_held : (held : Held) (call : Call) → first_bad held.params ≡ None → HasThreshold held call
+threshold_held held call good = has_threshold held call (threshold-holds held.params good).1
 
 pub shows_called : (o : Opened) (events : List ControllerEvent) (held : Held) → Shows o events held → held.params.dq_threshold ≤ 65536
     → (call : Call) → Shows o (events ++ shown_by held call ∷ []) (after_call held call)

@@ -7,7 +7,7 @@ use Rattle.pie_params.specs.declared.raw.RawParams.{RawParams}
 use Rattle.pie_params.specs.Range.{IsInRange, first_bad}
 use Rattle.pie_fixed.specs.Fixed.{bounded_of}
 use Rattle.pie_aqm.specs.Types.{Elements, departure, Begun, Estimate, Parts, Profile, One, ArrivingPacket}
-use Rattle.pie_rate.proofs.Laws.{with_sample-within}
+use Rattle.pie_rate.specs.Average.{averaged}
 use Rattle.pie_rate.specs.Estimate.{after_departure, step_from}
 use Rattle.pie_control.specs.Delay.{delay_of}
 use Rattle.pie_control.specs.Next.{decayed, decays, next, raw_step, tuned_step}
@@ -52,12 +52,15 @@ accu-small h a small =
 
 -- ---- the departure rate
 
+mixed-within : (t sample average : ℕ) → t ≤ 65536 → sample < 2 ^ 60 → average < 2 ^ 60 → averaged t average sample < 2 ^ 60
+mixed-within t sample average small s a = grind arith
+
 step-holds : (threshold average size left now : ℕ) (begun : Option Begun) → 0 < threshold → threshold ≤ 65536 → now < 2 ^ 60 → average < 2 ^ 60
     → IsWithin threshold now begun
     → let e : Estimate = step_from threshold average (departure size left now) begun in (e.average < 2 ^ 60) × IsWithin threshold now e.begun
 step-holds threshold average size left now None some small within a w = grind (arith, nat_tests)
 step-holds threshold average size left now (Some cycle) some small within a w =
-    let sample = with_sample-within threshold average (max 1 (now - cycle.start)) small a (omega arith) in grind (arith, nat_tests)
+    let mixed = mixed-within threshold (max 1 (now - cycle.start)) average small (omega arith) a in grind (arith, nat_tests)
 
 -- ---- the control law
 

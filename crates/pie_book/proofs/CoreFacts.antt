@@ -21,10 +21,9 @@ use Rattle.pie_book.specs.{Follows}
 use Rattle.pie_aqm.specs.Steps.{cause, bytes_with, now_at}
 use Rattle.pie_aqm.proofs.Places.{place_of, places-push, from_places-push, greatest-push, with_one}
 use Rattle.pie_event.specs.Deed.{with_ce}
-use Rattle.pie_aqm.proofs.Sounds.{threshold-holds}
 use Rattle.pie_aqm.specs.Calls.{shown_by, Call}
 use Rattle.pie_aqm.specs.Places.{after}
-use Rattle.pie_aqm.proofs.Laws.{Shows_call, Shows_opened, held_is, has_threshold, one_is_active}
+use Rattle.pie_aqm.proofs.Laws.{Shows_call, Shows_opened, held_is, threshold_held, one_is_active}
 use Rattle.pie_aqm.specs.History as Controller
 use Rattle.pie_aqm.specs.Steps as Steps
 
@@ -321,15 +320,12 @@ good-next core (Depart moment) good fit =
 good-next core (SetParams moment params) good fit = fit.1.in_range
 good-next core _ good fit = good
 
-pub threshold-of : (core : CoreView) (command : Command) → first_bad core.held.params ≡ None → HasThreshold core.held (call_in core command)
-threshold-of core command good = has_threshold core.held (call_in core command) (threshold-holds core.held.params good).1
-
 -- a core that shows a history shows it with a command that it takes
 pub next_shown : (opening : Opening) (core : CoreView) (history : List Event) → Shows opening core history → (caller : ℕ) (command : Command)
     → first_bad core.held.params ≡ None → refusal_of core command ≡ None
     → Shows opening (core_after core command) (history ++ event_of caller command (answer_in core command) ∷ [])
 next_shown opening core history shows caller command good free =
-    next-shows opening core history shows caller command (threshold-of core command good) free
+    next-shows opening core history shows caller command (threshold_held core.held (call_in core command) good) free
 
 -- ---- one event more
 

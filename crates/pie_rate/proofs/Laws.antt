@@ -336,7 +336,7 @@ module _ (threshold : ℕ) (ds : List Departure) (d : Departure) where
       by (Some i) w is begun sampled = rw is (counting i (nat_lt (bytes_after ds i + d.size) threshold) w begun sampled)
 
 -- .. and stays in its ranges
-pub with_sample-within : (threshold average sample : ℕ) → threshold ≤ 65536 → average < 2 ^ 60 → sample < 2 ^ 60 → with_sample threshold average sample < 2 ^ 60
+with_sample-within : (threshold average sample : ℕ) → threshold ≤ 65536 → average < 2 ^ 60 → sample < 2 ^ 60 → with_sample threshold average sample < 2 ^ 60
 with_sample-within threshold average sample t a s =
     let mixed : averaged threshold average sample < 2 ^ 60 = grind arith in grind (arith, nat_tests)
 

@@ -1,25 +1,27 @@
 -- What one more event does to each list that the parts are shown, and to whether the controller is active.
-use Rattle.std.proofs.Common.{◌≡◌, ℕ, List, [], ◌∷◌, ◌++◌, map, Bool, true, false, refl, ap, ◌∙◌, sym, ◌+◌, ◌&&◌, if◌then◌else◌, ◌≤◌, ◌-◌, subst}
+use Rattle.std.proofs.Common.{◌≡◌, ℕ, List, [], ◌∷◌, ◌++◌, map, Bool, true, false, refl, ap, ◌∙◌, sym, ◌&&◌, if◌then◌else◌, ◌≤◌, ◌-◌, subst}
 use Rattle.std.proofs.Common.{arith}
-use Rattle.std.specs.Prelude.{max, Option, Some, None, unwrap_or, nat_lt, min}
+use Rattle.std.specs.Prelude.{max, Option, Some, None, unwrap_or, min}
 use Rattle.std.specs.List.{filter_map, after_last}
+use Rattle.std.proofs.lemmas.Bool.Decides.{nat_tests}
 use Rattle.std.proofs.lemmas.List.{append-nil, append_assoc, map-append}
 use Rattle.pie_aqm.specs.{RawParams, Departure, Profile, One, Two, ControllerEvent, Opened, moment_of, params_set, Noted, active_of, change_at}
-use Rattle.pie_aqm.specs.{change_by, clears_rate, clears_rate_at, clears_wait, clears_wait_at, control_at, updates_shown, control_of, wait_at}
-use Rattle.pie_aqm.specs.{wait_shown, waited_noted, waited_of, control_shown, delay_noted, departure_at, departure_shown, departures_shown}
+use Rattle.pie_aqm.specs.{change_by, clears_rate, clears_wait, clears_wait_at, control_at, updates_shown, control_of, wait_at}
+use Rattle.pie_aqm.specs.{wait_shown, waited_noted, waited_of, control_shown, delay_noted, departure_shown, departures_shown}
 use Rattle.pie_aqm.specs.{departures_of, early_at, arrivals_shown, early_of, early_shown, events_of, is_active, is_active_in, is_calm_noted, now_of}
-use Rattle.pie_aqm.specs.{note, noted, noted_after, params_of, parts_of, turns_on_by, Place, last_or, places, keeps_wait, measures, Picking, Choice}
-use Rattle.pie_aqm.specs.{Enqueue, ArrivingPacket, considered_where, verdict_shown, accu_left, chosen, offered, verdict, Elements, departure}
-use Rattle.pie_aqm.specs.{Estimate, Parts, Arrive, Call, Change, Depart, HasThreshold, Pass, Restart, Update, after_call, shown_by, Arrived, Departed}
+use Rattle.pie_aqm.specs.{note, noted, noted_after, params_of, parts_of, turns_on_by, Place, last_or, places, keeps_wait, measures}
+use Rattle.pie_aqm.specs.{Enqueue, ArrivingPacket, considered_where, verdict_shown, accu_left, offered, verdict, Elements, departure}
+use Rattle.pie_aqm.specs.{Estimate, Parts, Arrive, Call, Change, Depart, HasThreshold, Pass, Restart, Update, after_call, shown_by, ShowsCall, Arrived, Departed}
 use Rattle.pie_aqm.specs.{Updated, Reset, Changed, Shows, estimate_of, held_of, greatest, anew, bytes_with, capped, control_after, control_updated}
 use Rattle.pie_aqm.specs.{delay_in, departed, is_calm, judged, no_estimate, opened, opens_active, passed, renewed, stays_active, turns_on, updated}
 use Rattle.pie_aqm.specs.{wait_of}
 use Rattle.pie_aqm.proofs.Places.{filter_map-push, from_places-push, greatest-push, last_or-one, place_of, since-push, with_one}
 use Rattle.pie_aqm.specs.Held.{Held}
-use Rattle.pie_early.specs.Decision.{accu_after, choice_of, counted, is_considered}
+use Rattle.pie_aqm.proofs.Sounds.{threshold-holds}
+use Rattle.pie_params.specs.Range.{first_bad}
+use Rattle.pie_early.specs.Decision.{counted}
 use Rattle.pie_early.specs.Events.{EarlyEvent, arrival, cleared}
 use Rattle.pie_early.proofs.Laws.{shows_arrival, shows-next}
-use Rattle.pie_event.specs.declared.verdict.Verdict.TheVariants.{DroppedBytes, DroppedPackets}
 use Rattle.pie_rate.specs.Estimate.{after_departure}
 use Rattle.pie_rate.proofs.Laws.{nothing_shown, shows_after}
 use Rattle.pie_control.specs.Events.{ControlEvent, idled, reset, update_at}
@@ -40,8 +42,7 @@ pub params-push : (opened : Opened) (events : List ControllerEvent) (event : Con
     → params_of opened (events ++ event ∷ []) ≡ unwrap_or (params_set event) (params_of opened events)
 unfolding params_of
 params-push opened events event =
-    ap (λ (xs : List RawParams). last_or opened.params xs) (filter_map-push params_set events event)
-    ∙ last_or-one opened.params (filter_map params_set events) (params_set event)
+    simp (filter_map-push, last_or-one)
 
 -- ---- notes
 
@@ -83,8 +84,7 @@ last_place opened events event = place_of (noted opened events) (note opened (no
 filtered-push : {Y : Type 0} (h : Place Noted → Option Y) (opened : Opened) (events : List ControllerEvent) (event : ControllerEvent)
     → filter_map h (places (noted opened (events ++ event ∷ [])))
     ≡ with_one (filter_map h (places (noted opened events))) (h (last_place opened events event))
-filtered-push h opened events event = ap (λ (n : List Noted). filter_map h (places n)) (noted-push opened events event)
-    ∙ from_places-push h (noted opened events) (note opened (noted opened events) event)
+filtered-push h opened events event = simp (noted-push, from_places-push)
 
 -- ---- activity
 
@@ -108,8 +108,7 @@ active-push opened events event =
     shown = rw (events-noted opened events) refl
 
     in_one : (change : Option Bool) → true ≡ active_next One true change
-    in_one None = refl
-    in_one (Some new) = refl
+    in_one change = grind (arith, nat_tests)
 
     in_two : (changes : List Bool) (change : Option Bool) → last_or false (with_one changes change) ≡ active_next Two (last_or false changes) change
     in_two changes None = refl
@@ -137,13 +136,7 @@ pub departures-push : (opened : Opened) (events : List ControllerEvent) (event :
     ≡ departures_next event (measures (active_of opened events) opened.elements.delay) (turned_on opened events event)
     (departures_shown opened events) (max (now_of opened events) (moment_of event))
 unfolding departures_shown departures_of active_of
-departures-push opened events event =
-    rw (
-      noted-push opened events event,
-      since-push (clears_rate_at opened) (departure_at opened) (noted opened events) (note opened (noted opened events) event),
-      events-noted opened events,
-      moment-push opened events event,
-    ) refl
+departures-push opened events event = simp (noted-push, since-push, events-noted, moment-push)
 
 -- what the packet had waited that departed last, after one more event at this moment
 abbrev pub waited_next : ControllerEvent → Bool → Bool → ℕ → ℕ → ℕ
@@ -155,10 +148,9 @@ pub waited-push : (opened : Opened) (events : List ControllerEvent) (event : Con
     (max (now_of opened events) (moment_of event))
 unfolding waited_of waited_noted active_of last_or
 waited-push opened events event =
-    ap (λ (n : List Noted). last_or 0 (filter_map (wait_at opened) (after_last (clears_wait_at opened) (places n)))) (noted-push opened events event)
-    ∙ ap (λ (xs : List ℕ). last_or 0 xs)
-    (since-push (clears_wait_at opened) (wait_at opened) (noted opened events) (note opened (noted opened events) event))
-    ∙ by (clears_wait_at opened (last_place opened events event)) (wait_at opened (last_place opened events event)) ∙ shown
+    simp (noted-push, since-push, events-noted, moment-push)
+    (by (clears_wait event (turned_on opened events event))
+    (wait_shown event (keeps_wait (active_of opened events) opened.elements.delay) (max (now_of opened events) (moment_of event))))
   where
     before : List ℕ
     before = filter_map (wait_at opened) (after_last (clears_wait_at opened) (places (noted opened events)))
@@ -166,13 +158,6 @@ waited-push opened events event =
     by : (b : Bool) (wait : Option ℕ) → last_or 0 (if b then [] else with_one before wait) ≡ (if b then 0 else unwrap_or wait (last_or 0 before))
     by true wait = refl
     by false wait = last_or-one 0 before wait
-
-    shown : (if clears_wait_at opened (last_place opened events event) then 0
-        else unwrap_or (wait_at opened (last_place opened events event)) (last_or 0 before))
-        ≡ waited_next event (keeps_wait (is_active opened (noted opened events)) opened.elements.delay)
-        (turns_on_by event (is_active opened (noted opened events)) (params_of opened events)) (last_or 0 before)
-        (max (now_of opened events) (moment_of event))
-    shown = rw (events-noted opened events, moment-push opened events event) refl
 
 pub control-push : (opened : Opened) (events : List ControllerEvent) (event : ControllerEvent)
     → updates_shown opened (events ++ event ∷ [])
@@ -191,32 +176,17 @@ early-push opened events event = rw (filtered-push (early_at opened) opened even
 
 -- ---- What an arrival does to what early drop holds, whichever list it shows
 
-shown-chosen : (choice : Choice) (considered : Bool) (prob : ℕ) (picking : Picking)
-    → verdict_shown (chosen choice) considered prob picking ≡ arrival considered prob picking choice
-shown-chosen Enqueue considered prob picking = refl
-shown-chosen _ considered prob picking = refl
-
 -- after an arrival and its verdict
 pub early-step : (h : Held) (a : ArrivingPacket) (events : List EarlyEvent) → Early.Shows events h.accu
     → Early.Shows (events ++ verdict_shown (verdict h a) (considered_where h.active h.params h.control a.queued)
     (counted h.elements h.params h.control (offered a)) h.elements.picking ∷ []) (accu_left h a)
 unfolding verdict accu_left
-early-step h a events shown = by (nat_lt h.params.limit_bytes (a.queued + a.size)) a.is_full h.active
-  where
-    by : (over full active : Bool)
-        → Early.Shows (events ++ verdict_shown (if over then DroppedBytes else if full then DroppedPackets else chosen
-        (if active then choice_of h.elements h.params h.control (offered a) h.accu else Enqueue))
-        (active && is_considered h.params h.control a.queued) (counted h.elements h.params h.control (offered a)) h.elements.picking ∷ [])
-        (if over then 0 else if full then 0 else if active then accu_after h.elements h.params h.control (offered a) h.accu else h.accu)
-    by true full active = shows-next events h.accu cleared shown
-    by false true active = shows-next events h.accu cleared shown
-    by false false false =
-        shows-next events h.accu (arrival false (counted h.elements h.params h.control (offered a)) h.elements.picking Enqueue) shown
-    by false false true =
-        rw (shown-chosen (choice_of h.elements h.params h.control (offered a) h.accu) (is_considered h.params h.control a.queued)
-        (counted h.elements h.params h.control (offered a)) h.elements.picking)
-        (shows_arrival h.elements.picking h.params h.control (counted h.elements h.params h.control (offered a)) a.queued a.word h.accu events a.ecn
-        shown)
+early-step h a events shown =
+    let as_cleared = shows-next events h.accu cleared shown in
+    let unseen = shows-next events h.accu (arrival false (counted h.elements h.params h.control (offered a)) h.elements.picking Enqueue) shown in
+    let seen = shows_arrival h.elements.picking h.params h.control (counted h.elements h.params h.control (offered a)) a.queued a.word h.accu events
+    a.ecn shown in
+    grind (arith, nat_tests)
 
 -- ---- A controller that shows some events shows one more after each call
 
@@ -240,30 +210,25 @@ active-opened One elements params moment = refl
 active-opened Two elements params moment = refl
 
 active-on : (profile : Profile) (active : Bool) → active_next profile active (Some true) ≡ true
-active-on One active = refl
-active-on Two active = refl
+active-on profile active = grind (arith, nat_tests)
 
 active-update : (profile : Profile) (active calm : Bool)
     → active_next profile active (if active then (if calm then Some false else None) else None) ≡ (active && stays_active profile calm)
-active-update profile false calm = refl
-active-update One true true = refl
-active-update Two true true = refl
-active-update One true false = refl
-active-update Two true false = refl
+active-update profile active calm = grind (arith, nat_tests)
 
 -- ---- with no event
 
-pub Shows_opened : (profile : Profile) (elements : Elements) (params : RawParams) (moment : ℕ)
-    → Shows (record { profile = profile; elements = elements; params = params; moment = moment }) [] (opened profile elements params moment)
+pub Shows_opened : (profile : Profile) (elements : Elements) (params : RawParams) (moment : ℕ) (new : Held) → new ≡ opened profile elements params moment
+    → Shows (record { profile = profile; elements = elements; params = params; moment = moment }) [] new
 unfolding Shows held_of now_of params_of departures_shown departures_of waited_of waited_noted updates_shown control_of arrivals_shown early_of noted
     noted_after places greatest last_or Control.probability Control.last_delay Control.last_moment Control.granted_burst Control.burst_allowance
     Early.accumulated
-Shows_opened profile elements params moment =
+Shows_opened profile elements params moment new is =
     let now : moment ≡ max moment 0 = omega arith in
     let burst : params.max_burst ≡ params.max_burst - 0 = omega arith in
     let active = active-opened profile elements params moment in
     let none = none-is params.dq_threshold in
-    λ i. record {
+    is ∙ λ i. record {
       profile = profile;
       elements = elements;
       params = params;
@@ -298,17 +263,7 @@ module _ (o : Opened) (events : List ControllerEvent) where
 
   held-push : (event : ControllerEvent) → held_of o (events ++ event ∷ []) ≡ next_if (turned_on o events event) event
   unfolding held_of
-  held-push event = λ i. record {
-    profile = o.profile;
-    elements = o.elements;
-    params = params-push o events event i;
-    moment = moment-push o events event i;
-    active = active-push o events event i;
-    rate = estimate_of (params-push o events event i).dq_threshold (departures-push o events event i);
-    waited = waited-push o events event i;
-    control = parts_of o (control-push o events event i);
-    accu = Early.accumulated (early-push o events event i);
-  }
+  held-push event = simp (params-push, moment-push, active-push, departures-push, waited-push, control-push, early-push)
 
   delay-is : (queued : ℕ) → delay_noted o (noted o events) queued ≡ delay_in (held_of o events) queued
   unfolding held_of delay_noted departures_shown waited_of
@@ -351,8 +306,7 @@ module _ (o : Opened) (events : List ControllerEvent) where
 
       kept : (b : Bool) → unwrap_or (if b then Some (wait_of left since (max (now_of o events) moment)) else None) (waited_of o events)
           ≡ (if b then wait_of left since (max (now_of o events) moment) else waited_of o events)
-      kept true = refl
-      kept false = refl
+      kept b = grind (arith, nat_tests)
 
   update-next : (queued moment : ℕ) → next_if false (Updated queued moment) ≡ updated (held_of o events) queued moment
   unfolding held_of
@@ -422,9 +376,13 @@ Shows_call o events held shows =
     subst (λ (h : Held). (call : Call) → HasThreshold h call → after_call h call ≡ held_of o (events ++ shown_by h call ∷ [])) (sym shows)
     (λ call small. sym (held-push o events (shown_by (held_of o events) call) ∙ call-next o events call small))
 
-pub has_threshold : (held : Held) (call : Call) → held.params.dq_threshold ≤ 65536 → HasThreshold held call
+has_threshold : (held : Held) (call : Call) → held.params.dq_threshold ≤ 65536 → HasThreshold held call
 has_threshold held (Depart size left since moment) small = small
 has_threshold held _ small = tt
+
+-- parameters that are in their ranges have a threshold that may be set
+pub threshold_held : (held : Held) (call : Call) → first_bad held.params ≡ None → HasThreshold held call
+threshold_held held call good = has_threshold held call (threshold-holds held.params good).1
 
 pub shows_called : (o : Opened) (events : List ControllerEvent) (held : Held) → Shows o events held → held.params.dq_threshold ≤ 65536
     → (call : Call) → Shows o (events ++ shown_by held call ∷ []) (after_call held call)
@@ -438,6 +396,11 @@ held_is o events held shows = shows
 -- the same held, told otherwise
 pub moved : (o : Opened) (events : List ControllerEvent) (held new : Held) → new ≡ held → Shows o events held → Shows o events new
 moved o events held new e shows = subst (λ (h : Held). Shows o events h) (sym e) shows
+
+-- a call on what is held
+pub shows_with : (held new : Held) (call : Call) → new ≡ after_call held call → HasThreshold held call → ShowsCall held call new
+unfolding ShowsCall
+shows_with held new call is small opened events shows = moved opened _ _ new is (Shows_call opened events held shows call small)
 
 -- a departure, where the threshold is no greater than it may be
 pub uncapped : (h g : Held) (size left since moment : ℕ) → h.params.dq_threshold ≤ 65536

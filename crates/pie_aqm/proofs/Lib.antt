@@ -1,3 +1,4 @@
+pub mod Examples
 pub mod Places
 pub mod Laws
 pub mod Sounds

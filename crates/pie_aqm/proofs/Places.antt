@@ -34,8 +34,7 @@ filter_map-push {X} {Y} h xs x = filter_map-append h xs (x ∷ []) ∙ by (filte
 -- what a filter over the places keeps with one more event
 pub from_places-push : {E Y : Type 0} (h : Place E → Option Y) (history : List E) (event : E)
     → filter_map h (places (history ++ event ∷ [])) ≡ with_one (filter_map h (places history)) (h (place_of history event))
-from_places-push h history event = ap (λ xs. filter_map h xs) (places-push history event)
-    ∙ filter_map-push h (places history) (place_of history event)
+from_places-push h history event = simp (places-push, filter_map-push)
 
 -- .. and one over the places after the last that clears
 pub since-push : {E Y : Type 0} (clears : Place E → Bool) (h : Place E → Option Y) (history : List E) (event : E)

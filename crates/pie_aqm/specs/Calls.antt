@@ -1,9 +1,10 @@
 -- The calls on a controller: what each leaves, and what it adds to what the controller was shown.
-use Rattle.std.specs.Prelude.{◌≡◌, ℕ, ◌^◌, ◌<◌, ◌≤◌, None, ⊤}
+use Rattle.std.specs.Prelude.{◌≡◌, ℕ, ◌^◌, ◌<◌, ◌≤◌, List, [], ◌∷◌, ◌++◌, None, ⊤}
 use Rattle.pie_aqm.specs.Types.{RawParams, ArrivingPacket}
 use Rattle.pie_aqm.specs.Held.{Held}
 use Rattle.pie_params.specs.Range.{first_bad}
-use Rattle.pie_aqm.specs.Events.{ControllerEvent, Arrived, Departed, Passed, Updated, Reset, Changed}
+use Rattle.pie_aqm.specs.History.{Shows}
+use Rattle.pie_aqm.specs.Events.{ControllerEvent, Opened, Arrived, Departed, Passed, Updated, Reset, Changed}
 use Rattle.pie_aqm.specs.Steps.{arrived, bytes_with, changed, departed, passed, reset, updated, verdict}
 
 -- an arrival; a departure, with the packet's size, the bytes that it left and the moment since which it had waited; a departure that
@@ -33,6 +34,11 @@ shown_by h (Pass moment) = Passed moment
 shown_by h (Update queued moment) = Updated queued moment
 shown_by h (Restart moment) = Reset moment
 shown_by h (Change params moment) = Changed params moment
+
+-- a controller that held this, and holds that after the call: if it showed events e1 to en, it shows e1 to en and what the call showed it
+unfoldable pub ShowsCall : Held → Call → Held → Type 0
+ShowsCall old call new = (opened : Opened) (events : List ControllerEvent) → Shows opened events old
+    → Shows opened (events ++ shown_by old call ∷ []) new
 
 -- the moment and the parameters that a call hands in are in their ranges
 abbrev pub IsTaken : Call → Type 0

@@ -1,6 +1,6 @@
 //! The controller and its calls: those of plain numbers that are in their ranges.
 ghost use Rattle.std.specs.Prelude.{◌≡◌, ◌+◌, ◌^◌, ◌≤◌, ◌↔◌, List, [], ◌∷◌, ◌++◌, true, false, None, Some, IsOk, IfOk, IfErr};
-ghost use Rattle.pie_aqm.specs.{Arrive, Change, Depart, Pass, Restart, Update, shown_by, ControllerEvent, Opened, IsSound, Shows};
+ghost use Rattle.pie_aqm.specs.{Arrive, Change, Depart, Pass, Restart, Update, IsSound, Shows, ShowsCall};
 ghost use Rattle.pie_aqm.specs.{first_unsound, arrived, cause, changed, delay_answered, delay_in, departed, due, is_too_soon, opened, passed, reset};
 ghost use Rattle.pie_aqm.specs.{updated, verdict};
 ghost use Rattle.pie_event.specs.Cause.{verdict_of};
@@ -32,6 +32,7 @@ impl Model for Controller {
 impl Controller {
     /// A controller at its opening: probability and delays 0, the whole burst allowance, no sample of the departure rate (RFC 8033,
     /// sections 4.2, 4.4 and 5.2). In profile two it opens inactive.
+    #[tactic(auto, using(crate::proofs::Laws::Shows_opened))]
     pub fn open(profile: Profile, elements: Elements, params: Params, moment: Nanos) -> Self
         ensures value { result ≡ opened profile elements params moment }
         ensures shows { Shows (record { profile = profile; elements = elements; params = params; moment = moment }) [] result }
@@ -70,13 +71,13 @@ impl Controller {
     /// Appendix A). An inactive controller is turned on, as by a reset, where three times the bytes in the queue then reach
     /// `limit_bytes` (RFC 8033, section 5.3; the third is this project's own).
     #[inline(always)]
+    #[tactic(auto, using(crate::proofs::Laws::shows_with))]
     pub fn arrive(&mut self, arrival: ArrivingPacket, moment: Nanos) -> Verdict
         requires { arrival.queued ≤ 2 ^ 30 }
         ensures verdict { result ≡ verdict self.old arrival }
         ensures fits { is_queued result ≡ true → (arrival.is_full ≡ false) × (arrival.queued + arrival.size ≤ 2 ^ 30) }
         ensures after { self.new ≡ arrived self.old arrival moment }
-        ensures shows { (opened : Opened) (events : List ControllerEvent) → Shows opened events self.old
-            → Shows opened (events ++ shown_by self.old (Arrive arrival moment) ∷ []) self.new }
+        ensures shows { ShowsCall self.old (Arrive arrival moment) self.new }
     {
         self.raw.arrive_either_way(arrival, moment.units())
     }
@@ -108,18 +109,17 @@ impl Controller {
     pub fn depart(&mut self, size: u32, left: u64, since: Nanos, moment: Nanos)
         ensures after { self.new ≡ departed self.old size left since moment }
         ensures threshold { self.old.params.dq_threshold ≤ 65536 }
-        ensures shows { (opened : Opened) (events : List ControllerEvent) → Shows opened events self.old
-            → Shows opened (events ++ shown_by self.old (Depart size left since moment) ∷ []) self.new }
+        ensures shows { ShowsCall self.old (Depart size left since moment) self.new }
     {
         self.raw.depart(size, left, since.units(), moment.units());
     }
 
     /// Takes in a departure that found no packet: its moment counts, and nothing else.
     #[inline(always)]
+    #[tactic(auto, using(crate::proofs::Laws::shows_with))]
     pub fn pass(&mut self, moment: Nanos)
         ensures after { self.new ≡ passed self.old moment }
-        ensures shows { (opened : Opened) (events : List ControllerEvent) → Shows opened events self.old
-            → Shows opened (events ++ shown_by self.old (Pass moment) ∷ []) self.new }
+        ensures shows { ShowsCall self.old (Pass moment) self.new }
     {
         self.raw.pass(moment.units());
     }
@@ -128,31 +128,31 @@ impl Controller {
     /// the controller off in profile two. An inactive controller takes in the moment alone, and the delay is 0. Whether the update
     /// is due is not looked at.
     #[inline(never)]
+    #[tactic(auto, using(crate::proofs::Laws::shows_with))]
     pub fn update(&mut self, queued: u64, moment: Nanos) -> u64
         requires { queued ≤ 2 ^ 30 }
         ensures delay { result ≡ delay_answered self.old queued }
         ensures after { self.new ≡ updated self.old queued moment }
-        ensures shows { (opened : Opened) (events : List ControllerEvent) → Shows opened events self.old
-            → Shows opened (events ++ shown_by self.old (Update queued moment) ∷ []) self.new }
+        ensures shows { ShowsCall self.old (Update queued moment) self.new }
     {
         self.raw.update(queued, moment.units())
     }
 
     /// Makes a reset: probability, old delay, accumulated probability, rate estimate and the last packet's wait become 0, and the burst
     /// allowance `max_burst`. Parameters, last update and activity stay.
+    #[tactic(auto, using(crate::proofs::Laws::shows_with))]
     pub fn reset(&mut self, moment: Nanos)
         ensures after { self.new ≡ reset self.old moment }
-        ensures shows { (opened : Opened) (events : List ControllerEvent) → Shows opened events self.old
-            → Shows opened (events ++ shown_by self.old (Restart moment) ∷ []) self.new }
+        ensures shows { ShowsCall self.old (Restart moment) self.new }
     {
         self.raw.reset(moment.units());
     }
 
     /// Puts new parameters in force, and clears the rate estimate; the other registers stay.
+    #[tactic(auto, using(crate::proofs::Laws::shows_with))]
     pub fn set_params(&mut self, params: Params, moment: Nanos)
         ensures after { self.new ≡ changed self.old params moment }
-        ensures shows { (opened : Opened) (events : List ControllerEvent) → Shows opened events self.old
-            → Shows opened (events ++ shown_by self.old (Change params moment) ∷ []) self.new }
+        ensures shows { ShowsCall self.old (Change params moment) self.new }
     {
         self.raw.set_params(params.raw(), moment.units());
     }

@@ -313,6 +313,7 @@ impl RawController {
 
     /// Makes an update, as [`Controller::update`](crate::Controller::update) does.
     #[inline(always)]
+    #[tactic(auto, using(std::proofs::lemmas::Bool::Decides::nat_tests))]
     pub fn update(&mut self, queued: u64, moment: u64) -> u64
         requires sound { IsSound self.old }
         requires queued { queued ≤ 2 ^ 30 }

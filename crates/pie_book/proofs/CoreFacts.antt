@@ -1,33 +1,29 @@
 -- What a core holds, where it shows a history, is what looking back over the history gives; and it shows the history with one event more
 -- after each command.
 use Rattle.std.proofs.Common.{◌≡◌, ◌≤◌, ◌<◌, ◌+◌, ℕ, List, [], ◌∷◌, ◌++◌, map, length, true, refl, ap, subst, ◌∙◌, sym, arith, length-append, max}
-use Rattle.std.proofs.Common.{None, Some, All, is_some, append-nil, ◌-◌, drop, Bool, cond, Option, filter_map, drop-drop, length-drop, false}
+use Rattle.std.proofs.Common.{None, Some, All, is_some, append-nil, ◌-◌, drop, Bool, cond, Option, filter_map, drop-drop, length-drop}
 use Rattle.std.proofs.Common.{if◌then◌else◌, sum_by, ◌↔◌}
 use Rattle.std.proofs.lemmas.Bool.Decides.{nat_tests}
 use Rattle.std.proofs.lemmas.List.{map-append, drop-append-le, append_assoc}
 use Rattle.std.proofs.lemmas.List.Elements.{All-cons, All-head, All-nil, All-push, All-tail, All-pop}
 use Rattle.std.proofs.lemmas.List.Sums.{sum_by_push}
-use Rattle.pie_book.specs.{ArrivingPacket, Packet, Waiting, One, Verdict, Held, Command, Arrive, Depart, Answer, Enqueued, Event, Opening, opened_by}
-use Rattle.pie_book.specs.{arrival_of, departure_call, cause_after, CoreView, Shows, counted, refusal_of, registers_of, with_queue, IsLegal}
-use Rattle.pie_book.specs.{IsLegalAt, answer_by, answer_to_departure, decision, refusal_by_rule, delay_after, delay_answered, held_after, admitted}
+use Rattle.pie_book.specs.{Packet, Waiting, One, Held, Command, Arrive, Depart, Answer, Event, Opening, opened_by}
+use Rattle.pie_book.specs.{arrival_of, cause_after, CoreView, Shows, counted, refusal_of, registers_of, with_queue, IsLegal}
+use Rattle.pie_book.specs.{IsLegalAt, answer_by, decision, refusal_by_rule, delay_after, delay_answered, held_after, admitted}
 use Rattle.pie_book.specs.{bytes_after, departed_count, effective_moment, waiting_after, registers_after, event_of, opened_of, shown, age_of_oldest}
 use Rattle.pie_book.specs.{largest_delay, largest_queue, stats_after, waited, answer_in, call_in, waiting_next, bytes_of, HasThreshold}
-use Rattle.pie_book.specs.{after_call, Place, places, greatest, answer_of, Deed, arrival_deed, deed, departure, departure_deed, fits, handed_in}
-use Rattle.pie_book.specs.{deed_of, admission, departed, marked, queued, count_of, is_queued, is_marked, is_dropped_early, is_dropped_bytes}
-use Rattle.pie_book.specs.{is_dropped_packets, is_departure, is_found_none, is_reset, bytes_departed, is_arrival, is_update, up_to, first_bad}
+use Rattle.pie_book.specs.{after_call, Place, places, greatest, Deed, deed, departure, fits, handed_in}
+use Rattle.pie_book.specs.{deed_of, admission, departed, marked, queued, count_of}
+use Rattle.pie_book.specs.{is_departure, bytes_departed, is_update, first_bad}
 use Rattle.pie_book.specs.{SetParams, IsNext, CommandFits, refusal_with, active_after, arriving_size, event_shown, oldest_since, shown_at}
-use Rattle.pie_book.specs.{admitted_at, wait_at, delay_at, core_after, first_core, registers_with, after_calls, call_at, calls_of, held_after_calls}
+use Rattle.pie_book.specs.{delay_at, core_after, first_core, registers_with, after_calls, call_at, calls_of, held_after_calls}
 use Rattle.pie_book.specs.{Follows}
 use Rattle.pie_aqm.specs.Steps.{cause, bytes_with, now_at}
 use Rattle.pie_aqm.proofs.Places.{place_of, places-push, from_places-push, greatest-push, with_one}
-use Rattle.std.specs.Option.{option_map_or}
-use Rattle.pie_event.specs.Deed.{sets_params, with_ce}
-use Rattle.pie_aqm.proofs.Sounds.{threshold-holds}
+use Rattle.pie_event.specs.Deed.{with_ce}
 use Rattle.pie_aqm.specs.Calls.{shown_by, Call}
-use Rattle.pie_aqm.specs.Events.{Arrived}
 use Rattle.pie_aqm.specs.Places.{after}
-use Rattle.pie_aqm.proofs.Laws.{Shows_call, Shows_opened, held_is, has_threshold, one_is_active}
-use Rattle.pie_event.specs.declared.verdict.Verdict.TheVariants as verdict
+use Rattle.pie_aqm.proofs.Laws.{Shows_call, Shows_opened, held_is, threshold_held, one_is_active}
 use Rattle.pie_aqm.specs.History as Controller
 use Rattle.pie_aqm.specs.Steps as Steps
 
@@ -45,10 +41,7 @@ effective_moment-push opening history event =
 admitted-push : (opening : Opening) (history : List Event) (event : Event) → admitted opening (history ++ event ∷ [])
     ≡ with_one (admitted opening history) (admission (max (effective_moment opening history) (handed_in event.command)) (deed_of event))
 unfolding admitted
-admitted-push opening history event =
-    from_places-push (admitted_at opening) history event
-    ∙ ap (λ now. with_one (filter_map (admitted_at opening) (places history)) (admission now (deed_of event)))
-    (effective_moment-push opening history event)
+admitted-push opening history event = simp (from_places-push, effective_moment-push)
 
 -- how many departed, after one more event
 departed_count-push : (history : List Event) (event : Event)
@@ -105,26 +98,18 @@ count_of-push test history event =
     sum_by_push (λ (e : Event). cond (test (deed_of e)) 1 0) history event ∙ more_of (test (deed_of event)) (count_of test history) 1
 
 -- no bytes depart where no packet does
-some_bytes : (d : Option Packet) (n : ℕ)
-    → n + option_map_or (λ (packet : Packet). packet.size) d 0 ≡ (if is_some d then n + option_map_or (λ (packet : Packet). packet.size) d 0 else n)
-some_bytes None n = let e : n + 0 ≡ n = omega arith in e
-some_bytes (Some packet) n = refl
-
 bytes-push : (history : List Event) (event : Event)
     → sum_by (λ (e : Event). bytes_departed (deed_of e)) (history ++ event ∷ [])
     ≡ (if is_departure (deed_of event) then sum_by (λ (e : Event). bytes_departed (deed_of e)) history + bytes_departed (deed_of event)
     else sum_by (λ (e : Event). bytes_departed (deed_of e)) history)
 bytes-push history event =
     sum_by_push (λ (e : Event). bytes_departed (deed_of e)) history event
-    ∙ some_bytes (departure (deed_of event)) (sum_by (λ (e : Event). bytes_departed (deed_of e)) history)
+    ∙ grind (arith, nat_tests)
 
 largest_queue-push : (opening : Opening) (history : List Event) (event : Event)
     → largest_queue opening (history ++ event ∷ []) ≡ max (largest_queue opening history) (bytes_after opening (history ++ event ∷ []))
 unfolding largest_queue
-largest_queue-push opening history event =
-    ap (λ xs. greatest (map (λ (place : Place Event). bytes_after opening (up_to place)) xs)) (places-push history event)
-    ∙ ap greatest (map-append (λ (place : Place Event). bytes_after opening (up_to place)) (places history) (place_of history event ∷ []))
-    ∙ greatest-push (map (λ (place : Place Event). bytes_after opening (up_to place)) (places history)) (bytes_after opening (history ++ event ∷ []))
+largest_queue-push opening history event = simp (places-push, map-append, greatest-push)
 
 largest_delay-push : (opening : Opening) (history : List Event) (event : Event)
     → largest_delay opening (history ++ event ∷ [])
@@ -132,12 +117,7 @@ largest_delay-push : (opening : Opening) (history : List Event) (event : Event)
 unfolding largest_delay
 largest_delay-push opening history event =
     ap greatest (from_places-push (delay_at opening) history event)
-    ∙ by (filter_map (delay_at opening) (places history)) (is_update (deed_of event)) (delay_answered opening history)
-  where
-    by : (delays : List ℕ) (b : Bool) (delay : ℕ)
-        → greatest (with_one delays (if b then Some delay else None)) ≡ (if b then max (greatest delays) delay else greatest delays)
-    by delays true delay = greatest-push delays delay
-    by delays false delay = refl
+    ∙ (let more = greatest-push (filter_map (delay_at opening) (places history)) (delay_answered opening history) in grind (arith, nat_tests))
 
 waited-push : (opening : Opening) (history : List Event) (event : Event)
     → waited opening (history ++ event ∷ [])
@@ -145,11 +125,7 @@ waited-push : (opening : Opening) (history : List Event) (event : Event)
     (waiting_after opening history)
     else waited opening history)
 unfolding waited
-waited-push opening history event =
-    ap (λ xs. sum_by (wait_at opening) xs) (places-push history event)
-    ∙ sum_by_push (wait_at opening) (places history) (place_of history event)
-    ∙ more_of (is_departure (deed_of event)) (sum_by (wait_at opening) (places history))
-    (age_of_oldest (effective_moment opening (history ++ event ∷ [])) (waiting_after opening history))
+waited-push opening history event = simp (places-push, sum_by_push) (more_of (is_departure (deed_of event)) _ _)
 
 -- the statistics after one more event
 pub stats_after-push : (opening : Opening) (history : List Event) (event : Event)
@@ -160,51 +136,18 @@ pub stats_after-push : (opening : Opening) (history : List Event) (event : Event
     (bytes_after opening (history ++ event ∷ []))
 unfolding stats_after
 stats_after-push opening history event =
-    rw (
-      count_of-push is_arrival history event,
-      count_of-push is_queued history event,
-      count_of-push is_marked history event,
-      count_of-push is_dropped_early history event,
-      count_of-push is_dropped_bytes history event,
-      count_of-push is_dropped_packets history event,
-      count_of-push is_departure history event,
-      bytes-push history event,
-      count_of-push is_found_none history event,
-      count_of-push is_update history event,
-      count_of-push is_reset history event,
-      count_of-push sets_params history event,
-      largest_queue-push opening history event,
-      largest_delay-push opening history event,
-      waited-push opening history event,
-    ) refl
+    simp (count_of-push, bytes-push, largest_queue-push, largest_delay-push, waited-push)
 
 -- ---- legal histories
 
 -- a departure lets a packet go only where one waits
 departs-some : (opening : Opening) (history : List Event) (command : Command)
     → is_some (departure (deed command (decision opening history command))) ≡ true → 0 < length (waiting_after opening history)
-departs-some opening history (Depart moment) = by (waiting_after opening history)
-  where
-    by : (waiting : List Waiting) → is_some (departure (departure_deed (answer_to_departure waiting))) ≡ true → 0 < length waiting
-    by [] some = cc
-    by (oldest ∷ others) some = omega arith
-departs-some opening history (Arrive moment packet word) = by_answer (decision opening history (Arrive moment packet word))
-  where
-    by_answer : (answer : Answer) → is_some (departure (arrival_deed packet answer)) ≡ true → 0 < length (waiting_after opening history)
-    by_answer Enqueued some = cc
-    by_answer _ some = cc
-departs-some opening history _ = λ some. cc
+departs-some opening history command some = grind (arith, nat_tests, some)
 
 -- each command is answered as it can be
 pub answer_fits : (h : Held) (waiting : List Waiting) (packets : ℕ) (command : Command) → fits command (answer_by h waiting packets command) ≡ true
-answer_fits h waiting packets (Arrive moment packet word) = by (Steps.verdict h (arrival_of waiting packets packet word))
-  where
-    by : (v : Verdict) → fits (Arrive moment packet word) (answer_of v) ≡ true
-    by verdict.Enqueued = refl
-    by _ = refl
-answer_fits h [] packets (Depart moment) = refl
-answer_fits h (oldest ∷ others) packets (Depart moment) = refl
-answer_fits h waiting packets _ = refl
+answer_fits h waiting packets command = grind (arith, nat_tests)
 
 -- what holds of each place of a history holds of the place between these events
 pub at_place : (P : Place Event → Type 0) (before : List Event) (event : Event) (rest : List Event) → All P (places (before ++ event ∷ rest))
@@ -293,7 +236,7 @@ first_shows opening = record {
   count = refl;
   moment = let start : max opening.moment 0 ≡ opening.moment = omega arith in sym start;
   waiting = refl;
-  controller = Shows_opened opening.choices.profile opening.choices.elements opening.params opening.moment;
+  controller = Shows_opened opening.choices.profile opening.choices.elements opening.params opening.moment _ refl;
   stats = refl;
 }
 
@@ -302,52 +245,28 @@ first_shown opening core is = subst (λ (c : CoreView). Shows opening c []) (sym
 
 -- ---- one event more
 
--- an arrival as the controller is shown it
-arrival-shown : (packet : Packet) (now : ℕ) (waiting : List Waiting) (moment : ℕ) (v : Verdict)
-    → event_shown (arrival_deed packet (answer_of v)) packet.size (oldest_since waiting) (bytes_of waiting)
-    (bytes_of (waiting_next waiting now (arrival_deed packet (answer_of v)))) moment
-    ≡ Arrived v packet.size (bytes_of waiting) (bytes_with v (bytes_of waiting) packet.size) moment
-arrival-shown packet now waiting moment verdict.Enqueued = ap (λ (n : ℕ). Arrived verdict.Enqueued packet.size (bytes_of waiting) n moment)
-    (sum_by_push (λ (w : Waiting). w.packet.size) waiting (record { packet = packet; since = now }))
-arrival-shown packet now waiting moment verdict.Marked = ap (λ (n : ℕ). Arrived verdict.Marked packet.size (bytes_of waiting) n moment)
-    (sum_by_push (λ (w : Waiting). w.packet.size) waiting (record { packet = with_ce packet; since = now }))
-arrival-shown packet now waiting moment v = refl
-
 -- each command's event is what its call shows the controller
 command-shown : (core : CoreView) (now : ℕ) (command : Command)
     → event_shown (deed command (answer_in core command)) (arriving_size command) (oldest_since core.waiting) (bytes_of core.waiting)
     (bytes_of (waiting_next core.waiting now (deed command (answer_in core command)))) (handed_in command)
     ≡ shown_by core.held (call_in core command)
 command-shown core now (Arrive moment packet word) =
-    arrival-shown packet now core.waiting moment (Steps.verdict core.held (arrival_of core.waiting core.packets packet word))
-command-shown core now (Depart moment) = by core.waiting
-  where
-    by : (waiting : List Waiting) → event_shown (departure_deed (answer_to_departure waiting)) 0 (oldest_since waiting) (bytes_of waiting)
-        (bytes_of (waiting_next waiting now (departure_deed (answer_to_departure waiting)))) moment
-        ≡ shown_by core.held (departure_call waiting moment)
-    by [] = refl
-    by (oldest ∷ others) = refl
+    let sum : (packet : Packet) → bytes_of (core.waiting ++ (record { packet = packet; since = now }) ∷ []) ≡ bytes_of core.waiting + packet.size =
+    λ packet. sum_by_push (λ (w : Waiting). w.packet.size) core.waiting (record { packet = packet; since = now }) in
+    let queued = sum packet in
+    let marked = sum (with_ce packet) in
+    grind (arith, nat_tests)
+command-shown core now (Depart moment) = grind (arith, nat_tests)
 command-shown core now _ = refl
 
 -- the effective moment after a call
-arrived-moment : (h : Held) (a : ArrivingPacket) (moment : ℕ) → (Steps.arrived h a moment).moment ≡ max h.moment moment
-arrived-moment h a moment = grind (arith, nat_tests)
-
 moment-next : (core : CoreView) (command : Command) → (after_call core.held (call_in core command)).moment ≡ now_at core.held (handed_in command)
-moment-next core (Arrive moment packet word) = arrived-moment core.held (arrival_of core.waiting core.packets packet word) moment
-moment-next core (Depart moment) = by core.waiting
-  where
-    by : (waiting : List Waiting) → (after_call core.held (departure_call waiting moment)).moment ≡ max core.held.moment moment
-    by [] = refl
-    by (oldest ∷ others) = refl
-moment-next core _ = refl
+moment-next core command = grind (arith, nat_tests)
 
 shown-push : (opening : Opening) (history : List Event) (event : Event)
     → shown opening (history ++ event ∷ []) ≡ shown opening history ++ shown_at opening (place_of history event) ∷ []
 unfolding shown
-shown-push opening history event =
-    ap (λ (ps : List (Place Event)). map (shown_at opening) ps) (places-push history event)
-    ∙ map-append (shown_at opening) (places history) (place_of history event ∷ [])
+shown-push opening history event = simp (places-push, map-append)
 
 module _ (opening : Opening) (core : CoreView) (history : List Event) (shows : Shows opening core history) where
   pub next-shows : (caller : ℕ) (command : Command) → HasThreshold core.held (call_in core command) → refusal_of core command ≡ None
@@ -392,29 +311,21 @@ module _ (opening : Opening) (core : CoreView) (history : List Event) (shows : S
 
 -- ---- parameters stay in their ranges
 
-params-arrived : (h : Held) (a : ArrivingPacket) (moment : ℕ) → (Steps.arrived h a moment).params ≡ h.params
-params-arrived h a moment = grind (arith, nat_tests)
-
 pub good-next : (core : CoreView) (command : Command) → first_bad core.held.params ≡ None → CommandFits command
     → first_bad (after_call core.held (call_in core command)).params ≡ None
-good-next core (Arrive moment packet word) good fit = rw (params-arrived core.held (arrival_of core.waiting core.packets packet word) moment) good
-good-next core (Depart moment) good fit = by core.waiting
-  where
-    by : (waiting : List Waiting) → first_bad (after_call core.held (departure_call waiting moment)).params ≡ None
-    by [] = good
-    by (oldest ∷ others) = good
+good-next core (Arrive moment packet word) good fit =
+    let kept : (after_call core.held (call_in core (Arrive moment packet word))).params ≡ core.held.params = grind (arith, nat_tests) in rw kept good
+good-next core (Depart moment) good fit =
+    let kept : (after_call core.held (call_in core (Depart moment))).params ≡ core.held.params = grind (arith, nat_tests) in rw kept good
 good-next core (SetParams moment params) good fit = fit.1.in_range
 good-next core _ good fit = good
-
-pub threshold-of : (core : CoreView) (command : Command) → first_bad core.held.params ≡ None → HasThreshold core.held (call_in core command)
-threshold-of core command good = has_threshold core.held (call_in core command) (threshold-holds core.held.params good).1
 
 -- a core that shows a history shows it with a command that it takes
 pub next_shown : (opening : Opening) (core : CoreView) (history : List Event) → Shows opening core history → (caller : ℕ) (command : Command)
     → first_bad core.held.params ≡ None → refusal_of core command ≡ None
     → Shows opening (core_after core command) (history ++ event_of caller command (answer_in core command) ∷ [])
 next_shown opening core history shows caller command good free =
-    next-shows opening core history shows caller command (threshold-of core command good) free
+    next-shows opening core history shows caller command (threshold_held core.held (call_in core command) good) free
 
 -- ---- one event more
 
@@ -476,8 +387,7 @@ module _ (P : List Event → CoreView → Type 0) (opening : Opening) (stays : S
 calls-push : (opening : Opening) (history : List Event) (event : Event)
     → calls_of opening (history ++ event ∷ []) ≡ calls_of opening history ++ call_at opening (place_of history event) ∷ []
 unfolding calls_of
-calls-push opening history event = ap (λ (ps : List (Place Event)). map (call_at opening) ps) (places-push history event)
-    ∙ map-append (call_at opening) (places history) (place_of history event ∷ [])
+calls-push opening history event = simp (places-push, map-append)
 
 after-push : (h : Held) (calls : List Call) (call : Call) → after_calls h (calls ++ call ∷ []) ≡ after_call (after_calls h calls) call
 unfolding after_calls

@@ -1,42 +1,31 @@
--- What worked histories compute with, and events whose answer the command cannot have, which no run makes. Worked histories are rows of tests/rows,
--- which tests/shared/reference.py reckons by looking back.
-use Rattle.std.specs.Prelude.{⊤, ℕ, ◌≡◌, List, [], ◌∷◌, true, false, map, Ok, Err}
+-- The definitions on worked histories, refusals and runs, and events whose answer the command cannot have, which no run makes: each theorem computes.
+-- More worked histories are rows of tests/rows, which tests/shared/reference.py reckons by looking back.
+use Rattle.std.specs.Prelude.{⊤, ℕ, ◌≡◌, ◌+◌, ◌^◌, List, [], ◌∷◌, ◌++◌, true, false, map, take, length, Some, None, Ok, Err}
 use Rattle.std.proofs.Common.{refl}
 use Rattle.pie_params.specs.Profile.{default_profile}
 use Rattle.pie_params.specs.Elements.{usual}
-use Rattle.pie_event.specs.declared.profile.Profile.TheVariants.{One}
-use Rattle.pie_event.specs.declared.opening.Mode.{Mode}
-use Rattle.pie_event.specs.declared.opening.Mode.TheVariants.{Bounded, Rolling}
-use Rattle.pie_event.specs.declared.opening.Opening.{Opening}
-use Rattle.pie_event.specs.declared.refusal.Refusal.TheVariants.{HistoryFull, Size, Exhausted}
-use Rattle.pie_book.specs.Decision.{IsLegalAt, decision, refusal_by_rule}
-use Rattle.pie_book.specs.Run.{Step, asked, folded, without_folds, answers, before_full}
-use Rattle.pie_book.specs.{Packet, Arrive, Depart, Update, Reset, SetParams, Answer, Enqueued, Marked}
-use Rattle.pie_book.specs.{DroppedEarly, DroppedBytes, DroppedPackets, Empty, Left, Updated, Done}
-use Rattle.pie_book.specs.{registers_after, answers_from, progress_after, largest_queue, largest_delay, stats_after, waited, held_after}
-use Rattle.pie_book.specs.{effective_moment, admitted, departed_count, waiting_after, shown, deed, fits, places, greatest}
-use Rattle.pie_queue.specs.declared.ecn.Ecn.TheVariants.{NotEct}
-use Rattle.pie_control.specs.Delay.{delay_of}
-use Rattle.pie_aqm.specs.Steps.{cause, verdict}
-use Rattle.pie_early.specs.Cause.{considered_cause, early_cause}
+use Rattle.pie_queue.specs.declared.ecn.Ecn.TheVariants.{NotEct, Ect0}
 use Rattle.pie_event.specs.Deed.{nothing}
-use Rattle.pie_aqm.specs.History.{active_of, arrivals_shown, control_of, delay_noted, departures_of, departures_shown, early_of, held_of}
-use Rattle.pie_aqm.specs.History.{waited_noted, waited_of, is_active, noted, noted_after, now_of, params_of, updates_shown}
-use Rattle.pie_aqm.specs.Places.{last_or}
-use Rattle.pie_rate.specs.Average.{average, samples}
-use Rattle.pie_rate.specs.Cycles.{cycles, begun, first_position, first_opening, first_closing, first_cycle, cycles_from}
-use Rattle.pie_control.specs.History.{probability, last_delay, last_moment, granted_burst, burst_allowance}
-use Rattle.pie_control.specs.Next.{raw_step, tuning_divisor, tuned_step, decayed, next}
-use Rattle.pie_early.specs.Decision.{is_considered, is_picked}
-use Rattle.pie_early.specs.History.{accumulated}
+use Rattle.pie_event.specs.declared.register.Register.TheVariants.{Accu}
+use Rattle.pie_event.specs.declared.registers.Registers.{Registers}
+use Rattle.pie_event.specs.declared.resume_refusal.ResumeRefusal.TheVariants as resume
+use Rattle.pie_event.specs.declared.resume_refusal.QueueRefusal.TheVariants as queue
+use Rattle.pie_event.specs.declared.resume_refusal.EndRefusal.TheVariants as end
+use Rattle.pie_book.specs.declared.standing.Standing.{Standing}
+use Rattle.pie_event.specs.declared.refusal.Refusal.TheVariants.{Moment, Size, TooSoon, Exhausted, HistoryFull}
+use Rattle.pie_aqm.proofs.Examples.{small, worked as worked_calls}
+use Rattle.pie_book.specs.Run.{Step, asked, folded, start, without_folds, answers, answers_from, before_full, progress_after, event_of}
+use Rattle.pie_book.specs.{Packet, Command, Arrive, Depart, Update, Reset, SetParams, Answer, Enqueued, Marked, DroppedEarly, DroppedBytes}
+use Rattle.pie_book.specs.{Empty, Left, Updated, Done, Event, Mode, Bounded, Rolling, One, Opening, RawParams, Stats, handed_in}
+use Rattle.pie_book.specs.{registers_after, largest_queue, largest_delay, stats_after, waited, held_after, effective_moment, admitted, departed_count}
+use Rattle.pie_book.specs.{waiting_after, shown, deed, fits, last_events, without_last, tail_with, first_run, core_after, first_core, CoreView}
+use Rattle.pie_book.specs.{IsLegalAt, refusal_after, held_after_calls, calls_of, after_calls, resume_refusal, queue_refusal}
+use Rattle.pie_book.specs.{end_refusal, core_of, ResumingView, are_reached, DroppedPackets}
 
 -- all that a theorem on a worked history computes with
 unfoldable pub worked : Type 0
-unfolding admitted places effective_moment greatest waiting_after departed_count held_after shown held_of now_of params_of active_of departures_shown
-    updates_shown arrivals_shown departures_of waited_of waited_noted delay_noted control_of early_of is_active noted noted_after last_or average samples begun cycles
-    first_position first_opening first_closing first_cycle cycles_from delay_of probability last_delay last_moment granted_burst burst_allowance
-    raw_step tuning_divisor tuned_step decayed next verdict accumulated is_considered is_picked registers_after stats_after largest_queue
-    largest_delay waited cause early_cause considered_cause progress_after answers_from
+unfolding worked_calls admitted effective_moment waiting_after departed_count held_after shown registers_after stats_after largest_queue largest_delay
+    waited progress_after answers_from calls_of after_calls are_reached
 worked = ⊤
 
 abbrev packet : ℕ → ℕ → Packet
@@ -60,15 +49,131 @@ fitting : (map (fits (Arrive 1 (packet 7 60) 0)) all_answers ≡ true ∷ true �
 unfolding all_answers
 fitting = (refl, refl, refl, refl, refl)
 
--- ---- what laws alone speak of: runs of steps, and events that are not legal
-
-abbrev opened : Mode → Opening
-opened mode = record {
+abbrev opened : Mode → ℕ → ℕ → Opening
+opened mode tail events = record {
   moment = 0;
-  limits = record { packets = 4; tail = 2; events = 100 };
+  limits = record { packets = 4; tail = tail; events = events };
   params = default_profile;
   choices = record { mode = mode; profile = One; elements = usual };
 }
+
+-- ---- a worked run: four packets come, and two depart a millisecond apart; three updates raise the probability; of three packets that meet it one is
+-- marked, one dropped, and one queued by its random word; then come new parameters, and a reset
+
+-- no burst allowance, and an update is due after a nanosecond
+abbrev no_burst : RawParams
+no_burst = record small { target = 2; t_update = 1; max_burst = 0; limit_bytes = 100000; mark_ecnth = 1000000000000 }
+
+abbrev opening : Opening
+opening = record (opened Bounded 32 100) { params = no_burst }
+
+abbrev commands : List Command
+commands = map (λ tag. Arrive 0 (packet tag 1024) 0) (1 ∷ 2 ∷ 3 ∷ 4 ∷ []) ++ Depart 1000 ∷ Depart 1001000
+    ∷ Update 1001000 ∷ Update 1001001 ∷ Update 1001002 ∷ Arrive 1001003 (record (packet 5 500) { ecn = Ect0 }) 0 ∷ Arrive 1001003 (packet 6 500) 0
+    ∷ Arrive 1001003 (packet 7 500) 18446744073709551615 ∷ SetParams 1001004 (record no_burst { max_burst = 50 }) ∷ Reset 1001005 ∷ []
+
+-- the history of the first n of them
+abbrev history : ℕ → List Event
+history n = (progress_after opening start (map (asked 1) (take n commands))).history
+
+-- what a core comes to by them
+abbrev steps : CoreView → List Command → CoreView
+steps core [] = core
+steps core (command ∷ more) = steps (core_after core command) more
+
+-- registers and statistics in the order of their records
+abbrev registers_in : Registers → List ℕ
+registers_in r = r.count ∷ r.moment ∷ r.packets ∷ r.bytes ∷ r.prob ∷ r.old ∷ r.accu ∷ r.burst ∷ r.last ∷ r.average ∷ []
+
+abbrev stats_in : Stats → List ℕ
+stats_in s = s.arrivals ∷ s.enqueued ∷ s.marked ∷ s.early ∷ s.over_bytes ∷ s.over_packets ∷ s.left ∷ s.left_bytes ∷ s.empty ∷ s.updates ∷ s.resets
+    ∷ s.changes ∷ s.largest_queue ∷ s.largest_delay ∷ s.waited ∷ []
+
+answered : answers opening (map (asked 1) commands) ≡ map Ok (Enqueued ∷ Enqueued ∷ Enqueued ∷ Enqueued ∷ Left (packet 1 1024) ∷ Left (packet 2 1024)
+    ∷ Updated 2000000 830077294 0 ∷ Updated 2000000 53955024169 0 ∷ Updated 2000000 903954174169 0
+    ∷ Marked ∷ DroppedEarly ∷ Enqueued ∷ Done ∷ Done ∷ [])
+unfolding worked
+answered = refl
+
+held : (map (λ n. registers_in (registers_after opening (history n))) (12 ∷ 13 ∷ 14 ∷ [])
+    ≡ (12 ∷ 1001003 ∷ 4 ∷ 3048 ∷ 903954174169 ∷ 2000000 ∷ 903954174169 ∷ 0 ∷ 1001002 ∷ 1000000 ∷ [])
+    ∷ (13 ∷ 1001004 ∷ 4 ∷ 3048 ∷ 903954174169 ∷ 2000000 ∷ 903954174169 ∷ 0 ∷ 1001002 ∷ 0 ∷ [])
+    ∷ (14 ∷ 1001005 ∷ 4 ∷ 3048 ∷ 0 ∷ 0 ∷ 0 ∷ 50 ∷ 1001002 ∷ 0 ∷ []) ∷ [])
+    × (stats_in (stats_after opening (history 14)) ≡ 7 ∷ 5 ∷ 1 ∷ 1 ∷ 0 ∷ 0 ∷ 2 ∷ 2048 ∷ 0 ∷ 3 ∷ 1 ∷ 1 ∷ 4096 ∷ 2000000 ∷ 1002000 ∷ [])
+unfolding worked
+held = (refl, refl)
+
+-- a core, and a controller beside a queue, come to the same
+by_steps : let core : CoreView = steps (first_core opening) commands in
+    (core.held ≡ held_after opening (history 14)) × (core.waiting ≡ waiting_after opening (history 14))
+    × (core.stats ≡ stats_after opening (history 14)) × (held_after_calls opening (history 14) ≡ held_after opening (history 14))
+unfolding worked
+by_steps = (refl, refl, refl, refl)
+
+-- ---- refusals and tails
+
+abbrev three : List Event
+three = event_of 1 (Arrive 10 (packet 7 1500) 0) Enqueued ∷ event_of 2 (Depart 25) (Left (packet 7 1500)) ∷ event_of 2 (Depart 30) Empty ∷ []
+
+abbrev sized : ℕ → Command
+sized size = Arrive 0 (packet 1 size) 0
+
+-- after three events with a tail of three, of which a book takes three in all: each refusal stands before the next
+order : (map (refusal_after (opened Bounded 3 3) three 3) (Arrive (2 ^ 60) (packet 1 0) 0 ∷ sized 0 ∷ sized 65536 ∷ Update 31 ∷ sized 1 ∷ [])
+    ≡ Some Moment ∷ Some Size ∷ Some Size ∷ Some (TooSoon 15000000) ∷ Some Exhausted ∷ [])
+    × (map (λ mode. refusal_after (opened mode 3 4) three 3 (sized 1)) (Bounded ∷ Rolling ∷ []) ≡ Some HistoryFull ∷ None ∷ [])
+    × (map (refusal_after (opened Bounded 4 4) three 3) (Update 15000000 ∷ sized 65535 ∷ []) ≡ None ∷ None ∷ [])
+unfolding worked
+order = (refl, refl, refl)
+
+-- the moments of some events
+abbrev moments : List Event → List ℕ
+moments events = map (λ event. handed_in event.command) events
+
+-- the last events and the others; a full tail of a rolling book lets its oldest go; and the first up to one that sets parameters
+tails : (map (λ n. moments (last_events n three)) (0 ∷ 2 ∷ 3 ∷ []) ≡ [] ∷ (25 ∷ 30 ∷ []) ∷ (10 ∷ 25 ∷ 30 ∷ []) ∷ [])
+    × (map (λ n. moments (without_last n three)) (0 ∷ 2 ∷ 3 ∷ []) ≡ (10 ∷ 25 ∷ 30 ∷ []) ∷ (10 ∷ []) ∷ [] ∷ [])
+    × (map (λ most. moments (tail_with (opened Rolling most 4) (take 2 three) (event_of 2 (Depart 30) Empty))) (2 ∷ 3 ∷ [])
+    ≡ (25 ∷ 30 ∷ []) ∷ (10 ∷ 25 ∷ 30 ∷ []) ∷ [])
+    × (map (λ most. length (first_run most (history 14))) (0 ∷ 5 ∷ 20 ∷ []) ≡ 0 ∷ 5 ∷ 13 ∷ [])
+unfolding worked
+tails = (refl, refl, refl, refl)
+
+-- ---- a core that goes on from the numbers after the run, and from the packets that waited: each refusal stands before the next
+
+abbrev numbers : Standing
+numbers = record { count = 14; controller = held_after opening (history 14); packets = 4; bytes = 3048; stats = stats_after opening (history 14) }
+
+-- with an accumulated probability and a statistic that are one too great
+abbrev unsound : ℕ → ℕ → Standing
+unsound packets bytes = record numbers {
+  controller = record numbers.controller { accu = 8_500_000_000_000 };
+  packets = packets;
+  bytes = bytes;
+  stats = record numbers.stats { left = 15 };
+}
+
+resumes : (map (λ events. resume_refusal (record opening.limits { events = events }) (unsound 5 (2 ^ 30 + 1))) (0 ∷ 13 ∷ 14 ∷ [])
+    ≡ Some resume.BadLimits ∷ Some resume.Count ∷ Some resume.Packets ∷ [])
+    × (map (resume_refusal opening.limits) (unsound 4 (2 ^ 30 + 1) ∷ unsound 4 (2 ^ 30) ∷ record numbers { stats = (unsound 4 0).stats }
+    ∷ numbers ∷ [])
+    ≡ Some resume.Bytes ∷ Some (resume.Unsound Accu) ∷ Some resume.Statistics ∷ None ∷ [])
+unfolding worked
+resumes = (refl, refl)
+
+-- three of the four were handed in, the newest of which arrived at 1001003; 500 bytes are missing
+abbrev handed : ℕ → ℕ → ResumingView
+handed packets bytes =
+    record { core = core_of opening.limits numbers (take 3 (waiting_after opening (history 14))); packets = packets; bytes = bytes }
+
+queues : (map (λ packets. queue_refusal (handed packets 3048) (packet 7 0) 1001006) (3 ∷ 4 ∷ []) ≡ Some queue.TooMany ∷ Some queue.Size ∷ [])
+    × (map (λ size. queue_refusal (handed 4 3048) (packet 7 size) 1001006) (501 ∷ 500 ∷ []) ≡ Some queue.TooManyBytes ∷ Some queue.Moment ∷ [])
+    × (map (queue_refusal (handed 4 3048) (packet 7 500)) (1001005 ∷ 1001003 ∷ 1001002 ∷ []) ≡ None ∷ None ∷ Some queue.Order ∷ [])
+    × (map end_refusal (handed 4 3048 ∷ handed 3 3048 ∷ handed 3 2548 ∷ []) ≡ Some end.Missing ∷ Some end.MissingBytes ∷ None ∷ [])
+unfolding worked
+queues = (refl, refl, refl, refl)
+
+-- ---- what laws alone speak of: runs of steps, and events that are not legal
 
 abbrev arrives : ℕ → Step
 arrives tag = asked 1 (Arrive tag (packet tag 100) 0)
@@ -79,9 +184,9 @@ unfolding without_folds
 unfolded = refl
 
 -- a fold in time makes room in a bounded book; a rolling one needs none
-fold_in_time : (answers (opened Bounded) (arrives 1 ∷ arrives 2 ∷ arrives 3 ∷ []) ≡ Ok Enqueued ∷ Ok Enqueued ∷ Err HistoryFull ∷ [])
-    × (answers (opened Bounded) (arrives 1 ∷ folded 1 ∷ arrives 2 ∷ arrives 3 ∷ []) ≡ Ok Enqueued ∷ Ok Enqueued ∷ Ok Enqueued ∷ [])
-    × (answers (opened Rolling) (arrives 1 ∷ arrives 2 ∷ arrives 3 ∷ []) ≡ Ok Enqueued ∷ Ok Enqueued ∷ Ok Enqueued ∷ [])
+fold_in_time : (answers (opened Bounded 2 100) (arrives 1 ∷ arrives 2 ∷ arrives 3 ∷ []) ≡ Ok Enqueued ∷ Ok Enqueued ∷ Err HistoryFull ∷ [])
+    × (answers (opened Bounded 2 100) (arrives 1 ∷ folded 1 ∷ arrives 2 ∷ arrives 3 ∷ []) ≡ Ok Enqueued ∷ Ok Enqueued ∷ Ok Enqueued ∷ [])
+    × (answers (opened Rolling 2 100) (arrives 1 ∷ arrives 2 ∷ arrives 3 ∷ []) ≡ Ok Enqueued ∷ Ok Enqueued ∷ Ok Enqueued ∷ [])
 unfolding worked
 fold_in_time = (refl, refl, refl)
 
@@ -91,7 +196,7 @@ counted_before_full : (before_full (Ok Enqueued ∷ Ok Enqueued ∷ Err HistoryF
 counted_before_full = (refl, refl)
 
 -- the first packet cannot have been marked
-wrong_mark : IsLegalAt (opened Bounded) (record {
+wrong_mark : IsLegalAt (opened Bounded 2 100) (record {
   before = [];
   event = record { caller = 1; command = Arrive 1 (packet 1 100) 0; answer = Marked };
 }) → ⊥

@@ -5,7 +5,8 @@ use Rattle.std.proofs.Common.{Some, None, Result, Ok, Err, one-add, not, take-ta
 use Rattle.pie_book.specs.Run.{Step, asked, folded, Progress, Asked, event_of, refused_or, recorded, held_after_fold, answers_from, answers}
 use Rattle.pie_book.specs.Run.{without_folds, is_full, before_full, AreSameUntilFull}
 use Rattle.pie_event.specs.declared.refusal.Refusal.TheVariants.{HistoryFull}
-use Rattle.pie_book.specs.Types.{Command, Answer, Event, Mode, Bounded, Rolling, Opening, Refusal}
+use Rattle.pie_book.specs.Types.{Command, Answer, Event, Mode, Rolling, Opening, Refusal}
+use Rattle.std.proofs.lemmas.Bool.Decides.{nat_tests}
 use Rattle.pie_book.specs.Decision.{decision, refusal_by_rule, or_full, is_refused_full}
 
 abbrev Given : Type 0
@@ -64,8 +65,7 @@ rolling-ruled opening steps is =
     (λ held some other full. let none = rolls opening.choices.mode (held == opening.limits.tail) is in cc) [] 0 steps
   where
     rolls : (mode : Mode) (full : Bool) → mode ≡ Rolling → is_refused_full mode full ≡ false
-    rolls Bounded full is = cc
-    rolls Rolling full is = refl
+    rolls mode full is = grind (arith, nat_tests)
 
 -- the same up to the first answer that says that the tail is full
 abbrev SameUntilFull : List Given → List Given → Type 0

@@ -115,6 +115,7 @@ impl Core {
 
     /// The verdict on an arriving packet, which is queued where it says so.
     #[inline(always)]
+    #[tactic(auto, using(std::proofs::lemmas::Bool::Decides::nat_tests))]
     pub(crate) fn arrive(
         &mut self,
         caller: u16,

@@ -1,20 +1,19 @@
 -- How the accumulated probability changes when one more event joins the list at its end.
 use Rattle.pie_early.proofs.Names.{◌≡◌, ℕ, ◌+◌, ◌*◌, ◌<◌, Bool, true, false, cond, List, [], ◌∷◌, ◌++◌, refl, sym, ap, ◌∙◌, arith, if◌then◌else◌}
-use Rattle.pie_early.proofs.Names.{ne_eqb, Derandomized, Enqueue, EarlyEvent, arrival, accumulated, Shows, ◌≤◌, nat_tests, RawParams, Picking, Random}
-use Rattle.pie_early.proofs.Names.{accumulates, cleared, Parts, Ecn, Choice, Mark, Drop, never_picked, always_picked, is_considered}
+use Rattle.pie_early.proofs.Names.{ne_eqb, Derandomized, Enqueue, EarlyEvent, arrival, accumulated, Shows, ◌≤◌, nat_tests, RawParams, Picking}
+use Rattle.pie_early.proofs.Names.{accumulates, cleared, Parts, Ecn, Choice, always_picked, is_considered}
 use Rattle.pie_early.proofs.Names.{is_picked}
 use Rattle.pie_early.proofs.Names.{picked_choice, accu_at, choice_at, Elements, name_of, place_of_cause, Offered, fate_of, counted}
-use Rattle.std.proofs.Common.{zero, suc, ◌-◌, not, length, drop, filter, replicate, zero-add, add-one, append_assoc, add-zero, inr, ltb, ◌↔◌}
-use Rattle.std.proofs.Common.{◌&&◌, ◌==◌, ◌||◌, ◌/◌}
-use Rattle.std.specs.Prelude.{sum_by, IsTrue, nat_le, nat_lt}
+use Rattle.std.proofs.Common.{zero, suc, ◌-◌, not, length, drop, filter, replicate, add-one, append_assoc, ◌↔◌}
+use Rattle.std.proofs.Common.{◌&&◌, ◌/◌}
+use Rattle.std.specs.Prelude.{sum_by, IsTrue, nat_le}
 use Rattle.std.specs.List.{after_last, suffix_len}
 use Rattle.std.proofs.lemmas.List.{drop-append-le, drop_all, length_push, reverse-append, replicate_more}
 use Rattle.std.proofs.lemmas.List.Elements.{filter-append}
 use Rattle.std.proofs.lemmas.List.Sums.{sum_by-append, suffix_len-le-length}
 use Rattle.pie_early.specs.Events.{is_clearing, joins, prob_of}
-use Rattle.pie_queue.specs.Ecn.{is_capable}
-use Rattle.pie_early.specs.Decision.{is_pick, IsPicked, joined, chosen}
-use Rattle.pie_event.specs.declared.cause.Cause.TheVariants.{NoProbability, PickedBySum, PickedByWord}
+use Rattle.pie_early.specs.Decision.{is_pick, IsPicked, chosen}
+use Rattle.pie_event.specs.declared.cause.Cause.TheVariants.{PickedBySum, PickedByWord}
 use Rattle.pie_event.specs.declared.cause.Fate.{Fate}
 use Rattle.pie_event.specs.declared.verdict.Verdict.TheVariants.{Enqueued}
 use Rattle.pie_early.specs.Cause.{considered_cause, early_cause}
@@ -45,8 +44,7 @@ unfolding accumulated
 accumulated-clearing events event e = rw (after_last-push_yes is_clearing events event e) refl
 
 considered_sum : (event : EarlyEvent) (b : Bool) → sum_by prob_of (cond b (event ∷ []) []) ≡ cond b (prob_of event) 0
-considered_sum event true = zero-add (prob_of event)
-considered_sum event false = refl
+considered_sum event b = grind (arith, nat_tests)
 
 pub accumulated-push : (events : List EarlyEvent) (event : EarlyEvent) → is_clearing event ≡ false
     → accumulated (events ++ event ∷ []) ≡ accumulated events + cond (joins event) (prob_of event) 0
@@ -81,14 +79,10 @@ accu_next held event = if is_clearing event then 0 else if joins event then held
 pub shows-next : (events : List EarlyEvent) (held : ℕ) (event : EarlyEvent) → Shows events held → Shows (events ++ event ∷ []) (accu_next held event)
 shows-next events held event shown = by (is_clearing event) refl
   where
-    grown : (b : Bool) → (if b then held + prob_of event else held) ≡ accumulated events + cond b (prob_of event) 0
-    grown true = ap (λ n. n + prob_of event) shown
-    grown false = shown ∙ sym (add-zero (accumulated events))
-
     by : (clears : Bool) → is_clearing event ≡ clears
         → (if clears then 0 else if joins event then held + prob_of event else held) ≡ accumulated (events ++ event ∷ [])
     by true is = sym (accumulated-clearing events event is)
-    by false is = grown (joins event) ∙ sym (accumulated-push events event is)
+    by false is = let sum = accumulated-push events event is in grind (arith, nat_tests)
 
 -- ---- What the tests of the decision say in facts
 
@@ -96,7 +90,7 @@ picked_facts : (picking : Picking) (params : RawParams) (control : Parts) (prob 
     → (is_considered params control bytes && is_picked picking prob (accu + prob) word) ≡ true
     → IsPicked picking params control prob bytes word accu
 unfolding is_considered is_picked
-picked_facts Derandomized params control prob bytes word accu e = record {
+picked_facts picking params control prob bytes word accu e = record {
   no_burst = grind (arith, nat_tests);
   above_two_packets = grind (arith, nat_tests);
   not_calm = grind (arith, nat_tests);
@@ -104,32 +98,17 @@ picked_facts Derandomized params control prob bytes word accu e = record {
   enough = λ on. grind (arith, nat_tests);
   by_sum_or_word = grind (arith, nat_tests);
 }
-picked_facts Random params control prob bytes word accu e = record {
-  no_burst = grind (arith, nat_tests);
-  above_two_packets = grind (arith, nat_tests);
-  not_calm = grind (arith, nat_tests);
-  some_prob = grind (arith, nat_tests);
-  enough = λ on. cc;
-  by_sum_or_word = inr (grind (arith, nat_tests));
-}
 
 picked_from : (picking : Picking) (params : RawParams) (control : Parts) (prob bytes word accu : ℕ)
     → IsPicked picking params control prob bytes word accu
     → (is_considered params control bytes && is_picked picking prob (accu + prob) word) ≡ true
 unfolding is_considered is_picked
-picked_from Derandomized params control prob bytes word accu p =
-    grind (arith, nat_tests, p.no_burst, p.above_two_packets, p.not_calm, p.some_prob, p.enough refl, p.by_sum_or_word)
-picked_from Random params control prob bytes word accu p =
-    grind (arith, nat_tests, p.no_burst, p.above_two_packets, p.not_calm, p.some_prob, p.by_sum_or_word)
+picked_from picking params control prob bytes word accu p =
+    let enough = p.enough in grind (arith, nat_tests, p.no_burst, p.above_two_packets, p.not_calm, p.some_prob, p.by_sum_or_word)
 
 -- a picked packet's choice is a pick, and no other
 pub is_pick-at : (params : RawParams) (prob : ℕ) (ecn : Ecn) (b : Bool) → is_pick (cond b (picked_choice params prob ecn) Enqueue) ≡ b
-is_pick-at params prob ecn b = by b (is_capable ecn && ltb prob params.mark_ecnth)
-  where
-    by : (picked marked : Bool) → is_pick (cond picked (cond marked Mark Drop) Enqueue) ≡ picked
-    by true true = refl
-    by true false = refl
-    by false marked = refl
+is_pick-at params prob ecn b = grind (arith, nat_tests)
 
 module _ (picking : Picking) (params : RawParams) (control : Parts) (prob bytes : ℕ) (ecn : Ecn) (word accu : ℕ) where
   -- a packet is marked or dropped exactly where it is picked
@@ -147,8 +126,7 @@ pub grown : (picking : Picking) (params : RawParams) (control : Parts) (prob byt
     → picking ≡ Derandomized → is_considered params control bytes ≡ true → 0 < prob → choice ≡ Enqueue
     → choice ≡ choice_at picking params control prob bytes ecn word accu → after ≡ accu_at picking params control prob bytes word accu
     → after ≡ accu + prob
-grown Derandomized params control prob bytes ecn word accu after choice accumulates considered some queued chosen is = grind (arith, nat_tests)
-grown Random params control prob bytes ecn word accu after choice accumulates considered some queued chosen is = cc
+grown picking params control prob bytes ecn word accu after choice accumulates considered some queued chosen is = grind (arith, nat_tests)
 
 -- ---- What an arrival leaves of the accumulated probability, and what early drop shows after it
 
@@ -156,8 +134,7 @@ grown Random params control prob bytes ecn word accu after choice accumulates co
 pub accu_below : (picking : Picking) (params : RawParams) (control : Parts) (prob bytes word held : ℕ) → held < always_picked
     → accu_at picking params control prob bytes word held < always_picked
 unfolding is_picked
-accu_below Derandomized params control prob bytes word held h = grind (arith, nat_tests)
-accu_below Random params control prob bytes word held h = grind (arith, nat_tests)
+accu_below picking params control prob bytes word held h = grind (arith, nat_tests)
 
 -- it is what the look-back says of the arrival
 arrival-is : (picking : Picking) (params : RawParams) (control : Parts) (prob bytes word held : ℕ) (ecn : Ecn)
@@ -165,13 +142,7 @@ arrival-is : (picking : Picking) (params : RawParams) (control : Parts) (prob by
     ≡ accu_next held (arrival (is_considered params control bytes) prob picking (choice_at picking params control prob bytes ecn word held))
 arrival-is picking params control prob bytes word held ecn =
     rw (is_pick-at params control.prob ecn (is_considered params control bytes && is_picked picking prob (held + prob) word))
-    (by picking (is_considered params control bytes) (is_picked picking prob (held + prob) word) (prob == 0))
-  where
-    by : (picking : Picking) (considered picked nothing : Bool)
-        → (if not considered then held else if nothing || picked then 0 else joined picking held prob)
-        ≡ (if (considered && picked) || (considered && nothing) then 0 else if considered && accumulates picking then held + prob else held)
-    by Derandomized considered picked nothing = grind (arith, nat_tests)
-    by Random considered picked nothing = grind (arith, nat_tests)
+    (grind (arith, nat_tests))
 
 pub shows_arrival : (picking : Picking) (params : RawParams) (control : Parts) (prob bytes word held : ℕ) (events : List EarlyEvent) (ecn : Ecn)
     → Shows events held
@@ -189,8 +160,7 @@ shows_cleared events held is = is ∙ sym (accumulated-clearing events cleared r
 -- ---- The cause of a considered arrival is that of its case, and the verdict of a choice that depends on a test
 
 pub chosen-if : (picked : Bool) (choice : Choice) → (if picked then chosen choice else Enqueued) ≡ chosen (if picked then choice else Enqueue)
-chosen-if true choice = refl
-chosen-if false choice = refl
+chosen-if picked choice = grind (arith, nat_tests)
 
 module _ (elements : Elements) (params : RawParams) (parts : Parts) (offered : Offered) (accu : ℕ) where
   -- the cause where it is considered
@@ -199,36 +169,19 @@ module _ (elements : Elements) (params : RawParams) (parts : Parts) (offered : O
   unfolding early_cause is_considered
   cause-considered e = grind (arith, nat_tests)
 
--- .. where nothing can pick it
-pub cause-nothing : (picking : Picking) (prob accu : ℕ) (fate : Fate) (word : ℕ) → prob ≡ 0
-    → considered_cause picking prob accu fate word ≡ NoProbability
-unfolding considered_cause
-cause-nothing picking prob accu fate word none = rw none refl
-
--- .. where it isn't picked: the place of its cause by the sum
-pub place-unpicked : (picking : Picking) (prob accu : ℕ) (fate : Fate) (word : ℕ) → 0 < prob
-    → is_picked picking prob (accu + prob) word ≡ false
-    → place_of_cause (name_of (considered_cause picking prob accu fate word))
-    ≡ (if accumulates picking && nat_lt (accu + prob) never_picked then 7 else 14)
-unfolding considered_cause is_picked
-place-unpicked Derandomized prob accu fate word some unpicked = grind (arith, nat_tests)
-place-unpicked Random prob accu fate word some unpicked = grind (arith, nat_tests)
-
 -- .. where it is picked: by the sum, or by the word
 pub cause-picked : (picking : Picking) (prob accu : ℕ) (fate : Fate) (word : ℕ) → is_picked picking prob (accu + prob) word ≡ true
     → considered_cause picking prob accu fate word
     ≡ (if accumulates picking && nat_le always_picked (accu + prob) then PickedBySum accu prob fate else PickedByWord accu prob word fate)
 unfolding considered_cause is_picked
-cause-picked Derandomized prob accu fate word picked = grind (arith, nat_tests)
-cause-picked Random prob accu fate word picked = grind (arith, nat_tests)
+cause-picked picking prob accu fate word picked = grind (arith, nat_tests)
 
 -- the place of a picked arrival's cause, by two numbers
 pub place-picked : (by_sum : Bool) (accu prob word : ℕ) (fate : Fate) (first behind : ℕ) → first ≡ (if by_sum then 8 else 11)
     → (place_of_cause (name_of (PickedBySum accu prob fate)) ≡ 8 + behind)
     × (place_of_cause (name_of (PickedByWord accu prob word fate)) ≡ 11 + behind)
     → first + behind ≡ place_of_cause (name_of (if by_sum then PickedBySum accu prob fate else PickedByWord accu prob word fate))
-place-picked true accu prob word fate first behind is places = ap (λ (n : ℕ). n + behind) is ∙ sym places.0
-place-picked false accu prob word fate first behind is places = ap (λ (n : ℕ). n + behind) is ∙ sym places.1
+place-picked by_sum accu prob word fate first behind is places = grind (arith, nat_tests)
 
 -- ---- What a scaled probability is at most
 

@@ -45,7 +45,7 @@ pub struct Decision {
 ///
 /// No numbers make a sum or a product overflow, so the answer is the rule's for all of them.
 #[inline(always)]
-#[tactic(auto, using(std::proofs::lemmas::Bool::Decides::nat_tests), unfolding(crate::specs::Decision::is_picked))]
+#[tactic(auto, using(std::proofs::lemmas::Bool::Decides::nat_tests), unfolding(crate::specs::Decision::is_considered, crate::specs::Decision::is_picked, crate::specs::Cause::early_cause, crate::specs::Cause::considered_cause))]
 pub fn decide(
     params: &RawParams,
     elements: Elements,
@@ -243,6 +243,7 @@ fn picked_choice(params: &RawParams, prob: u64, ecn: Ecn) -> Choice
 /// What decides an arrival, by the same numbers as [`decide`]: the first case of the rules that holds, with the numbers that it compared.
 /// Its verdict is that choice, and its name has that place. It stands beside `decide`, and not within it: a verdict that was read off the
 /// cause cost a considered arrival five instructions more, of 59.
+#[tactic(auto, using(std::proofs::lemmas::Bool::Decides::nat_tests), unfolding(crate::specs::Decision::is_considered, crate::specs::Cause::early_cause))]
 pub fn cause(
     params: &RawParams,
     elements: Elements,

@@ -1,26 +1,7 @@
-use Rattle.pie_early.proofs.Names.{◌∙◌, ap, arith, sym, name_of, place_of_cause, fate_of}
+use Rattle.pie_early.proofs.Names.{◌∙◌, ap, sym, name_of, place_of_cause, fate_of}
 use Rattle.pie_event.specs.declared.cause.Cause.{Cause}
-use Rattle.pie_early.proofs.Laws.{cause-considered, cause-nothing, cause-picked, place-picked, place-unpicked}
+use Rattle.pie_early.proofs.Laws.{cause-considered, cause-picked, place-picked}
 use Rattle.pie_early.proofs.decision.decide.Goals as goal
-
-pub returns-then-prob-eq0-clause-place : goal.returns-then-prob-eq0-clause-place
-returns-then-prob-eq0-clause-place c =
-    let a = c.args in
-    let considered = cause-considered a.elements a.params.now a.control.now a.offered a.accu
-    (sym c.is_considered.ensures ∙ c.if-not-is_considered.false) in
-    c.place.ensures.place ∙ sym (ap (λ (x : Cause). place_of_cause (name_of x))
-    (considered ∙ cause-nothing a.elements.picking _ a.accu (fate_of a.params.now a.control.now.prob a.offered.ecn) a.offered.word
-    (sym c.counted_as-prob.ensures.value ∙ c.if-prob-eq0.true)))
-
-pub returns-then-not-is_picked-clause-place : goal.returns-then-not-is_picked-clause-place
-returns-then-not-is_picked-clause-place c =
-    let a = c.args in
-    let considered = cause-considered a.elements a.params.now a.control.now a.offered a.accu
-    (sym c.is_considered.ensures ∙ c.if-not-is_considered.false) in
-    let prob = c.counted_as-prob.result in
-    c.unpicked_place.ensures ∙ sym (place-unpicked a.elements.picking prob a.accu (fate_of a.params.now a.control.now.prob a.offered.ecn) a.offered.word
-    (omega (arith, c.if-prob-eq0.false)) (sym c.is_picked.ensures ∙ c.if-not-is_picked.true))
-    ∙ sym (ap (λ (x : Cause). place_of_cause (name_of x)) (rw c.counted_as-prob.ensures.value considered))
 
 pub returns-clause-place : goal.returns-clause-place
 returns-clause-place c =

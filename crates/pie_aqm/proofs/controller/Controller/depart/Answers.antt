@@ -1,7 +1,7 @@
 use Rattle.std.proofs.Common.{◌≡◌, arith}
 use Rattle.pie_aqm.specs.{Depart, after_call}
 use Rattle.pie_aqm.proofs.Sounds.{threshold-holds, Sound_call, stays_sound}
-use Rattle.pie_aqm.proofs.Laws.{Shows_call, moved, uncapped}
+use Rattle.pie_aqm.proofs.Laws.{shows_with, uncapped}
 use Rattle.pie_aqm.proofs.controller.Controller.depart.Goals as goal
 
 pub invariant_of-self : goal.invariant_of-self
@@ -23,7 +23,6 @@ pub returns-clause-threshold : goal.returns-clause-threshold
 returns-clause-threshold c = rw (← c.self.view_is) (threshold-holds c.self.inside.raw.params c.self.invariant.params).1
 
 pub returns-clause-shows : goal.returns-clause-shows
-returns-clause-shows c opened events shows =
+returns-clause-shows c =
     let a = c.args in
-    moved _ _ _ _ (returns-clause-after c)
-    (Shows_call opened events a.self.now shows (Depart a.size a.left a.since a.moment) (returns-clause-threshold c))
+    shows_with a.self.now _ (Depart a.size a.left a.since a.moment) (returns-clause-after c) (returns-clause-threshold c)

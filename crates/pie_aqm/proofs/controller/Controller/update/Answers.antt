@@ -1,12 +1,8 @@
 use Rattle.std.proofs.Common.{arith, rules}
 use Rattle.pie_aqm.specs.Calls.{Update}
-use Rattle.pie_aqm.proofs.Laws.{Shows_call, moved}
 use Rattle.pie_aqm.proofs.Sounds.{Sound_call, stays_sound}
 use Rattle.pie_aqm.proofs.controller.Controller.update.Goals as goal
 
 pub invariant_of-self : goal.invariant_of-self
 invariant_of-self c = stays_sound _ _ (search rules) (Sound_call _ c.self.invariant (Update c.args.queued c.args.moment)
     (omega (arith, c.units.ensures)))
-
-pub returns-clause-shows : goal.returns-clause-shows
-returns-clause-shows c opened events shows = moved _ _ _ _ (search rules) (Shows_call opened events c.args.self.now shows (Update c.args.queued c.args.moment) tt)

@@ -10,16 +10,15 @@ use Rattle.pie_trace.proofs.Names.{lines_left, lines_told, rows_left, run_lines,
 use Rattle.pie_trace.proofs.Names.{history_row, reply, reply_to_command, reply_to_fold, code_of, drop, records_of, told_rows, told_by-line, Line}
 use Rattle.pie_trace.proofs.Names.{append_assoc, append-nil, filter_map-append, progress_after, RunEnd, end_of, fault_of, first_fault}
 use Rattle.pie_trace.proofs.Names.{progress_at_end, steps_of, let_go, refused, Finding, Clean, AreLegal, CanBeMade, map, Shows, Three, end_left, ◌≢◌}
-use Rattle.pie_trace.proofs.Names.{field_at, fault_from, kind-first, lines_from}
+use Rattle.pie_trace.proofs.Names.{field_at, fault_from, kind-first, lines_from, lost-later}
 use Rattle.std.proofs.lemmas.List.Concat.{flat_map-append}
 use Rattle.pie_event.specs.Ranges.{CommandFits, ParamsFit}
-use Rattle.pie_record.specs.Field.{and_then}
 use Rattle.pie_record.specs.FirstRecord.{opening_by}
 use Rattle.pie_record.specs.ReadBack.{TextsAreReadBack}
-use Rattle.pie_trace.specs.History.{Begun, going_on, text_in, end_in, fault_in}
+use Rattle.pie_trace.specs.History.{Begun, going_on, text_in}
 use Rattle.pie_trace.proofs.RunFacts.{first-one, whole-opened, progress_after-request, part-opened}
 use Rattle.pie_trace.specs.Laws.{Held}
-use Rattle.pie_trace.specs.Reply.{answered, shown, tallied}
+use Rattle.pie_trace.specs.Reply.{answered}
 use Rattle.pie_record.specs.declared.history_record.Line.TheVariants.{Note, Made}
 use Rattle.pie_audit.specs.Finding.{event_in, events_of}
 use Rattle.pie_audit.specs.Text.{text_finding, IsFound, TellsPart, excerpt_lines, whole_finding, excerpt_fault, fault_after}
@@ -29,13 +28,10 @@ use Rattle.pie_trace.specs.Resumed.{going_by, progress_resumed, resumed_end, res
 use Rattle.std.proofs.lemmas.List.{take-append-drop}
 use Rattle.pie_queue.specs.declared.packet.Waiting.{Waiting}
 use Rattle.pie_text.specs.Lost.{lost_row}
-use Rattle.pie_text.proofs.LostFacts.{lost-later}
 use Rattle.pie_excerpt.specs.Rows.{queued_row}
 use Rattle.pie_event.specs.declared.refusal.Refusal.TheVariants as refusal
-use Rattle.pie_record.specs.declared.fault.TraceFault.TheVariants as fault
 use Rattle.pie_record.specs.declared.trace_record.Request.TheVariants as request
 use Rattle.pie_record.specs.declared.history_record.Line.TheVariants as line
-use Rattle.pie_record.specs.declared.first_record.FirstKind.TheVariants as kind
 
 -- how far a run has come
 pub record Sound (opening : Opening) (progress : Progress) : Type 0 where
@@ -433,25 +429,20 @@ pub whole-clean : ReadBack → LegalIsClean → Held → (most : ℕ) (rows : Li
     → end_of most rows ≡ Some end → text_finding (records_of (history_text most rows)) ≡ Ok (Clean end.events)
 unfolding fault_of end_of
 whole-clean told clean held most [] end few sound ended = cc
-whole-clean told clean held most (row ∷ rows) end few sound ended = by (most == 0) (opening_of row) refl refl sound ended
+whole-clean told clean held most (row ∷ rows) end few sound ended = by (opening_of row) refl
   where
     found : ℕ → Result Finding TraceFault
     found events = Ok (Clean events)
 
-    opened : Result Opening TraceFault → Result Begun TraceFault
-    opened o = and_then o (λ opening. Ok (record { version = version_of row; opening = opening; read = 1; left = rows }))
-
-    by : (none : Bool) (o : Result Opening TraceFault) → (most == 0) ≡ none → opening_of row ≡ o
-        → fault_in most (if none then Err fault.TooLong else opened o) ≡ None
-        → end_in [] (if none then Err fault.TooLong else opened o) ≡ Some end
-        → text_finding (records_of (history_text most (row ∷ rows))) ≡ Ok (Clean end.events)
-    by true o z opens e f = cc
-    by false (Err why) z opens e f = cc
-    by false (Ok opening) z opens e f =
-        let same : end_left (version_of row) opening start 0 rows ≡ end = cc in
-        run-clean told clean held most row rows opening (grind (arith, nat_tests, z)) few opens
+    by : (o : Result Opening TraceFault) → opening_of row ≡ o → text_finding (records_of (history_text most (row ∷ rows))) ≡ Ok (Clean end.events)
+    by (Err why) opens = absurd (grind (arith, nat_tests, sound, opens))
+    by (Ok opening) opens =
+        let some : 0 < most = grind (arith, nat_tests, sound) in
+        let none : first_fault (version_of row) most 2 rows ≡ None = grind (arith, nat_tests, sound, opens) in
+        let same : end_left (version_of row) opening start 0 rows ≡ end = grind (arith, nat_tests, some, ended, opens) in
+        run-clean told clean held most row rows opening some few opens
         ∙ ap (λ (all : List Row). found (length (progress_at_end opening (requests_of (version_of row) all)).history))
-        (before-all (version_of row) most 2 rows e)
+        (before-all (version_of row) most 2 rows none)
         ∙ ap (λ (r : RunEnd). found r.events) same
 
 -- ==== The audit of what a run writes of a trace that goes on finds it clean, with the events before it
@@ -530,20 +521,19 @@ pub resumed-whole : Below → (most : ℕ) (rows : List Row) (opening : Opening)
     → GoesOn rows opening past → All (λ event. CommandFits event.command) past → resumed_fault most rows ≡ None
     → resumed_end most past rows ≡ Some end → IsFound (resumed_text most past rows) opening past (Clean end.events)
 unfolding resumed_fault resumed_end
-resumed-whole law most rows opening past end few goes fit sound ended = by (resumed_within most rows) refl sound ended
+resumed-whole law most rows opening past end few goes fit sound ended = by (resumed_within most rows) refl
   where
     found : ℕ → Type 0
     found events = IsFound (resumed_text most past rows) opening past (Clean events)
 
-    by : (read : Result Beginning TraceFault) → resumed_within most rows ≡ read
-        → fault_in most (and_then read (λ begun. Ok (going_by begun))) ≡ None
-        → end_in past (and_then read (λ begun. Ok (going_by begun))) ≡ Some end → found end.events
-    by (Err why) is e f = cc
-    by (Ok b) is e f =
-        let same : end_left Three b.opening (going_on past) 0 b.left ≡ end = cc in
+    by : (read : Result Beginning TraceFault) → resumed_within most rows ≡ read → found end.events
+    by (Err why) is = absurd (grind (arith, nat_tests, sound, is))
+    by (Ok b) is =
+        let none : first_fault Three most (b.read + 1) b.left ≡ None = grind (arith, nat_tests, sound, is) in
+        let same : end_left Three b.opening (going_on past) 0 b.left ≡ end = grind (arith, nat_tests, ended, is) in
         subst (λ (r : RunEnd). found r.events) same
         (subst (λ (rest : List Row). found (length (progress_after b.opening (going_on past) (steps_of (requests_of Three rest))).history))
-        (before-all Three most (b.read + 1) b.left e) (resumed-clean law most rows opening past b few goes fit is))
+        (before-all Three most (b.read + 1) b.left none) (resumed-clean law most rows opening past b few goes fit is))
 
 -- ==== A trace that goes on after a history is answered as the whole from there on
 

@@ -4,15 +4,15 @@ use Rattle.std.proofs.Common.{rules, ap, subst, ◌∙◌, arith, sym}
 use Rattle.std.proofs.lemmas.Bool.{eqb-true}
 use Rattle.std.proofs.lemmas.Bool.Decides.{nat_tests}
 use Rattle.pie_record.specs.Names.{Answer, Command, Clock, Field}
-use Rattle.pie_record.specs.{One, Two, ◌≡◌, ◌<◌, ◌==◌, ◌^◌, ℕ, List, [], ◌∷◌, ◌++◌, Bool, true, false, length, decimal, refl, Option, Some, None}
-use Rattle.pie_record.specs.{Result, Ok, codes, ⊤, field_at, Packet, AnswerFits, RegistersFit, StatsFit, Empty, Left, Updated, Done, Arrive, Depart}
-use Rattle.pie_record.specs.{Update, Reset, SetParams, Event, Asked, CommandKind, Flaw, Line, Version, Three, clock_at, clock_in, clock_row}
-use Rattle.pie_record.specs.{most_moment, command_at, command_kind, is_kind, most_u128, most_u64, packet_at, word_at, active_line, answer_at}
-use Rattle.pie_record.specs.{departure_at, event_line, has_length, line_by, line_for, line_of, made, note_line, numbers_at, registers_at, shown_line}
-use Rattle.pie_record.specs.{update_at, verdict_of, number, EventFits, TellEach, Row, request_of, word_said, command_fields, event_row, line_rows}
-use Rattle.pie_record.specs.{without_notes, fits, Registers, Stats, answer_fields, counted, flag, folded_row, refused_row, shown_row, tallied_row}
-use Rattle.pie_record.specs.{All, and_then, lines_from, ◌≤◌, drop, map, first_bad, RawParams, CommandFits, ParamsFit, arrival_at, asked_at, change_at}
-use Rattle.pie_record.specs.{change_to, command_length, most_u16, params_at, NineFit, command_request, fold_request, request_by, nine_of, BadChange}
+use Rattle.pie_record.specs.{One, Two, ◌≡◌, ◌<◌, ◌==◌, ◌^◌, ℕ, List, [], ◌∷◌, ◌++◌, Bool, true, length, decimal, refl, Option, Some, None, Result, Ok}
+use Rattle.pie_record.specs.{codes, ⊤, field_at, Packet, AnswerFits, RegistersFit, StatsFit, Empty, Left, Updated, Done, Arrive, Depart, Update}
+use Rattle.pie_record.specs.{Reset, SetParams, Event, Asked, CommandKind, Flaw, Line, Version, Three, clock_at, clock_in, clock_row, most_moment}
+use Rattle.pie_record.specs.{command_at, command_kind, is_kind, most_u128, most_u64, packet_at, word_at, active_line, answer_at, departure_at}
+use Rattle.pie_record.specs.{event_line, has_length, line_by, line_for, line_of, made, note_line, numbers_at, registers_at, shown_line, update_at}
+use Rattle.pie_record.specs.{verdict_of, number, EventFits, TellEach, Row, request_of, word_said, command_fields, event_row, line_rows, without_notes}
+use Rattle.pie_record.specs.{fits, Registers, Stats, answer_fields, counted, flag, folded_row, refused_row, shown_row, tallied_row, All, and_then}
+use Rattle.pie_record.specs.{lines_from, ◌≤◌, drop, map, first_bad, RawParams, CommandFits, ParamsFit, arrival_at, asked_at, change_at, change_to}
+use Rattle.pie_record.specs.{command_length, most_u16, params_at, NineFit, command_request, fold_request, request_by, nine_of, BadChange}
 use Rattle.pie_record.specs.{command_word}
 use Rattle.pie_record.proofs.FieldFacts.{and_after, back_ecn, back_u32, back_u64, field-read, number-then, one-way, no-flaw, packet-read, tested}
 use Rattle.pie_record.proofs.FieldFacts.{Says, numbers-back, read-as, Has, HasAll, has-all, ok-same, ParamsRead, params-back, params-read, word-has}
@@ -60,18 +60,7 @@ pub nine-of-fits : (params : RawParams) → ParamsFit params → NineFit params
 nine-of-fits params fits = search rules
 
 fits-of-nine : (params : RawParams) → NineFit params → first_bad params ≡ None → ParamsFit params
-fits-of-nine params nine good = record {
-  target = nine.0;
-  t_update = nine.1.0;
-  max_burst = nine.1.1.0;
-  alpha = nine.1.1.1.0;
-  beta = nine.1.1.1.1.0;
-  mean_pkt = nine.1.1.1.1.1.0;
-  limit_bytes = nine.1.1.1.1.1.1.0;
-  mark_ecnth = nine.1.1.1.1.1.1.1.0;
-  dq_threshold = nine.1.1.1.1.1.1.1.1.0;
-  in_range = good;
-}
+fits-of-nine params nine good = search rules
 
 -- ---- the fields of a command that was read
 
@@ -226,13 +215,11 @@ pub command-back : (asks : Asked) (more : Row) → AskedFits asks → command_at
 unfolding command_at arrival_at change_at packet_at field_at command_fields
 command-back (asked.Command caller (Arrive moment packet word)) more f =
     rw (back_u16 _ f.0, back_u64 _ f.1.0, back_u64 _ f.1.1.tag, back_u32 _ f.1.1.size, back_ecn packet.ecn, back_u64 _ f.1.2) refl
-command-back (asked.Command caller (Depart moment)) more f = rw (back_u16 caller f.0, back_u64 moment f.1) refl
-command-back (asked.Command caller (Update moment)) more f = rw (back_u16 caller f.0, back_u64 moment f.1) refl
-command-back (asked.Command caller (Reset moment)) more f = rw (back_u16 caller f.0, back_u64 moment f.1) refl
 command-back (asked.Command caller (SetParams moment params)) more f =
     rw (back_u16 caller f.0, back_u64 moment f.1.0, params-behind _ _ _ params more (nine-of-fits params f.1.1), f.1.1.in_range) refl
 command-back (asked.BadParams change) more f =
     rw (back_u16 change.caller f.caller, back_u64 change.moment f.moment, params-behind _ _ _ change.params more f.nine, f.bad) refl
+command-back (asked.Command caller _) more f = rw (back_u16 caller f.0, back_u64 _ f.1) refl
 
 -- ---- lines of a history
 
@@ -408,8 +395,7 @@ unfolding line_of command_kind note_line numbers_at field_at folded_row
 folded-note version n a = rw (back_u64 n a) refl
 
 back-flag : (b : Bool) → number 1 (decimal (flag b)) ≡ Some (flag b)
-back-flag true = number-back 1 1 (omega arith) (omega arith)
-back-flag false = number-back 1 0 (omega arith) (omega arith)
+back-flag b = number-back 1 (flag b) (grind (arith, nat_tests)) (grind (arith, nat_tests))
 
 registers-back : (r : Registers) (version : Version) → RegistersFit r → registers_at (shown_row version r) ≡ Ok tt
 unfolding registers_at field_at shown_row

@@ -41,6 +41,6 @@ unfoldable pub use Rattle.pie_record.specs.ReadBack.{TellEach}
 pub use Rattle.pie_record.specs.Text.{TakesRow, Took}
 pub use Rattle.pie_record.specs.declared.first_record.Draft.{Draft}
 pub use Rattle.pie_trace.specs.declared.run.RunEnd.{RunEnd}
-pub use Rattle.pie_record.proofs.Laws.{event_count-cons, kind-first, records_left-written, rows_text-cons, same-before-three, tested, told-read}
-pub use Rattle.pie_record.proofs.Laws.{told_by-flaw, told_by-line, told_by-long}
+pub use Rattle.pie_record.proofs.Laws.{drop-has, event_count-cons, kind-first, records_left-written, rows_text-cons, same-before-three, tested}
+pub use Rattle.pie_record.proofs.Laws.{told-read, told_by-flaw, told_by-line, told_by-long}
 pub use Rattle.pie_text.proofs.{LostFacts.lost-later, WriteFacts.contents-told}

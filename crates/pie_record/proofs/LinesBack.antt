@@ -2,18 +2,17 @@
 -- of a history. A record that was written is read as its line.
 use Rattle.std.proofs.Common.{rules, ap, subst, ◌∙◌, arith, sym}
 use Rattle.std.proofs.lemmas.Bool.{eqb-true}
-use Rattle.std.proofs.lemmas.Option.{none-some}
+use Rattle.std.proofs.lemmas.Bool.Decides.{nat_tests}
 use Rattle.pie_record.specs.Names.{Answer, Command, Clock, Field}
-use Rattle.pie_record.specs.{One, Two, ◌≡◌, ◌<◌, ◌+◌, ◌==◌, ◌^◌, ℕ, List, [], ◌∷◌, ◌++◌, Bool, true, false, length, decimal, refl, Option, Some, None}
-use Rattle.pie_record.specs.{Result, Ok, codes, ⊤, bytes_eq, field_at, Packet, AnswerFits, RegistersFit, StatsFit, Enqueued, Marked, DroppedEarly}
-use Rattle.pie_record.specs.{DroppedBytes, DroppedPackets, Empty, Left, Updated, Done, Arrive, Depart, Update, Reset, SetParams, Event, Asked}
-use Rattle.pie_record.specs.{CommandKind, Flaw, Line, Version, Three, clock_at, clock_in, clock_row, most_moment, command_at, command_kind, is_kind}
-use Rattle.pie_record.specs.{most_u128, most_u64, number_at, packet_at, word_at, active_line, answer_at, departure_at, event_line, has_length}
-use Rattle.pie_record.specs.{line_by, line_for, line_of, made, note_line, numbers_at, registers_at, shown_line, update_at, verdict_of, number}
-use Rattle.pie_record.specs.{EventFits, TellEach, Row, request_of, word_said, command_fields, event_row, line_rows, without_notes, fits, Registers}
-use Rattle.pie_record.specs.{Stats, answer_fields, counted, flag, folded_row, refused_row, shown_row, tallied_row, All, and_then, lines_from, ◌≤◌}
-use Rattle.pie_record.specs.{drop, map, first_bad, RawParams, CommandFits, ParamsFit, arrival_at, asked_at, change_at, change_to, command_length}
-use Rattle.pie_record.specs.{most_u16, params_at, NineFit, alone, command_request, fold_request, request_by, request_for, nine_of, BadChange, Request}
+use Rattle.pie_record.specs.{One, Two, ◌≡◌, ◌<◌, ◌==◌, ◌^◌, ℕ, List, [], ◌∷◌, ◌++◌, Bool, true, length, decimal, refl, Option, Some, None, Result, Ok}
+use Rattle.pie_record.specs.{codes, ⊤, field_at, Packet, AnswerFits, RegistersFit, StatsFit, Empty, Left, Updated, Done, Arrive, Depart, Update}
+use Rattle.pie_record.specs.{Reset, SetParams, Event, Asked, CommandKind, Flaw, Line, Version, Three, clock_at, clock_in, clock_row, most_moment}
+use Rattle.pie_record.specs.{command_at, command_kind, is_kind, most_u128, most_u64, packet_at, word_at, active_line, answer_at, departure_at}
+use Rattle.pie_record.specs.{event_line, has_length, line_by, line_for, line_of, made, note_line, numbers_at, registers_at, shown_line, update_at}
+use Rattle.pie_record.specs.{verdict_of, number, EventFits, TellEach, Row, request_of, word_said, command_fields, event_row, line_rows, without_notes}
+use Rattle.pie_record.specs.{fits, Registers, Stats, answer_fields, counted, flag, folded_row, refused_row, shown_row, tallied_row, All, and_then}
+use Rattle.pie_record.specs.{lines_from, ◌≤◌, drop, map, first_bad, RawParams, CommandFits, ParamsFit, arrival_at, asked_at, change_at, change_to}
+use Rattle.pie_record.specs.{command_length, most_u16, params_at, NineFit, command_request, fold_request, request_by, nine_of, BadChange}
 use Rattle.pie_record.specs.{command_word}
 use Rattle.pie_record.proofs.FieldFacts.{and_after, back_ecn, back_u32, back_u64, field-read, number-then, one-way, no-flaw, packet-read, tested}
 use Rattle.pie_record.proofs.FieldFacts.{Says, numbers-back, read-as, Has, HasAll, has-all, ok-same, ParamsRead, params-back, params-read, word-has}
@@ -61,18 +60,7 @@ pub nine-of-fits : (params : RawParams) → ParamsFit params → NineFit params
 nine-of-fits params fits = search rules
 
 fits-of-nine : (params : RawParams) → NineFit params → first_bad params ≡ None → ParamsFit params
-fits-of-nine params nine good = record {
-  target = nine.0;
-  t_update = nine.1.0;
-  max_burst = nine.1.1.0;
-  alpha = nine.1.1.1.0;
-  beta = nine.1.1.1.1.0;
-  mean_pkt = nine.1.1.1.1.1.0;
-  limit_bytes = nine.1.1.1.1.1.1.0;
-  mark_ecnth = nine.1.1.1.1.1.1.1.0;
-  dq_threshold = nine.1.1.1.1.1.1.1.1.0;
-  in_range = good;
-}
+fits-of-nine params nine good = search rules
 
 -- ---- the fields of a command that was read
 
@@ -191,57 +179,26 @@ clock-read _ row clock e = cc
 
 -- ---- a record of a trace
 
--- what it says of the record that it asks this
-abbrev Asks : Version → Row → Request → Type 0
-Asks version row (request.Ask caller command) = WrittenAs row (asked.Command caller command)
-Asks version row (request.Clock clock) = (is_kind row (codes "clock") ≡ true) × ClockRead version row clock
-Asks version row _ = ⊤
-
-asks : (version : Version) (row : Row) (r : Request) → request_of version row ≡ Ok r → Asks version row r
-unfolding request_of command_request fold_request
-asks version row r e = by (command_kind row) refl e
-  where
-    this : (a : Request) → Says (Ok a) r → Asks version row a → Asks version row r
-    this a e here = read-as (λ (q : Request). Asks version row q) a r e here
-
-    said-by : (a : Asked) → WrittenAs row a → Asks version row (request_for a)
-    said-by (asked.Command caller command) is = is
-    said-by (asked.BadParams change) is = tt
-
-    single : (a : Request) → Asks version row a → alone row a ≡ Ok r → Asks version row r
-    single a here e = this a (tested (length row == 1) _ _ r e).1 here
-
-    by : (o : Option CommandKind) → command_kind row ≡ o → request_by o version row ≡ Ok r → Asks version row r
-    by (Some k) known e =
-        let long = tested (length row == command_length k) _ _ r e in
-        let a = and_after (command_at row k) (λ (asks : Asked). let said : Result Request Flaw = Ok (request_for asks) in said) r long.1 in
-        this (request_for a.got) a.rest (said-by a.got (written-as row k a.got known (eqb-true (length row) (command_length k) long.0) a.is))
-    by None known e =
-        one-way (is_kind row (codes "fold")) _ _ _ e (λ is e.
-        let n = and_after (number_at row 1 most_u64) (λ (n : ℕ). let said : Result Request Flaw = Ok (request.Fold n) in said) r
-        (tested (length row == 2) _ _ r e).1 in this (request.Fold n.got) n.rest tt) (λ e.
-        one-way (is_kind row (codes "show")) _ _ _ e (λ is e. single request.Show tt e) (λ e.
-        one-way (is_kind row (codes "tally")) _ _ _ e (λ is e. single request.Tally tt e) (λ e.
-        one-way (is_kind row (codes "clock")) _ _ _ e (λ is e.
-        let c = and_after (clock_in version row) (λ (c : Clock). let said : Result Request Flaw = Ok (request.Clock c) in said) r e in
-        this (request.Clock c.got) c.rest (is, clock-read version row c.got c.is)) (λ e. absurd (no-flaw flaw.Kind r e)))))
-
 pub asked-as-written : (version : Version) (row : Row) (caller : ℕ) (command : Command) → request_of version row ≡ Ok (request.Ask caller command)
     → WrittenAs row (asked.Command caller command)
-asked-as-written version row caller command e = asks version row (request.Ask caller command) e
+unfolding request_of command_request fold_request
+asked-as-written version row caller command e = by (command_kind row) refl e
+  where
+    by : (o : Option CommandKind) → command_kind row ≡ o → request_by o version row ≡ Ok (request.Ask caller command)
+        → WrittenAs row (asked.Command caller command)
+    by (Some k) known e = written-as row k (asked.Command caller command) known (grind (arith, nat_tests, e)) (grind (arith, nat_tests, e))
+    by None known e = absurd (grind (arith, nat_tests, e))
 
 pub clock-as-written : (version : Version) (row : Row) (clock : Clock) → request_of version row ≡ Ok (request.Clock clock)
     → (row ≡ clock_row clock) × ClockRead version row clock
-clock-as-written version row clock e = let c = asks version row (request.Clock clock) e in (c.1.is c.0, c.1)
+unfolding request_of command_request fold_request
+clock-as-written version row clock e =
+    let read = clock-read version row clock (grind (arith, nat_tests, e)) in (read.is (grind (arith, nat_tests, e)), read)
 
 -- it asks the same in versions one and two
 pub same-before-three : (row : Row) → request_of One row ≡ request_of Two row
 unfolding request_of clock_in
-same-before-three row = by (command_kind row)
-  where
-    by : (o : Option CommandKind) → request_by o One row ≡ request_by o Two row
-    by (Some kind) = refl
-    by None = refl
+same-before-three row = grind (arith, nat_tests)
 
 -- ---- what is written is read
 
@@ -258,13 +215,11 @@ pub command-back : (asks : Asked) (more : Row) → AskedFits asks → command_at
 unfolding command_at arrival_at change_at packet_at field_at command_fields
 command-back (asked.Command caller (Arrive moment packet word)) more f =
     rw (back_u16 _ f.0, back_u64 _ f.1.0, back_u64 _ f.1.1.tag, back_u32 _ f.1.1.size, back_ecn packet.ecn, back_u64 _ f.1.2) refl
-command-back (asked.Command caller (Depart moment)) more f = rw (back_u16 caller f.0, back_u64 moment f.1) refl
-command-back (asked.Command caller (Update moment)) more f = rw (back_u16 caller f.0, back_u64 moment f.1) refl
-command-back (asked.Command caller (Reset moment)) more f = rw (back_u16 caller f.0, back_u64 moment f.1) refl
 command-back (asked.Command caller (SetParams moment params)) more f =
     rw (back_u16 caller f.0, back_u64 moment f.1.0, params-behind _ _ _ params more (nine-of-fits params f.1.1), f.1.1.in_range) refl
 command-back (asked.BadParams change) more f =
     rw (back_u16 change.caller f.caller, back_u64 change.moment f.moment, params-behind _ _ _ change.params more f.nine, f.bad) refl
+command-back (asked.Command caller _) more f = rw (back_u16 caller f.0, back_u64 _ f.1) refl
 
 -- ---- lines of a history
 
@@ -282,31 +237,23 @@ record Answered (command : Command) (answer : Answer) : Type 0 where
   kind : fits command answer ≡ true
   numbers : AnswerFits answer
 
+verdict-numbers : (moment : ℕ) (packet : Packet) (w : ℕ) (answer : Answer) → fits (Arrive moment packet w) answer ≡ true → AnswerFits answer
+verdict-numbers moment packet w (Left left) can = cc
+verdict-numbers moment packet w (Updated delay prob burst) can = cc
+verdict-numbers moment packet w _ can = tt
+
 verdict-read : (moment : ℕ) (packet : Packet) (w : ℕ) (word : List ℕ) (answer : Answer) → verdict_of word ≡ Some answer
     → Answered (Arrive moment packet w) answer
 unfolding verdict_of
 verdict-read moment packet w word answer e =
-    one-way (bytes_eq word (word_said said.Enqueue)) _ _ _ e (λ is. this Enqueued refl tt) (λ e.
-    one-way (bytes_eq word (word_said said.Mark)) _ _ _ e (λ is. this Marked refl tt) (λ e.
-    one-way (bytes_eq word (word_said said.Early)) _ _ _ e (λ is. this DroppedEarly refl tt) (λ e.
-    one-way (bytes_eq word (word_said said.Bytes)) _ _ _ e (λ is. this DroppedBytes refl tt) (λ e.
-    one-way (bytes_eq word (word_said said.Packets)) _ _ _ e (λ is. this DroppedPackets refl tt) (λ none. absurd (none-some answer none))))))
-  where
-    this : (one : Answer) → fits (Arrive moment packet w) one ≡ true → AnswerFits one
-        → (let found : Option Answer = Some one in found) ≡ Some answer → Answered (Arrive moment packet w) answer
-    this one can numbers e =
-        let same : one ≡ answer = cc in
-        subst (λ (x : Answer). Answered (Arrive moment packet w) x) same (record { kind = can; numbers = numbers })
+    let can : fits (Arrive moment packet w) answer ≡ true = grind (arith, nat_tests, e) in
+    record { kind = can; numbers = verdict-numbers moment packet w answer can }
 
 departure-read : (row : Row) (moment : ℕ) (answer : Answer) → departure_at row ≡ Ok answer → Answered (Depart moment) answer
 unfolding departure_at
-departure-read row moment answer e =
-    one-way (length row == 4) _ _ _ e (λ short e.
-    let a = and_after (word_at row 3 (word_said said.Empty)) _ answer e in
-    read-as (Answered (Depart moment)) Empty answer a.rest (record { kind = refl; numbers = tt })) (λ e.
-    let a = and_after (word_at row 3 (word_said said.Left)) _ answer e in
-    let p = and_after (packet_at row 4) _ answer a.rest in
-    read-as (Answered (Depart moment)) (Left p.got) answer p.rest (record { kind = refl; numbers = (packet-read row 4 p.got p.is).fits }))
+departure-read row moment (Left packet) e = record { kind = refl; numbers = (packet-read row 4 packet (grind (arith, nat_tests, e))).fits }
+departure-read row moment Empty e = record { kind = refl; numbers = tt }
+departure-read row moment _ e = absurd (grind (arith, nat_tests, e))
 
 update-read : (row : Row) (moment : ℕ) (answer : Answer) → update_at row ≡ Ok answer → Answered (Update moment) answer
 unfolding update_at
@@ -344,42 +291,27 @@ event-fits row k told e =
         record { kind = said.kind; caller = fits.0; command = fits.1; answer = said.numbers }
     by (asked.BadParams change) answer fits e = fits
 
-note-fits : (row : Row) (numbers most : ℕ) (told : Line) → Says (note_line row numbers most) told → LineFits told
-unfolding note_line
-note-fits row numbers most told e =
-    let a = and_after (numbers_at row 1 numbers) _ told (tested (length row == numbers + 2) _ _ told e).1 in
-    let b = and_after (number_at row (numbers + 1) most) _ told a.rest in read-as LineFits line.Note told b.rest tt
-
-active-fits : (row : Row) (told : Line) → Says (active_line row) told → LineFits told
-active-fits row told e =
-    let a = and_after (registers_at row) _ told (tested (length row == 13) _ _ told e).1 in
-    let b = and_after (number_at row 11 1) _ told a.rest in
-    let c = and_after (number_at row 12 1) _ told b.rest in read-as LineFits line.Note told c.rest tt
-
-shown-fits : (version : Version) (row : Row) (told : Line) → Says (shown_line version row) told → LineFits told
-unfolding shown_line
-shown-fits One row told e =
-    let a = and_after (registers_at row) _ told (tested (length row == 12) _ _ told e).1 in
-    let b = and_after (number_at row 11 1) _ told a.rest in read-as LineFits line.Note told b.rest tt
-shown-fits _ row told e = active-fits row told e
-
 clock-fits : (version : Version) (row : Row) (told : Line) → Says (and_then (clock_in version row) (λ clock. Ok (line.Clock clock))) told
     → LineFits told
 clock-fits version row told e =
     let a = and_after (clock_in version row) (λ (clock : Clock). let it : Result Line Flaw = Ok (line.Clock clock) in it) told e in
     read-as LineFits (line.Clock a.got) told a.rest (clock-read version row a.got a.is).fits
 
+-- a record that tells a note or has a flaw
+noted : (told : Line) → told ≡ line.Note → LineFits told
+noted told e = rw e tt
+
 line-holds : (version : Version) (row : Row) (told : Line) → line_of version row ≡ Ok told → LineFits told
-unfolding line_of
+unfolding line_of note_line shown_line registers_at
 line-holds version row told e = by (command_kind row) e
   where
     by : (o : Option CommandKind) → Says (line_by o version row) told → LineFits told
     by (Some k) e = event-fits row k told e
     by None e =
-        one-way (is_kind row (codes "refused")) _ _ _ e (λ is e. note-fits row 1 most_u64 told e) (λ e.
-        one-way (is_kind row (codes "folded")) _ _ _ e (λ is e. note-fits row 0 most_u64 told e) (λ e.
-        one-way (is_kind row (codes "shown")) _ _ _ e (λ is e. shown-fits version row told e) (λ e.
-        one-way (is_kind row (codes "tallied")) _ _ _ e (λ is e. note-fits row 14 most_u128 told e) (λ e.
+        one-way (is_kind row (codes "refused")) _ _ _ e (λ is e. noted told (grind (arith, nat_tests, e))) (λ e.
+        one-way (is_kind row (codes "folded")) _ _ _ e (λ is e. noted told (grind (arith, nat_tests, e))) (λ e.
+        one-way (is_kind row (codes "shown")) _ _ _ e (λ is e. noted told (grind (arith, nat_tests, e))) (λ e.
+        one-way (is_kind row (codes "tallied")) _ _ _ e (λ is e. noted told (grind (arith, nat_tests, e))) (λ e.
         one-way (is_kind row (codes "clock")) _ _ _ e (λ is e. clock-fits version row told e) (λ e. absurd (no-flaw flaw.Kind told e))))))
 
 pub lines-fit : (version : Version) (most number : ℕ) (rows : List Row) → All LineFits (lines_from version most number rows)
@@ -463,8 +395,7 @@ unfolding line_of command_kind note_line numbers_at field_at folded_row
 folded-note version n a = rw (back_u64 n a) refl
 
 back-flag : (b : Bool) → number 1 (decimal (flag b)) ≡ Some (flag b)
-back-flag true = number-back 1 1 (omega arith) (omega arith)
-back-flag false = number-back 1 0 (omega arith) (omega arith)
+back-flag b = number-back 1 (flag b) (grind (arith, nat_tests)) (grind (arith, nat_tests))
 
 registers-back : (r : Registers) (version : Version) → RegistersFit r → registers_at (shown_row version r) ≡ Ok tt
 unfolding registers_at field_at shown_row

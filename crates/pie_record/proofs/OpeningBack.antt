@@ -5,46 +5,27 @@ use Rattle.std.proofs.lemmas.Bool.Decides.{nat_tests}
 use Rattle.std.proofs.lemmas.List.{length-map}
 use Rattle.std.proofs.lemmas.List.Elements.{All-cons, All-head, All-nil, All-tail}
 use Rattle.pie_event.specs.declared.profile.Profile.TheVariants.{One, Two}
-use Rattle.pie_record.specs.Names.{Field}
-use Rattle.pie_record.specs.{Opening, ◌≡◌, ◌<◌, ◌+◌, ◌^◌, ◌&&◌, ℕ, List, [], ◌∷◌, ◌++◌, map, Bool, true, false, decimal, refl, if◌then◌else◌, Some}
-use Rattle.pie_record.specs.{None, Result, Ok, field_at, accumulates, is_capped, usual, default_profile, Elements, Half, Zero, Rate, Stamp}
-use Rattle.pie_record.specs.{Derandomized, Random, Scaled, Unscaled, Capped, Uncapped, RawParams, first_bad, Mode, Bounded, Rolling, Profile}
-use Rattle.pie_record.specs.{are_of_version_two, opening_refusal, ParamsFit, Flaw, TraceFault, Draft, FirstKind, chosen_at, decay_at, draft_at}
-use Rattle.pie_record.specs.{elements_at, first_fields, first_kind, holds_limits, limits_at, profile_of, version_one_fields, version_three_fields}
-use Rattle.pie_record.specs.{version_two_fields, which_of, opening_of, opening_read, params_at, LimitsFit, NineFit, Row, delay_word, mode_word}
-use Rattle.pie_record.specs.{picking_word, profile_number, size_word, step_word, are_default, are_usual, chosen_row, earlier_row, is_earlier}
-use Rattle.pie_record.specs.{is_usual_decay, is_usual_delay, is_usual_size, nine_of, opening_row, version_three_row, Decay, Delay, Picking, Size}
-use Rattle.pie_record.specs.{Step, Choices, Limits, OpenRefusal, Option, Err, Checked, checked_opening, refused_opening, ◌≤◌, length, All, Event}
-use Rattle.pie_record.specs.{Line, Version, HasField, rows_text, command_kind, line_of, kind_word, version_of, Coming, after_opening, coming_after}
-use Rattle.pie_record.specs.{coming_from, fault_from, history_opening, history_version, lines_from, Begins, EventFits, TellEach, TellsHistory}
-use Rattle.pie_record.specs.{event_row, written_rows, drop, numbers_at, ◌==◌}
+use Rattle.pie_record.specs.{Opening, ◌≡◌, ◌<◌, ◌+◌, ◌^◌, ℕ, List, [], ◌∷◌, ◌++◌, map, Bool, true, false, decimal, refl, if◌then◌else◌, Some, None}
+use Rattle.pie_record.specs.{Result, Ok, field_at, usual, default_profile, Elements, Half, Zero, RawParams, first_bad, Mode, Bounded, Rolling}
+use Rattle.pie_record.specs.{Profile, are_of_version_two, opening_refusal, ParamsFit, Flaw, TraceFault, Draft, FirstKind, chosen_at, decay_at}
+use Rattle.pie_record.specs.{draft_at, elements_at, first_fields, first_kind, holds_limits, limits_at, profile_of, version_one_fields}
+use Rattle.pie_record.specs.{version_three_fields, version_two_fields, which_of, opening_of, opening_read, params_at, LimitsFit, NineFit, Row}
+use Rattle.pie_record.specs.{delay_word, mode_word, picking_word, profile_number, size_word, step_word, are_default, are_usual, chosen_row}
+use Rattle.pie_record.specs.{earlier_row, is_earlier, nine_of, opening_row, version_three_row, Decay, Choices, Limits, OpenRefusal, Option, Err}
+use Rattle.pie_record.specs.{Checked, checked_opening, refused_opening, ◌≤◌, length, All, Event, Line, Version, HasField, rows_text, command_kind}
+use Rattle.pie_record.specs.{line_of, kind_word, version_of, Coming, after_opening, coming_after, coming_from, fault_from, history_opening}
+use Rattle.pie_record.specs.{history_version, lines_from, Begins, EventFits, TellEach, TellsHistory, event_row, written_rows, drop, numbers_at, ◌==◌}
 use Rattle.pie_record.specs.declared.history_record.Line.TheVariants.{Made}
 use Rattle.pie_record.proofs.FieldFacts.{back_u32, back_u64, params-back}
 use Rattle.pie_record.proofs.HistoryFacts.{told_by-line}
 use Rattle.pie_record.proofs.LinesBack.{nine-of-fits, event-back}
 use Rattle.pie_record.proofs.RecordFacts.{records_of-written}
 use Rattle.pie_record.specs.declared.first_record.FirstKind.TheVariants as kinds
-use Rattle.pie_event.specs.declared.refusal.OpenRefusal.TheVariants as open_refusal
 use Rattle.pie_record.specs.declared.fault.OpenFault.TheVariants as open_fault
 use Rattle.pie_record.specs.declared.fault.TraceFault.TheVariants as fault
 
 are_default-true : (p : RawParams) → are_default p ≡ true → p ≡ default_profile
-are_default-true p e =
-    let d = default_profile in
-    let is : (p.target ≡ d.target) × (p.t_update ≡ d.t_update) × (p.max_burst ≡ d.max_burst) × (p.alpha ≡ d.alpha) × (p.beta ≡ d.beta)
-    × (p.mean_pkt ≡ d.mean_pkt) × (p.limit_bytes ≡ d.limit_bytes) × (p.mark_ecnth ≡ d.mark_ecnth) × (p.dq_threshold ≡ d.dq_threshold) =
-    grind (arith, nat_tests) in
-    λ i. record {
-      target = is.0 i;
-      t_update = is.1 i;
-      max_burst = is.2 i;
-      alpha = is.3 i;
-      beta = is.4 i;
-      mean_pkt = is.5 i;
-      limit_bytes = is.6 i;
-      mark_ecnth = is.7 i;
-      dq_threshold = is.8 i;
-    }
+are_default-true p e = grind (arith, nat_tests, e)
 
 -- ---- the numbers of an opening, and its parameters or nothing
 
@@ -104,69 +85,27 @@ earlier_kind Two mode = kinds.Open2
 
 held-earlier : (profile : Profile) (mode : Mode) (limits : Limits) → are_of_version_two limits ≡ true
     → holds_limits (earlier_kind profile mode) limits ≡ true
-held-earlier One Bounded limits e = e
-held-earlier _ _ limits e = e
+held-earlier profile mode limits e = grind (arith, nat_tests, e)
 
 earlier-read : (profile : Profile) (mode : Mode) (moment : ℕ) (limits : Limits) (params : RawParams) (short : Bool)
     → opening_of (earlier_row profile mode ++ numbers_row moment limits (params_row params short))
     ≡ opening_read (earlier_kind profile mode) (draft_at (numbers_row moment limits (params_row params short)) 0 (chosen profile mode))
 unfolding opening_of first_kind version_one_fields version_two_fields profile_of which_of draft_at limits_at params_at numbers_at field_at
-earlier-read One Bounded moment limits params true = refl
-earlier-read One Rolling moment limits params true = refl
-earlier-read Two Bounded moment limits params true = refl
-earlier-read Two Rolling moment limits params true = refl
-earlier-read _ _ moment limits params _ = refl
+earlier-read profile mode moment limits params short = grind (arith, nat_tests)
 
 usual-elements : (e : Elements) → are_usual e ≡ true → e ≡ usual
-usual-elements e = by e.delay e.picking e.step e.size e.decay
-  where
-    by : (delay : Delay) (picking : Picking) (step : Step) (size : Size) (decay : Decay)
-        → is_usual_delay delay && accumulates picking && is_capped step && is_usual_size size && is_usual_decay decay ≡ true
-        → (let e : Elements = record { delay = delay; picking = picking; step = step; size = size; decay = decay } in e) ≡ usual
-    by Rate Derandomized Capped Unscaled Zero same = refl
-    by delay picking step size decay same = cc
+usual-elements e same = grind (arith, nat_tests, same)
 
 -- ---- .. and of version three: each of its words is read back
-
-profile-back : (profile : Profile) → profile_of (profile_number profile) ≡ Some profile
-unfolding profile_of which_of
-profile-back One = refl
-profile-back Two = refl
-
-mode-back : (mode : Mode) → which_of (mode_word Bounded) Bounded (mode_word Rolling) Rolling (mode_word mode) ≡ Some mode
-unfolding which_of
-mode-back Bounded = refl
-mode-back Rolling = refl
-
-delay-back : (delay : Delay) → which_of (delay_word Rate) Rate (delay_word Stamp) Stamp (delay_word delay) ≡ Some delay
-unfolding which_of
-delay-back Rate = refl
-delay-back Stamp = refl
-
-picking-back : (picking : Picking)
-    → which_of (picking_word Derandomized) Derandomized (picking_word Random) Random (picking_word picking) ≡ Some picking
-unfolding which_of
-picking-back Derandomized = refl
-picking-back Random = refl
-
-step-back : (step : Step) → which_of (step_word Capped) Capped (step_word Uncapped) Uncapped (step_word step) ≡ Some step
-unfolding which_of
-step-back Capped = refl
-step-back Uncapped = refl
-
-size-back : (size : Size) → which_of (size_word Unscaled) Unscaled (size_word Scaled) Scaled (size_word size) ≡ Some size
-unfolding which_of
-size-back Unscaled = refl
-size-back Scaled = refl
 
 -- where these words stand in a record, they are read
 pub chosen-read : (row : Row) (c : Choices) (told : Bool) (place : ℕ) → field_at row 1 ≡ Some (profile_number c.profile)
     → field_at row 2 ≡ Some (delay_word c.elements.delay) → field_at row 3 ≡ Some (picking_word c.elements.picking)
     → field_at row 4 ≡ Some (step_word c.elements.step) → field_at row 5 ≡ Some (size_word c.elements.size)
     → decay_at row 6 told ≡ Ok c.elements.decay → field_at row place ≡ Some (mode_word c.mode) → chosen_at row told place ≡ draft_at row (place + 1) c
-unfolding chosen_at elements_at
+unfolding chosen_at elements_at profile_of which_of
 chosen-read row c told place profile delay picking step size decay mode =
-    rw (profile, profile-back, delay, delay-back, picking, picking-back, step, step-back, size, size-back, decay, mode, mode-back) refl
+    grind (arith, nat_tests, profile, delay, picking, step, size, decay, mode)
 
 -- what is chosen, with this decay, of which the one makes the record a field longer
 abbrev decaying : Choices → Decay → Choices
@@ -226,17 +165,13 @@ opening-back o accepted set = by (is_earlier o) (are_default o.params) refl refl
 
 pub checked : (kind : FirstKind) (draft : Draft) (opening : Opening) → checked_opening kind (first_bad draft.params) draft ≡ Ok opening
     → Checked draft opening
-checked kind draft opening = by (first_bad draft.params) refl
+checked kind draft opening e =
+    let good : first_bad draft.params ≡ None = grind (arith, nat_tests, e) in by (opening_refusal draft.limits draft.moment) refl (rw good at e) good
   where
-    held : (holds : Bool) (why : Option OpenRefusal) → first_bad draft.params ≡ None → opening_refusal draft.limits draft.moment ≡ why
-        → (if holds then refused_opening why draft else Err (fault.Opening open_fault.Limits)) ≡ Ok opening → Checked draft opening
-    held true None good accepted e = record { same = cc; accepted = accepted; in_range = good }
-    held true (Some open_refusal.Memory) good accepted e = cc
-    held _ _ good accepted e = cc
-
-    by : (bad : Option Field) → first_bad draft.params ≡ bad → checked_opening kind bad draft ≡ Ok opening → Checked draft opening
-    by (Some field) good e = cc
-    by None good e = held (holds_limits kind draft.limits) (opening_refusal draft.limits draft.moment) good refl e
+    by : (why : Option OpenRefusal) → opening_refusal draft.limits draft.moment ≡ why
+        → (if holds_limits kind draft.limits then refused_opening why draft else Err (fault.Opening open_fault.Limits)) ≡ Ok opening
+        → first_bad draft.params ≡ None → Checked draft opening
+    by why is e good = record { same = grind (arith, nat_tests, e); accepted = grind (arith, nat_tests, is, e); in_range = good }
 
 -- ---- rows that tell lines
 

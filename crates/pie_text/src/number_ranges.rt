@@ -1,7 +1,7 @@
 //! The numbers of an event are those that the types of its fields hold. These functions do nothing: their contracts
 //! say it of values in hand.
 ghost use Rattle.pie_record.specs.Field.{most_u16};
-ghost use Rattle.std.specs.Prelude.{◌≤◌, ◌≡◌, ◌<◌, ◌^◌};
+ghost use Rattle.std.specs.Prelude.{◌≤◌, ◌≡◌};
 ghost use Rattle.pie_text.specs.{AnswerFits, CommandFits, PacketFits, true, fits, ParamsFit, EventFits};
 
 use pie_event::{Answer, Command, Event};
@@ -22,29 +22,6 @@ pub(crate) fn params_fit(params: Params)
     let _ = params.raw();
 }
 
-/// An arrival's numbers.
-fn arrival_fits(moment: u64, packet: Packet, word: u64)
-    ensures { CommandFits (Command.Arrive moment packet word) }
-{
-    let _ = (moment, word);
-    packet_fits(packet);
-}
-
-/// A change of parameters' numbers.
-fn change_fits(moment: u64, params: Params)
-    ensures { CommandFits (Command.SetParams moment params) }
-{
-    let _ = moment;
-    params_fit(params);
-}
-
-/// A moment.
-fn moment_fits(moment: u64)
-    ensures { moment < 2 ^ 64 }
-{
-    let _ = moment;
-}
-
 /// A caller's number.
 fn caller_fits(caller: u16)
     ensures { caller ≤ most_u16 }
@@ -61,11 +38,23 @@ fn command_fits(command: Command)
             moment,
             packet,
             word,
-        } => arrival_fits(moment, packet, word),
-        Command::Depart { moment } => moment_fits(moment),
-        Command::Update { moment } => moment_fits(moment),
-        Command::Reset { moment } => moment_fits(moment),
-        Command::SetParams { moment, params } => change_fits(moment, params),
+        } => {
+            let _ = (moment, word);
+            packet_fits(packet)
+        }
+        Command::Depart { moment } => {
+            let _ = moment;
+        }
+        Command::Update { moment } => {
+            let _ = moment;
+        }
+        Command::Reset { moment } => {
+            let _ = moment;
+        }
+        Command::SetParams { moment, params } => {
+            let _ = moment;
+            params_fit(params)
+        }
     }
 }
 

@@ -1,8 +1,8 @@
 -- What the files of this folder take from below, in one place.
 pub use Rattle.std.proofs.Common.{Bool, List, [], ap, append_assoc, arith, drop, false, if◌then◌else◌, inl, inr, length, length-append, map, refl}
-pub use Rattle.std.proofs.Common.{rules, subst, suc, sym, take, true, zero, ℕ, ◌++◌, ◌+◌, ◌-◌, ◌<◌, ◌==◌, ◌^◌, ◌||◌, ◌∙◌, ◌∷◌, ◌≡◌, ◌≢◌, ◌≤◌}
+pub use Rattle.std.proofs.Common.{rules, subst, suc, sym, take, true, zero, ℕ, ◌++◌, ◌+◌, ◌-◌, ◌<◌, ◌==◌, ◌^◌, ◌∙◌, ◌∷◌, ◌≡◌, ◌≢◌, ◌≤◌}
 pub use Rattle.std.proofs.KnownBytes.{Appends-nil, Appends-trans, Keeps-refl, append_known-grown}
-pub use Rattle.std.proofs.lemmas.Bool.{eqb-true, le-ltb, lt-ltb, ltb-true, ne_eqb}
+pub use Rattle.std.proofs.lemmas.Bool.{eqb-true, le-ltb, lt-ltb}
 pub use Rattle.std.proofs.lemmas.Bool.Decides.{nat_tests}
 pub use Rattle.std.proofs.lemmas.List.{append-nil}
 pub use Rattle.std.proofs.lemmas.List.Elements.{All-append, All-cons, All-nil, filter_map-append}
@@ -11,16 +11,17 @@ pub use Rattle.pie_trace.specs.{Answer, Appends, Ask, BadParams, Begins, BookVie
 pub use Rattle.pie_trace.specs.{FoldRefusal, HasField, IfErr, IfOk, IfSome, IsAt, IsRead, IsTold, IsWrite, Line, migrates, moves_on, None, Ok, OnOk}
 pub use Rattle.pie_trace.specs.{One, Opening, Option, Progress, Refusal, Registers, Replies, Request, Result, Rolling, Row, Show, Shows, Some, Stats}
 pub use Rattle.pie_trace.specs.{Tally, TellTheSame, Tells, TellsHistory, Three, TraceFault, Two, Version, after, append_known, closed, code_of}
-pub use Rattle.pie_trace.specs.{end_at, end_left, event_count, events_in, fault_at, fault_from, fields_of, fold_outcome, history_row}
-pub use Rattle.pie_trace.specs.{is_device, is_kind, last_events, later_rows, let_go, line_told, lines_from, lines_left, rows_left, migrated_text}
-pub use Rattle.pie_trace.specs.{migrated_version, opening_refusal, outcome, partial_of, progress_at_end, queued_row, records_of, refused}
-pub use Rattle.pie_trace.specs.{refused_count, reply, reply_to_command, reply_to_fold, request_in, start, stats_after, text_of, told_by}
+pub use Rattle.pie_trace.specs.{end_at, end_left, events_in, fault_at, fields_of, fold_outcome, history_row, is_device, is_kind, later_rows, let_go}
+pub use Rattle.pie_trace.specs.{line_told, lines_left, rows_left, migrated_text, migrated_version, opening_refusal, outcome, partial_of}
+pub use Rattle.pie_trace.specs.{progress_at_end, queued_row, records_of, refused, refused_count, reply, reply_to_command, reply_to_fold, request_in}
+pub use Rattle.pie_trace.specs.{start, stats_after, text_of, told_by, told_rows}
 pub use Rattle.pie_trace.specs.Reply.{Reply}
 unfoldable pub use Rattle.pie_trace.specs.{after_opening, answer_fields, before_fault, end_of, fault_of, first_fault, first_in_two, first_kind}
 unfoldable pub use Rattle.pie_trace.specs.{folded_row, history_events, history_fault, history_opening, history_rows, history_text, history_version}
 unfoldable pub use Rattle.pie_trace.specs.{later_in_two, line_of, lines_told, migrated, opening_of, progress_after, record_fault, refused_row}
 unfoldable pub use Rattle.pie_trace.specs.{registers_after, replies, request_of, requests_of, rows_text, run_lines, shown_line, shown_row, steps_of}
-unfoldable pub use Rattle.pie_trace.specs.{tallied_row, text_left, told_rows, version_of}
+unfoldable pub use Rattle.pie_trace.specs.{tallied_row, text_left, version_of}
+unfoldable pub use Rattle.pie_record.specs.HistoryLines.{lines_from, fault_from, event_count}
 unfoldable pub use Rattle.csv.specs.Records.{field_at}
 pub use Rattle.pie_audit.specs.Legal.{AreLegal, CanBeMade}
 pub use Rattle.pie_audit.specs.declared.auditor.Finding.{Finding}
@@ -32,14 +33,14 @@ pub use Rattle.pie_event.specs.declared.opening.Mode.{Mode}
 pub use Rattle.pie_event.specs.declared.refusal.FoldRefusal.TheVariants.{Memory, TooMany}
 pub use Rattle.pie_params.specs.Range.{first_bad}
 unfoldable pub use Rattle.pie_record.specs.Command.{command_kind}
-pub use Rattle.pie_record.specs.Field.{and_then, most_u64, number_at}
-pub use Rattle.pie_record.specs.FirstRecord.{first_fields, kind_word, params_or_default, checked_opening, opening_read}
+pub use Rattle.pie_record.specs.Field.{and_then, number_at}
+pub use Rattle.pie_record.specs.FirstRecord.{first_fields, kind_word, opening_read}
 unfoldable pub use Rattle.pie_record.specs.FirstRecord.{draft_at, limits_at, version_one_fields}
 unfoldable pub use Rattle.pie_record.specs.Field.{number}
 unfoldable pub use Rattle.pie_record.specs.ReadBack.{TellEach}
 pub use Rattle.pie_record.specs.Text.{TakesRow, Took}
 pub use Rattle.pie_record.specs.declared.first_record.Draft.{Draft}
 pub use Rattle.pie_trace.specs.declared.run.RunEnd.{RunEnd}
-pub use Rattle.pie_record.proofs.Laws.{and_after, event_count-cons, event_count-none, fault_from-failed, fault_from-line, fault_from-none, kind-first}
-pub use Rattle.pie_record.proofs.Laws.{lines_from-failed, lines_from-line, lines_from-none, ok-same, records_left-written, rows_text-cons}
-pub use Rattle.pie_record.proofs.Laws.{same-before-three, tested, told-read, told_by-flaw, told_by-line, told_by-long}
+pub use Rattle.pie_record.proofs.Laws.{drop-has, event_count-cons, kind-first, records_left-written, rows_text-cons, same-before-three, tested}
+pub use Rattle.pie_record.proofs.Laws.{told-read, told_by-flaw, told_by-line, told_by-long}
+pub use Rattle.pie_text.proofs.{LostFacts.lost-later, WriteFacts.contents-told}

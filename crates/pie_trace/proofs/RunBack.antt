@@ -1,43 +1,37 @@
 -- The history text of a trace is read back: its opening, the events of its run, and notes.
 use Rattle.pie_trace.proofs.Names.{◌≡◌, ◌≤◌, ◌<◌, ◌+◌, ◌-◌, ◌^◌, ◌==◌, ℕ, List, [], ◌∷◌, ◌++◌, length, Bool, true, false, refl, sym, ap, subst, ◌∙◌}
-use Rattle.pie_trace.proofs.Names.{arith, length-append, if◌then◌else◌, All, nat_lt, take, Option, Some, None, Result, Ok, Err, ltb-true, nat_tests}
-use Rattle.pie_trace.proofs.Names.{All-append, All-cons, All-nil, first_bad, Command, Event, Mode, Bounded, Rolling, Opening, FoldRefusal, TooMany}
-use Rattle.pie_trace.proofs.Names.{Refusal, last_events, IsLegal, decision, is_refused_full, or_full, refusal_by_rule, opening_refusal}
-use Rattle.pie_trace.proofs.Names.{registers_after, Progress, event_of, fold_outcome, held_with_one, recorded, refused_or, start, Flaw, TraceFault}
-use Rattle.pie_trace.proofs.Names.{Request, Ask, BadParams, Clock, Fold, Show, Tally, Draft, FirstKind, Version, fault_at, before_fault, history_rows}
-use Rattle.pie_trace.proofs.Names.{history_text, record_fault, replies, requests_of, text_left, opening_of, opening_read, Row, rows_text, text_of}
-use Rattle.pie_trace.proofs.Names.{request_of, line_of, Begins, TellEach, TellsHistory, line_told, lines_left, lines_told, rows_left, run_lines}
-use Rattle.pie_trace.proofs.Names.{first_fields, first_kind, kind_word, version_of, Reply, after, history_row, reply, reply_to_command, reply_to_fold}
-use Rattle.pie_trace.proofs.Names.{code_of, drop, records_of, told_rows, told_by-line, Line, zero, suc, append_assoc, append-nil, filter_map-append}
-use Rattle.pie_trace.proofs.Names.{progress_after, RunEnd, end_of, fault_of, first_fault, progress_at_end, steps_of, let_go, refused, Finding, Clean}
-use Rattle.pie_trace.proofs.Names.{AreLegal, CanBeMade, map, Shows, Three, end_left, le-ltb, ◌≢◌, field_at, fault_from}
+use Rattle.pie_trace.proofs.Names.{arith, length-append, if◌then◌else◌, All, nat_lt, take, Option, Some, None, Result, Ok, Err, nat_tests, All-append}
+use Rattle.pie_trace.proofs.Names.{All-cons, All-nil, first_bad, Command, Event, Mode, Opening, FoldRefusal, Refusal, IsLegal, decision}
+use Rattle.pie_trace.proofs.Names.{is_refused_full, or_full, refusal_by_rule, opening_refusal, registers_after, Progress, event_of, fold_outcome}
+use Rattle.pie_trace.proofs.Names.{held_with_one, recorded, refused_or, start, Flaw, TraceFault, Request, Ask, BadParams, Clock, Fold, Show, Tally}
+use Rattle.pie_trace.proofs.Names.{Draft, FirstKind, Version, before_fault, history_rows, history_text, record_fault, replies, requests_of, text_left}
+use Rattle.pie_trace.proofs.Names.{opening_of, opening_read, Row, rows_text, text_of, request_of, line_of, Begins, TellEach, TellsHistory, line_told}
+use Rattle.pie_trace.proofs.Names.{lines_left, lines_told, rows_left, run_lines, first_fields, first_kind, kind_word, version_of, Reply, after}
+use Rattle.pie_trace.proofs.Names.{history_row, reply, reply_to_command, reply_to_fold, code_of, drop, records_of, told_rows, told_by-line, Line}
+use Rattle.pie_trace.proofs.Names.{append_assoc, append-nil, filter_map-append, progress_after, RunEnd, end_of, fault_of, first_fault}
+use Rattle.pie_trace.proofs.Names.{progress_at_end, steps_of, let_go, refused, Finding, Clean, AreLegal, CanBeMade, map, Shows, Three, end_left, ◌≢◌}
+use Rattle.pie_trace.proofs.Names.{field_at, fault_from, kind-first, lines_from, lost-later}
 use Rattle.std.proofs.lemmas.List.Concat.{flat_map-append}
 use Rattle.pie_event.specs.Ranges.{CommandFits, ParamsFit}
-use Rattle.pie_record.specs.Field.{and_then}
 use Rattle.pie_record.specs.FirstRecord.{opening_by}
 use Rattle.pie_record.specs.ReadBack.{TextsAreReadBack}
-use Rattle.pie_trace.specs.History.{Begun, going_on, text_in, end_in, fault_in}
-use Rattle.pie_trace.proofs.RunFacts.{before_fault-later, first-one, flawed-record, long-record, requests_of-cons, whole-opened, first_fault-here}
-use Rattle.pie_trace.proofs.RunFacts.{first_fault-later, progress_after-request, part-opened}
+use Rattle.pie_trace.specs.History.{Begun, going_on, text_in}
+use Rattle.pie_trace.proofs.RunFacts.{first-one, whole-opened, progress_after-request, part-opened}
 use Rattle.pie_trace.specs.Laws.{Held}
-use Rattle.pie_trace.specs.Reply.{answered, shown, tallied}
+use Rattle.pie_trace.specs.Reply.{answered}
 use Rattle.pie_record.specs.declared.history_record.Line.TheVariants.{Note, Made}
 use Rattle.pie_audit.specs.Finding.{event_in, events_of}
 use Rattle.pie_audit.specs.Text.{text_finding, IsFound, TellsPart, excerpt_lines, whole_finding, excerpt_fault, fault_after}
 use Rattle.pie_excerpt.specs.Beginning.{Beginning, BeginsWell, GoesOn, resumed_of, is_resumed}
 use Rattle.pie_audit.specs.Legal.{EventsAreLines}
-use Rattle.pie_trace.specs.Resumed.{going_by, progress_resumed, resumed_end, resumed_fault, resumed_text, resumed_within, within_most}
+use Rattle.pie_trace.specs.Resumed.{going_by, progress_resumed, resumed_end, resumed_fault, resumed_text, resumed_within}
 use Rattle.std.proofs.lemmas.List.{take-append-drop}
 use Rattle.pie_queue.specs.declared.packet.Waiting.{Waiting}
 use Rattle.pie_text.specs.Lost.{lost_row}
-use Rattle.pie_text.proofs.LostFacts.{lost-later}
 use Rattle.pie_excerpt.specs.Rows.{queued_row}
 use Rattle.pie_event.specs.declared.refusal.Refusal.TheVariants as refusal
-use Rattle.pie_record.specs.declared.fault.TraceFault.TheVariants as fault
 use Rattle.pie_record.specs.declared.trace_record.Request.TheVariants as request
 use Rattle.pie_record.specs.declared.history_record.Line.TheVariants as line
-use Rattle.pie_trace.proofs.Names.{kind-first, is_kind, codes, told_by}
-use Rattle.pie_record.specs.declared.first_record.FirstKind.TheVariants as kind
 
 -- how far a run has come
 pub record Sound (opening : Opening) (progress : Progress) : Type 0 where
@@ -51,8 +45,7 @@ pub record Opens (opening : Opening) : Type 0 where
   pub params : ParamsFit opening.params
 
 code-small : (why : Refusal) → code_of why < 2 ^ 64
-code-small refusal.Moment = omega arith
-code-small _ = omega arith
+code-small why = grind (arith, nat_tests)
 
 -- ---- one record
 
@@ -73,16 +66,10 @@ asked-by P opening progress caller command taken refuses =
     by (Some why) full free = refuses why
 
 fold-enough : (progress : Progress) (n : ℕ) (events : List Event) → fold_outcome progress n ≡ Ok events → n ≤ progress.held
-fold-enough progress n events = by (nat_lt progress.held n) refl
-  where
-    by : (few : Bool) → nat_lt progress.held n ≡ few → (if few then Err (TooMany progress.held) else Ok
-        (take n (last_events progress.held progress.history))) ≡ Ok events → n ≤ progress.held
-    by true f e = cc
-    by false f e = grind (arith, nat_tests)
+fold-enough progress n events e = grind (arith, nat_tests, e)
 
 with-one : (mode : Mode) (most held : ℕ) → held_with_one mode most held ≤ held + 1
-with-one Bounded most held = omega arith
-with-one Rolling most held = grind (arith, nat_tests)
+with-one mode most held = grind (arith, nat_tests)
 
 after-fold : (held n : ℕ) → (if nat_lt held n then held else held - n) ≤ held
 after-fold held n = grind (arith, nat_tests)
@@ -151,27 +138,16 @@ pub record Good (version : Version) (most number : ℕ) (row : Row) : Type 0 whe
   pub within : number ≤ most
 
 pub good : (version : Version) (most number : ℕ) (row : Row) → record_fault version most number row ≡ None → Good version most number row
-good version most number row e = by (nat_lt most number) (request_of version row) refl refl
+unfolding record_fault
+good version most number row e = by (request_of version row) refl
   where
-    by : (late : Bool) (o : Result Request Flaw) → nat_lt most number ≡ late → request_of version row ≡ o → Good version most number row
-    by true o l r = let wrong : None ≡ Some fault.TooLong = sym e ∙ long-record version most number row (ltb-true most number l) in cc
-    by false (Ok request) l r = record { request = request; reads = r; within = grind (arith, nat_tests) }
-    by false (Err what) l r = let wrong : None ≡ Some (fault_at number what) = sym e
-        ∙ flawed-record version most number row what (grind (arith, nat_tests)) r in cc
+    by : (o : Result Request Flaw) → request_of version row ≡ o → Good version most number row
+    by (Ok request) r = record { request = request; reads = r; within = grind (arith, nat_tests, e) }
+    by (Err what) r = absurd (grind (arith, nat_tests, e, r))
 
 abbrev RowsTold : Version → Opening → ℕ → Progress → List Row → List Request → Type 0
 RowsTold version opening number progress rows requests = TellEach version (history_rows version number rows (replies opening progress requests))
     (lines_told requests (replies opening progress requests))
-
-pub before-none : (version : Version) (most number : ℕ) → before_fault version most number [] ≡ []
-unfolding before_fault
-before-none version most number = refl
-
-pub before-here : (version : Version) (most number : ℕ) (row : Row) (rows : List Row) (why : TraceFault)
-    → record_fault version most number row ≡ Some why
-    → before_fault version most number (row ∷ rows) ≡ []
-unfolding before_fault
-before-here version most number row rows why e = rw e refl
 
 -- what holds of no records, and of a record that asks something and others of which it holds, holds of all up to the first that has a fault
 pub each-good : (version : Version) (most : ℕ) (opening : Opening) (P : ℕ → Progress → List Row → List Request → Type 0)
@@ -181,8 +157,8 @@ pub each-good : (version : Version) (most : ℕ) (opening : Opening) (P : ℕ �
     → P number progress (row ∷ rows) (request ∷ requests))
     → (number : ℕ) (progress : Progress) (rows : List Row)
     → P number progress (before_fault version most number rows) (requests_of version (before_fault version most number rows))
-unfolding requests_of
-each-good version most opening P none one number progress [] = rw (before-none version most number) (none number progress)
+unfolding requests_of before_fault
+each-good version most opening P none one number progress [] = none number progress
 each-good version most opening P none one number progress (row ∷ rows) =
     by (record_fault version most number row) refl
     (λ request. each-good version most opening P none one (number + 1) (after opening progress request) rows)
@@ -193,11 +169,10 @@ each-good version most opening P none one number progress (row ∷ rows) =
     by : (o : Option TraceFault) → record_fault version most number row ≡ o
         → ((request : Request) → P (number + 1) (after opening progress request) rest (requests_of version rest))
         → P number progress (before_fault version most number (row ∷ rows)) (requests_of version (before_fault version most number (row ∷ rows)))
-    by (Some why) e later = rw (before-here version most number row rows why e) (none number progress)
+    by (Some why) e later = rw e (none number progress)
     by None e later =
         let g = good version most number row e in
-        rw (before_fault-later version most number row rows e, requests_of-cons version row rest g.request g.reads)
-        (one number progress row rest g.request (requests_of version rest) g.within g.reads (later g.request))
+        rw (e, g.reads) (one number progress row rest g.request (requests_of version rest) g.within g.reads (later g.request))
 
 pub rows-told : (version : Version) (held : Held) (most : ℕ) (opening : Opening) (number : ℕ) (progress : Progress) (rows : List Row) → most ≤ 2 ^ 32
     → Opens opening → Sound opening progress
@@ -230,29 +205,15 @@ pub record Written (kind : FirstKind) (rest : Row) (rows : List Row) (opening : 
   pub told : TellEach (version_of (kind_word kind ∷ rest)) rows lines
   pub few : length rows < 2 ^ 32
 
-pub told_rows-line : (version : Version) (most number : ℕ) (row : Row) (rows : List Row) (line : Line) → told_by version most number row ≡ Ok line
-    → told_rows version most number (row ∷ rows) ≡ row ∷ told_rows version most (number + 1) rows
-unfolding told_rows
-told_rows-line version most number row rows line tells = rw tells refl
-
-pub told_rows-failed : (version : Version) (most number : ℕ) (row : Row) (rows : List Row) (why : TraceFault)
-    → told_by version most number row ≡ Err why → told_rows version most number (row ∷ rows) ≡ []
-unfolding told_rows
-told_rows-failed version most number row rows why tells = rw tells refl
-
-pub told_rows-none : (version : Version) (most number : ℕ) → told_rows version most number [] ≡ []
-unfolding told_rows
-told_rows-none version most number = refl
-
 -- records that each tell a line are all told
 all-told : (version : Version) (most number : ℕ) (rows : List Row) (lines : List Line) → number + length rows ≤ most + 1
     → TellEach version rows lines → told_rows version most number rows ≡ rows
-unfolding TellEach
-all-told version most number [] lines within tells = told_rows-none version most number
+unfolding TellEach lines_from
+all-told version most number [] lines within tells = refl
 all-told version most number (row ∷ rows) [] within tells = absurd tells
 all-told version most number (row ∷ rows) (line ∷ lines) within tells =
-    told_rows-line version most number row rows line (told_by-line version most number row line (omega arith) tells.0)
-    ∙ ap (λ (l : List Row). row ∷ l) (all-told version most (number + 1) rows lines (omega arith) tells.1)
+    rw (told_by-line version most number row line (omega arith) tells.0)
+    (ap (λ (l : List Row). row ∷ l) (all-told version most (number + 1) rows lines (omega arith) tells.1))
 
 module _ (texts : TextsAreReadBack) (kind : FirstKind) (rest : Row) (rows : List Row) (opening : Opening) (lines : List Line) where
   pub written-tells : Written kind rest rows opening lines → TellsHistory (rows_text ((kind_word kind ∷ rest) ∷ rows)) opening lines
@@ -269,21 +230,7 @@ module _ (texts : TextsAreReadBack) (kind : FirstKind) (rest : Row) (rows : List
 -- the kind of a first record is its first field
 pub first-word : (row : Row) (is : FirstKind) → first_kind row ≡ Some is → row ≡ kind_word is ∷ drop 1 row
 unfolding first_kind
-first-word row is = by (is_kind row (codes "open")) (is_kind row (codes "rolling")) (is_kind row (codes "open2"))
-    (is_kind row (codes "open3")) refl refl refl refl
-  where
-    so : (k : FirstKind) → is_kind row (kind_word k) ≡ true → Some k ≡ Some is → row ≡ kind_word is ∷ drop 1 row
-    so k there e = let same : k ≡ is = cc in rw (← same) (kind-first row (kind_word k) there)
-
-    by : (a b c d : Bool) → is_kind row (codes "open") ≡ a → is_kind row (codes "rolling") ≡ b → is_kind row (codes "open2") ≡ c
-        → is_kind row (codes "open3") ≡ d
-        → (if a then Some kind.Open else if b then Some kind.Rolling else if c then Some kind.Open2 else if d then Some kind.Open3 else None)
-        ≡ Some is → row ≡ kind_word is ∷ drop 1 row
-    by true b c d p q r s e = so kind.Open p e
-    by false true c d p q r s e = so kind.Rolling q e
-    by false false true d p q r s e = so kind.Open2 r e
-    by false false false true p q r s e = so kind.Open3 s e
-    by false false false false p q r s e = cc
+first-word row is e = kind-first row (kind_word is) (grind (arith, nat_tests, e))
 
 pub record Opened (row : Row) (opening : Opening) : Type 0 where
   pub begins : Begins row
@@ -468,43 +415,34 @@ run-clean told clean held most row rows opening some few opens =
 
 pub before-all : (version : Version) (most number : ℕ) (rows : List Row) → first_fault version most number rows ≡ None
     → before_fault version most number rows ≡ rows
-before-all version most number [] e = before-none version most number
-before-all version most number (row ∷ rows) e = by (record_fault version most number row) refl (λ f. before-all version most (number + 1) rows f)
+unfolding first_fault before_fault
+before-all version most number [] e = refl
+before-all version most number (row ∷ rows) e = by (record_fault version most number row) refl e (λ f. before-all version most (number + 1) rows f)
   where
-    by : (o : Option TraceFault) → record_fault version most number row ≡ o
+    by : (o : Option TraceFault) → record_fault version most number row ≡ o → first_fault version most number (row ∷ rows) ≡ None
         → (first_fault version most (number + 1) rows ≡ None → before_fault version most (number + 1) rows ≡ rows)
         → before_fault version most number (row ∷ rows) ≡ row ∷ rows
-    by (Some why) r later = let wrong : Some why ≡ None = sym (first_fault-here version most number row rows why r) ∙ e in cc
-    by None r later = before_fault-later version most number row rows r ∙ ap (λ (l : List Row). row ∷ l)
-        (later (sym (first_fault-later version most number row rows r) ∙ e))
+    by (Some why) r e later = let wrong : Some why ≡ None = rw r at e in cc
+    by None r e later = rw r (ap (λ (l : List Row). row ∷ l) (later (rw r at e)))
 
 pub whole-clean : ReadBack → LegalIsClean → Held → (most : ℕ) (rows : List Row) (end : RunEnd) → most ≤ 2 ^ 32 → fault_of most rows ≡ None
     → end_of most rows ≡ Some end → text_finding (records_of (history_text most rows)) ≡ Ok (Clean end.events)
 unfolding fault_of end_of
 whole-clean told clean held most [] end few sound ended = cc
-whole-clean told clean held most (row ∷ rows) end few sound ended = by (most == 0) (opening_of row) refl refl sound ended
+whole-clean told clean held most (row ∷ rows) end few sound ended = by (opening_of row) refl
   where
-    positive : (n : ℕ) → (n == 0) ≡ false → 0 < n
-    positive zero z = cc
-    positive (suc n) z = omega arith
-
     found : ℕ → Result Finding TraceFault
     found events = Ok (Clean events)
 
-    opened : Result Opening TraceFault → Result Begun TraceFault
-    opened o = and_then o (λ opening. Ok (record { version = version_of row; opening = opening; read = 1; left = rows }))
-
-    by : (none : Bool) (o : Result Opening TraceFault) → (most == 0) ≡ none → opening_of row ≡ o
-        → fault_in most (if none then Err fault.TooLong else opened o) ≡ None
-        → end_in [] (if none then Err fault.TooLong else opened o) ≡ Some end
-        → text_finding (records_of (history_text most (row ∷ rows))) ≡ Ok (Clean end.events)
-    by true o z opens e f = cc
-    by false (Err why) z opens e f = cc
-    by false (Ok opening) z opens e f =
-        let same : end_left (version_of row) opening start 0 rows ≡ end = cc in
-        run-clean told clean held most row rows opening (positive most z) few opens
+    by : (o : Result Opening TraceFault) → opening_of row ≡ o → text_finding (records_of (history_text most (row ∷ rows))) ≡ Ok (Clean end.events)
+    by (Err why) opens = absurd (grind (arith, nat_tests, sound, opens))
+    by (Ok opening) opens =
+        let some : 0 < most = grind (arith, nat_tests, sound) in
+        let none : first_fault (version_of row) most 2 rows ≡ None = grind (arith, nat_tests, sound, opens) in
+        let same : end_left (version_of row) opening start 0 rows ≡ end = grind (arith, nat_tests, some, ended, opens) in
+        run-clean told clean held most row rows opening some few opens
         ∙ ap (λ (all : List Row). found (length (progress_at_end opening (requests_of (version_of row) all)).history))
-        (before-all (version_of row) most 2 rows e)
+        (before-all (version_of row) most 2 rows none)
         ∙ ap (λ (r : RunEnd). found r.events) same
 
 -- ==== The audit of what a run writes of a trace that goes on finds it clean, with the events before it
@@ -528,18 +466,7 @@ record Within (most : ℕ) (rows : List Row) (b : Beginning) : Type 0 where
   few : b.read ≤ most
 
 within : (most : ℕ) (rows : List Row) (b : Beginning) → resumed_within most rows ≡ Ok b → Within most rows b
-within most rows b e = by (resumed_of rows) refl e
-  where
-    so : (c : Beginning) → resumed_of rows ≡ Ok c → (long : Bool) → nat_lt most c.read ≡ long → (if long then Err fault.TooLong else Ok c) ≡ Ok b
-        → Within most rows b
-    so c is true long e = cc
-    so c is false long e =
-        let same : c ≡ b = cc in
-        subst (λ (it : Beginning). Within most rows it) same (record { begun = is; few = grind (arith, nat_tests) })
-
-    by : (read : Result Beginning TraceFault) → resumed_of rows ≡ read → and_then read (within_most most) ≡ Ok b → Within most rows b
-    by (Ok c) is e = so c is (nat_lt most c.read) refl e
-    by (Err why) is e = cc
+within most rows b e = record { begun = grind (arith, nat_tests, e); few = grind (arith, nat_tests, e) }
 
 -- ---- its text
 
@@ -594,20 +521,19 @@ pub resumed-whole : Below → (most : ℕ) (rows : List Row) (opening : Opening)
     → GoesOn rows opening past → All (λ event. CommandFits event.command) past → resumed_fault most rows ≡ None
     → resumed_end most past rows ≡ Some end → IsFound (resumed_text most past rows) opening past (Clean end.events)
 unfolding resumed_fault resumed_end
-resumed-whole law most rows opening past end few goes fit sound ended = by (resumed_within most rows) refl sound ended
+resumed-whole law most rows opening past end few goes fit sound ended = by (resumed_within most rows) refl
   where
     found : ℕ → Type 0
     found events = IsFound (resumed_text most past rows) opening past (Clean events)
 
-    by : (read : Result Beginning TraceFault) → resumed_within most rows ≡ read
-        → fault_in most (and_then read (λ begun. Ok (going_by begun))) ≡ None
-        → end_in past (and_then read (λ begun. Ok (going_by begun))) ≡ Some end → found end.events
-    by (Err why) is e f = cc
-    by (Ok b) is e f =
-        let same : end_left Three b.opening (going_on past) 0 b.left ≡ end = cc in
+    by : (read : Result Beginning TraceFault) → resumed_within most rows ≡ read → found end.events
+    by (Err why) is = absurd (grind (arith, nat_tests, sound, is))
+    by (Ok b) is =
+        let none : first_fault Three most (b.read + 1) b.left ≡ None = grind (arith, nat_tests, sound, is) in
+        let same : end_left Three b.opening (going_on past) 0 b.left ≡ end = grind (arith, nat_tests, ended, is) in
         subst (λ (r : RunEnd). found r.events) same
         (subst (λ (rest : List Row). found (length (progress_after b.opening (going_on past) (steps_of (requests_of Three rest))).history))
-        (before-all Three most (b.read + 1) b.left e) (resumed-clean law most rows opening past b few goes fit is))
+        (before-all Three most (b.read + 1) b.left none) (resumed-clean law most rows opening past b few goes fit is))
 
 -- ==== A trace that goes on after a history is answered as the whole from there on
 
@@ -630,13 +556,10 @@ progress-append opening from (request ∷ xs) ys = progress-append opening (afte
 
 -- a fold of all that the tail holds
 folds-all : (opening : Opening) (at : Progress) → after opening at (Fold at.held) ≡ going_on at.history
-folds-all opening at =
-    let fits : nat_lt at.held at.held ≡ false = le-ltb at.held at.held (omega arith) in
-    let none : at.held - at.held ≡ 0 = omega arith in
-    rw (fits, none) refl
+folds-all opening at = grind (arith, nat_tests)
 
 lets-go : (opening : Opening) (at : Progress) → reply opening at (Fold at.held) ≡ let_go at.held
-lets-go opening at = let fits : nat_lt at.held at.held ≡ false = le-ltb at.held at.held (omega arith) in rw fits refl
+lets-go opening at = grind (arith, nat_tests)
 
 pub whole_replies : (opening : Opening) (earlier later : List Request)
     → let there = progress_at_end opening earlier in

@@ -1,7 +1,7 @@
 -- What the run of a trace comes to, and how far it has come.
 use Rattle.std.specs.Prelude.{◌≡◌, ◌+◌, cond}
-use Rattle.pie_trace.specs.Names.{ℕ, List, length, Some, None, Ok, Opening, BookView, Tells, opening_refusal, Progress, Request, Version}
-use Rattle.pie_trace.specs.Names.{Row, text_of, request_of}
+use Rattle.pie_trace.specs.Names.{ℕ, List, length, Some, None, Ok, Opening, BookView, Tells, opening_refusal, Progress, Request, Version, Row}
+use Rattle.pie_trace.specs.Names.{text_of, request_of}
 use Rattle.pie_trace.specs.declared.run.RunEnd.{RunEnd}
 use Rattle.pie_trace.specs.History.{end_left, first_fault, text_left}
 use Rattle.pie_trace.specs.Pass.{Pass}

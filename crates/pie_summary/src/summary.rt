@@ -92,6 +92,7 @@ impl Report for Summary {
 
     ghost whole = { summary_of };
 
+    #[tactic(auto, unfolding(pie_aqm::specs::Places::last_or))]
     fn begin(&self, page: &mut Page) -> Result<Period, AllocError> {
         push_header(page, NAMES, self.form)?;
         let period = Period::empty(page.allocator())?;

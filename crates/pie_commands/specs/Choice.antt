@@ -7,7 +7,6 @@ use Rattle.clap.specs.Words.{Row, Text, one_of}
 use Rattle.pie_options.specs.Words.{flag_given, number_given}
 use Rattle.pie_explain.specs.declared.selection.Selection.{Selection}
 use Rattle.pie_explain.specs.declared.form.Form.{Form}
-use Rattle.pie_explain.specs.declared.form.Form.TheVariants.{Text as Words, Csv, TextByWall, CsvByWall}
 use Rattle.pie_explain.specs.declared.explanation.Explained.{Explained}
 use Rattle.pie_units.specs.declared.moment.Moment.{Moment}
 use Rattle.pie_units.specs.declared.moment.MomentFault.{MomentFault}
@@ -105,15 +104,9 @@ choice_of options =
     choice_at (which_of options) (result_ok (bound_given (codes "from") options)) (result_ok (bound_given (codes "to") options))
     (result_ok (moment_given (codes "every") options)) (is_either (is_digest options) (flows_of options))
 
--- in words, and as CSV where the first holds; with times of day where the second does
-abbrev pub form_where : Bool → Bool → Form
-form_where true true = CsvByWall
-form_where true false = Csv
-form_where false true = TextByWall
-form_where false false = Words
-
+-- as CSV or in words, and with times of day or without
 abbrev pub form_of : List Row → Form
-form_of options = form_where (flag_given (codes "csv") options) (flag_given (codes "wall") options)
+form_of options = record { csv = flag_given (codes "csv") options; by_wall = flag_given (codes "wall") options }
 
 -- what is told of the explained events: each; or sums by flow, of all or of each period; or such summaries, with the words for lost and marked
 -- packets or without

@@ -127,11 +127,9 @@ fn choice_of<E: Write>(options: &ArgMatches<'_>, errors: &mut E) -> Option<Selec
 fn form_of(options: &ArgMatches<'_>) -> Form
     ensures { result ≡ form_of (rows_of (found_of options.now)) }
 {
-    match (flag(options, "csv"), flag(options, "wall")) {
-        (true, true) => Form::CsvByWall,
-        (true, false) => Form::Csv,
-        (false, true) => Form::TextByWall,
-        (false, false) => Form::Text,
+    Form {
+        csv: flag(options, "csv"),
+        by_wall: flag(options, "wall"),
     }
 }
 

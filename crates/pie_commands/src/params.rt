@@ -18,36 +18,6 @@ use pie_tuning::{
 };
 use std::io::Write;
 
-/// The time that a text tells, and 15 ms without one; and why where it tells no time.
-fn time_in(text: Option<&str>) -> Result<u64, OptionFault>
-    ensures { result ≡ given_or time_of 15_000_000 (option_map (λ text. text.now) text.entry) }
-{
-    match text {
-        Some(text) => time_of(text),
-        None => Ok(15_000_000),
-    }
-}
-
-/// The rate that a text tells, and 0 without one; and why where it tells no rate.
-fn rate_in(text: Option<&str>) -> Result<u64, OptionFault>
-    ensures { result ≡ given_or rate_of 0 (option_map (λ text. text.now) text.entry) }
-{
-    match text {
-        Some(text) => rate_of(text),
-        None => Ok(0),
-    }
-}
-
-/// How many packets may wait, as a text tells it, and 1000 without one; and why where it tells no such number.
-fn packets_in(text: Option<&str>) -> Result<u64, OptionFault>
-    ensures { result ≡ given_or packets_of 1000 (option_map (λ text. text.now) text.entry) }
-{
-    match text {
-        Some(text) => packets_of(text),
-        None => Ok(1000),
-    }
-}
-
 /// The number that an option tells; none, with a line on `errors`, where it tells none.
 fn read_of<E: Write>(read: Result<u64, OptionFault>, name: &str, errors: &mut E) -> Option<u64>
     ensures read { IfSome result (λ number. read ≡ Ok number) }
@@ -67,10 +37,10 @@ fn asked_in<E: Write>(options: &ArgMatches<'_>, errors: &mut E) -> Option<Tuning
     ensures asked { IfSome result (AsksFor (rows_of (found_of options.now))) }
     ensures none { result ≡ None → (asked : TuningOptions) → AsksFor (rows_of (found_of options.now)) asked → ⊥ }
 {
-    let rate = read_of(rate_in(text(options, "rate")), "rate", errors)?;
-    let target = read_of(time_in(text(options, "target")), "target", errors)?;
-    let t_update = read_of(time_in(text(options, "tupdate")), "tupdate", errors)?;
-    let packets = read_of(packets_in(text(options, "limit")), "limit", errors)?;
+    let rate = read_of(text(options, "rate").map_or(Ok(0), rate_of), "rate", errors)?;
+    let target = read_of(text(options, "target").map_or(Ok(15_000_000), time_of), "target", errors)?;
+    let t_update = read_of(text(options, "tupdate").map_or(Ok(15_000_000), time_of), "tupdate", errors)?;
+    let packets = read_of(text(options, "limit").map_or(Ok(1000), packets_of), "limit", errors)?;
     let Some(decay) = decay_of(options) else {
         let _ = writeln!(errors, "pie: --decay is zero or half");
         return None;

@@ -54,12 +54,12 @@ said-none : (form : Form) → said form [] ≡ []
 unfolding said
 said-none form = refl
 
-pub pages-none : (form : Form) → pages form [] ≡ header form
-pages-none form = ap (λ (text : List ℕ). header form ++ text) (said-none form) ∙ append-nil (header form)
+pub pages_none : (form : Form) → pages form [] ≡ header form
+pages_none form = ap (λ (text : List ℕ). header form ++ text) (said-none form) ∙ append-nil (header form)
 
-pub pages-told : (form : Form) (all : List Explained) (told : Explained) (old now : List ℕ) → now ≡ old ++ said_of form told
+pub pages_told : (form : Form) (all : List Explained) (told : Explained) (old now : List ℕ) → now ≡ old ++ said_of form told
     → Grows (pages form all) (pages form (all ++ told ∷ [])) old now
-pages-told form all told old now is = record {
+pages_told form all told old now is = record {
   more = said_of form told;
   grown = is;
   turned = rw (said-push form all told) (sym (append_assoc (header form) (said form all) (said_of form told)));

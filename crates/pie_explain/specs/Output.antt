@@ -1,12 +1,11 @@
 -- What is written of explanations.
-use Rattle.std.specs.Prelude.{ℕ, List, [], ◌∷◌, ◌++◌, codes}
+use Rattle.std.specs.Prelude.{ℕ, List, [], ◌∷◌, ◌++◌, codes, Option, None, if◌then◌else◌}
 use Rattle.std.specs.List.{flat_map}
 use Rattle.pie_explain.specs.declared.form.Form.{Form}
-use Rattle.pie_explain.specs.declared.form.Form.TheVariants.{Text, Csv, TextByWall, CsvByWall}
 use Rattle.pie_explain.specs.declared.explanation.Explained.{Explained}
-use Rattle.pie_explain.specs.Selection.{time_of}
-use Rattle.pie_explain.specs.Record.{line_of, record_of, wall_field}
-use Rattle.pie_explain.specs.Words.{words, words_by}
+use Rattle.pie_explain.specs.Record.{line_of, record_by}
+use Rattle.pie_explain.specs.Words.{words_by}
+use Rattle.pie_record.specs.declared.clock.Clock.{Clock}
 
 -- the names of the fields of a record
 abbrev pub field_names : List (List ℕ)
@@ -20,20 +19,18 @@ field_names =
 
 -- what stands before the first row: for CSV the header row of these names
 abbrev pub header_of : List (List ℕ) → Form → List ℕ
-header_of names Text = []
-header_of names Csv = line_of names
-header_of names TextByWall = []
-header_of names CsvByWall = line_of (names ++ codes "wall" ∷ [])
+header_of names form = if form.csv then line_of (if form.by_wall then names ++ codes "wall" ∷ [] else names) else []
 
 unfoldable pub header : Form → List ℕ
 header form = header_of field_names form
 
+-- the record by which moments are told as times of day
+abbrev pub clock_for : Form → Option Clock → Option Clock
+clock_for form told = if form.by_wall then told else None
+
 -- what is written of an explanation
 unfoldable pub said_of : Form → Explained → List ℕ
-said_of Text told = words told
-said_of Csv told = line_of (record_of told)
-said_of TextByWall told = words_by told.told.clock told
-said_of CsvByWall told = line_of (record_of told ++ wall_field (time_of told.told.clock told.told.moment) ∷ [])
+said_of form told = if form.csv then line_of (record_by form.by_wall told) else words_by (clock_for form told.told.clock) told
 
 -- .. of each of these, one after the other
 unfoldable pub said : Form → List Explained → List ℕ

@@ -1,5 +1,5 @@
 -- The CSV record of an explanation.
-use Rattle.std.specs.Prelude.{ℕ, Bool, true, false, List, [], ◌∷◌, ◌++◌, Option, Some, None, codes, option_map}
+use Rattle.std.specs.Prelude.{ℕ, Bool, true, false, List, [], ◌∷◌, ◌++◌, Option, Some, None, codes, option_map, if◌then◌else◌}
 use Rattle.std.specs.Fmt.{decimal}
 use Rattle.pie_queue.specs.declared.packet.Packet.{Packet}
 use Rattle.pie_event.specs.declared.cause.Cause.{Cause}
@@ -18,6 +18,7 @@ use Rattle.pie_units.specs.Utc.{utc_text}
 use Rattle.pie_explain.specs.declared.explanation.Explained.{Explained}
 use Rattle.pie_explain.specs.declared.explanation.Explanation.{Explanation}
 use Rattle.pie_event.specs.Setter.{setter_number}
+use Rattle.pie_explain.specs.Selection.{time_of}
 use Rattle.pie_explain.specs.Which.{packet_of}
 
 -- ---- words
@@ -115,6 +116,11 @@ record_of all = most_fields all ++ active_field all.after.active ∷ []
 abbrev pub wall_field : Option ℕ → List ℕ
 wall_field None = []
 wall_field (Some unix) = utc_text unix
+
+-- .. with that of the effective moment behind the others, or not
+abbrev pub record_by : Bool → Explained → List (List ℕ)
+record_by by_wall all =
+    if by_wall then record_of all ++ wall_field (time_of all.told.clock all.told.moment) ∷ [] else record_of all
 
 -- these fields as a line of CSV: none of them has a comma, a quote or a line's end in it
 abbrev pub line_of : List (List ℕ) → List ℕ

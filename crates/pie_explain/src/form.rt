@@ -1,14 +1,24 @@
 //! How explanations are written.
+ghost use Rattle.std.specs.Prelude.{◌≡◌};
+ghost use Rattle.pie_explain.specs.Output.{clock_for};
+
+use pie_record::Clock;
 
 /// How explanations are written.
 #[derive(Clone, Copy, Debug, PartialEq, Eq)]
-pub enum Form {
-    /// In words, some lines an event.
-    Text,
-    /// As CSV: a header row, and then one record an event.
-    Csv,
-    /// In words, with moments as times of day, by the last record before the event that tells one; as `Text` where none does.
-    TextByWall,
-    /// As CSV, with the time of day of the event's effective moment as a last field; empty where no record before it tells it.
-    CsvByWall,
+pub struct Form {
+    /// As CSV: a header row, and then one record an event; else in words, some lines an event.
+    pub csv: bool,
+    /// With moments as times of day, by the last record before the event that tells one. In words they stand in place of moments where one does; a
+    /// record of CSV has that of the effective moment as a last field, empty where none does.
+    pub by_wall: bool,
+}
+
+impl Form {
+    /// The record by which moments are told as times of day.
+    pub fn clock(self, told: Option<Clock>) -> Option<Clock>
+        ensures { result ≡ clock_for self told }
+    {
+        if self.by_wall { told } else { None }
+    }
 }

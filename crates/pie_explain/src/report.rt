@@ -67,10 +67,10 @@ pub fn push_header(page: &mut Page, names: &str, form: Form) -> Result<(), Alloc
     ensures { (fields : List (List ℕ)) → line_of fields ≡ names.now ++ codes "\n"
         → line_of (fields ++ codes "wall" ∷ []) ≡ names.now ++ codes ",wall\n" → OnOk result (page.new ≡ page.old ++ header_of fields form) }
 {
-    match form {
-        Form::Text | Form::TextByWall => Ok(()),
-        Form::Csv => push_names(page, names, "\n"),
-        Form::CsvByWall => push_names(page, names, ",wall\n"),
+    match (form.csv, form.by_wall) {
+        (false, _) => Ok(()),
+        (true, false) => push_names(page, names, "\n"),
+        (true, true) => push_names(page, names, ",wall\n"),
     }
 }
 
@@ -92,12 +92,10 @@ pub fn push_words(page: &mut Page, clock: Option<Clock>, told: &Explained) -> Re
 fn push_said(page: &mut Page, records: &mut RecordWriter, form: Form, told: &Explained) -> Written
     ensures { OnOk result (page.new ≡ page.old ++ said_of form told.now) }
 {
-    match form {
-        Form::Text => push_words(page, None, told),
-        Form::Csv => records.push(page, told),
-        Form::TextByWall => push_words(page, told.told.clock, told),
-        Form::CsvByWall => records.push_by_wall(page, told),
+    if form.csv {
+        return records.push(page, form.by_wall, told);
     }
+    push_words(page, form.clock(told.told.clock), told)
 }
 
 impl Report for Form {

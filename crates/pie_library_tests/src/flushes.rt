@@ -79,7 +79,11 @@ fn is_write<T: Drop>(answer: Result<T, TraceFault>) -> bool {
 }
 
 fn explained(alloc: Global, text: &[u8], writer: &mut Sink) -> bool {
-    let answer = explain(alloc, text, writer, Selection::of(Which::All), Form::Csv);
+    let form = Form {
+        csv: true,
+        by_wall: false,
+    };
+    let answer = explain(alloc, text, writer, Selection::of(Which::All), form);
     matches!(answer, Err(ExplainFault::Trace(TraceFault::Write)))
 }
 

@@ -1,7 +1,7 @@
 -- What is kept of a period that is summed up as it goes, with one more event.
 use Rattle.pie_summary.proofs.Names.{◌≡◌, ◌≤◌, ◌<◌, ◌+◌, ◌*◌, ◌-◌, ◌/◌, ◌==◌, arith, ℕ, Bool, true, false, cond, not, List, [], ◌∷◌, ◌++◌, refl}
 use Rattle.pie_summary.proofs.Names.{sym, ap, ◌∙◌, min, count_by, Option, Some, None, if◌then◌else◌, eq-eqb, ne_eqb}
-use Rattle.pie_summary.proofs.Names.{sum_by_push, Place, places, time_of, Explained, Csv, CsvByWall, LivePeriod, Meter, kept, Holds, clock_of}
+use Rattle.pie_summary.proofs.Names.{sum_by_push, Place, places, time_of, Explained, LivePeriod, Meter, kept, Holds, clock_of}
 use Rattle.pie_summary.proofs.Names.{length_of, number_in, last_events, last_period, period_at, since, starts, ranges_of, record_of, said_of}
 use Rattle.pie_summary.proofs.Names.{meter_of, reached, sums_of, waits_of}
 use Rattle.std.proofs.lemmas.Nat.{div-mul-add}
@@ -121,7 +121,6 @@ holds-taken period shown one meter waits awaits meter-is waits-is = record {
 -- ---- its record
 
 pub said_live : (by_wall : Bool) (all : List Explained) (meter : Meter) (waits : List ℕ) (most : ℕ) → meter ≡ meter_in all → waits ≡ waits_of all
-    → most ≡ wait_99 waits meter → record_of by_wall meter most ≡ said_of (if by_wall then CsvByWall else Csv) all
+    → most ≡ wait_99 waits meter → record_of by_wall meter most ≡ said_of (record { csv = true; by_wall = by_wall }) all
 unfolding sums_of
-said_live true all meter waits most is waits-are most-is = λ i. record_of true (is i) ((most-is ∙ (λ j. wait_99 (waits-are j) (is j))) i)
-said_live false all meter waits most is waits-are most-is = λ i. record_of false (is i) ((most-is ∙ (λ j. wait_99 (waits-are j) (is j))) i)
+said_live by_wall all meter waits most is waits-are most-is = λ i. record_of by_wall (is i) ((most-is ∙ (λ j. wait_99 (waits-are j) (is j))) i)

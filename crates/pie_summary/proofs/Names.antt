@@ -20,7 +20,6 @@ pub use Rattle.pie_event.specs.declared.command.Answer.{Answer}
 pub use Rattle.pie_event.specs.declared.command.Answer.TheVariants.{Done, Left, Updated}
 pub use Rattle.pie_explain.specs.Selection.{time_of}
 pub use Rattle.pie_explain.specs.declared.explanation.Explained.{Explained}
-pub use Rattle.pie_explain.specs.declared.form.Form.TheVariants.{Csv, CsvByWall}
 pub use Rattle.pie_summary.specs.ByFlow.{HoldsFlows, flow_header}
 pub use Rattle.pie_summary.specs.Counts.{kept}
 pub use Rattle.pie_summary.specs.FlowSums.{flow_sums, is_of}

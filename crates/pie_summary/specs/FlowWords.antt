@@ -1,8 +1,7 @@
 -- Sums by flow in words, and as CSV records.
-use Rattle.std.specs.Prelude.{ℕ, ◌-◌, ◌/◌, nat_lt, max, Bool, true, false, List, [], ◌∷◌, ◌++◌, length, replicate, codes, if◌then◌else◌}
+use Rattle.std.specs.Prelude.{ℕ, ◌-◌, ◌/◌, nat_lt, max, Bool, false, List, [], ◌∷◌, ◌++◌, length, replicate, codes, if◌then◌else◌}
 use Rattle.std.specs.Fmt.{decimal, digits}
 use Rattle.pie_explain.specs.declared.form.Form.{Form}
-use Rattle.pie_explain.specs.declared.form.Form.TheVariants.{Text, Csv, TextByWall, CsvByWall}
 use Rattle.pie_explain.specs.Words.{joined, millis, share}
 use Rattle.pie_summary.specs.declared.flow.Flow.{Flow}
 use Rattle.pie_summary.specs.declared.flow_sums.FlowSums.{FlowSums}
@@ -82,32 +81,27 @@ flow_record by_wall span name sums =
 -- ---- in either form
 
 -- what stands before so many flows
-abbrev pub head_said : Form → Heading → ℕ → List ℕ
-head_said Text heading count = total_words false heading.span count heading.total
-head_said TextByWall heading count = total_words true heading.span count heading.total
-head_said Csv heading count = []
-head_said CsvByWall heading count = []
+abbrev pub head_said : Heading → ℕ → List ℕ
+head_said heading count = if heading.form.csv then [] else total_words heading.form.by_wall heading.span count heading.total
 
 -- a flow
-abbrev pub flow_said : Form → Heading → Name → FlowSums → List ℕ
-flow_said Text heading name sums = flow_words name heading.total sums
-flow_said TextByWall heading name sums = flow_words name heading.total sums
-flow_said Csv heading name sums = flow_record false heading.span name sums
-flow_said CsvByWall heading name sums = flow_record true heading.span name sums
+abbrev pub flow_said : Heading → Name → FlowSums → List ℕ
+flow_said heading name sums =
+    if heading.form.csv then flow_record heading.form.by_wall heading.span name sums else flow_words name heading.total sums
 
 -- .. one after another
 abbrev pub each_said : Heading → List Flow → List ℕ
 each_said heading [] = []
-each_said heading (flow ∷ flows) = flow_said heading.form heading (name.Of flow.number) flow.sums ++ each_said heading flows
+each_said heading (flow ∷ flows) = flow_said heading (name.Of flow.number) flow.sums ++ each_said heading flows
 
 -- the flows behind the first so many, in one; nothing where there are none
 abbrev pub others_said : Heading → ℕ → List Flow → List Flow → List ℕ
 others_said heading most first flows =
-    if nat_lt most (length flows) then flow_said heading.form heading (name.Others (length flows - most)) (sums_beside first flows) else []
+    if nat_lt most (length flows) then flow_said heading (name.Others (length flows - most)) (sums_beside first flows) else []
 
 unfoldable pub parts_said : Heading → ℕ → List Flow → List Flow → List ℕ
 parts_said heading most first flows =
-    joined (head_said heading.form heading (length flows) ∷ each_said heading first ∷ others_said heading most first flows ∷ [])
+    joined (head_said heading (length flows) ∷ each_said heading first ∷ others_said heading most first flows ∷ [])
 
 -- the first so many of these flows, and the others
 abbrev pub flows_said : Form → Span → ℕ → List Flow → List ℕ

@@ -1,11 +1,9 @@
 -- A period that is summed up as it goes: the numbers of a summary's record, kept in as much memory as they take.
-use Rattle.std.specs.Prelude.{ℕ, ◌≡◌, ◌≤◌, ◌<◌, ◌==◌, Bool, List, [], ◌∷◌, ◌++◌, Option, Some, None, count_by}
-use Rattle.std.specs.Prelude.{if◌then◌else◌}
+use Rattle.std.specs.Prelude.{ℕ, ◌≡◌, ◌≤◌, ◌<◌, ◌==◌, Bool, true, List, [], ◌∷◌, ◌++◌, Option, Some, None, count_by, if◌then◌else◌}
 use Rattle.pie_aqm.specs.Places.{Place, places}
 use Rattle.pie_record.specs.declared.clock.Clock.{Clock}
 use Rattle.pie_explain.specs.declared.explanation.Explained.{Explained}
 use Rattle.pie_explain.specs.declared.form.Form.{Form}
-use Rattle.pie_explain.specs.declared.form.Form.TheVariants.{Csv, CsvByWall}
 use Rattle.pie_summary.specs.declared.live.LivePeriod.{LivePeriod}
 use Rattle.pie_summary.specs.Counts.{kept}
 use Rattle.pie_summary.specs.Period.{last_events, last_period, period_at, period_of, since, starts}
@@ -64,4 +62,4 @@ pub record IsSet (before after : LivePeriod) : Type 0 where
 
 -- the form of the records: with a time of day, or without
 abbrev pub form_in : LivePeriod → Form
-form_in period = if period.wall == 1 then CsvByWall else Csv
+form_in period = record { csv = true; by_wall = period.wall == 1 }

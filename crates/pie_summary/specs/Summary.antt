@@ -1,15 +1,13 @@
 -- What is written for summaries of the explained events, and between them for lost and marked packets.
-use Rattle.std.specs.Prelude.{ℕ, ◌≡◌, Bool, true, false, ◌&&◌, ◌||◌, if◌then◌else◌, List, [], ◌++◌, Option, None}
+use Rattle.std.specs.Prelude.{ℕ, ◌≡◌, Bool, ◌&&◌, ◌||◌, if◌then◌else◌, List, [], ◌++◌}
 use Rattle.std.specs.List.{flat_map}
 use Rattle.pie_aqm.specs.Places.{Place, places}
 use Rattle.pie_explain.specs.declared.form.Form.{Form}
-use Rattle.pie_explain.specs.declared.form.Form.TheVariants.{Text, Csv, TextByWall, CsvByWall}
 use Rattle.pie_explain.specs.declared.explanation.Explained.{Explained}
 use Rattle.pie_explain.specs.declared.which.Which.TheVariants.{Lost, Marked}
-use Rattle.pie_explain.specs.Output.{header_of}
+use Rattle.pie_explain.specs.Output.{clock_for, header_of}
 use Rattle.pie_explain.specs.Which.{chooses}
 use Rattle.pie_explain.specs.Words.{words_by}
-use Rattle.pie_record.specs.declared.clock.Clock.{Clock}
 use Rattle.pie_summary.specs.declared.period.Period.{Period}
 use Rattle.pie_summary.specs.declared.summary.Summary.{Summary}
 use Rattle.pie_summary.specs.declared.sums.Sums.{Sums}
@@ -24,10 +22,8 @@ header form = header_of field_names form
 
 -- these numbers in words, or as a CSV record
 abbrev pub said : Form → Sums → List ℕ → List ℕ
-said Text sums ranges = words false sums (wait_99 ranges sums.meter)
-said Csv sums ranges = record_of false sums.meter (wait_99 ranges sums.meter)
-said TextByWall sums ranges = words true sums (wait_99 ranges sums.meter)
-said CsvByWall sums ranges = record_of true sums.meter (wait_99 ranges sums.meter)
+said form sums ranges =
+    if form.csv then record_of form.by_wall sums.meter (wait_99 ranges sums.meter) else words form.by_wall sums (wait_99 ranges sums.meter)
 
 -- .. of these events
 abbrev pub said_of : Form → List Explained → List ℕ
@@ -38,13 +34,6 @@ said_of form all = said form (sums_of all) (waits_of all)
 -- an event is one that `--lost` chooses, or `--marked`
 abbrev pub is_lost_or_marked : Explained → Bool
 is_lost_or_marked one = chooses Lost one.told.number one.told.event || chooses Marked one.told.number one.told.event
-
--- the record by which a form tells moments as times of day
-abbrev pub clock_for : Form → Option Clock → Option Clock
-clock_for Text clock = None
-clock_for Csv clock = None
-clock_for TextByWall clock = clock
-clock_for CsvByWall clock = clock
 
 -- what is said of an event by itself: its words, where packets are explained and it lost or marked one
 unfoldable pub noted : Summary → Explained → List ℕ

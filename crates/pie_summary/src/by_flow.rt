@@ -58,6 +58,7 @@ impl Report for ByFlow {
 
     ghost whole = { flows_whole };
 
+    #[tactic(auto, unfolding(pie_aqm::specs::Places::last_or))]
     fn begin(&self, page: &mut Page) -> Result<FlowPeriod, AllocError> {
         push_header(page, NAMES, self.form)?;
         Ok(FlowPeriod::empty(page.allocator()))

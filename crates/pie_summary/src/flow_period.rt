@@ -40,7 +40,7 @@ impl FlowPeriod {
     }
 
     /// Forgets the events before one that is in this period, where they are in another.
-    #[tactic(auto, using(crate::proofs::PeriodFacts::since_same))]
+    #[tactic(auto, using(crate::proofs::FlowFacts::none_shown, crate::proofs::PeriodFacts::since_begun, crate::proofs::PeriodFacts::since_same), unfolding(pie_aqm::specs::Places::last_or))]
     fn begin(&mut self, period: u64)
         ensures { (shown : List Explained) (every : Option ℕ) → Keeps (HoldsFlows self.old) every self.old.number shown
             → HoldsFlows self.new (since every (Some period) shown) }

@@ -203,24 +203,22 @@ fn push_record(
 impl Heading {
     /// Writes what stands before so many flows.
     fn push_top(&self, page: &mut String, count: u64) -> Written
-        ensures { OnOk result (string_bytes page.new ≡ string_bytes page.old ++ head_said self.now.form self.now count) }
+        ensures { OnOk result (string_bytes page.new ≡ string_bytes page.old ++ head_said self.now count) }
     {
-        match self.form {
-            Form::Text => push_total(page, false, &self.span, count, &self.total),
-            Form::TextByWall => push_total(page, true, &self.span, count, &self.total),
-            Form::Csv | Form::CsvByWall => Ok(()),
+        if self.form.csv {
+            return Ok(());
         }
+        push_total(page, self.form.by_wall, &self.span, count, &self.total)
     }
 
     /// Writes a flow.
     fn push_flow(&self, page: &mut String, name: Name, sums: &FlowSums) -> Written
-        ensures { OnOk result (string_bytes page.new ≡ string_bytes page.old ++ flow_said self.now.form self.now name sums.now) }
+        ensures { OnOk result (string_bytes page.new ≡ string_bytes page.old ++ flow_said self.now name sums.now) }
     {
-        match self.form {
-            Form::Text | Form::TextByWall => push_words(page, name, &self.total, sums),
-            Form::Csv => push_record(page, false, &self.span, name, sums),
-            Form::CsvByWall => push_record(page, true, &self.span, name, sums),
+        if self.form.csv {
+            return push_record(page, self.form.by_wall, &self.span, name, sums);
         }
+        push_words(page, name, &self.total, sums)
     }
 
     /// Writes flows, one after another.

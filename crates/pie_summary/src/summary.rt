@@ -2,7 +2,7 @@
 ghost use Rattle.std.specs.Prelude.{◌≡◌, ◌++◌, [], OnOk, if◌then◌else◌};
 ghost use Rattle.pie_summary.specs.Record.{record_of};
 ghost use Rattle.pie_summary.specs.Words.{words};
-ghost use Rattle.pie_summary.specs.Summary.{clock_for, is_lost_or_marked, noted, said};
+ghost use Rattle.pie_summary.specs.Summary.{is_lost_or_marked, noted, said};
 
 use crate::meter::Meter;
 use crate::period::{Period, begins, period_of};
@@ -11,7 +11,6 @@ use crate::sums::Sums;
 use crate::words::{Written, push_words};
 use pie_explain::{Explained, Form, Report, Which, push_header};
 use pie_page::{LongRow, Page};
-use pie_record::Clock;
 use std::alloc::AllocError;
 
 /// Summaries of the explained events: how many arrivals each verdict and each cause had, how long packets waited, what the updates
@@ -56,12 +55,10 @@ fn push_ended(page: &mut Page, form: Form, period: &Period, ends: bool) -> Writt
     }
     let sums = &period.sums;
     let most = sums.meter.wait_99(&period.waits);
-    match form {
-        Form::Text => push_in_words(page, false, sums, most),
-        Form::TextByWall => push_in_words(page, true, sums, most),
-        Form::Csv => push_as_record(page, false, &sums.meter, most),
-        Form::CsvByWall => push_as_record(page, true, &sums.meter, most),
+    if form.csv {
+        return push_as_record(page, form.by_wall, &sums.meter, most);
     }
+    push_in_words(page, form.by_wall, sums, most)
 }
 
 /// Whether an event lost or marked a packet.
@@ -72,23 +69,13 @@ fn is_lost_or_marked(told: &Explained) -> bool
     Which::Lost.chooses(number, event) || Which::Marked.chooses(number, event)
 }
 
-/// The record by which a form tells moments as times of day.
-fn clock_for(form: Form, clock: Option<Clock>) -> Option<Clock>
-    ensures { result ≡ clock_for form clock }
-{
-    match form {
-        Form::Text | Form::Csv => None,
-        Form::TextByWall | Form::CsvByWall => clock,
-    }
-}
-
 /// Writes the words for an event that lost or marked a packet, where packets are explained.
 #[tactic(auto, unfolding(crate::specs::Summary::noted))]
 fn push_noted(page: &mut Page, summary: &Summary, told: &Explained) -> Written
     ensures { OnOk result (page.new ≡ page.old ++ noted summary.now told.now) }
 {
     if summary.packets && is_lost_or_marked(told) {
-        pie_explain::push_words(page, clock_for(summary.form, told.told.clock), told)
+        pie_explain::push_words(page, summary.form.clock(told.told.clock), told)
     } else {
         Ok(())
     }
@@ -105,6 +92,7 @@ impl Report for Summary {
 
     ghost whole = { summary_of };
 
+    #[tactic(auto, unfolding(pie_aqm::specs::Places::last_or))]
     fn begin(&self, page: &mut Page) -> Result<Period, AllocError> {
         push_header(page, NAMES, self.form)?;
         let period = Period::empty(page.allocator())?;

@@ -1,12 +1,8 @@
-use Rattle.pie_summary.proofs.Names.{ℕ, ◌∙◌, ap, subst, sym, Err, Ok, OnOk, Result, HoldsFlows, HasFlows, period_at, since, span_of}
+use Rattle.pie_summary.proofs.Names.{ℕ, ◌∙◌, ap, subst, sym, HoldsFlows, HasFlows, period_at, since, span_of}
 use Rattle.std.proofs.Common.{Some}
+use Rattle.std.proofs.lemmas.Result.{on_ok_weaker}
 use Rattle.pie_summary.proofs.PeriodFacts.{last_events-push, last_period-push}
 use Rattle.pie_summary.proofs.flow_period.FlowPeriod.take.Goals as goal
-
--- what follows from what went well
-then_so : {P Q : Type 0} {E : Type 0} (result : Result (Unit {0}) E) → (P → Q) → OnOk result P → OnOk result Q
-then_so (Ok done) f p = f p
-then_so (Err why) f p = tt
 
 pub returns : goal.returns
 returns c = λ shown keeps.
@@ -16,7 +12,7 @@ returns c = λ shown keeps.
     let begun : HoldsFlows c.begin.new.self before =
     subst (λ (p : ℕ). HoldsFlows c.begin.new.self (since every (Some p) shown)) c.period_of-number.ensures (c.begin.ensures shown every keeps) in
     let last = sym (last_events-push every shown one) in
-    then_so c.take-2.result (λ taken. record {
+    on_ok_weaker c.take-2.result (λ taken. record {
       last = ap Some c.period_of-number.ensures ∙ sym (last_period-push every shown one);
       kept = record {
         span = c.take.ensures before begun.span ∙ ap span_of last;

@@ -1,5 +1,5 @@
 -- What is asked from a place of a list on.
-use Rattle.pie_kept.proofs.Names.{◌≡◌, ◌+◌, ◌-◌, ◌<◌, ℕ, suc, List, ◌∷◌, ap, sym, ◌∙◌, length, drop, length-drop, arith, Command, map, get_or}
+use Rattle.pie_kept.proofs.Names.{◌≡◌, ◌+◌, ◌-◌, ◌<◌, ℕ, List, ◌∷◌, ap, sym, ◌∙◌, length, drop, length-drop, arith, Command, map, get_or}
 use Rattle.pie_kept.proofs.Names.{drop_more, length-map, length-replicate}
 use lib.ListN.{replicate}
 
@@ -18,8 +18,5 @@ module _ {A : Type 0} (f : A → Command) where
 pub is_one_of : (most i : ℕ) (command : Command) → 0 < length (replicate (most - i) command) → i < most
 is_one_of most i command some = omega (arith, some, length-replicate (most - i) command)
 
-first_of : (n m : ℕ) (command : Command) → n ≡ suc m → replicate n command ≡ command ∷ replicate m command
-first_of n m command is = ap (λ (k : ℕ). replicate k command) is
-
 pub one_of : (most i : ℕ) (command : Command) → i < most → replicate (most - i) command ≡ command ∷ replicate (most - (i + 1)) command
-one_of most i command some = first_of (most - i) (most - (i + 1)) command (omega (arith, some))
+one_of most i command some = grind arith

@@ -4,7 +4,7 @@ use Rattle.pie_storm.proofs.Names.{◌≡◌, ℕ, ◌+◌, ◌<◌, List, [], l
 use Rattle.pie_storm.proofs.Names.{dite, ℕ_discrete, Bool, true, false, ◌||◌, get_or, is_within, nat_tests, GoesOn, Event, number_of, EntriesLookBack}
 use Rattle.pie_storm.proofs.Names.{Entry, CallerView, LinkView, Plan, Work, calls_of, folder, opening_of, updater, CameOf, HasNoMore, IsWell}
 use Rattle.pie_storm.proofs.Names.{IsWorkBelow, WereHanded, zero, suc, ◌≤◌, cond, ◌∷◌, ◌++◌, All, All-nil, All-cons, All-head, All-tail, own}
-use Rattle.pie_storm.proofs.Names.{own_none, due_after, effective_moment, entries_of, Made, Folded, Call, Ask, Fold, IsSound, total, AreMade}
+use Rattle.pie_storm.proofs.Names.{own_none, entries_of, Call, IsSound, total, AreMade}
 use Rattle.pie_storm.proofs.Names.{IsCutShort, IsStorm, Some, Ok, Err, Result, Bounded, Opening, IsLegal, handed_out, senders, IsEndOf, IsFor}
 use Rattle.pie_lock.specs.Promises.{IsBothOf}
 use Rattle.pie_lock.proofs.Owns.{goes_on, gone_on}
@@ -20,7 +20,7 @@ use Rattle.pie_book.specs.Statistics.{stats_after}
 use Rattle.pie_kept.specs.Kept.{TellsEntries}
 use Rattle.pie_storm.specs.declared.ending.StormEnd.{StormEnd}
 use Rattle.pie_storm.specs.declared.ending.StormFault.{StormFault}
-use Rattle.pie_storm.proofs.Making.{IsRight, few_made, handed_alone, handed_same, made_on, never_soon, numbered, own_entry, stays}
+use Rattle.pie_storm.proofs.Making.{IsRight, few_made, handed_alone, handed_same, made_on, numbered, own_entry, stays}
 use Rattle.pie_storm.proofs.PlanFacts.{IsCallOf, calls_are, no_calls}
 
 -- what came of a caller's calls in a history came of them in one that goes on with nothing more of it
@@ -65,8 +65,7 @@ fronts plan p q r n p_first p_limit q_first q_limit both =
     both.3
 
 pub neither : (a b : Bool) → (a || b) ≡ false → (a ≡ false) × (b ≡ false)
-neither false b is = (refl, is)
-neither true b is = absurd (cc is)
+neither a b is = (grind (arith, nat_tests), grind (arith, nat_tests))
 
 -- what the worker behind the others did is gathered to what they did
 pub together : (law : EntriesLookBack) (link : LinkView) (plan : Plan) (n : ℕ) (work last whole : Work)
@@ -127,32 +126,13 @@ starter_alone link plan caller rest folding begins first one same =
 -- ---- all callers together
 
 -- the entries below n are those of each of these callers
-length-cond : (b : Bool) (e : Entry) (xs : List Entry) → length (cond b (e ∷ xs) xs) ≡ length xs + cond b 1 0
-length-cond true e xs = omega arith
-length-cond false e xs = omega arith
-
-one_more : (n k : ℕ) → cond (is_within 0 n k) 1 0 + cond (is_within n (n + 1) k) 1 0 ≡ cond (is_within 0 (suc n) k) 1 0
-one_more n k = grind (arith, nat_tests)
-
 split : (n : ℕ) (xs : List Entry) → length (own number_of 0 n xs) + length (entries_of n xs) ≡ length (own number_of 0 (suc n) xs)
 split n [] = omega arith
-split n (e ∷ xs) = omega (
-  arith,
-  split n xs,
-  one_more n (number_of e),
-  length-cond (is_within 0 n (number_of e)) e (own number_of 0 n xs),
-  length-cond (is_within n (n + 1) (number_of e)) e (entries_of n xs),
-  length-cond (is_within 0 (suc n) (number_of e)) e (own number_of 0 (suc n) xs),
-)
-
-none_within : (k : ℕ) → is_within 0 0 k ≡ false
-none_within k = grind (arith, nat_tests)
+split n (e ∷ xs) = let rest = split n xs in grind (arith, nat_tests)
 
 none_below : (xs : List Entry) → length (own number_of 0 0 xs) ≤ 0
-none_below xs = omega (
-  arith,
-  ap (λ (l : List Entry). length l) (own_none number_of 0 0 xs (λ k d within. none_within (number_of (get_or xs k d)))),
-)
+none_below [] = omega arith
+none_below (e ∷ xs) = let rest = none_below xs in grind (arith, nat_tests)
 
 -- so with no more of each than this there are no more than in all, and with fewer of one fewer
 counted : (f : ℕ → ℕ) (n : ℕ) (xs : List Entry) → ((k : ℕ) → k < n → length (entries_of k xs) ≤ f k) → length (own number_of 0 n xs) ≤ total f n
@@ -178,41 +158,26 @@ callers_of_plan plan = suc (folder plan)
 abbrev IsBelow : ℕ → Entry → Type 0
 IsBelow n e = number_of e < n
 
-rest_of : (P : Entry → Type 0) (b : Bool) (e : Entry) (xs : List Entry) → All P (cond b (e ∷ xs) xs) → All P xs
-rest_of P true e xs all = All-tail P e xs all
-rest_of P false e xs all = all
+rest_of : (P : Entry → Type 0) (b : Bool) (e : Entry) (xs : List Entry) → All P (cond b (e ∷ xs) xs) → All P xs × (b ≡ true → P e)
+rest_of P true e xs all = (All-tail P e xs all, λ yes. All-head P e xs all)
+rest_of P false e xs all = (all, λ yes. absurd (cc yes))
 
 -- what holds of a caller's entries holds of each entry that is its
 of_its : (P : Entry → Type 0) (caller : ℕ) (xs : List Entry) → All P (entries_of caller xs) → All (λ e. number_of e ≡ caller → P e) xs
 of_its P caller [] all = All-nil (λ e. number_of e ≡ caller → P e)
 of_its P caller (e ∷ xs) all =
-    All-cons (λ e. number_of e ≡ caller → P e) e xs
-    (λ is.
-    let yes : is_within caller (caller + 1) (number_of e) ≡ true = grind (arith, nat_tests, is) in
-    All-head P e (entries_of caller xs) (subst (λ (b : Bool). All P (cond b (e ∷ entries_of caller xs) (entries_of caller xs))) yes all))
-    (of_its P caller xs (rest_of P (is_within caller (caller + 1) (number_of e)) e (entries_of caller xs) all))
+    let rest = rest_of P (is_within caller (caller + 1) (number_of e)) e (entries_of caller xs) all in
+    All-cons (λ e. number_of e ≡ caller → P e) e xs (λ is. rest.1 (grind (arith, nat_tests, is))) (of_its P caller xs rest.0)
 
 -- where the callers are n and those below, and n makes folds alone, there are no more events than entries of those below
 few_events : (n : ℕ) (xs : List Entry) → All (IsBelow (suc n)) xs → All (λ e. number_of e ≡ n → IsRight n e) xs
     → length (events_in xs) ≤ length (own number_of 0 n xs)
 few_events n [] below right = omega arith
-few_events n (Made event ∷ xs) below right =
-    let less : event.caller < suc n = All-head (IsBelow (suc n)) (Made event) xs below in
-    let other : event.caller ≡ n → ⊥ = λ is. All-head (λ e. number_of e ≡ n → IsRight n e) (Made event) xs right is is in
-    let lower : event.caller < n = omega (arith, less, other) in
-    let yes : is_within 0 n event.caller ≡ true = grind (arith, nat_tests, lower) in
-    omega (
-      arith,
-      ap {B = ℕ} (λ (b : Bool). cond b 1 0) yes,
-      length-cond (is_within 0 n event.caller) (Made event) (own number_of 0 n xs),
-      few_events n xs (All-tail (IsBelow (suc n)) (Made event) xs below) (All-tail (λ e. number_of e ≡ n → IsRight n e) (Made event) xs right),
-    )
-few_events n (Folded caller count ∷ xs) below right = omega (
-  arith,
-  length-cond (is_within 0 n caller) (Folded caller count) (own number_of 0 n xs),
-  few_events n xs (All-tail (IsBelow (suc n)) (Folded caller count) xs below)
-      (All-tail (λ e. number_of e ≡ n → IsRight n e) (Folded caller count) xs right),
-)
+few_events n (e ∷ xs) below right =
+    let less = All-head (IsBelow (suc n)) e xs below in
+    let its = All-head (λ e. number_of e ≡ n → IsRight n e) e xs right in
+    let rest = few_events n xs (All-tail (IsBelow (suc n)) e xs below) (All-tail (λ e. number_of e ≡ n → IsRight n e) e xs right) in
+    grind (arith, nat_tests)
 
 -- ---- what a caller's entries are
 
@@ -226,12 +191,7 @@ module _ (plan : Plan) (caller : ℕ) where
   -- a call that comes to nothing is the updater's or the folder's
   not_passed : (before : List Entry) (call : Call) → (caller ≡ updater plan → ⊥) → (caller ≡ folder plan → ⊥) → IsIts call
       → WasPassedOver (opening_of plan) before call → ⊥
-  not_passed before (Ask command) no_updates no_folds its was =
-      let h = events_in before in
-      let opening = opening_of plan in
-      never_soon (effective_moment opening h) (due_after opening h) (length h) opening.limits.events command was.due
-      (its.2 no_updates (effective_moment opening h) (due_after opening h)) was.refused
-  not_passed before (Fold n) no_updates no_folds its was = no_folds its
+  not_passed before call no_updates no_folds its was = grind (arith, nat_tests)
 
   none_passed : (front : List Entry) (calls : List Call) (h : List Entry) (passed : ℕ) → (caller ≡ updater plan → ⊥) → (caller ≡ folder plan → ⊥)
       → All IsIts calls → AreMade (opening_of plan) caller front calls h passed → passed ≡ 0
@@ -242,10 +202,7 @@ module _ (plan : Plan) (caller : ℕ) where
       absurd (not_passed m.0 call no_updates no_folds (All-head IsIts call calls its) m.3)
 
   right_by : (call : Call) → IsIts call → (entry : Entry) → IsEntryOf caller call entry → IsFine entry
-  right_by (Ask command) its (Made event) is = λ folds. its.0 (sym is.0 ∙ folds)
-  right_by (Ask command) its (Folded who n) is = absurd is
-  right_by (Fold n) its (Made event) is = absurd is
-  right_by (Fold n) its (Folded who count) is = is.0 ∙ its
+  right_by call its entry is = grind (arith, nat_tests)
 
   all_right_by : (front : List Entry) (calls : List Call) (h : List Entry) (passed : ℕ) → All IsIts calls
       → AreMade (opening_of plan) caller front calls h passed → All IsFine (entries_of caller front) → All IsFine (entries_of caller h)

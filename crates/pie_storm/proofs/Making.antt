@@ -1,15 +1,14 @@
 -- What a caller's calls come to, in a history that grows: one by one or in bursts; and what its folds hand out.
-use Rattle.pie_storm.proofs.Names.{◌≡◌, ℕ, ◌+◌, Bool, true, false, List, [], ◌∷◌, ◌++◌, take, refl, ap, sym, ◌∙◌, arith, eq-eqb, if◌then◌else◌, All}
+use Rattle.pie_storm.proofs.Names.{◌≡◌, ℕ, ◌+◌, true, false, List, [], ◌∷◌, ◌++◌, take, refl, ap, sym, ◌∙◌, arith, All}
 use Rattle.pie_storm.proofs.Names.{nat_tests, append-nil, All-head, All-tail, is_within, NoneOwn, gone_on, Event, Opening, handed_to, number_of}
-use Rattle.pie_storm.proofs.Names.{tail_in, EntriesLookBack, Entry, Made, Folded, HasNoMore, is_number, zero, suc, ◌≤◌, ◌==◌, ◌⊎◌, cond, Some, None}
-use Rattle.pie_storm.proofs.Names.{Ok, Err, Option, Result, Vec, drop, min, length, slice_get, subst, inl, inr, ⊎_elim, length-append, length-drop}
-use Rattle.pie_storm.proofs.Names.{Global, take-add, take-length, length-take, append_assoc, GoesOn, goes_on_itself, Answer, Command, Bounded}
-use Rattle.pie_storm.proofs.Names.{Rolling, Refusal, is_refused_full, or_full, refusal_by_rule, refusal_with, due_after, effective_moment, event_of}
+use Rattle.pie_storm.proofs.Names.{tail_in, EntriesLookBack, Entry, Made, Folded, HasNoMore, is_number, zero, suc, ◌≤◌, Some, None}
+use Rattle.pie_storm.proofs.Names.{Ok, Err, Option, Result, Vec, drop, min, length, slice_get, subst, inl, inr, length-append, length-drop}
+use Rattle.pie_storm.proofs.Names.{Global, take-add, take-length, length-take, append_assoc, GoesOn, goes_on_itself, Answer, Command}
+use Rattle.pie_storm.proofs.Names.{Refusal, refusal_by_rule, refusal_with, event_of}
 use Rattle.pie_storm.proofs.Names.{entries_of, events_in, left_in, Told, CallerView, LinkView, Call, Ask, Fold, Plan, IsFair, calls_of, folder}
 use Rattle.pie_storm.proofs.Names.{opening_of, AreMade, CameBy, CameOf, IsAt, IsCutShort, IsFor, WereHanded, map, IfSome, IsOk, length-map, All-cons}
 use Rattle.pie_storm.proofs.Names.{All-nil, decision, Arrival, Reply, always, arrive, arriving, AddedByAll}
 use Rattle.std.proofs.lemmas.List.Elements.{filter-append, All-drop, All-take}
-use Rattle.pie_event.specs.declared.opening.Mode.{Mode}
 use Rattle.pie_event.specs.declared.refusal.FoldRefusal.{FoldRefusal}
 use Rattle.pie_event.specs.declared.refusal.FoldRefusal.TheVariants.{TooMany, Memory}
 use Rattle.pie_event.specs.declared.refusal.Refusal.TheVariants.{TooSoon, Moment, Size, Exhausted, HistoryFull}
@@ -26,24 +25,17 @@ use Rattle.pie_storm.proofs.PlanFacts.{IsCallOf, all_at, calls_are}
 pub handed_more : (law : EntriesLookBack) (opening : Opening) (caller : ℕ) (g : List Entry) (n who : ℕ) → who ≡ caller
     → handed_to (is_number caller) opening [] (g ++ Folded who n ∷ []) ≡ handed_to (is_number caller) opening [] g ++ take n (tail_in opening g)
 handed_more law opening caller g n who is =
-    law.handed (is_number caller) opening [] g (Folded who n ∷ [])
-    ∙ ap (λ (es : List Event). handed_to (is_number caller) opening [] g ++ es)
-    (append-nil (if is_number caller who then take n (tail_in opening g) else [])
-    ∙ ap (λ (b : Bool). if b then take n (tail_in opening g) else []) (eq-eqb who caller is))
+    let both = law.handed (is_number caller) opening [] g (Folded who n ∷ []) in grind (arith, nat_tests, append-nil)
 
 -- where the caller has no more entries nothing more is handed to it
 handed_none : (opening : Opening) (caller : ℕ) (before xs : List Entry) → NoneOwn number_of caller (caller + 1) xs
     → handed_to (is_number caller) opening before xs ≡ []
 handed_none opening caller before [] none = refl
-handed_none opening caller before (Made event ∷ xs) none =
-    handed_none opening caller (before ++ Made event ∷ []) xs (All-tail (λ e. is_within caller (caller + 1) (number_of e) ≡ false) (Made event) xs none)
-handed_none opening caller before (Folded other n ∷ xs) none =
-    let out : is_within caller (caller + 1) other ≡ false = none 0 (Folded other n) (omega arith) in
-    let apart : is_number caller other ≡ false = grind (arith, nat_tests, out) in
-    ap (λ (b : Bool). (if b then take n (tail_in opening before) else []) ++ handed_to (is_number caller) opening (before ++ Folded other n ∷ []) xs)
-    apart
-    ∙ handed_none opening caller (before ++ Folded other n ∷ []) xs
-    (All-tail (λ e. is_within caller (caller + 1) (number_of e) ≡ false) (Folded other n) xs none)
+handed_none opening caller before (entry ∷ xs) none =
+    let first = All-head (λ e. is_within caller (caller + 1) (number_of e) ≡ false) entry xs none in
+    let rest = handed_none opening caller (before ++ entry ∷ []) xs
+    (All-tail (λ e. is_within caller (caller + 1) (number_of e) ≡ false) entry xs none) in
+    grind (arith, nat_tests)
 
 pub handed_same : (law : EntriesLookBack) (opening : Opening) (caller : ℕ) (g h : List Entry) → HasNoMore caller g h
     → handed_to (is_number caller) opening [] h ≡ handed_to (is_number caller) opening [] g
@@ -63,36 +55,24 @@ IsRight folder (Folded who n) = who ≡ folder
 pub handed_alone : (opening : Opening) (folder : ℕ) (before h : List Entry) → All (IsRight folder) h
     → handed_to (is_number folder) opening before h ≡ handed_to (λ caller. true) opening before h
 handed_alone opening folder before [] right = refl
-handed_alone opening folder before (Made event ∷ h) right =
-    handed_alone opening folder (before ++ Made event ∷ []) h (All-tail (IsRight folder) (Made event) h right)
-handed_alone opening folder before (Folded who n ∷ h) right =
-    ap (λ (b : Bool). (if b then take n (tail_in opening before) else []) ++ handed_to (is_number folder) opening (before ++ Folded who n ∷ []) h)
-    (eq-eqb who folder (All-head (IsRight folder) (Folded who n) h right))
-    ∙ ap (λ (es : List Event). take n (tail_in opening before) ++ es)
-    (handed_alone opening folder (before ++ Folded who n ∷ []) h (All-tail (IsRight folder) (Folded who n) h right))
+handed_alone opening folder before (entry ∷ h) right =
+    let first = All-head (IsRight folder) entry h right in
+    let rest = handed_alone opening folder (before ++ entry ∷ []) h (All-tail (IsRight folder) entry h right) in
+    grind (arith, nat_tests)
 
 module _ (caller : ℕ) where
   pub stays : (h : List Entry) → HasNoMore caller h h
   stays h = goes_on_itself number_of caller (caller + 1) h
 
   goes_on : (h k l : List Entry) → HasNoMore caller h k → HasNoMore caller k l → HasNoMore caller h l
-  goes_on h k l a b = (
-    (a.0.0 ++ b.0.0, sym (append_assoc h a.0.0 b.0.0) ∙ (ap (λ (x : List Entry). x ++ b.0.0) a.0.1 ∙ b.0.1)),
-    b.1 ∙ a.1,
-  )
+  goes_on h k l a b = ((a.0.0 ++ b.0.0, let first = a.0.1 in let second = b.0.1 in grind (arith, append_assoc)), b.1 ∙ a.1)
 
   -- a caller's own entry is one more of its entries
   pub own_entry : (g : List Entry) (entry : Entry) → number_of entry ≡ caller → entries_of caller (g ++ entry ∷ []) ≡ entries_of caller g ++ entry ∷ []
-  own_entry g entry e =
-      let yes : is_within caller (caller + 1) (number_of entry) ≡ true = grind (arith, nat_tests, e) in
-      filter-append (λ (x : Entry). is_within caller (caller + 1) (number_of x)) g (entry ∷ [])
-      ∙ ap (λ w. entries_of caller g ++ w) (ap (λ (b : Bool). cond b (entry ∷ []) []) yes)
+  own_entry g entry e = grind (arith, nat_tests, filter-append)
 
   pub numbered : (call : Call) (entry : Entry) → IsEntryOf caller call entry → number_of entry ≡ caller
-  numbered (Ask command) (Made event) is = is.0
-  numbered (Ask command) (Folded who n) is = absurd is
-  numbered (Fold count) (Made event) is = absurd is
-  numbered (Fold count) (Folded who n) is = is.0
+  numbered call entry is = grind (arith, nat_tests)
 
 module _ (opening : Opening) (caller : ℕ) where
   -- what was made by one that had been shown more, was made by one that had been shown less
@@ -124,21 +104,17 @@ module _ (opening : Opening) (caller : ℕ) where
   -- there are no more entries than calls
   pub few_made : (front : List Entry) (calls : List Call) (h : List Entry) (passed : ℕ) → AreMade opening caller front calls h passed
       → length (entries_of caller h) ≤ length (entries_of caller front) + length calls
-  few_made front [] h passed m = omega (arith, ap (λ (l : List Entry). length l) m.0.1)
-  few_made front (call ∷ calls) h passed (inl m) = omega (
-    arith,
-    few_made (m.0 ++ m.1 ∷ []) calls h passed m.4,
-    ap (λ (l : List Entry). length l) (own_entry caller m.0 m.1 (numbered caller call m.1 m.3)),
-    length-append (entries_of caller m.0) (m.1 ∷ []),
-    ap (λ (l : List Entry). length l) m.2.1,
-  )
-  few_made front (call ∷ calls) h passed (inr m) =
-      omega (arith, few_made m.0 calls h m.1 m.5, ap (λ (l : List Entry). length l) m.2.1)
+  few_made front [] h passed m = let same = m.0.1 in grind arith
+  few_made front (call ∷ calls) h passed (inl m) =
+      let rest = few_made (m.0 ++ m.1 ∷ []) calls h passed m.4 in
+      let one = own_entry caller m.0 m.1 (numbered caller call m.1 m.3) in
+      let same = m.2.1 in
+      grind (arith, length-append)
+  few_made front (call ∷ calls) h passed (inr m) = let rest = few_made m.0 calls h m.1 m.5 in let same = m.2.1 in grind arith
 
 -- what a list has at a place, where it is cut
 one_at : {A : Type 0} (xs : List A) (k : ℕ) (x : A) → slice_get xs k ≡ Some x → take 1 (drop k xs) ≡ x ∷ []
-one_at [] zero x e = absurd (cc e)
-one_at [] (suc k) x e = absurd (cc e)
+one_at [] k x e = absurd (grind arith)
 one_at (y ∷ xs) zero x e = ap (λ z. z ∷ []) (cc e)
 one_at (y ∷ xs) (suc k) x e = one_at xs k x e
 
@@ -149,58 +125,24 @@ seen link number before history at on = rw (at.first, at.limit) at on
 
 -- ---- why a command is refused
 
--- a refusal is by the rules, or for a full tail
-which : (by_rule : Option Refusal) (full : Bool) (why : Refusal) → or_full by_rule full ≡ Some why
-    → (by_rule ≡ Some why) ⊎ ((by_rule ≡ None) × (why ≡ HistoryFull) × (full ≡ true))
-which None false why is = absurd (cc)
-which None true why is = inr (refl, cc, refl)
-which (Some other) full why is = inl is
-
 -- why a command is refused, where its reply is a refusal
 refused_why : (why : Option Refusal) (told : Told Answer) (w : Refusal) → refused_or_told why told ≡ Err w → why ≡ Some w
-refused_why None told w e = absurd (cc e)
-refused_why (Some other) told w e = cc e
+refused_why why told w e = grind (arith, nat_tests)
 
 -- a refusal as too soon is the rules'
 pub too_soon_by_rule : (opening : Opening) (history : List Entry) (command : Command) (due : ℕ) → refusal_in opening history command ≡ Some (TooSoon due)
     → refusal_by_rule opening (events_in history) command ≡ Some (TooSoon due)
-too_soon_by_rule opening history command due why =
-    ⊎_elim (λ e. e) (λ e. absurd (cc (e.1)))
-    (which (refusal_by_rule opening (events_in history) command)
-    (is_refused_full opening.choices.mode (length (tail_in opening history) == opening.limits.tail)) (TooSoon due) why)
+too_soon_by_rule opening history command due why = grind (arith, nat_tests)
 
 -- where a command comes in time it isn't refused as too soon
 pub never_soon : (before due count events : ℕ) (command : Command) (d : ℕ) → is_too_soon before due command ≡ false
     → refusal_with before due count events command ≡ Some (TooSoon d) → ⊥
 never_soon before due count events command d calm e = grind (arith, nat_tests, calm, e)
 
--- a fair command that is refused, and not as too soon, came where there was no room for it
-no_room : (before due count events : ℕ) (command : Command) (why : Refusal) → IsFair command → refusal_with before due count events command ≡ Some why
-    → ((d : ℕ) → why ≡ TooSoon d → ⊥) → events ≤ count
-no_room before due count events command why fair is not_soon = grind (arith, nat_tests, fair.moment, fair.size, is, not_soon)
-
-full_tail : (mode : Mode) (held room : ℕ) → is_refused_full mode (held == room) ≡ true → held ≡ room
-full_tail Bounded held room full = grind (arith, nat_tests, full)
-full_tail Rolling held room full = absurd (cc full)
-
 pub full_after : (opening : Opening) (history : List Entry) (command : Command) (why : Refusal) → IsFair command → refusal_in opening history command ≡ Some why
     → ((d : ℕ) → why ≡ TooSoon d → ⊥) → min opening.limits.tail opening.limits.events ≤ length (events_in history)
 full_after opening history command why fair is not_soon =
-    let events = events_in history in
-    ⊎_elim
-    (λ e. omega (
-      arith,
-      no_room (effective_moment opening events) (due_after opening events) (length events) opening.limits.events command why fair e
-          not_soon,
-    ))
-    (λ e. omega (
-      arith,
-      full_tail opening.choices.mode (length (tail_in opening history)) opening.limits.tail e.2,
-      length-drop
-          (left_in opening history) events,
-    ))
-    (which (refusal_by_rule opening events command) (is_refused_full opening.choices.mode (length (tail_in opening history) == opening.limits.tail))
-    why is)
+    let few = length-drop (left_in opening history) (events_in history) in grind (arith, nat_tests)
 
 -- ---- what a turn comes to
 
@@ -347,10 +289,7 @@ module _ (plan : Plan) (number k : ℕ) (front : List Entry) (passed : ℕ)
 -- an arrival is never too soon
 arrives_in_time : (opening : Opening) (h : List Entry) (a : Arrival) (why : Refusal) → refusal_in opening h (arrive a) ≡ Some why
     → (d : ℕ) → why ≡ TooSoon d → ⊥
-arrives_in_time opening h a why e d is =
-    let events = events_in h in
-    never_soon (effective_moment opening events) (due_after opening events) (length events) opening.limits.events (arrive a) d refl
-    (too_soon_by_rule opening h (arrive a) d (e ∙ ap Some is))
+arrives_in_time opening h a why e d is = grind (arith, nat_tests)
 
 module _ (law : EntriesLookBack) (plan : Plan) (caller : ℕ) where
   -- an arrival after a history, and what the history is after it
@@ -396,15 +335,9 @@ module _ (law : EntriesLookBack) (plan : Plan) (caller : ℕ) where
       (length (entries_of caller end) ≤ length (entries_of caller g) + count) × (length (events_in g) ≤ length (events_in end))
 
   grows_by : (g : List Entry) (a : Arrival) (reply : Reply) → Grows g 1 (grown g a reply)
-  grows_by g a (Ok told) =
-      let entry = Made (event_of caller (arrive a) told.answer) in (
-        omega (arith, ap (λ (l : List Entry). length l) (own_entry caller g entry refl), length-append (entries_of caller g) (entry ∷ [])),
-        omega (arith, ap (λ (l : List Event). length l) (law.events g (entry ∷ [])), length-append (events_in g) (events_in (entry ∷ []))),
-      )
-  grows_by g a (Err why) = (
-    omega (arith, ap (λ (l : List Entry). length (entries_of caller l)) (append-nil g)),
-    omega (arith, ap (λ (l : List Entry). length (events_in l)) (append-nil g)),
-  )
+  grows_by g a reply =
+      let more = law.events g (entries_by caller (arrive a) reply) in
+      (grind (arith, nat_tests, length-append, filter-append), grind (arith, nat_tests, length-append))
 
   grows : (g : List Entry) (burst : List Arrival) → Grows g (length burst) (after_all g burst)
   grows g [] = (omega arith, omega arith)
@@ -489,5 +422,4 @@ burst_next law plan number k n link link_for before after at (a ∷ later) repli
 
 -- no arrival of a burst is passed over
 pub few_by_all : (replies : List Reply) (passed : Option ℕ) → AddedByAll replies passed → IfSome passed (λ n. n ≤ 1)
-few_by_all replies passed (inl all) = subst (λ (p : Option ℕ). IfSome p (λ n. n ≤ 1)) (sym all.1) (omega arith)
-few_by_all replies passed (inr none) = subst (λ (p : Option ℕ). IfSome p (λ n. n ≤ 1)) (sym none.1) tt
+few_by_all replies passed added = grind (arith, nat_tests)

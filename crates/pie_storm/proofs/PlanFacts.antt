@@ -51,20 +51,12 @@ pub drawn : (first second third last : Stream) (size ecn word : ℕ) → (size, 
     → (word, last) ≡ next_u64 third
     → (size ≡ (next_u64 first).0) × (ecn ≡ (next_u64 (next_u64 first).1).0) × (word ≡ (next_u64 (next_u64 (next_u64 first).1).1).0)
     × (last ≡ after_three first)
-drawn first second third last size ecn word one two three =
-    let second_is : second ≡ (next_u64 first).1 = ap (λ p. p.1) one in
-    let third_is : third ≡ (next_u64 (next_u64 first).1).1 = ap (λ p. p.1) two ∙ ap (λ (s : Stream). (next_u64 s).1) second_is in (
-      ap (λ p. p.0) one,
-      ap (λ p. p.0) two ∙ ap (λ (s : Stream). (next_u64 s).0) second_is,
-      ap (λ p. p.0) three ∙ ap (λ (s : Stream). (next_u64 s).0) third_is,
-      ap (λ p. p.1) three ∙ ap (λ (s : Stream). (next_u64 s).1) third_is,
-    )
+drawn first second third last size ecn word one two three = (grind arith, grind arith, grind arith, grind arith)
 
 -- ---- what holds of all of a list
 
 of_if : {A : Type 0} (P : A → Type 0) (b : Bool) (x y : A) → (b ≡ true → P x) → P y → P (if b then x else y)
-of_if P true x y p q = p refl
-of_if P false x y p q = q
+of_if P b x y p q = grind (arith, nat_tests)
 
 pub all_of : {A B : Type 0} (P : A → Type 0) (Q : B → Type 0) (f : A → B) (xs : List A) → ((x : A) → P x → Q (f x)) → All P xs → All Q (map f xs)
 all_of P Q f xs each a = All-map Q f xs (All-weaker P (λ x. Q (f x)) each xs a)
@@ -132,7 +124,4 @@ part_of k n list part calls has is =
 pub sender_has : (plan : Plan) (caller : ℕ) (list : Vec Arrival Global) → 1 ≤ caller → caller ≤ senders plan
     → slice_get plan.arrivals.items (caller - 1) ≡ Some list → calls_of plan caller ≡ map arriving list.items
 unfolding calls_of
-sender_has plan caller list one within at =
-    let not_first : (caller == 0) ≡ false = grind (arith, nat_tests, one) in
-    let sender : nat_le caller (senders plan) ≡ true = grind (arith, nat_tests, within) in
-    rw (not_first, sender, at) refl
+sender_has plan caller list one within at = grind (arith, nat_tests)

@@ -1,6 +1,6 @@
 -- The events of a legal history are of their kinds, and few; and the text that it is written as is clean.
 use Rattle.pie_storm.proofs.Names.{◌≡◌, ◌≤◌, ◌<◌, ◌^◌, ℕ, List, [], ◌∷◌, ◌++◌, map, length, true, refl, ap, sym, subst, ◌∙◌, arith, IfSome, Option}
-use Rattle.pie_storm.proofs.Names.{Some, None, Result, Ok, Err, append-nil, Command, Event, Opening, IsLegal, IsLegalAt, decision, Plan, opening_of}
+use Rattle.pie_storm.proofs.Names.{nat_tests, Some, None, Result, Ok, Err, append-nil, Command, Event, Opening, IsLegal, IsLegalAt, decision, Plan, opening_of}
 use Rattle.std.specs.Prelude.{All, OnOk}
 use Rattle.std.specs.Io.KnownBytes.{Appends}
 use Rattle.pie_aqm.specs.Places.{Place, after, places}
@@ -8,14 +8,13 @@ use Rattle.pie_event.specs.Deed.{fits}
 use Rattle.pie_event.specs.Opening.{opening_refusal}
 use Rattle.pie_event.specs.declared.opening.Limits.{Limits}
 use Rattle.pie_record.specs.ReadBack.{TellsHistory}
-use Rattle.pie_record.specs.HistoryLines.{event_count}
 use Rattle.pie_record.specs.Text.{Row, records_of, rows_text}
 use Rattle.pie_excerpt.specs.Beginning.{resumed_of}
 use Rattle.pie_record.specs.Write.{written_rows}
 use Rattle.pie_record.specs.declared.history_record.Line.{Line}
 use Rattle.pie_record.specs.declared.history_record.Line.TheVariants.{Made}
 use Rattle.pie_audit.specs.Auditor.{Audits, AuditorView}
-use Rattle.pie_audit.specs.Finding.{events_of, finding, finding_by, first_difference}
+use Rattle.pie_audit.specs.Finding.{events_of, finding, first_difference}
 use Rattle.pie_audit.specs.Legal.{EventsAreLines}
 use Rattle.pie_audit.specs.Legal.{AreLegal}
 use Rattle.pie_audit.specs.Text.{excerpt_lines, text_finding, whole_finding}
@@ -78,24 +77,19 @@ differs-never are_lines whole opening own events event is legal differs =
     ∙ clean-legal are_lines whole own events legal in
     cc
 
-none-of-clean : (first : Option ℕ) (count events : ℕ) → finding_by first count ≡ Clean events → first ≡ None
-none-of-clean None count events is = refl
-none-of-clean (Some event) count events is = absurd (cc is)
-
 no-difference : (opening : Opening) (lines : List Line) (events : ℕ) → finding opening lines ≡ Clean events → first_difference opening lines ≡ None
 unfolding finding
-no-difference opening lines events is = none-of-clean (first_difference opening lines) (event_count lines) events is
+no-difference opening lines events is = grind (arith, nat_tests)
+
+few-limits : (limits : Limits) (moment n : ℕ) → opening_refusal limits moment ≡ None → limits.events ≡ limits.tail → n ≤ limits.events → n < 2 ^ 32
+few-limits limits moment n accepted same few = grind (arith, nat_tests)
 
 few-events : EventsAreLines → WholeIsClean → (opening : Opening) (auditor : AuditorView) (events : List Event) → IsLegal opening events
     → Audits opening auditor (map Made events) → opening.limits.events ≡ opening.limits.tail → length events < 2 ^ 32
 few-events are_lines whole opening auditor events legal audits same =
     let agreed = audits.agrees (audits.differs ∙ no-difference opening (map Made events) (length events) (clean-legal are_lines whole opening events legal))
     in
-    let most = tail-most opening.limits opening.moment audits.accepted in
-    omega (arith, agreed.within, are_lines.count events, most, same)
-  where
-    tail-most : (limits : Limits) (moment : ℕ) → opening_refusal limits moment ≡ None → limits.tail ≤ 1048576
-    tail-most limits moment accepted = grind (arith, accepted)
+    few-limits opening.limits opening.moment (length events) audits.accepted same (omega (arith, agreed.within, are_lines.count events))
 
 -- ---- the history of a storm
 

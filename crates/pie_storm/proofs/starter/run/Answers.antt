@@ -2,13 +2,6 @@ use Rattle.pie_storm.proofs.Names.{ℕ, ap, subst, CallerView, IsWorkBelow}
 use Rattle.pie_storm.proofs.Gathering.{ended}
 use Rattle.pie_storm.proofs.starter.run.Goals as goal
 
-pub work_at_once-requires-clause-begins : goal.work_at_once-requires-clause-begins
-work_at_once-requires-clause-begins g c κs within = record {
-  own = ap (λ (p : CallerView). p.lock) c.requires.starter;
-  new = ap (λ (p : CallerView). p.front) c.requires.starter;
-  link_for = c.requires.link_for;
-}
-
 pub returns-clause-ended : goal.returns-clause-ended
 returns-clause-ended g c =
     let plan = c.args.plan.now in

@@ -1,16 +1,6 @@
-use Rattle.pie_storm.proofs.Names.{◌≡◌, [], refl, length, arith, calls_of, CameBy}
-use Rattle.pie_storm.proofs.Making.{came_cut, came_of_all, made_more, stays}
+use Rattle.pie_storm.proofs.Names.{◌≡◌, length, arith, calls_of, CameBy}
+use Rattle.pie_storm.proofs.Making.{came_cut, came_of_all, made_more}
 use Rattle.pie_storm.proofs.worker.make_all.Goals as goal
-
-pub loop-k-init : goal.loop-k-init
-loop-k-init g c = record {
-  calls = omega arith;
-  few = omega arith;
-  within = omega arith;
-  at = c.requires.at;
-  made = λ well. rw c.requires.begins.new (stays c.args.number [], refl);
-  handed = λ well folds. rw (c.requires.none, c.requires.begins.new) refl;
-}
 
 pub loop-k-preserved : goal.loop-k-preserved
 loop-k-preserved g c =

@@ -13,7 +13,11 @@ fn main(mut rt: HostRuntime) -> ExitCode {
     };
     let (alloc, history) = (rt.alloc(), rt.stdin());
     let mut output = rt.stdout();
-    let answer = explain(alloc, history, &mut output, Selection::of(which), Form::Text);
+    let in_words = Form {
+        csv: false,
+        by_wall: false,
+    };
+    let answer = explain(alloc, history, &mut output, Selection::of(which), in_words);
     match answer {
         Ok(_) => ExitCode::from(0),
         Err(why) => {

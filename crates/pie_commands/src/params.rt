@@ -37,10 +37,26 @@ fn asked_in<E: Write>(options: &ArgMatches<'_>, errors: &mut E) -> Option<Tuning
     ensures asked { IfSome result (AsksFor (rows_of (found_of options.now))) }
     ensures none { result ≡ None → (asked : TuningOptions) → AsksFor (rows_of (found_of options.now)) asked → ⊥ }
 {
-    let rate = read_of(text(options, "rate").map_or(Ok(0), rate_of), "rate", errors)?;
-    let target = read_of(text(options, "target").map_or(Ok(15_000_000), time_of), "target", errors)?;
-    let t_update = read_of(text(options, "tupdate").map_or(Ok(15_000_000), time_of), "tupdate", errors)?;
-    let packets = read_of(text(options, "limit").map_or(Ok(1000), packets_of), "limit", errors)?;
+    let rate = read_of(
+        text(options, "rate").map_or(Ok(0), |text| rate_of(text)),
+        "rate",
+        errors,
+    )?;
+    let target = read_of(
+        text(options, "target").map_or(Ok(15_000_000), |text| time_of(text)),
+        "target",
+        errors,
+    )?;
+    let t_update = read_of(
+        text(options, "tupdate").map_or(Ok(15_000_000), |text| time_of(text)),
+        "tupdate",
+        errors,
+    )?;
+    let packets = read_of(
+        text(options, "limit").map_or(Ok(1000), |text| packets_of(text)),
+        "limit",
+        errors,
+    )?;
     let Some(decay) = decay_of(options) else {
         let _ = writeln!(errors, "pie: --decay is zero or half");
         return None;

@@ -216,7 +216,3 @@ words_by clock all =
     ∷ codes "  at " ∷ moment_words clock all.told.moment ∷ codes ", by caller " ∷ decimal all.told.event.caller ∷ codes "\n"
     ∷ reason_words clock all.told.before all.told.cause ∷ turned_words all.told.before.active all.after.active
     ∷ before_words clock all.told ∷ [])
-
--- .. by the trace's clock
-abbrev pub words : Explained → List ℕ
-words all = words_by None all

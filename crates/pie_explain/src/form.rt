@@ -1,6 +1,5 @@
 //! How explanations are written.
-ghost use Rattle.std.specs.Prelude.{◌≡◌};
-ghost use Rattle.pie_explain.specs.Output.{clock_for};
+ghost use Rattle.std.specs.Prelude.{◌≡◌, None, if◌then◌else◌};
 
 use pie_record::Clock;
 
@@ -17,7 +16,7 @@ pub struct Form {
 impl Form {
     /// The record by which moments are told as times of day.
     pub fn clock(self, told: Option<Clock>) -> Option<Clock>
-        ensures { result ≡ clock_for self told }
+        ensures { result ≡ (if self.by_wall then told else None) }
     {
         if self.by_wall { told } else { None }
     }

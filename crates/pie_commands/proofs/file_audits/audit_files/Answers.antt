@@ -1,12 +1,6 @@
-use Rattle.pie_commands.proofs.Names.{◌<◌, ℕ, length, map, take, refl, inl, rules, subst, sym, length-map, stays-on}
-use Rattle.pie_commands.proofs.FileAuditFacts.{audits-more, audits-none, audits-taken, tells-given}
+use Rattle.pie_commands.proofs.Names.{◌<◌, ℕ, length, map, take, rules, subst, sym, length-map, stays-on}
+use Rattle.pie_commands.proofs.FileAuditFacts.{audits-more, audits-taken, tells-given}
 use Rattle.pie_commands.proofs.file_audits.audit_files.Goals as goal
-
-pub loop-place-init : goal.loop-place-init
-loop-place-init g c = record {
-  stays = inl refl;
-  audits = audits-none c.args.are_joined (g.R.Read.remaining c.args.input) (g.H.NamedFiles.holds c.args.rt.now) (g.W.Write.contents c.args.output.now);
-}
 
 pub loop-place-preserved : goal.loop-place-preserved
 loop-place-preserved g c =

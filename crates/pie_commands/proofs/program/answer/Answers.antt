@@ -1,5 +1,5 @@
 use Rattle.clap.specs.Words.{found_of, rows_of}
-use Rattle.pie_commands.proofs.SubcommandFacts.{answers-none, answers-performed, answers-unable}
+use Rattle.pie_commands.proofs.SubcommandFacts.{answers-performed, answers-unable}
 use Rattle.pie_commands.proofs.program.answer.Goals as goal
 
 pub returns-in-Some : goal.returns-in-Some
@@ -8,11 +8,6 @@ returns-in-Some g c words finds =
     (g.R.Read.remaining c.args.input) g.H.NamedFiles.fresh (g.H.NamedFiles.holds c.args.rt.now) (g.H.NamedFiles.holds c.performed.new.rt) c.performed.result
     (g.W.Write.contents c.args.output.now) (g.W.Write.contents c.performed.new.output) (rw c.in-Ok.is at finds) c.in-Some.ensures.name
     c.in-Some.ensures.rows c.performed.ensures
-
-pub returns-in-None : goal.returns-in-None
-returns-in-None g c words finds =
-    rw c.failed.ensures (answers-none words c.in-Ok.matches (g.R.Read.remaining c.args.input) g.H.NamedFiles.fresh (g.H.NamedFiles.holds c.args.rt.now)
-    (g.W.Write.contents c.args.output.now) (g.W.Write.contents c.args.output.now) (rw c.in-Ok.is at finds) (c.asked_of.ensures.none c.in-None.is))
 
 pub returns-in-Err : goal.returns-in-Err
 returns-in-Err g c words finds =

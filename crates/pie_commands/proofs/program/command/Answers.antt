@@ -1,9 +1,5 @@
 use Rattle.pie_commands.proofs.Names.{map, string_bytes}
-use Rattle.pie_commands.proofs.EndFacts.{status-most}
 use Rattle.pie_commands.proofs.program.command.Goals as goal
-
-pub returns-clause-status : goal.returns-clause-status
-returns-clause-status g c = status-most c.answer-end.result
 
 pub returns-clause-keeps : goal.returns-clause-keeps
 returns-clause-keeps g c = (c.answer-end.ensures (map string_bytes c.args.words.now) c.matches_of-found.ensures).keeps

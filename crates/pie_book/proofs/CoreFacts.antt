@@ -1,8 +1,8 @@
 -- What a core holds, where it shows a history, is what looking back over the history gives; and it shows the history with one event more
 -- after each command.
 use Rattle.std.proofs.Common.{◌≡◌, ◌≤◌, ◌<◌, ◌+◌, ℕ, List, [], ◌∷◌, ◌++◌, map, length, true, refl, ap, subst, ◌∙◌, sym, arith, length-append, max}
-use Rattle.std.proofs.Common.{None, Some, All, is_some, append-nil, ◌-◌, drop, Bool, cond, Option, filter_map, drop-drop, length-drop}
-use Rattle.std.proofs.Common.{if◌then◌else◌, sum_by, ◌↔◌}
+use Rattle.std.proofs.Common.{None, Some, All, is_some, append-nil, drop, Bool, cond, Option, filter_map, drop-drop, length-drop}
+use Rattle.std.proofs.Common.{if◌then◌else◌, sum_by, ◌↔◌, add-zero}
 use Rattle.std.proofs.lemmas.Bool.Decides.{nat_tests}
 use Rattle.std.proofs.lemmas.List.{map-append, drop-append-le, append_assoc}
 use Rattle.std.proofs.lemmas.List.Elements.{All-cons, All-head, All-nil, All-push, All-tail, All-pop}
@@ -59,15 +59,12 @@ waiting_after-push opening history event fewer =
     (by_deed (deed_of event) (departed_count history) (admitted opening history) (max (effective_moment opening history) (handed_in event.command))
     fewer)
   where
-    same : (n : ℕ) (entries : List Waiting) → drop (n + 0) entries ≡ drop n entries
-    same n entries = let none : n + 0 ≡ n = omega arith in ap (λ k. drop k entries) none
-
     by_deed : (d : Deed) (n : ℕ) (entries : List Waiting) (now : ℕ) → n ≤ length entries
         → drop (n + cond (is_some (departure d)) 1 0) (with_one entries (admission now d)) ≡ waiting_next (drop n entries) now d
     by_deed (departed packet) n entries now within = sym (drop-drop 1 n entries)
-    by_deed (queued packet) n entries now within = same n (entries ++ _ ∷ []) ∙ drop-append-le n entries (_ ∷ []) within
-    by_deed (marked packet) n entries now within = same n (entries ++ _ ∷ []) ∙ drop-append-le n entries (_ ∷ []) within
-    by_deed _ n entries now within = same n entries
+    by_deed (queued packet) n entries now within = simp add-zero (drop-append-le n entries (_ ∷ []) within)
+    by_deed (marked packet) n entries now within = simp add-zero (drop-append-le n entries (_ ∷ []) within)
+    by_deed _ n entries now within = simp add-zero
 
 -- no more packets have departed than were queued, after an event that lets one depart only where one waits
 pub departed-push : (opening : Opening) (history : List Event) (event : Event) → departed_count history ≤ length (admitted opening history)
@@ -75,16 +72,13 @@ pub departed-push : (opening : Opening) (history : List Event) (event : Event) �
     → departed_count (history ++ event ∷ []) ≤ length (admitted opening (history ++ event ∷ []))
 unfolding waiting_after
 departed-push opening history event fewer waits =
-    rw (admitted-push opening history event, departed_count-push history event)
-    (by (is_some (departure (deed_of event))) (departed_count history) (length (admitted opening history)) _ (λ some. rw length-drop at waits some) fewer
-    (longer (admission (max (effective_moment opening history) (handed_in event.command)) (deed_of event))))
+    let some = λ (is : is_some (departure (deed_of event)) ≡ true). (rw length-drop at waits is) in
+    let more = longer (admission (max (effective_moment opening history) (handed_in event.command)) (deed_of event)) in
+    rw (admitted-push opening history event, departed_count-push history event) (grind (arith, nat_tests))
   where
     longer : (one : Option Waiting) → length (admitted opening history) ≤ length (with_one (admitted opening history) one)
     longer None = omega arith
     longer (Some entry) = let more = length-append (admitted opening history) (entry ∷ []) in omega (arith, more)
-
-    by : (b : Bool) (n a more : ℕ) → (b ≡ true → 0 < a - n) → n ≤ a → a ≤ more → n + cond b 1 0 ≤ more
-    by b n a more some within up = grind (arith, nat_tests)
 
 -- ---- .. and to the statistics
 

@@ -66,9 +66,7 @@ accumulated-run before clearing (suc n) prob e some =
     let quiet : is_clearing (arrival true prob Derandomized Enqueue) ≡ false = ne_eqb prob 0 (λ z. omega arith) in
     let more : before ++ clearing ∷ replicate (suc n) (arrival true prob Derandomized Enqueue)
     ≡ (before ++ clearing ∷ replicate n (arrival true prob Derandomized Enqueue)) ++ arrival true prob Derandomized Enqueue ∷ []
-    = ap (λ xs. before ++ clearing ∷ xs) (ap (λ k. replicate k (arrival true prob Derandomized Enqueue)) (sym (add-one n))
-    ∙ sym (replicate_more n (arrival true prob Derandomized Enqueue)))
-    ∙ sym (append_assoc before (clearing ∷ replicate n (arrival true prob Derandomized Enqueue)) (arrival true prob Derandomized Enqueue ∷ [])) in
+    = simp (append_assoc, replicate_more, add-one) in
     rw more (accumulated-push (before ++ clearing ∷ replicate n (arrival true prob Derandomized Enqueue)) (arrival true prob Derandomized Enqueue) quiet
     ∙ ap (λ k. k + prob) (accumulated-run before clearing n prob e some) ∙ omega arith)
 

@@ -1,20 +1,18 @@
 -- What one more event does to each list that the parts are shown, and to whether the controller is active.
-use Rattle.std.proofs.Common.{◌≡◌, ℕ, List, [], ◌∷◌, ◌++◌, map, Bool, true, false, refl, ap, ◌∙◌, sym, ◌&&◌, if◌then◌else◌, ◌≤◌, ◌-◌, subst}
-use Rattle.std.proofs.Common.{arith}
+use Rattle.std.proofs.Common.{◌≡◌, ℕ, List, [], ◌∷◌, ◌++◌, map, Bool, true, false, refl, ap, ◌∙◌, sym, ◌&&◌, if◌then◌else◌, ◌≤◌, ◌-◌, subst, arith}
 use Rattle.std.specs.Prelude.{max, Option, Some, None, unwrap_or, min}
 use Rattle.std.specs.List.{filter_map, after_last}
 use Rattle.std.proofs.lemmas.Bool.Decides.{nat_tests}
 use Rattle.std.proofs.lemmas.List.{append-nil, append_assoc, map-append}
 use Rattle.pie_aqm.specs.{RawParams, Departure, Profile, One, Two, ControllerEvent, Opened, moment_of, params_set, Noted, active_of, change_at}
-use Rattle.pie_aqm.specs.{change_by, clears_rate, clears_wait, clears_wait_at, control_at, updates_shown, control_of, wait_at}
-use Rattle.pie_aqm.specs.{wait_shown, waited_noted, waited_of, control_shown, delay_noted, departure_shown, departures_shown}
-use Rattle.pie_aqm.specs.{departures_of, early_at, arrivals_shown, early_of, early_shown, events_of, is_active, is_active_in, is_calm_noted, now_of}
-use Rattle.pie_aqm.specs.{note, noted, noted_after, params_of, parts_of, turns_on_by, Place, last_or, places, keeps_wait, measures}
-use Rattle.pie_aqm.specs.{Enqueue, ArrivingPacket, considered_where, verdict_shown, accu_left, offered, verdict, Elements, departure}
-use Rattle.pie_aqm.specs.{Estimate, Parts, Arrive, Call, Change, Depart, HasThreshold, Pass, Restart, Update, after_call, shown_by, ShowsCall, Arrived, Departed}
-use Rattle.pie_aqm.specs.{Updated, Reset, Changed, Shows, estimate_of, held_of, greatest, anew, bytes_with, capped, control_updated}
-use Rattle.pie_aqm.specs.{delay_in, departed, is_calm, judged, no_estimate, opened, opens_active, passed, renewed, stays_active, turns_on, updated}
-use Rattle.pie_aqm.specs.{wait_of}
+use Rattle.pie_aqm.specs.{change_by, clears_rate, clears_wait, clears_wait_at, control_at, updates_shown, control_of, wait_at, wait_shown}
+use Rattle.pie_aqm.specs.{waited_noted, waited_of, control_shown, delay_noted, departure_shown, departures_shown, departures_of, early_at}
+use Rattle.pie_aqm.specs.{arrivals_shown, early_of, early_shown, events_of, is_active, is_active_in, is_calm_noted, now_of, note, noted, noted_after}
+use Rattle.pie_aqm.specs.{params_of, parts_of, turns_on_by, Place, last_or, places, keeps_wait, measures, Enqueue, ArrivingPacket, considered_where}
+use Rattle.pie_aqm.specs.{verdict_shown, accu_left, offered, verdict, Elements, departure, Estimate, Parts, Arrive, Call, Change, Depart}
+use Rattle.pie_aqm.specs.{HasThreshold, Pass, Restart, Update, after_call, shown_by, ShowsCall, Arrived, Departed, Updated, Reset, Changed, Shows}
+use Rattle.pie_aqm.specs.{estimate_of, held_of, greatest, anew, bytes_with, capped, control_updated, delay_in, departed, is_calm, judged, no_estimate}
+use Rattle.pie_aqm.specs.{opened, opens_active, passed, renewed, stays_active, turns_on, updated, wait_of}
 use Rattle.pie_aqm.proofs.Places.{filter_map-push, from_places-push, greatest-push, last_or-one, place_of, since-push, with_one}
 use Rattle.pie_aqm.specs.Held.{Held}
 use Rattle.pie_aqm.proofs.Sounds.{threshold-holds}

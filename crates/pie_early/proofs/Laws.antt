@@ -1,11 +1,9 @@
 -- How the accumulated probability changes when one more event joins the list at its end.
 use Rattle.pie_early.proofs.Names.{◌≡◌, ℕ, ◌+◌, ◌*◌, ◌<◌, Bool, true, false, cond, List, [], ◌∷◌, ◌++◌, refl, sym, ap, ◌∙◌, arith, if◌then◌else◌}
 use Rattle.pie_early.proofs.Names.{ne_eqb, Derandomized, Enqueue, EarlyEvent, arrival, accumulated, Shows, ◌≤◌, nat_tests, RawParams, Picking}
-use Rattle.pie_early.proofs.Names.{accumulates, cleared, Parts, Ecn, Choice, always_picked, is_considered}
-use Rattle.pie_early.proofs.Names.{is_picked}
-use Rattle.pie_early.proofs.Names.{picked_choice, accu_at, choice_at, Elements, name_of, place_of_cause, Offered, fate_of, counted}
-use Rattle.std.proofs.Common.{zero, suc, ◌-◌, not, length, drop, filter, replicate, add-one, append_assoc, ◌↔◌}
-use Rattle.std.proofs.Common.{◌&&◌, ◌/◌}
+use Rattle.pie_early.proofs.Names.{accumulates, cleared, Parts, Ecn, Choice, always_picked, is_considered, is_picked, picked_choice, accu_at}
+use Rattle.pie_early.proofs.Names.{choice_at, Elements, name_of, place_of_cause, Offered, fate_of, counted}
+use Rattle.std.proofs.Common.{zero, suc, ◌-◌, not, length, drop, filter, replicate, add-one, append_assoc, ◌↔◌, ◌&&◌, ◌/◌}
 use Rattle.std.specs.Prelude.{sum_by, IsTrue, nat_le}
 use Rattle.std.specs.List.{after_last, suffix_len}
 use Rattle.std.proofs.lemmas.List.{drop-append-le, drop_all, length_push, reverse-append, replicate_more}

@@ -216,8 +216,8 @@ active-update profile active calm = grind (arith, nat_tests)
 
 -- ---- with no event
 
-pub Shows_opened : (profile : Profile) (elements : Elements) (params : RawParams) (moment : ℕ) (new : Held) → new ≡ opened profile elements params moment
-    → Shows (record { profile = profile; elements = elements; params = params; moment = moment }) [] new
+pub Shows_opened : (profile : Profile) (elements : Elements) (params : RawParams) (moment : ℕ) (new : Held)
+    → new ≡ opened profile elements params moment → Shows (record { profile = profile; elements = elements; params = params; moment = moment }) [] new
 unfolding Shows held_of now_of params_of departures_shown departures_of waited_of waited_noted updates_shown control_of arrivals_shown early_of noted
     noted_after places greatest last_or Control.probability Control.last_delay Control.last_moment Control.granted_burst Control.burst_allowance
     Early.accumulated

@@ -1,20 +1,18 @@
 -- What one more event does to each list that the parts are shown, and to whether the controller is active.
-use Rattle.std.proofs.Common.{◌≡◌, ℕ, List, [], ◌∷◌, ◌++◌, map, Bool, true, false, refl, ap, ◌∙◌, sym, ◌&&◌, if◌then◌else◌, ◌≤◌, ◌-◌, subst}
-use Rattle.std.proofs.Common.{arith}
+use Rattle.std.proofs.Common.{◌≡◌, ℕ, List, [], ◌∷◌, ◌++◌, map, Bool, true, false, refl, ap, ◌∙◌, sym, ◌&&◌, if◌then◌else◌, ◌≤◌, ◌-◌, subst, arith}
 use Rattle.std.specs.Prelude.{max, Option, Some, None, unwrap_or, min}
 use Rattle.std.specs.List.{filter_map, after_last}
 use Rattle.std.proofs.lemmas.Bool.Decides.{nat_tests}
 use Rattle.std.proofs.lemmas.List.{append-nil, append_assoc, map-append}
 use Rattle.pie_aqm.specs.{RawParams, Departure, Profile, One, Two, ControllerEvent, Opened, moment_of, params_set, Noted, active_of, change_at}
-use Rattle.pie_aqm.specs.{change_by, clears_rate, clears_wait, clears_wait_at, control_at, updates_shown, control_of, wait_at}
-use Rattle.pie_aqm.specs.{wait_shown, waited_noted, waited_of, control_shown, delay_noted, departure_shown, departures_shown}
-use Rattle.pie_aqm.specs.{departures_of, early_at, arrivals_shown, early_of, early_shown, events_of, is_active, is_active_in, is_calm_noted, now_of}
-use Rattle.pie_aqm.specs.{note, noted, noted_after, params_of, parts_of, turns_on_by, Place, last_or, places, keeps_wait, measures}
-use Rattle.pie_aqm.specs.{Enqueue, ArrivingPacket, considered_where, verdict_shown, accu_left, offered, verdict, Elements, departure}
-use Rattle.pie_aqm.specs.{Estimate, Parts, Arrive, Call, Change, Depart, HasThreshold, Pass, Restart, Update, after_call, shown_by, ShowsCall, Arrived, Departed}
-use Rattle.pie_aqm.specs.{Updated, Reset, Changed, Shows, estimate_of, held_of, greatest, anew, bytes_with, capped, control_after, control_updated}
-use Rattle.pie_aqm.specs.{delay_in, departed, is_calm, judged, no_estimate, opened, opens_active, passed, renewed, stays_active, turns_on, updated}
-use Rattle.pie_aqm.specs.{wait_of}
+use Rattle.pie_aqm.specs.{change_by, clears_rate, clears_wait, clears_wait_at, control_at, updates_shown, control_of, wait_at, wait_shown}
+use Rattle.pie_aqm.specs.{waited_noted, waited_of, control_shown, delay_noted, departure_shown, departures_shown, departures_of, early_at}
+use Rattle.pie_aqm.specs.{arrivals_shown, early_of, early_shown, events_of, is_active, is_active_in, is_calm_noted, now_of, note, noted, noted_after}
+use Rattle.pie_aqm.specs.{params_of, parts_of, turns_on_by, Place, last_or, places, keeps_wait, measures, Enqueue, ArrivingPacket, considered_where}
+use Rattle.pie_aqm.specs.{verdict_shown, accu_left, offered, verdict, Elements, departure, Estimate, Parts, Arrive, Call, Change, Depart}
+use Rattle.pie_aqm.specs.{HasThreshold, Pass, Restart, Update, after_call, shown_by, ShowsCall, Arrived, Departed, Updated, Reset, Changed, Shows}
+use Rattle.pie_aqm.specs.{estimate_of, held_of, greatest, anew, bytes_with, capped, control_updated, delay_in, departed, is_calm, judged, no_estimate}
+use Rattle.pie_aqm.specs.{opened, opens_active, passed, renewed, stays_active, turns_on, updated, wait_of}
 use Rattle.pie_aqm.proofs.Places.{filter_map-push, from_places-push, greatest-push, last_or-one, place_of, since-push, with_one}
 use Rattle.pie_aqm.specs.Held.{Held}
 use Rattle.pie_aqm.proofs.Sounds.{threshold-holds}
@@ -218,8 +216,8 @@ active-update profile active calm = grind (arith, nat_tests)
 
 -- ---- with no event
 
-pub Shows_opened : (profile : Profile) (elements : Elements) (params : RawParams) (moment : ℕ) (new : Held) → new ≡ opened profile elements params moment
-    → Shows (record { profile = profile; elements = elements; params = params; moment = moment }) [] new
+pub Shows_opened : (profile : Profile) (elements : Elements) (params : RawParams) (moment : ℕ) (new : Held)
+    → new ≡ opened profile elements params moment → Shows (record { profile = profile; elements = elements; params = params; moment = moment }) [] new
 unfolding Shows held_of now_of params_of departures_shown departures_of waited_of waited_noted updates_shown control_of arrivals_shown early_of noted
     noted_after places greatest last_or Control.probability Control.last_delay Control.last_moment Control.granted_burst Control.burst_allowance
     Early.accumulated
@@ -310,54 +308,33 @@ module _ (o : Opened) (events : List ControllerEvent) where
 
   update-next : (queued moment : ℕ) → next_if false (Updated queued moment) ≡ updated (held_of o events) queued moment
   unfolding held_of
-  update-next queued moment = λ i. record (passed (held_of o events) moment) { active = active i; control = control i }
+  update-next queued moment = rw (calm-is queued, delay-is queued) (λ i. record (passed (held_of o events) moment) {
+    active = active-update o.profile (active_of o events) (is_calm (held_of o events) queued) i;
+    control = by (delay_in (held_of o events) queued) (max (now_of o events) moment) (active_of o events) i;
+  })
     where
       us : List ControlEvent
       us = updates_shown o events
 
-      now : ℕ
-      now = max (now_of o events) moment
-
-      active : active_next o.profile (active_of o events) (if active_of o events then (if is_calm_noted o (noted o events) queued then Some false else
-          None) else None) ≡ (active_of o events && stays_active o.profile (is_calm (held_of o events) queued))
-      active = rw (calm-is queued) (active-update o.profile (active_of o events) (is_calm (held_of o events) queued))
-
-      by : (delay : ℕ) (b : Bool) → parts_of o (us ++ (if b then update_at (params_of o events) o.elements delay now else idled now) ∷ [])
+      by : (delay now : ℕ) (b : Bool) → parts_of o (us ++ (if b then update_at (params_of o events) o.elements delay now else idled now) ∷ [])
           ≡ (if b then control_updated o.elements (params_of o events) (parts_of o us) delay now else record (parts_of o us) { last = now })
-      by delay true = sym (parts-is o _ _ (shows_updated o.params o.moment us _ _ (own us) (params_of o events) o.elements delay now refl))
-      by delay false = sym (parts-is o _ _ (shows_idled o.params o.moment us _ _ (own us) now refl))
-
-      control : parts_of o (us ++ (if active_of o events then update_at (params_of o events) o.elements (delay_noted o (noted o events) queued) now
-          else idled now) ∷ []) ≡ control_after (held_of o events) queued now
-      control = rw (delay-is queued) (by (delay_in (held_of o events) queued) (active_of o events))
+      by delay now true = sym (parts-is o _ _ (shows_updated o.params o.moment us _ _ (own us) (params_of o events) o.elements delay now refl))
+      by delay now false = sym (parts-is o _ _ (shows_idled o.params o.moment us _ _ (own us) now refl))
 
   reset-next : (moment : ℕ) → next_if false (Reset moment) ≡ after_call (held_of o events) (Restart moment)
   unfolding held_of
-  reset-next moment =
-      λ i. record (anew (passed (held_of o events) moment)) {
-        rate = none-is (params_of o events).dq_threshold i;
-        control = control-reset i;
-        accu = early-cleared i;
-      }
+  reset-next moment = simp (none-is, control-reset, early-cleared)
 
   change-next : (params : RawParams) (moment : ℕ) → next_if false (Changed params moment) ≡ after_call (held_of o events) (Change params moment)
   unfolding held_of
-  change-next params moment = λ i. record (passed (held_of o events) moment) { params = params; rate = none-is params.dq_threshold i }
+  change-next params moment = simp none-is
 
   arrive-next : (a : ArrivingPacket) (moment : ℕ) (on : Bool)
       → next_if on (Arrived (verdict (held_of o events) a) a.size a.queued (bytes_with (verdict (held_of o events) a) a.queued a.size) moment)
       ≡ (if on then record (anew (judged (held_of o events) a moment)) { active = true } else judged (held_of o events) a moment)
   unfolding held_of
-  arrive-next a moment true =
-      λ i. record (anew (judged (held_of o events) a moment)) {
-        active = active-on o.profile (active_of o events) i;
-        rate = none-is (params_of o events).dq_threshold i;
-        control = control-reset i;
-        accu = early-cleared i;
-      }
-  arrive-next a moment false =
-      let early = sym (early-step (held_of o events) a (arrivals_shown o events) refl) in
-      λ i. record (passed (held_of o events) moment) { accu = early i }
+  arrive-next a moment true = simp (active-on, none-is, control-reset, early-cleared)
+  arrive-next a moment false = simp (sym (early-step (held_of o events) a (arrivals_shown o events) refl))
 
   call-next : (call : Call) → HasThreshold (held_of o events) call
       → next_if (turned_on o events (shown_by (held_of o events) call)) (shown_by (held_of o events) call) ≡ after_call (held_of o events) call

@@ -115,8 +115,8 @@ module _ (h : Held) (sound : IsSound h) (moment : ℕ) (within : moment < 2 ^ 60
   depart-sound size left since =
       search (rules, sound, passed-moment, last, rates (measures h.active h.elements.delay), waits (keeps_wait h.active h.elements.delay))
     where
-      rates : (b : Bool) → let e : Estimate = if b then after_departure h.params.dq_threshold h.rate (departure size left (now_at h moment)) else h.rate in
-          (e.average < 2 ^ 60) × IsWithin h.params.dq_threshold (now_at h moment) e.begun
+      rates : (b : Bool) → let e : Estimate = if b then after_departure h.params.dq_threshold h.rate (departure size left (now_at h moment))
+          else h.rate in (e.average < 2 ^ 60) × IsWithin h.params.dq_threshold (now_at h moment) e.begun
       rates true =
           let threshold = threshold-holds h.params sound.params in
           let least = threshold.0 in

@@ -4,8 +4,7 @@
 -- looks back over all notes before it.
 use Rattle.std.specs.Prelude.{◌≡◌, ℕ, Bool, true, false, ◌&&◌, List, [], ◌∷◌, ◌++◌, map, Option, option_map, Some, None, if◌then◌else◌}
 use Rattle.std.specs.List.{filter_map, after_last}
-use Rattle.pie_aqm.specs.Types.{RawParams, Elements, Departure, departure, Parts, Enqueue, Mark, Drop, Profile, One, Two, Verdict}
-use Rattle.pie_aqm.specs.Types.{Picking}
+use Rattle.pie_aqm.specs.Types.{RawParams, Elements, Departure, departure, Parts, Enqueue, Mark, Drop, Profile, One, Two, Verdict, Picking}
 use Rattle.pie_aqm.specs.Held.{Held}
 use Rattle.pie_rate.specs.Average.{average}
 use Rattle.pie_rate.specs.Cycles.{begun}

@@ -127,24 +127,18 @@ abbrev pub keeps_wait : Bool → Delay → Bool
 keeps_wait active Rate = false
 keeps_wait active Stamp = active
 
--- the estimate after a packet of this size departed now and left so many bytes
-abbrev pub rate_after : Held → ℕ → ℕ → ℕ → Estimate
-rate_after h size left now =
-    if measures h.active h.elements.delay then after_departure h.params.dq_threshold h.rate (departure size left now) else h.rate
-
 -- what a packet had waited that departed now, had arrived then and left so many bytes: 0 where it left the queue empty (RFC 8033,
 -- section 4.3; the greatest is this project's own)
 abbrev pub wait_of : ℕ → ℕ → ℕ → ℕ
 wait_of left since now = if left == 0 then 0 else min (2 ^ 40) (now - since)
 
-abbrev pub waited_after : Held → ℕ → ℕ → ℕ → ℕ
-waited_after h left since now = if keeps_wait h.active h.elements.delay then wait_of left since now else h.waited
-
+-- after a packet of this size departed, had waited since then and left so many bytes
 abbrev pub departed : Held → ℕ → ℕ → ℕ → ℕ → Held
 departed h size left since moment = record h {
   moment = now_at h moment;
-  rate = rate_after h size left (now_at h moment);
-  waited = waited_after h left since (now_at h moment);
+  rate = if measures h.active h.elements.delay then after_departure h.params.dq_threshold h.rate (departure size left (now_at h moment))
+      else h.rate;
+  waited = if keeps_wait h.active h.elements.delay then wait_of left since (now_at h moment) else h.waited;
 }
 
 -- a threshold above 65536 bytes counted as 65536, for numbers that nobody checked

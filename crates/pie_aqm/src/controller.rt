@@ -1,8 +1,7 @@
 //! The controller and its calls: those of plain numbers that are in their ranges.
 ghost use Rattle.std.specs.Prelude.{◌≡◌, ◌+◌, ◌^◌, ◌≤◌, ◌↔◌, List, [], ◌∷◌, ◌++◌, true, false, None, Some, IsOk, IfOk, IfErr};
-ghost use Rattle.pie_aqm.specs.{Arrive, Change, Depart, Pass, Restart, Update, IsSound, Shows, ShowsCall};
-ghost use Rattle.pie_aqm.specs.{first_unsound, arrived, cause, changed, delay_answered, delay_in, departed, due, is_too_soon, opened, passed, reset};
-ghost use Rattle.pie_aqm.specs.{updated, verdict};
+ghost use Rattle.pie_aqm.specs.{Arrive, Change, Depart, Pass, Restart, Update, IsSound, Shows, ShowsCall, first_unsound, arrived, cause, changed};
+ghost use Rattle.pie_aqm.specs.{delay_answered, delay_in, departed, due, is_too_soon, opened, passed, reset, updated, verdict};
 ghost use Rattle.pie_event.specs.Cause.{verdict_of};
 ghost use Rattle.pie_event.specs.Verdict.{is_queued};
 

@@ -1,9 +1,8 @@
 //! The controller's rules over plain numbers.
 ghost use Rattle.std.specs.Prelude.{◌≡◌, ◌+◌, ◌^◌, ◌<◌, ◌≤◌, ℕ, IfSome, max, min, true, false};
 ghost use Rattle.pie_event.specs.Cause.{verdict_of};
-ghost use Rattle.pie_aqm.specs.{IsSound, accu_left, anew, arrived, capped, cause, changed, count_kept_open, delay_answered, delay_in};
-ghost use Rattle.pie_aqm.specs.{departed, due, is_too_soon, is_unmeasured, measures, opened, opens_active, passed, reset, updated, verdict};
-ghost use Rattle.pie_aqm.specs.{wait_of, with_count};
+ghost use Rattle.pie_aqm.specs.{IsSound, accu_left, anew, arrived, capped, cause, changed, count_kept_open, delay_answered, delay_in, departed, due};
+ghost use Rattle.pie_aqm.specs.{is_too_soon, is_unmeasured, measures, opened, opens_active, passed, reset, updated, verdict, wait_of, with_count};
 ghost use Rattle.pie_event.specs.CauseName.{name_of, place_of_cause};
 ghost use Rattle.pie_event.specs.Verdict.{is_queued};
 

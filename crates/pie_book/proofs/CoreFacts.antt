@@ -1,23 +1,20 @@
 -- What a core holds, where it shows a history, is what looking back over the history gives; and it shows the history with one event more
 -- after each command.
 use Rattle.std.proofs.Common.{◌≡◌, ◌≤◌, ◌<◌, ◌+◌, ℕ, List, [], ◌∷◌, ◌++◌, map, length, true, refl, ap, subst, ◌∙◌, sym, arith, length-append, max}
-use Rattle.std.proofs.Common.{None, Some, All, is_some, append-nil, ◌-◌, drop, Bool, cond, Option, filter_map, drop-drop, length-drop}
-use Rattle.std.proofs.Common.{if◌then◌else◌, sum_by, ◌↔◌}
+use Rattle.std.proofs.Common.{None, Some, All, is_some, append-nil, drop, Bool, cond, Option, filter_map, drop-drop, length-drop, if◌then◌else◌}
+use Rattle.std.proofs.Common.{sum_by, ◌↔◌, add-zero}
 use Rattle.std.proofs.lemmas.Bool.Decides.{nat_tests}
 use Rattle.std.proofs.lemmas.List.{map-append, drop-append-le, append_assoc}
 use Rattle.std.proofs.lemmas.List.Elements.{All-cons, All-head, All-nil, All-push, All-tail, All-pop}
 use Rattle.std.proofs.lemmas.List.Sums.{sum_by_push}
-use Rattle.pie_book.specs.{Packet, Waiting, One, Held, Command, Arrive, Depart, Answer, Event, Opening, opened_by}
-use Rattle.pie_book.specs.{arrival_of, cause_after, CoreView, Shows, counted, refusal_of, registers_of, with_queue, IsLegal}
-use Rattle.pie_book.specs.{IsLegalAt, answer_by, decision, refusal_by_rule, delay_after, delay_answered, held_after, admitted}
-use Rattle.pie_book.specs.{bytes_after, departed_count, effective_moment, waiting_after, registers_after, event_of, opened_of, shown, age_of_oldest}
-use Rattle.pie_book.specs.{largest_delay, largest_queue, stats_after, waited, answer_in, call_in, waiting_next, bytes_of, HasThreshold}
-use Rattle.pie_book.specs.{after_call, Place, places, greatest, Deed, deed, departure, fits, handed_in}
-use Rattle.pie_book.specs.{deed_of, admission, departed, marked, queued, count_of}
-use Rattle.pie_book.specs.{is_departure, bytes_departed, is_update, first_bad}
-use Rattle.pie_book.specs.{SetParams, IsNext, CommandFits, refusal_with, active_after, arriving_size, event_shown, oldest_since, shown_at}
-use Rattle.pie_book.specs.{delay_at, core_after, first_core, registers_with, after_calls, call_at, calls_of, held_after_calls}
-use Rattle.pie_book.specs.{Follows}
+use Rattle.pie_book.specs.{Packet, Waiting, One, Held, Command, Arrive, Depart, Answer, Event, Opening, opened_by, arrival_of, cause_after, CoreView}
+use Rattle.pie_book.specs.{Shows, counted, refusal_of, registers_of, with_queue, IsLegal, IsLegalAt, answer_by, decision, refusal_by_rule}
+use Rattle.pie_book.specs.{delay_after, delay_answered, held_after, admitted, bytes_after, departed_count, effective_moment, waiting_after}
+use Rattle.pie_book.specs.{registers_after, event_of, opened_of, shown, age_of_oldest, largest_delay, largest_queue, stats_after, waited, answer_in}
+use Rattle.pie_book.specs.{call_in, waiting_next, bytes_of, HasThreshold, after_call, Place, places, greatest, Deed, deed, departure, fits, handed_in}
+use Rattle.pie_book.specs.{deed_of, admission, departed, marked, queued, count_of, is_departure, bytes_departed, is_update, first_bad, SetParams}
+use Rattle.pie_book.specs.{IsNext, CommandFits, refusal_with, active_after, arriving_size, event_shown, oldest_since, shown_at, delay_at, core_after}
+use Rattle.pie_book.specs.{first_core, registers_with, after_calls, call_at, calls_of, held_after_calls, Follows}
 use Rattle.pie_aqm.specs.Steps.{cause, bytes_with, now_at}
 use Rattle.pie_aqm.proofs.Places.{place_of, places-push, from_places-push, greatest-push, with_one}
 use Rattle.pie_event.specs.Deed.{with_ce}
@@ -59,15 +56,12 @@ waiting_after-push opening history event fewer =
     (by_deed (deed_of event) (departed_count history) (admitted opening history) (max (effective_moment opening history) (handed_in event.command))
     fewer)
   where
-    same : (n : ℕ) (entries : List Waiting) → drop (n + 0) entries ≡ drop n entries
-    same n entries = let none : n + 0 ≡ n = omega arith in ap (λ k. drop k entries) none
-
     by_deed : (d : Deed) (n : ℕ) (entries : List Waiting) (now : ℕ) → n ≤ length entries
         → drop (n + cond (is_some (departure d)) 1 0) (with_one entries (admission now d)) ≡ waiting_next (drop n entries) now d
     by_deed (departed packet) n entries now within = sym (drop-drop 1 n entries)
-    by_deed (queued packet) n entries now within = same n (entries ++ _ ∷ []) ∙ drop-append-le n entries (_ ∷ []) within
-    by_deed (marked packet) n entries now within = same n (entries ++ _ ∷ []) ∙ drop-append-le n entries (_ ∷ []) within
-    by_deed _ n entries now within = same n entries
+    by_deed (queued packet) n entries now within = simp add-zero (drop-append-le n entries (_ ∷ []) within)
+    by_deed (marked packet) n entries now within = simp add-zero (drop-append-le n entries (_ ∷ []) within)
+    by_deed _ n entries now within = simp add-zero
 
 -- no more packets have departed than were queued, after an event that lets one depart only where one waits
 pub departed-push : (opening : Opening) (history : List Event) (event : Event) → departed_count history ≤ length (admitted opening history)
@@ -75,16 +69,13 @@ pub departed-push : (opening : Opening) (history : List Event) (event : Event) �
     → departed_count (history ++ event ∷ []) ≤ length (admitted opening (history ++ event ∷ []))
 unfolding waiting_after
 departed-push opening history event fewer waits =
-    rw (admitted-push opening history event, departed_count-push history event)
-    (by (is_some (departure (deed_of event))) (departed_count history) (length (admitted opening history)) _ (λ some. rw length-drop at waits some) fewer
-    (longer (admission (max (effective_moment opening history) (handed_in event.command)) (deed_of event))))
+    let some = λ (is : is_some (departure (deed_of event)) ≡ true). (rw length-drop at waits is) in
+    let more = longer (admission (max (effective_moment opening history) (handed_in event.command)) (deed_of event)) in
+    rw (admitted-push opening history event, departed_count-push history event) (grind (arith, nat_tests))
   where
     longer : (one : Option Waiting) → length (admitted opening history) ≤ length (with_one (admitted opening history) one)
     longer None = omega arith
     longer (Some entry) = let more = length-append (admitted opening history) (entry ∷ []) in omega (arith, more)
-
-    by : (b : Bool) (n a more : ℕ) → (b ≡ true → 0 < a - n) → n ≤ a → a ≤ more → n + cond b 1 0 ≤ more
-    by b n a more some within up = grind (arith, nat_tests)
 
 -- ---- .. and to the statistics
 
@@ -278,10 +269,9 @@ module _ (opening : Opening) (core : CoreView) (history : List Event) (shows : S
       let now : ℕ = now_at core.held (handed_in command) in
       let moment : now ≡ effective_moment opening (history ++ event ∷ []) =
       ap (λ (m : ℕ). max m (handed_in command)) shows.moment ∙ sym (effective_moment-push opening history event) in
-      let next : waiting_next core.waiting now d ≡ waiting_next (waiting_after opening history) (max (effective_moment opening history)
-      (handed_in command)) d = λ i. waiting_next (shows.waiting i) (max (shows.moment i) (handed_in command)) d in
       let waiting : waiting_next core.waiting now d ≡ waiting_after opening (history ++ event ∷ []) =
-      next ∙ sym (waiting_after-push opening history event (departed-of-legal opening history shows.legal)) in
+      (λ i. waiting_next (shows.waiting i) (max (shows.moment i) (handed_in command)) d)
+      ∙ sym (waiting_after-push opening history event (departed-of-legal opening history shows.legal)) in
       let told : event_shown d (arriving_size command) (oldest_since core.waiting) (bytes_of core.waiting)
       (bytes_of (waiting_next core.waiting now d)) (handed_in command) ≡ shown_at opening (place_of history event) =
       λ i. event_shown d (arriving_size command) (oldest_since (shows.waiting i)) (bytes_of (shows.waiting i)) (bytes_of (waiting i))

@@ -60,13 +60,9 @@ wait_of d now waiting = if is_departure d then age_of_oldest now waiting else 0
 abbrev pub wait_at : Opening → Place Event → ℕ
 wait_at opening place = wait_of (deed_of place.event) (effective_moment opening (up_to place)) (waiting_after opening place.before)
 
--- the delay of an update
-abbrev pub delay_shown : Deed → ℕ → Option ℕ
-delay_shown d delay = if is_update d then Some delay else None
-
--- .. at a place
+-- the delay of an update at a place
 abbrev pub delay_at : Opening → Place Event → Option ℕ
-delay_at opening place = delay_shown (deed_of place.event) (delay_answered opening place.before)
+delay_at opening place = if is_update (deed_of place.event) then Some (delay_answered opening place.before) else None
 
 -- the greatest number of bytes in the queue after an event
 unfoldable pub largest_queue : Opening → List Event → ℕ

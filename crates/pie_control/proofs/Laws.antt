@@ -1,7 +1,8 @@
 -- What one more update or reset at the end of the events does to what looking back gives.
-use Rattle.std.proofs.Common.{◌≡◌, refl, ℕ, ◌-◌, ◌≤◌, Bool, true, false, if◌then◌else◌, List, [], ◌∷◌, ◌++◌, reverse, arith, sum_by}
+use Rattle.std.proofs.Common.{◌≡◌, refl, ℕ, ◌-◌, ◌≤◌, Bool, if◌then◌else◌, List, [], ◌∷◌, ◌++◌, reverse, arith, sum_by}
 use Rattle.std.proofs.lemmas.List.{reverse-append}
 use Rattle.std.proofs.lemmas.List.Sums.{sum_by-cons}
+use Rattle.std.proofs.lemmas.Bool.Decides.{nat_tests}
 use Rattle.pie_params.specs.declared.raw.RawParams.{RawParams}
 use Rattle.pie_params.specs.declared.elements.Elements.{Elements}
 use Rattle.pie_control.specs.{ControlEvent, updated, idled, reset, Update, update_at, updates_after_reset, probability, last_delay, last_moment}
@@ -20,11 +21,7 @@ interval u = u.params.t_update
 refilled : (calm : Bool) (whole granted : ℕ) (u : Update) (spent : List Update)
     → (if calm then whole else granted) - sum_by interval (if calm then [] else (u ∷ spent))
     ≡ (if calm then whole else (granted - sum_by interval spent - interval u))
-refilled true whole granted u spent = let e : whole - 0 ≡ whole = omega arith in e
-refilled false whole granted u spent =
-    let cons = sum_by-cons interval u spent in
-    let e : granted - sum_by interval (u ∷ spent) ≡ granted - sum_by interval spent - interval u = omega arith in
-    e
+refilled calm whole granted u spent = let cons = sum_by-cons interval u spent in grind (arith, nat_tests)
 
 burst-updated : (opening : RawParams) (events : List ControlEvent) (params : RawParams) (elements : Elements) (delay moment : ℕ)
     → burst_allowance opening (events ++ update_at params elements delay moment ∷ [])

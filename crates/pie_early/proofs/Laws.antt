@@ -1,11 +1,9 @@
 -- How the accumulated probability changes when one more event joins the list at its end.
 use Rattle.pie_early.proofs.Names.{◌≡◌, ℕ, ◌+◌, ◌*◌, ◌<◌, Bool, true, false, cond, List, [], ◌∷◌, ◌++◌, refl, sym, ap, ◌∙◌, arith, if◌then◌else◌}
 use Rattle.pie_early.proofs.Names.{ne_eqb, Derandomized, Enqueue, EarlyEvent, arrival, accumulated, Shows, ◌≤◌, nat_tests, RawParams, Picking}
-use Rattle.pie_early.proofs.Names.{accumulates, cleared, Parts, Ecn, Choice, always_picked, is_considered}
-use Rattle.pie_early.proofs.Names.{is_picked}
-use Rattle.pie_early.proofs.Names.{picked_choice, accu_at, choice_at, Elements, name_of, place_of_cause, Offered, fate_of, counted}
-use Rattle.std.proofs.Common.{zero, suc, ◌-◌, not, length, drop, filter, replicate, add-one, append_assoc, ◌↔◌}
-use Rattle.std.proofs.Common.{◌&&◌, ◌/◌}
+use Rattle.pie_early.proofs.Names.{accumulates, cleared, Parts, Ecn, Choice, always_picked, is_considered, is_picked, picked_choice, accu_at}
+use Rattle.pie_early.proofs.Names.{choice_at, Elements, name_of, place_of_cause, Offered, fate_of, counted}
+use Rattle.std.proofs.Common.{zero, suc, ◌-◌, not, length, drop, filter, replicate, add-one, append_assoc, ◌↔◌, ◌&&◌, ◌/◌}
 use Rattle.std.specs.Prelude.{sum_by, IsTrue, nat_le}
 use Rattle.std.specs.List.{after_last, suffix_len}
 use Rattle.std.proofs.lemmas.List.{drop-append-le, drop_all, length_push, reverse-append, replicate_more}
@@ -66,9 +64,7 @@ accumulated-run before clearing (suc n) prob e some =
     let quiet : is_clearing (arrival true prob Derandomized Enqueue) ≡ false = ne_eqb prob 0 (λ z. omega arith) in
     let more : before ++ clearing ∷ replicate (suc n) (arrival true prob Derandomized Enqueue)
     ≡ (before ++ clearing ∷ replicate n (arrival true prob Derandomized Enqueue)) ++ arrival true prob Derandomized Enqueue ∷ []
-    = ap (λ xs. before ++ clearing ∷ xs) (ap (λ k. replicate k (arrival true prob Derandomized Enqueue)) (sym (add-one n))
-    ∙ sym (replicate_more n (arrival true prob Derandomized Enqueue)))
-    ∙ sym (append_assoc before (clearing ∷ replicate n (arrival true prob Derandomized Enqueue)) (arrival true prob Derandomized Enqueue ∷ [])) in
+    = simp (append_assoc, replicate_more, add-one) in
     rw more (accumulated-push (before ++ clearing ∷ replicate n (arrival true prob Derandomized Enqueue)) (arrival true prob Derandomized Enqueue) quiet
     ∙ ap (λ k. k + prob) (accumulated-run before clearing n prob e some) ∙ omega arith)
 

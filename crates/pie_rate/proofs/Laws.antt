@@ -1,6 +1,6 @@
 -- How each definition changes when one more departure joins the list at its end.
 use Rattle.std.proofs.Common.{◌≡◌, ℕ, zero, suc, ◌+◌, ◌-◌, ◌<◌, ◌≤◌, Bool, true, false, cond, List, [], ◌∷◌, ◌++◌, length, take, drop, Option, Some}
-use Rattle.std.proofs.Common.{None, refl, ap, ◌∙◌, arith, length-drop, map, eqb, sym, fold, ◌↔◌, ◌^◌, max}
+use Rattle.std.proofs.Common.{None, refl, ap, ◌∙◌, arith, length-drop, map, sym, fold, ◌↔◌, ◌^◌, max}
 use Rattle.std.specs.Prelude.{find, nat_le, nat_lt, IfSome, if◌then◌else◌, option_map}
 use Rattle.std.specs.List.{range_with_len}
 use Rattle.std.specs.Option.{option_or, ForSome}
@@ -13,7 +13,6 @@ use Rattle.std.proofs.Math.Numerals.{add-one}
 use Rattle.pie_rate.specs.{Departure, departure, departure_at, bytes_of, bytes_after, bytes_after_to, sample_of, samples, Cycle, first_position}
 use Rattle.pie_rate.specs.{first_opening, first_closing, first_cycle, cycles_from, cycles, last_closed, begun, averaged, average_of, average}
 use Rattle.pie_rate.specs.{with_sample, IsWithin, Shows, begun_at, after_departure, opened_by, step_from}
-use Rattle.std.proofs.lemmas.Bool.{ne_eqb, cond-false}
 use Rattle.pie_rate.specs.Estimate.{Begun, Estimate}
 
 -- one more number at the end of a range
@@ -33,12 +32,7 @@ find-range-same p q a (suc n) same =
 -- a number that is found lies in the range
 find-range-within : (p : ℕ → Bool) (low a n e : ℕ) → low ≤ a → a + n ≤ e → IfSome (find p (range_with_len a n)) (λ k. (low ≤ k) × (k < e))
 find-range-within p low a zero e l h = tt
-find-range-within p low a (suc n) e l h = by (p a) (find-range-within p low (a + 1) n e (omega arith) (omega arith))
-  where
-    by : (here : Bool) → IfSome (find p (range_with_len (a + 1) n)) (λ k. (low ≤ k) × (k < e))
-        → IfSome (cond {A = Option ℕ} here (Some a) (find p (range_with_len (a + 1) n))) (λ k. (low ≤ k) × (k < e))
-    by true later = (l, omega arith)
-    by false later = later
+find-range-within p low a (suc n) e l h = let later = find-range-within p low (a + 1) n e (omega arith) (omega arith) in grind (arith, nat_tests)
 
 -- the same of first positions
 first_position-push : (p q : ℕ → Bool) (from end : ℕ) → from ≤ end → ((k : ℕ) → from ≤ k → k < end → p k ≡ q k)
@@ -145,22 +139,19 @@ module _ (threshold : ℕ) (ds : List Departure) (d : Departure) where
   none_begun : (most from : ℕ) (b : Bool) → first_opening threshold (ds ++ d ∷ []) from ≡ (if b then None else Some (length ds))
       → cycles_from threshold (ds ++ d ∷ []) (suc most) from ≡ []
   unfolding cycles_from first_cycle
-  none_begun most from true e = rw e refl
-  none_begun most from false e = rw (e, none_closes) refl
+  none_begun most from b e = let closes = none_closes in grind (arith, nat_tests)
 
   one_begun : (most from i : ℕ) (b : Bool) → first_opening threshold (ds ++ d ∷ []) from ≡ Some i
       → first_closing threshold (ds ++ d ∷ []) i ≡ (if b then None else Some (length ds))
       → cycles_from threshold (ds ++ d ∷ []) (suc (suc most)) from ≡ (if b then [] else (record { opened = i; closed = length ds } ∷ []))
   unfolding cycles_from first_cycle
-  one_begun most from i true e f = rw (e, f) refl
-  one_begun most from i false e f =
-      rw (e, f) (ap (λ cs. record { opened = i; closed = length ds } ∷ cs) (none_begun most (length ds) (nat_lt d.bytes_left threshold) opens_at_end))
+  one_begun most from i b e f =
+      let none = none_begun most (length ds) (nat_lt d.bytes_left threshold) opens_at_end in grind (arith, nat_tests)
 
   begins_at : (from i : ℕ) (b : Bool) → first_opening threshold (ds ++ d ∷ []) from ≡ Some i
       → first_opening threshold (ds ++ d ∷ []) (last_closed from (if b then [] else (record { opened = i; closed = length ds } ∷ [])))
       ≡ (if b then Some i else opens)
-  begins_at from i true e = e
-  begins_at from i false e = opens_at_end
+  begins_at from i b e = let opening = opens_at_end in grind (arith, nat_tests)
 
   -- what is known of the cycles from a position on, where this departure is begun behind them: with one more departure there are those, and the
   -- one that it closes; they have the same samples, and what is begun then is known; what is begun lies within the list, and none closes it
@@ -259,8 +250,8 @@ module _ (threshold : ℕ) (ds : List Departure) (t : threshold ≤ 65536) where
   average_of-push [] sample = refl
   average_of-push (cycle ∷ rest) sample =
       let some = fold-positive (sample_of ds cycle) rest (omega arith) in
-      fold-append (averaged threshold) (sample_of ds cycle) (map (sample_of ds) rest) (sample ∷ [])
-      ∙ sym (cond-false (eqb (fold (averaged threshold) (sample_of ds cycle) (map (sample_of ds) rest)) 0) sample _ (ne_eqb _ 0 (λ e. omega arith)))
+      let more = fold-append (averaged threshold) (sample_of ds cycle) (map (sample_of ds) rest) (sample ∷ []) in
+      grind (arith, nat_tests)
 
   -- an average of departures is 0 where they make no cycle, and there alone
   pub average_zero : (average threshold ds ≡ 0) ↔ (cycles threshold ds ≡ [])
@@ -291,12 +282,7 @@ module _ (threshold : ℕ) (ds : List Departure) (d : Departure) where
   -- the cycle that is begun afterwards, where the departure may open one
   begun-opened : begun threshold (ds ++ d ∷ []) ≡ opens threshold ds d
       → opened_by threshold d ≡ option_map (begun_at (ds ++ d ∷ [])) (begun threshold (ds ++ d ∷ []))
-  begun-opened e = rw e (by (nat_lt d.bytes_left threshold))
-    where
-      by : (b : Bool) → (if b then None else Some (record { start = d.moment; count = 0 }))
-          ≡ option_map (begun_at (ds ++ d ∷ [])) (if b then None else Some (length ds))
-      by true = refl
-      by false = ap Some (sym begun_at-new)
+  begun-opened e = let new = begun_at-new in rw e (grind (arith, nat_tests))
 
   sample-new : (i : ℕ) → i < length ds → sample_of (ds ++ d ∷ []) (record { opened = i; closed = length ds })
       ≡ max 1 (d.moment - (departure_at ds i).moment)

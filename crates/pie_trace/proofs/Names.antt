@@ -1,6 +1,6 @@
 -- What the files of this folder take from below, in one place.
-pub use Rattle.std.proofs.Common.{Bool, List, [], ap, append_assoc, arith, drop, false, if◌then◌else◌, inl, inr, length, length-append, map, refl}
-pub use Rattle.std.proofs.Common.{rules, subst, suc, sym, take, true, zero, ℕ, ◌++◌, ◌+◌, ◌-◌, ◌<◌, ◌==◌, ◌^◌, ◌∙◌, ◌∷◌, ◌≡◌, ◌≢◌, ◌≤◌}
+pub use Rattle.std.proofs.Common.{Bool, List, [], ap, append_assoc, arith, drop, false, if◌then◌else◌, length, length-append, map, refl, rules, subst}
+pub use Rattle.std.proofs.Common.{suc, sym, take, true, zero, ℕ, ◌++◌, ◌+◌, ◌-◌, ◌<◌, ◌==◌, ◌^◌, ◌∙◌, ◌∷◌, ◌≡◌, ◌≢◌, ◌≤◌}
 pub use Rattle.std.proofs.KnownBytes.{Appends-nil, Appends-trans, Keeps-refl, append_known-grown}
 pub use Rattle.std.proofs.lemmas.Bool.{eqb-true, le-ltb, lt-ltb}
 pub use Rattle.std.proofs.lemmas.Bool.Decides.{nat_tests}
@@ -8,8 +8,8 @@ pub use Rattle.std.proofs.lemmas.List.{append-nil}
 pub use Rattle.std.proofs.lemmas.List.Elements.{All-append, All-cons, All-nil, filter_map-append}
 pub use Rattle.std.specs.Prelude.{All, OnErr, codes, nat_lt, option_map}
 pub use Rattle.pie_trace.specs.{Answer, Appends, Ask, BadParams, Begins, BookView, Bounded, Clean, Clock, Coming, Err, Event, FirstKind, Flaw, Fold}
-pub use Rattle.pie_trace.specs.{FoldRefusal, HasField, IfErr, IfOk, IfSome, IsAt, IsRead, IsTold, IsWrite, Line, migrates, moves_on, None, Ok, OnOk}
-pub use Rattle.pie_trace.specs.{One, Opening, Option, Progress, Refusal, Registers, Replies, Request, Result, Rolling, Row, Show, Shows, Some, Stats}
+pub use Rattle.pie_trace.specs.{FoldRefusal, HasField, IfErr, IfOk, IfSome, IsAt, IsTold, IsWrite, Line, migrates, moves_on, None, Ok, OnOk, One}
+pub use Rattle.pie_trace.specs.{Opening, Option, Progress, Refusal, Registers, Replies, Request, Result, Rolling, Row, Show, Shows, Some, Stats}
 pub use Rattle.pie_trace.specs.{Tally, TellTheSame, Tells, TellsHistory, Three, TraceFault, Two, Version, after, append_known, closed, code_of}
 pub use Rattle.pie_trace.specs.{end_at, end_left, events_in, fault_at, fields_of, fold_outcome, history_row, is_device, is_kind, later_rows, let_go}
 pub use Rattle.pie_trace.specs.{line_told, lines_left, rows_left, migrated_text, migrated_version, opening_refusal, outcome, partial_of}

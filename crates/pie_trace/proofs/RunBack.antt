@@ -132,19 +132,6 @@ module _ (version : Version) (held : Held) (opening : Opening) (opens : Opens op
 
 -- ---- all records
 
-pub record Good (version : Version) (most number : ℕ) (row : Row) : Type 0 where
-  pub request : Request
-  pub reads : request_of version row ≡ Ok request
-  pub within : number ≤ most
-
-pub good : (version : Version) (most number : ℕ) (row : Row) → record_fault version most number row ≡ None → Good version most number row
-unfolding record_fault
-good version most number row e = by (request_of version row) refl
-  where
-    by : (o : Result Request Flaw) → request_of version row ≡ o → Good version most number row
-    by (Ok request) r = record { request = request; reads = r; within = grind (arith, nat_tests, e) }
-    by (Err what) r = absurd (grind (arith, nat_tests, e, r))
-
 abbrev RowsTold : Version → Opening → ℕ → Progress → List Row → List Request → Type 0
 RowsTold version opening number progress rows requests = TellEach version (history_rows version number rows (replies opening progress requests))
     (lines_told requests (replies opening progress requests))
@@ -157,22 +144,22 @@ pub each-good : (version : Version) (most : ℕ) (opening : Opening) (P : ℕ �
     → P number progress (row ∷ rows) (request ∷ requests))
     → (number : ℕ) (progress : Progress) (rows : List Row)
     → P number progress (before_fault version most number rows) (requests_of version (before_fault version most number rows))
-unfolding requests_of before_fault
+unfolding requests_of before_fault record_fault
 each-good version most opening P none one number progress [] = none number progress
 each-good version most opening P none one number progress (row ∷ rows) =
-    by (record_fault version most number row) refl
+    by (record_fault version most number row) (request_of version row) refl refl
     (λ request. each-good version most opening P none one (number + 1) (after opening progress request) rows)
   where
     rest : List Row
     rest = before_fault version most (number + 1) rows
 
-    by : (o : Option TraceFault) → record_fault version most number row ≡ o
+    by : (o : Option TraceFault) (r : Result Request Flaw) → record_fault version most number row ≡ o → request_of version row ≡ r
         → ((request : Request) → P (number + 1) (after opening progress request) rest (requests_of version rest))
         → P number progress (before_fault version most number (row ∷ rows)) (requests_of version (before_fault version most number (row ∷ rows)))
-    by (Some why) e later = rw e (none number progress)
-    by None e later =
-        let g = good version most number row e in
-        rw (e, g.reads) (one number progress row rest g.request (requests_of version rest) g.within g.reads (later g.request))
+    by (Some why) r e q later = rw e (none number progress)
+    by None (Ok request) e q later =
+        rw (e, q) (one number progress row rest request (requests_of version rest) (grind (arith, nat_tests, e)) q (later request))
+    by None (Err what) e q later = absurd (grind (arith, nat_tests, e, q))
 
 pub rows-told : (version : Version) (held : Held) (most : ℕ) (opening : Opening) (number : ℕ) (progress : Progress) (rows : List Row) → most ≤ 2 ^ 32
     → Opens opening → Sound opening progress

@@ -1,6 +1,8 @@
 -- An audit of one file after another, of any or of those of one history.
-use Rattle.pie_commands.proofs.Names.{◌≡◌, ◌∙◌, ◌+◌, ◌<◌, ℕ, List, [], ◌∷◌, ◌++◌, add-one, get_or, length, take, Bool, true, false, Option, Some}
-use Rattle.pie_commands.proofs.Names.{None, inl, inr, refl, ap, subst, sym, ◌||◌, Appends, Appends-nil, Appends-trans, append-nil, map-append}
+use Rattle.std.proofs.Common.{arith}
+use Rattle.std.proofs.lemmas.Bool.Decides.{nat_tests}
+use Rattle.pie_commands.proofs.Names.{◌≡◌, ◌∙◌, ◌+◌, ◌<◌, ℕ, List, [], ◌∷◌, ◌++◌, add-one, get_or, length, take, Bool, false, Option, Some}
+use Rattle.pie_commands.proofs.Names.{None, inl, inr, refl, ap, subst, ◌||◌, Appends, Appends-nil, Appends-trans, append-nil, map-append}
 use Rattle.pie_commands.proofs.Names.{flat_map, flat_map-append, list_any, Text, Joined, EndView, Fault, ReadsNamed, text_given, Stays, reads-given}
 use Rattle.pie_commands.proofs.Names.{AreTold, AuditsFiles, EndsFiles, TellsRead, TellsText, Told, is_broken, is_unfound, lines_of, told_lines, worst}
 use Rattle.std.proofs.Math.Seq.{take-suc}
@@ -12,20 +14,12 @@ pub tells-given : {R : Type 0} (joined : Bool) (remaining : R → Option (List �
     (name : Text) (before : Option EndView) (told : Option Joined) (after : Option EndView) → Stays first input
     → TellsRead joined (ReadsNamed remaining input files name) before told after
     → TellsText joined (text_given (remaining first) files (Some name)) before told after
-tells-given joined remaining first input files name before None after stays tells = tells
-tells-given joined remaining first input files name before (Some told) after stays tells =
-    subst (λ (known : Option (List ℕ)). TellsText joined known before (Some told) after)
-    (reads-given remaining first input files name tells.0 stays tells.1) tells.2
+tells-given joined remaining first input files name before told after stays tells = grind (arith, reads-given)
 
 -- whether one of a list passes, with one more at its end
 any-more : {X : Type 0} (test : X → Bool) (xs : List X) (x : X) (before : Bool) → before ≡ list_any test xs
     → (before || test x) ≡ list_any test (xs ++ x ∷ [])
-any-more test xs x before is = sym (list_any-append test xs (x ∷ []) ∙ ap (λ (b : Bool). list_any test xs || b) (or-false (test x))
-    ∙ ap (λ (b : Bool). b || test x) (sym is))
-  where
-    or-false : (b : Bool) → (b || false) ≡ b
-    or-false true = refl
-    or-false false = refl
+any-more test xs x before is = grind (arith, nat_tests, list_any-append)
 
 -- the lines of the files, with one more
 lines-more : (told : List Told) (one : Told) → flat_map told_lines (told ++ one ∷ []) ≡ flat_map told_lines told ++ told_lines one

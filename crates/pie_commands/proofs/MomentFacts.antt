@@ -1,6 +1,5 @@
 -- What a getter of `clap` reads of an option that is given a moment, or a bound of moments.
-use Rattle.pie_commands.proofs.Names.{◌≡◌, ℕ, List, Option, Some, None, refl, sym, ap, Result, Ok, Err}
-use Rattle.pie_commands.proofs.Names.{option_map, units_of}
+use Rattle.pie_commands.proofs.Names.{◌≡◌, ℕ, List, Option, Some, None, refl, sym, ap, Result, Ok, Err, option_map, units_of}
 use Rattle.std.specs.Option.{option_transpose}
 use Rattle.clap.specs.Matches.{TriesOne}
 use Rattle.pie_units.specs.declared.moment.Moment.{Moment}

@@ -9,8 +9,7 @@ pub use Rattle.std.specs.List.{flat_map, list_any}
 pub use Rattle.std.specs.Prelude.{Err, IfErr, IfOk, IfSome, IsSome, Ok, Result, if◌then◌else◌, not, unwrap_or, ◌&&◌, ◌||◌}
 pub use Rattle.std.specs.Str.{bytes_eq}
 pub use Rattle.clap.proofs.WalkLemmas.{one_text-rows, raw_values-rows}
-pub use Rattle.clap.specs.Words.{App, HasMatchesOf, Text, app_of, found_of, kind_of, one_text, rows_of, subcommand_name_of}
-pub use Rattle.clap.specs.Words.{subcommand_rows_of, takes}
+pub use Rattle.clap.specs.Words.{App, HasMatchesOf, Text, app_of, found_of, kind_of, one_text, rows_of, subcommand_name_of, subcommand_rows_of, takes}
 pub use Rattle.pie_audit.specs.Text.{FindsEither}
 pub use Rattle.pie_commands.specs.Choice.{tale_of, told_by, units_of}
 unfoldable pub use Rattle.pie_commands.specs.Choice.{choice_of}

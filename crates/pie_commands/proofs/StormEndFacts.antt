@@ -1,6 +1,6 @@
 -- How a storm of the plan that the options ask for ends.
-use Rattle.pie_commands.proofs.Names.{◌≡◌, ℕ, List, Option, Some, None, subst, sym, inl, inr, refl, Elements, EndsStorm, elements_in, numbers_in}
-use Rattle.pie_commands.proofs.Names.{storm_ends, Done, Fault, Unable, Failed, TraceFault, IsWrite}
+use Rattle.pie_commands.proofs.Names.{◌≡◌, ℕ, List, Option, Some, None, subst, sym, inr, refl, Elements, EndsStorm, elements_in, numbers_in}
+use Rattle.pie_commands.proofs.Names.{storm_ends, Done, Fault, Failed, TraceFault, IsWrite}
 use Rattle.clap.specs.Words.{Row}
 use Rattle.pie_event.specs.declared.command.Event.{Event}
 use Rattle.pie_book.specs.Decision.{IsLegal}
@@ -10,7 +10,6 @@ use Rattle.pie_storm.specs.Plans.{opening_of}
 use Rattle.pie_storm.specs.Storms.{IsStorm}
 use Rattle.pie_storm.specs.StormHistory.{WritesHistory}
 use Rattle.pie_storm.specs.StormPlan.{IsStormPlan}
-use Rattle.pie_commands.specs.declared.end.End.TheVariants.{Differs}
 
 pub storm-ends : (options : List Row) (elements : Elements) (numbers : StormNumbers) (plan : Plan) (events listed : List Event) (too_soon too_many : ℕ)
     (before now : Option (List ℕ))
@@ -31,21 +30,9 @@ storm-ends options elements numbers plan events listed too_soon too_many before 
       },
     )
 
--- .. one that could not be made, or written, or whose words name no choice
-pub storm-unable : (chosen : Option Elements) (options : List Row) (before now : Option (List ℕ)) → now ≡ before
-    → storm_ends chosen options Unable before now
-storm-unable None options before now same = (inl refl, same)
-storm-unable (Some elements) options before now same = same
-
 pub storm-unwritten : (options : List Row) (elements : Elements) (why : TraceFault) (before now : Option (List ℕ)) → elements_in options ≡ Some elements
     → IsWrite why → EndsStorm options (Fault why) before now
 storm-unwritten options elements why before now chosen write = rw chosen write
 
 pub storm-unchosen : (options : List Row) (before : Option (List ℕ)) → elements_in options ≡ None → EndsStorm options Failed before before
 storm-unchosen options before none = rw none (inr refl, refl)
-
--- no event of a storm differs
-pub storm-same : (options : List Row) (chosen : Option Elements) (before now : Option (List ℕ)) → storm_ends chosen options Differs before now → ⊥
-storm-same options None before now (inl unable, same) = cc
-storm-same options None before now (inr failed, same) = cc
-storm-same options (Some elements) before now ended = ended

@@ -3,8 +3,7 @@ ghost use Rattle.std.specs.Prelude.{◌≡◌, IfSome};
 ghost use Rattle.clap.specs.Words.{found_of, rows_of};
 ghost use Rattle.pie_record.specs.Text.{records_of};
 ghost use Rattle.pie_explain.specs.Either.{ExplainsEither};
-ghost use Rattle.pie_commands.specs.Choice.{choice_of, chosen, every_of, form_of, is_either, is_summary, lasts};
-ghost use Rattle.pie_commands.specs.Choice.{tale_by, tale_of, told_by, which_of};
+ghost use Rattle.pie_commands.specs.Choice.{choice_of, chosen, every_of, form_of, is_either, is_summary, lasts, tale_by, tale_of, told_by, which_of};
 ghost use Rattle.pie_commands.specs.ExplainEnds.{EndsExplain, end_of_explain};
 
 use crate::end::{End, failed, faulted};

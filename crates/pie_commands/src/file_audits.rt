@@ -1,8 +1,7 @@
 //! `pie audit FILE..`: of files, each in turn; with `--joined` of those of one history, in its order.
 ghost use Rattle.std.specs.Prelude.{◌≡◌, ◌<◌, ◌||◌, [], IfOk, None, OnErr, OnOk, Some, get_or, length, map, true};
 ghost use Rattle.std.specs.Io.KnownBytes.{Appends};
-ghost use Rattle.pie_commands.specs.FileAudits.{EndsFiles, TellsRead, TellsText, is_broken, is_unfound, line_of_joint, lines_of};
-ghost use Rattle.pie_commands.specs.FileAudits.{named_line, worst};
+ghost use Rattle.pie_commands.specs.FileAudits.{EndsFiles, TellsRead, TellsText, is_broken, is_unfound, line_of_joint, lines_of, named_line, worst};
 ghost use Rattle.pie_files.specs.Files.{ReadsNamed, left_for};
 
 use crate::end::{End, faulted};

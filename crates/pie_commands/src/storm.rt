@@ -1,8 +1,7 @@
 //! `pie storm`: the storm that the options ask for, whose history is written.
 ghost use Rattle.std.specs.Prelude.{◌≡◌, Some, codes, option_map};
 ghost use Rattle.clap.specs.Words.{found_of, rows_of};
-ghost use Rattle.pie_commands.specs.StormEnds.{EndsStorm, choice_by, decay_in, elements_in, numbers_in};
-ghost use Rattle.pie_commands.specs.StormEnds.{profile_by};
+ghost use Rattle.pie_commands.specs.StormEnds.{EndsStorm, choice_by, decay_in, elements_in, numbers_in, profile_by};
 ghost use Rattle.pie_options.specs.Words.{number_or};
 ghost use Rattle.pie_storm.specs.StormPlan.{HasStormRange};
 

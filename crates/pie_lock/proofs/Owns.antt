@@ -1,6 +1,6 @@
 -- Which entries of a list stand under the numbers of a range, and lists that go on with none of them.
-use Rattle.pie_lock.proofs.Names.{◌≡◌, ℕ, ◌≤◌, Bool, true, false, cond, List, [], ◌∷◌, ◌++◌, length, refl, ap, sym, ◌∙◌, subst, arith, append-nil}
-use Rattle.pie_lock.proofs.Names.{append_cancel_left, All-cons, All-drop, All-head, All-nil, All-tail, All-take, filter-append, All, is_within, own}
+use Rattle.pie_lock.proofs.Names.{◌≡◌, ℕ, ◌≤◌, false, List, [], ◌∷◌, ◌++◌, length, refl, subst, arith, append-nil}
+use Rattle.pie_lock.proofs.Names.{nat_tests, append_cancel_left, All-cons, All-drop, All-head, All-nil, All-tail, All-take, filter-append, All, is_within, own}
 use Rattle.pie_lock.proofs.Names.{GoesOn}
 use Rattle.std.proofs.Math.Seq.{take-append_seam, drop-append_seam}
 
@@ -19,10 +19,6 @@ all_parts P xs ys all = (
   subst (All P) (drop-append_seam xs ys) (All-drop P (length xs) (xs ++ ys) all),
 )
 
-cond_empty : {A : Type 0} (b : Bool) (x : A) (ys : List A) → cond b (x ∷ ys) ys ≡ [] → (b ≡ false) × (ys ≡ [])
-cond_empty true x ys e = absurd (cc e)
-cond_empty false x ys e = (refl, e)
-
 module _ {E : Type 0} (number : E → ℕ) (first limit : ℕ) where
   -- none of these entries stands under a number of the range
   abbrev pub NoneOwn : List E → Type 0
@@ -34,30 +30,29 @@ module _ {E : Type 0} (number : E → ℕ) (first limit : ℕ) where
   pub own_none : (entries : List E) → NoneOwn entries → mine entries ≡ []
   own_none [] none = refl
   own_none (e ∷ rest) none =
-      subst (λ b. cond b (e ∷ mine rest) (mine rest) ≡ []) (sym (All-head (λ x. is_within first limit (number x) ≡ false) e rest none))
-      (own_none rest (All-tail (λ x. is_within first limit (number x) ≡ false) e rest none))
+      let out = All-head (λ x. is_within first limit (number x) ≡ false) e rest none in
+      let nothing = own_none rest (All-tail (λ x. is_within first limit (number x) ≡ false) e rest none) in
+      grind (arith, nat_tests)
 
   none_own : (entries : List E) → mine entries ≡ [] → NoneOwn entries
   none_own [] none = All-nil (λ e. is_within first limit (number e) ≡ false)
   none_own (e ∷ rest) none =
-      let c = cond_empty (is_within first limit (number e)) e (mine rest) none in
-      All-cons (λ x. is_within first limit (number x) ≡ false) e rest c.0 (none_own rest c.1)
+      All-cons (λ x. is_within first limit (number x) ≡ false) e rest (grind (arith, nat_tests)) (none_own rest (grind (arith, nat_tests)))
 
   -- a history goes on from a front where it begins with it, and none of the rest stands under its numbers
   pub goes_on : (front rest history : List E) → front ++ rest ≡ history → NoneOwn rest → GoesOn number first limit front history
   goes_on front rest history is none = (
     (rest, is),
-    ap mine (sym is) ∙ (filter-append (λ e. is_within first limit (number e)) front rest
-        ∙ (ap (λ l. mine front ++ l) (own_none rest none) ∙ append-nil (mine front))),
+    let nothing = own_none rest none in
+        let cut = filter-append (λ e. is_within first limit (number e)) front rest in grind (arith, append-nil),
   )
 
   pub gone_on : (front history : List E) → GoesOn number first limit front history → (rest : List E) × (front ++ rest ≡ history) × NoneOwn rest
-  gone_on front history on = (
-    on.0.0,
-    on.0.1,
-    none_own on.0.0 (append_cancel_left (mine front) (mine on.0.0) []
-        (sym (filter-append (λ e. is_within first limit (number e)) front on.0.0) ∙ (ap mine on.0.1 ∙ (on.1 ∙ sym (append-nil (mine front)))))),
-  )
+  gone_on front history on =
+      let shown = on.0.1 in
+      let same = on.1 in
+      let cut = filter-append (λ e. is_within first limit (number e)) front on.0.0 in
+      (on.0.0, on.0.1, none_own on.0.0 (append_cancel_left (mine front) (mine on.0.0) [] (grind (arith, append-nil))))
 
   pub goes_on_itself : (front : List E) → GoesOn number first limit front front
   goes_on_itself front = (([], append-nil front), refl)

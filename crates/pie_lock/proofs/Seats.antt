@@ -4,11 +4,8 @@ use Rattle.pie_lock.proofs.Names.{max, set, refl, ap, sym, subst, ◌∙◌, inl
 use Rattle.pie_lock.proofs.Names.{at_set, set_else, is_within, Agreed, EachPass, Follows, IsNumberAt, IsNumberOf, IsSeated, AreAdjacent, GoesOn}
 use Rattle.pie_lock.proofs.Names.{HasAll, longer, made_one, with_front, with_numbers, Place, Holds, Meets, Spent, Waits, Shown}
 use Rattle.std.proofs.Math.Dec.{ltb}
-use Rattle.std.proofs.lemmas.Bool.{false_from_ne_true}
 use lib.ListN.{get_elem?}
-use mathlib.Core.Logic.{dite}
-use mathlib.Core.Option.{some, some-injective, some-ne-none}
-use native.Mathlib.Decide.{dec_le}
+use mathlib.Core.Option.{some, some-injective}
 use Rattle.pie_lock.proofs.Owns.{NoneOwn, all_parts, between, goes_on, goes_on_itself, gone_on}
 
 -- ---- places of lists
@@ -16,7 +13,7 @@ use Rattle.pie_lock.proofs.Owns.{NoneOwn, all_parts, between, goes_on, goes_on_i
 module _ {A : Type 0} where
   -- a place that has an element has the new one once it is set
   pub set_at : (l : List A) (i : ℕ) (a b : A) → get_elem? l i ≡ some b → get_elem? (set l i a) i ≡ some a
-  set_at [] i a b e = absurd (some-ne-none b (sym e))
+  set_at [] i a b e = absurd (grind arith)
   set_at (x ∷ xs) zero a b e = refl
   set_at (x ∷ xs) (suc i) a b e = set_at xs i a b e
 
@@ -27,38 +24,27 @@ module _ {A : Type 0} where
 
   -- an element of a list one longer is one of the list, or the last
   at_end : (l : List A) (a b : A) (j : ℕ) → get_elem? (l ++ a ∷ []) j ≡ some b → (get_elem? l j ≡ some b) ⊎ ((j ≡ length l) × (a ≡ b))
-  at_end [] a b zero e = inr (refl, some-injective a b e)
-  at_end [] a b (suc j) e = absurd (some-ne-none b (sym e))
+  at_end [] a b zero e = grind arith
+  at_end [] a b (suc j) e = grind arith
   at_end (x ∷ xs) a b zero e = inl e
-  at_end (x ∷ xs) a b (suc j) e = ⊎_elim inl (λ t. inr (ap suc t.0, t.1)) (at_end xs a b j e)
+  at_end (x ∷ xs) a b (suc j) e = let rest = at_end xs a b j e in grind arith
 
 -- ---- numbers of ranges
 
 -- a number between two adjacent ranges' ends is in one of them
 pub in_either : (a b c d n : ℕ) → (b ≡ c) ⊎ (d ≡ a) → a < b → c < d → min a c ≤ n → n < max b d → ((a ≤ n) × (n < b)) ⊎ ((c ≤ n) × (n < d))
-in_either a b c d n adjacent left right low high =
-    ⊎_elim
-    (λ e. dite (dec_le b n) (λ after. inr (omega arith, omega arith)) (λ before. inl (omega arith, omega arith)))
-    (λ e. dite (dec_le d n) (λ after. inl (omega arith, omega arith)) (λ before. inr (omega arith, omega arith)))
-    adjacent
+in_either a b c d n adjacent left right low high = grind (arith, nat_tests)
 
 -- a number that is in neither is not between their ends
 in_neither : (a b c d n : ℕ) → (b ≡ c) ⊎ (d ≡ a) → a < b → c < d → is_within a b n ≡ false → is_within c d n ≡ false
     → is_within (min a c) (max b d) n ≡ false
-in_neither a b c d n adjacent left right p q =
-    false_from_ne_true (is_within (min a c) (max b d) n) (λ t.
-    let low : min a c ≤ n = grind (arith, nat_tests) in
-    let high : n < max b d = grind (arith, nat_tests) in
-    ⊎_elim (λ u. let v = u.0 in let w = u.1 in grind (arith, nat_tests)) (λ u. let v = u.0 in let w = u.1 in grind (arith, nat_tests))
-    (in_either a b c d n adjacent left right low high))
+in_neither a b c d n adjacent left right p q = grind (arith, nat_tests)
 
 in_fewer : (a b first limit n : ℕ) → a ≤ first → limit ≤ b → is_within a b n ≡ false → is_within first limit n ≡ false
 in_fewer a b first limit n low high out = grind (arith, nat_tests)
 
 is_other : (first limit k n : ℕ) → n ≡ k → ((first ≤ k) × (k < limit) → ⊥) → is_within first limit n ≡ false
-is_other first limit k n is not =
-    false_from_ne_true (is_within first limit n) (λ t.
-    not (let low : first ≤ n = grind (arith, nat_tests) in let high : n < limit = grind (arith, nat_tests) in (omega arith, omega arith)))
+is_other first limit k n is not = grind (arith, nat_tests)
 
 module _ {E O : Type 0} (number : E → ℕ) (origin : O) (numbers : ℕ) where
   abbrev Fits : List E → Shown E O → Type 0

@@ -1,12 +1,12 @@
 -- Each step on the lock's word, and each seat that is split or joined, keeps the rule.
-use Rattle.pie_lock.proofs.Names.{◌≡◌, ◌≢◌, ℕ, zero, suc, ◌+◌, ◌-◌, ◌<◌, ◌==◌, ◌⊎◌, true, false, cond, Option, Some, None, List, [], ◌∷◌, ◌++◌}
+use Rattle.pie_lock.proofs.Names.{◌≡◌, ◌≢◌, ℕ, ◌+◌, ◌-◌, ◌<◌, ◌==◌, ◌⊎◌, cond, Option, Some, None, List, [], ◌∷◌, ◌++◌}
 use Rattle.pie_lock.proofs.Names.{length, get_or, set, refl, ap, sym, subst, ◌∙◌, inl, inr, ⊎_elim, arith, get_or-set_same, length-set, nat_tests}
 use Rattle.pie_lock.proofs.Names.{All-nil, All, at_longer, at_set, exchanged, set_again, set_else, Act, Allows, Joins, Me, Splits, State, Valid}
 use Rattle.pie_lock.proofs.Names.{carried_after, gives, keeps, opening, step, stepped, takes, Agreed, EachPass, Follows, IsSeated, Ruled, WhileFree}
 use Rattle.pie_lock.proofs.Names.{WhileHeld, opened, IsIdle, IsLeaving, AreAdjacent, HasAll, Won, all_but_highest, freed, highest, looked, made_one}
 use Rattle.pie_lock.proofs.Names.{meeting, merged, pass_at, taken, with_front, with_numbers, Place, Holds, Meets, Spent, Waits, Shown}
 use lib.ListN.{get_elem?}
-use mathlib.Core.Option.{none, some, some-injective, some-ne-none}
+use mathlib.Core.Option.{none, some, some-injective}
 use prog.Atomic.{either}
 use Rattle.pie_lock.proofs.Owns.{goes_on_itself}
 use Rattle.pie_lock.proofs.Seats.{agreed_longer, agreed_set, all_shown, below_longer, each_longer, follows_both, follows_fewer, follows_whole}
@@ -14,13 +14,11 @@ use Rattle.pie_lock.proofs.Seats.{in_either, set_at, set_beside}
 
 -- a table with one word, which is written again
 word_again : (words : List ℕ) → length words ≡ 1 → set words 0 (get_or words 0 0) ≡ words
-word_again [] e = absurd (omega arith)
 word_again (x ∷ []) e = refl
-word_again (x ∷ y ∷ xs) e = absurd (omega arith)
+word_again _ e = absurd (grind arith)
 
 alone : {A : Type 0} (v w : A) (seat : ℕ) → get_elem? (v ∷ []) seat ≡ some w → (seat ≡ 0) × (v ≡ w)
-alone v w zero e = (refl, some-injective v w e)
-alone v w (suc n) e = absurd (some-ne-none w (sym e))
+alone v w seat e = (grind arith, grind arith)
 
 -- the numbers where this is so much are given to a new owner, and the others stay as they are
 unfoldable given : (ℕ → ℕ) → (ℕ → ℕ) → ℕ → ℕ → ℕ → ℕ
@@ -28,11 +26,11 @@ given owner test value new n = cond (test n == value) new (owner n)
 
 given_new : (owner test : ℕ → ℕ) (value new n : ℕ) → test n ≡ value → given owner test value new n ≡ new
 unfolding given
-given_new owner test value new n is = let yes : (test n == value) ≡ true = grind (arith, nat_tests, is) in rw yes refl
+given_new owner test value new n is = grind (arith, nat_tests)
 
 given_else : (owner test : ℕ → ℕ) (value new n : ℕ) → (test n ≡ value → ⊥) → given owner test value new n ≡ owner n
 unfolding given
-given_else owner test value new n other = let no : (test n == value) ≡ false = grind (arith, nat_tests, other) in rw no refl
+given_else owner test value new n other = grind (arith, nat_tests)
 
 module _ {S E O : Type 0} (number : E → ℕ) (origin_of : S → O) (tells : S → List E → Type 0) (origin : O) (numbers : ℕ) where
   abbrev Table : Type 0
@@ -250,8 +248,7 @@ module _ {S E O : Type 0} (number : E → ℕ) (origin_of : S → O) (tells : S 
       → ((j : ℕ) (q : Shown E O) → get_elem? s.views j ≡ some (Holds q) → get_elem? views j ≡ some (Holds q))
       → IsFree history holder (record { words = s.words; homes = s.homes; views = views })
       ⊎ IsHeld holder (record { words = s.words; homes = s.homes; views = views })
-  same_word s views history holder now keeps_it =
-      ⊎_elim inl (λ t. let one = t.1 in inr (t.0, (one.0, one.1, one.2, keeps_it one.0 one.1 one.3), t.2)) now
+  same_word s views history holder now keeps_it = grind arith
 
   splits : (id : ℕ) (p : Shown E O) → p.first + 1 < p.limit → Splits Rule id (Waits p) (all_but_highest (Waits p)) (highest (Waits p))
   splits id p two s rule at =

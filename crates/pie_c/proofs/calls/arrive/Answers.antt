@@ -1,7 +1,7 @@
 use Rattle.pie_c.specs.{Arrive}
 use Rattle.pie_c.proofs.Names.{◌≡◌, ◌==◌, ◌∙◌, ap, arith, nat_tests, Ecn, ArrivingPacket, arrived, verdict, PieState, verdict_number, arrival_of}
 use Rattle.pie_c.proofs.Names.{arrival_refusal, held_in, with_arrival}
-use Rattle.pie_c.proofs.Packets.{arrived-state, handed, kept-later, makes, moment-later, place-later, verdict-later}
+use Rattle.pie_c.proofs.Packets.{arrived-state, handed, kept-later, makes, place-later, verdict-later}
 use Rattle.pie_c.proofs.calls.arrive.Goals as goal
 use Rattle.pie_c.proofs.calls.arrive.Goals.{After-of_verdict}
 
@@ -27,9 +27,6 @@ module _ (c : After-of_verdict) where
   decided : c.arrive_with_place-verdict.result.0 ≡ verdict (held_in state) arrival
   decided = verdict-later state _ _ _ c.args.moment _ _ c.reach.ensures c.raw_with-held.ensures.held c.arrive_with_place-verdict.ensures.verdict
       (ap with_ecn c.in-Some.ensures.value)
-
-pub keep_arrived-requires : goal.keep_arrived-requires
-keep_arrived-requires c = moment-later c.reach.new.self _ _ _ c.raw_with-held.ensures.held c.arrive_with_place-verdict.ensures.after
 
 pub returns-clause-arrives : goal.returns-clause-arrives
 unfolding arrival_refusal

@@ -1,5 +1,5 @@
-use Rattle.pie_c.specs.{delay_answered, updated_with}
-use Rattle.pie_c.proofs.Names.{◌≡◌, ℕ, ◌∙◌, true, ap, arith, rules, subst, sym, Held, IsSound, updated, update_refusal, held_in, is_sound, state_of}
+use Rattle.pie_c.specs.{updated_with}
+use Rattle.pie_c.proofs.Names.{◌≡◌, ◌∙◌, true, ap, arith, rules, subst, sym, Held, IsSound, updated, update_refusal, held_in, is_sound, state_of}
 use Rattle.pie_aqm.specs.Calls.{Update}
 use Rattle.pie_c.proofs.Packets.{makes}
 use Rattle.pie_c.proofs.Sound.{held-sound}
@@ -37,14 +37,6 @@ taken c = search rules
 
 after : (c : After-made-2) → c.update-delay.new.self ≡ updated (held_in c.args.state.now) c.args.queued c.args.moment
 after c = c.update-delay.ensures.after ∙ ap (λ (h : Held). updated h c.args.queued c.args.moment) c.raw-held.ensures
-
-pub returns-clause-answer : goal.returns-clause-answer
-returns-clause-answer c =
-    let a = c.args in
-    let delay = c.update-delay.ensures.delay ∙ ap (λ (h : Held). delay_answered h a.queued) c.raw-held.ensures in
-    rw (taken c, c.made-2.ensures)
-    (ap (λ (h : Held). updated_with 0 c.update-delay.result h) (after c)
-    ∙ ap (λ (n : ℕ). updated_with 0 n (updated (held_in a.state.now) a.queued a.moment)) delay)
 
 pub returns-clause-made : goal.returns-clause-made
 returns-clause-made c =

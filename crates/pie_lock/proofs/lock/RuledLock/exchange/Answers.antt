@@ -1,4 +1,4 @@
-use Rattle.pie_lock.proofs.Names.{rules, ap}
+use Rattle.pie_lock.proofs.Names.{rules}
 use Rattle.pie_lock.proofs.Steps.{takes_keep}
 use Rattle.pie_lock.proofs.lock.RuledLock.exchange.Goals as goal
 
@@ -7,7 +7,3 @@ compare_exchange-found-requires g c =
     let k = g.S.Kept in
     let key = c.self.inside.table.shared.key in
     (search rules, search rules, takes_keep k.number_of k.origin_of k.tells (k.origin_of key.state.value) key.numbers _ _ _ c.pass.invariant.waits)
-
-pub take_from_slot-state-requires-clause-slot : goal.take_from_slot-state-requires-clause-slot
-take_from_slot-state-requires-clause-slot g c =
-    let won = c.compare_exchange-found.ensures.2.0 c.if-found-ne-FREE.false in (won.0, ap (λ m. m.1) won.2)

@@ -11,8 +11,3 @@ new-requires g c =
     (sym c.of.ensures) refl
     (subst (λ s. k.tells s []) (sym c.of.ensures) c.requires)
     c.if-numbers-eq0.false
-
-pub state_of-requires : goal.state_of-requires
-state_of-requires g c =
-    let stored : g.row.S.Denot = c.args.state in
-    (stored, c.in-Err.ensures.err ∙ (c.push_reserved.ensures.items ∙ ap (λ l. l ++ Some stored ∷ []) c.in-Ok.ensures.items))

@@ -60,7 +60,8 @@ summed() {
     return 1
 }
 
-step build make -s -j2 all out/stage_measure
+# (the lock: tests/documents/pages.py makes it too)
+step build flock . make -s -j2 all out/stage_measure
 step build-address make -s -j2 SANITIZE=address out/address/stage_test out/address/pie-fwd
 step build-thread make -s SANITIZE=thread out/thread/stage_test
 mkdir "$work/plain" "$work/address" "$work/thread"

@@ -14,7 +14,7 @@ if ! missing=$("$here/missing.sh"); then
 fi
 work=$(mktemp -d)
 trap 'rm -rf "$work"' EXIT
-if ! (cd "$top/crates/pie_c" && { [ -e out/libpie_c.a ] || rt lib; } && make -s -C "$here") > "$work/build.log" 2>&1; then
+if ! (cd "$top/crates/pie_c" && { [ -e out/libpie_c.a ] || rt lib; } && flock "$here" make -s -C "$here") > "$work/build.log" 2>&1; then
     cat "$work/build.log"
     exit 1
 fi

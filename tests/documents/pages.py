@@ -6,9 +6,10 @@ An indented block is one script of bash, which begins at the top of the copy, wi
 block begins with `$ `, so does each of its commands, a script of its own, and the lines below one are what it prints. A block that begins with a
 comment of a file's name, as /* queue.c */, is that file. What stands in fences is shown alone.
 
-The copy has the program and the library that are built here, and stand-ins for `rt` and the gate, which are tried by the gate anyway: `rt try` and
-`rt run` run the built program, `rt lib` looks for the built library, `.ci/run` does nothing. With --rt it is the real `rt`. A command that isn't
-there on this machine, and one of a folder whose missing.sh says that something is, are told as NOT RUN.
+The copy has the program and the library that are built here, what make builds over it in bindings/dpdk and bindings/ns3, as their check.sh does, and
+stand-ins for `rt` and the gate, which are tried by the gate anyway: `rt try` and `rt run` run the built program, `rt lib` looks for the built library,
+`.ci/run` does nothing. With --rt it is the real `rt`. A command that isn't there on this machine, and one of a folder whose missing.sh says that
+something is, are told as NOT RUN.
 
 usage: tests/documents/pages.py [--rt] [PAGE..]
 needs: program, pie_why, library
@@ -25,6 +26,8 @@ sys.path.insert(0, f"{os.path.dirname(os.path.abspath(__file__))}/../shared")
 from checks import NAME, ROOT, check, finish  # noqa: E402
 
 BUILT = ["crates/pie/out/pie", "crates/pie_why/out/pie_why", "crates/pie_c/out/libpie_c.a", "crates/pie_link_c/out/libpie_link_c.a"]
+# folders in which make takes long: once here, for their check.sh (by the same lock) and for the copies
+MADE = ["bindings/dpdk", "bindings/ns3"]
 RUN = ["README.md", "bindings/**/*.md", "examples/**/*.md"]
 LINKED = [*RUN, "*.md", "docs/*.md", "bench/*.md"]
 LINK = re.compile(r"\]\(([^)\s]+)\)")
@@ -96,6 +99,9 @@ def fresh(copy, real):
     for name in BUILT:
         (copy / name).parent.mkdir(parents=True, exist_ok=True)
         shutil.copy2(ROOT / name, copy / name)
+    for name in MADE:
+        if (ROOT / name / "out").is_dir():
+            shutil.copytree(ROOT / name / "out", copy / name / "out", symlinks=True)
     words = {**os.environ, "HOME": str(home), "CARGO_TARGET_DIR": f"{home}/target"}
     for name in ("CARGO", "RUSTUP"):
         words.setdefault(f"{name}_HOME", f"{Path.home()}/.{name.lower()}")
@@ -164,6 +170,10 @@ def main():
     chosen = [Path(it).resolve() for it in words if it != "--rt"]
     for page in pages(LINKED):
         follow_links(page)
+    for name in MADE:
+        if subprocess.run([ROOT / name / "missing.sh"], capture_output=True, check=False).returncode == 0:
+            made = subprocess.run(["flock", ROOT / name, "make", "-s", "-C", ROOT / name], capture_output=True, text=True, check=False)
+            check(made.returncode == 0, f"make -C {name} ends with status {made.returncode}:\n{made.stderr[-2000:]}")
     with tempfile.TemporaryDirectory() as work:
         for page in chosen or pages(RUN):
             copy = Path(work) / "repository"

@@ -86,7 +86,7 @@ def has_numpy(python):
     return shutil.which(python) and subprocess.run([python, "-c", "import numpy"], capture_output=True, check=False).returncode == 0
 
 
-def fresh(copy, real):
+def fresh(copy, page, real):
     """A copy of the repository's own files, with what was built, and the environment of its commands."""
     listed = subprocess.run(["git", "ls-files", "-co", "--exclude-standard"], cwd=ROOT, capture_output=True, text=True, check=True).stdout
     for name in listed.splitlines():
@@ -99,7 +99,7 @@ def fresh(copy, real):
     for name in BUILT:
         (copy / name).parent.mkdir(parents=True, exist_ok=True)
         shutil.copy2(ROOT / name, copy / name)
-    for name in MADE:
+    for name in MADE if ROOT / "bindings" in page.parents else ():
         if (ROOT / name / "out").is_dir():
             shutil.copytree(ROOT / name / "out", copy / name / "out", symlinks=True)
     words = {**os.environ, "HOME": str(home), "CARGO_TARGET_DIR": f"{home}/target"}
@@ -177,7 +177,7 @@ def main():
     with tempfile.TemporaryDirectory() as work:
         for page in chosen or pages(RUN):
             copy = Path(work) / "repository"
-            environment = fresh(copy, real)
+            environment = fresh(copy, page, real)
             run_page(page, copy, environment)
             shutil.rmtree(copy)
     finish()

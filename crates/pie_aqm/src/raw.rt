@@ -19,7 +19,7 @@ use pie_rate::{MAX_THRESHOLD, RawRate};
 ///
 /// Its calls check nothing. Those for each packet need not: no numbers make them overflow. An update, its delay and when it is due
 /// want numbers in their ranges.
-#[derive(Clone, Copy, Debug, PartialEq, Eq)]
+#[derive(Clone, Copy)]
 pub struct RawController {
     /// The profile.
     pub profile: Profile,

@@ -10,7 +10,7 @@ use std::marker::Model;
 
 /// The controller's registers: the probability, the old delay, the burst allowance and the moment of
 /// the last update.
-#[derive(Clone, Copy, Debug, PartialEq, Eq)]
+#[derive(Clone, Copy)]
 pub struct Control {
     raw: RawControl,
 }

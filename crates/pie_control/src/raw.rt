@@ -8,7 +8,7 @@ use crate::update::{are_below_half, next};
 use pie_params::{Elements, RawParams};
 
 /// The control law's registers as plain numbers, each in its range or not: their rules are [`Control`](crate::Control)'s.
-#[derive(Clone, Copy, Debug, PartialEq, Eq)]
+#[derive(Clone, Copy, PartialEq, Eq)]
 pub struct RawControl {
     /// The probability of drop or mark, in units of `10^-12` (RFC 8033, section 4.2).
     pub prob: u64,

@@ -17,7 +17,7 @@ use pie_params::{Elements, Picking, RawParams, Size};
 use pie_queue::Ecn;
 
 /// An arriving packet that the queue has room for, and the bytes that it meets there.
-#[derive(Clone, Copy, Debug, PartialEq, Eq)]
+#[derive(Clone, Copy)]
 pub struct Offered {
     /// The bytes in the queue, without the packet.
     pub bytes: u64,
@@ -30,7 +30,7 @@ pub struct Offered {
 }
 
 /// What becomes of an arriving packet, and the accumulated probability after it.
-#[derive(Clone, Copy, Debug, PartialEq, Eq)]
+#[derive(Clone, Copy)]
 pub struct Decision {
     /// What becomes of the packet.
     pub choice: Choice,

@@ -20,7 +20,7 @@ pub const LOW_PROB: u64 = 200_000_000_000;
 pub const NEVER_PICKED: u64 = 850_000_000_000;
 
 /// What becomes of an arriving packet that the queue has room for.
-#[derive(Clone, Copy, Debug, PartialEq, Eq)]
+#[derive(Clone, Copy, PartialEq, Eq)]
 pub enum Choice {
     /// It is queued as it is.
     Enqueue,
@@ -35,7 +35,7 @@ pub enum Choice {
 ///
 /// Contracts see it as its number of units of `10^-12`. They speak of the list of arrivals and
 /// clears that it was shown.
-#[derive(Clone, Copy, Debug, PartialEq, Eq)]
+#[derive(Clone, Copy)]
 pub struct Early {
     accu: u64,
 }

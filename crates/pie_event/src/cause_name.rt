@@ -5,7 +5,7 @@ ghost use Rattle.pie_event.specs.CauseName.{name_of, place_of_cause, word_of_cau
 use crate::{Cause, Fate};
 
 /// What decided an arrival, and what became of it where it was picked: a `Cause` without its numbers, in the order of the decision.
-#[derive(Clone, Copy, Debug, PartialEq, Eq)]
+#[derive(Clone, Copy)]
 pub enum CauseName {
     /// Tail drop: no room in bytes.
     NoRoomInBytes,

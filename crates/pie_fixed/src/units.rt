@@ -8,7 +8,7 @@ use std::marker::Model;
 
 /// A probability of drop or mark, 0 to [`ONE`], in units of `10^-12` (RFC 8033, section 4.2; the
 /// scale is this project's own).
-#[derive(Clone, Copy, Debug, PartialEq, Eq, PartialOrd, Ord)]
+#[derive(Clone, Copy, Debug, PartialEq, Eq)]
 pub struct Prob {
     trillionths: u64,
 }
@@ -72,7 +72,7 @@ pub fn bounded(value: i128) -> Prob
 /// 4.2; the scale is this project's own).
 ///
 /// A gain times a time in nanoseconds is a probability without rounding.
-#[derive(Clone, Copy, Debug, PartialEq, Eq, PartialOrd, Ord)]
+#[derive(Clone, Copy, Debug, PartialEq, Eq)]
 pub struct Gain {
     thousandths: u32,
 }
@@ -169,7 +169,7 @@ impl Nanos {
 }
 
 /// An accumulated probability, at most 9.5, in units of `10^-12` (RFC 8033, section 5.4).
-#[derive(Clone, Copy, Debug, PartialEq, Eq, PartialOrd, Ord)]
+#[derive(Clone, Copy, Debug, PartialEq, Eq)]
 pub struct Accu {
     sum: u64,
 }

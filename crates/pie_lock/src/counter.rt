@@ -5,7 +5,7 @@ use crate::kept::Kept;
 use std::marker::Model;
 
 /// One amount that a caller added.
-#[derive(Debug, Clone, Copy, PartialEq, Eq)]
+#[derive(Clone, Copy)]
 pub struct CounterEntry {
     /// The number under which it was added.
     pub caller: u16,
@@ -15,7 +15,7 @@ pub struct CounterEntry {
 
 /// How many amounts were added, and their sum. It keeps no list of them, so it tells each list of `count()` entries
 /// whose amounts add up to `total()`.
-#[derive(Debug, Drop)]
+#[derive(Drop)]
 pub struct Counter {
     count: u64,
     total: u64,

@@ -12,7 +12,7 @@ use std::marker::Model;
 ///
 /// Contracts see the average and the cycle that is begun. They speak of the list of departures that
 /// it was shown since it was cleared.
-#[derive(Clone, Copy, Debug, PartialEq, Eq)]
+#[derive(Clone, Copy)]
 pub struct Rate {
     raw: RawRate,
 }

@@ -6,7 +6,7 @@ ghost use Rattle.pie_rate.specs.{with_sample, departure, after_departure};
 pub const MAX_THRESHOLD: u64 = 65_536;
 
 /// A measurement cycle that no departure has closed yet, as plain numbers, each in its range or not.
-#[derive(Clone, Copy, Debug, PartialEq, Eq)]
+#[derive(Clone, Copy, PartialEq, Eq)]
 pub struct RawCycle {
     /// The moment of the departure that opened it, in nanoseconds.
     pub start: u64,
@@ -26,7 +26,7 @@ impl RawCycle {
 }
 
 /// An estimate of the departure rate as plain numbers, each in its range or not: its rule is [`Rate`](crate::Rate)'s.
-#[derive(Clone, Copy, Debug, PartialEq, Eq)]
+#[derive(Clone, Copy, PartialEq, Eq)]
 pub struct RawRate {
     /// The average time in which a threshold of bytes departs, in nanoseconds; 0 with no sample.
     pub average: u64,

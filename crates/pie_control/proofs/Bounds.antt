@@ -16,8 +16,6 @@ product-below g (pos k) small below =
     omega (arith, ints, mul-le g k (10 ^ 6) (2 ^ 40) small (omega (arith, ints, below)))
 product-below g (negsuc k) small below = omega (arith, ints)
 
-pub ruleset products = (product-above, product-below)
-
 pub int_div-above : (z : ℤ) (d n : ℕ) → negsuc n ≤ℤ z → negsuc n ≤ℤ int_div z (pos d)
 int_div-above (pos a) d n h = omega (arith, ints)
 int_div-above (negsuc a) d n h = omega (arith, ints, div-le_self (suc a) d)

@@ -48,7 +48,6 @@ fn weighted(gain: u64, time: u64, from: u64) -> i64
 
 /// A gain times a difference of two times.
 #[inline(always)]
-#[tactic(auto, using(crate::proofs::Bounds::products))]
 fn product(gain: u64, difference: i64) -> i64
     requires gain { gain ≤ 10 ^ 6 }
     requires least { negsuc (2 ^ 40) ≤ℤ difference }

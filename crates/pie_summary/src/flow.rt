@@ -10,7 +10,7 @@ use pie_explain::Explained;
 use std::alloc::{AllocError, Global};
 
 /// A flow: its number, and what its events come to.
-#[derive(Clone, Copy, Debug)]
+#[derive(Clone, Copy)]
 pub struct Flow {
     /// The upper 32 bits of the tags of its packets.
     pub number: u32,

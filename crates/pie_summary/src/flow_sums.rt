@@ -8,7 +8,7 @@ use pie_book::{Answer, Command};
 use pie_explain::Explained;
 
 /// The numbers of a flow, or of several, each over all events that were shown: 2^64 - 1 where a number would be above it.
-#[derive(Clone, Copy, Debug, Default)]
+#[derive(Clone, Copy, Default)]
 pub struct FlowSums {
     /// How many packets arrived.
     pub arrivals: u64,

@@ -15,7 +15,7 @@ use std::fmt;
 use std::fmt::Display;
 
 /// What a row is of.
-#[derive(Clone, Copy, Debug)]
+#[derive(Clone, Copy)]
 pub enum Name {
     /// The flow of this number.
     Of(u32),
@@ -24,7 +24,7 @@ pub enum Name {
 }
 
 /// What the rows of some flows have in common.
-#[derive(Clone, Copy, Debug)]
+#[derive(Clone, Copy)]
 pub struct Heading {
     /// How they are written.
     pub form: Form,

@@ -14,7 +14,7 @@ use crate::spans::{Bounds, Peak, Total, raise};
 
 /// The numbers of a record, each over all events of a period. How many events there are, and how many packets left, the answers say.
 #[repr(C)]
-#[derive(Clone, Copy, Debug, Default)]
+#[derive(Clone, Copy, Default)]
 pub struct Meter {
     /// How many events have each answer: queued, marked, dropped early, in bytes, in packets, a packet that left, none that did, an
     /// update, and a reset or new parameters.

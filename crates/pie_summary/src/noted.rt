@@ -12,7 +12,7 @@ use pie_explain::Explained;
 use pie_queue::{Ecn, Packet};
 
 /// What a meter takes of an event; what its kind has none of is none or 0.
-#[derive(Clone, Copy, Debug)]
+#[derive(Clone, Copy)]
 pub struct Noted {
     /// The place of its answer's count, 0 to 8: queued, marked, dropped early, in bytes, in packets, a packet that left, none that did, an
     /// update, and a reset or new parameters.
@@ -48,7 +48,7 @@ pub struct Noted {
 }
 
 /// What an event met and what it left, whatever it is. Times are in nanoseconds, probabilities in units of 10^-12.
-#[derive(Clone, Copy, Debug)]
+#[derive(Clone, Copy)]
 pub struct Met {
     /// Its effective moment.
     pub moment: u64,

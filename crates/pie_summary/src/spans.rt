@@ -11,7 +11,7 @@ const WORD: u128 = 1 << 64;
 
 /// How many numbers there were, the first, and the last; all 0 where there was none.
 #[repr(C)]
-#[derive(Clone, Copy, Debug, Default)]
+#[derive(Clone, Copy, Default)]
 pub struct Bounds {
     /// How many there were, and 2^64 - 1 where there were more.
     pub count: u64,
@@ -23,7 +23,7 @@ pub struct Bounds {
 
 /// The greatest of some numbers, and the last; 0 where there was none.
 #[repr(C)]
-#[derive(Clone, Copy, Debug, Default)]
+#[derive(Clone, Copy, Default)]
 pub struct Peak {
     /// The greatest.
     pub greatest: u64,
@@ -33,7 +33,7 @@ pub struct Peak {
 
 /// The sum of some numbers, and 2^128 - 1 where it is more.
 #[repr(C)]
-#[derive(Clone, Copy, Debug, Default)]
+#[derive(Clone, Copy, Default)]
 pub struct Total {
     /// Its high 64 bits.
     pub high: u64,
@@ -42,7 +42,7 @@ pub struct Total {
 }
 
 /// When events were.
-#[derive(Clone, Copy, Debug, Default)]
+#[derive(Clone, Copy, Default)]
 pub struct Span {
     /// Their effective moments, in nanoseconds.
     pub moments: Bounds,

@@ -9,7 +9,7 @@ use crate::spans::{Bounds, Span};
 use pie_explain::{Explained, time_of};
 
 /// The numbers of a summary, each over all events that it was shown.
-#[derive(Clone, Copy, Debug, Default)]
+#[derive(Clone, Copy, Default)]
 pub struct Sums {
     /// When the events were.
     pub span: Span,

@@ -1,6 +1,6 @@
 //! `pie params`: the parameters and the choices that `tc`'s options ask for, as the record that opens a book.
-ghost use Rattle.std.specs.Prelude.{◌≡◌, ℕ, IfSome, None, Ok, option_map};
-ghost use Rattle.clap.specs.Words.{found_of, rows_of};
+ghost use Rattle.std.specs.Prelude.{◌≡◌, ℕ, IfSome, None, Ok, codes};
+ghost use Rattle.clap.specs.Words.{first_of, found_of, rows_of};
 ghost use Rattle.pie_tuning.specs.Units.{packets_of, rate_of, time_of};
 ghost use Rattle.pie_tuning.specs.declared.options.TuningOptions.{TuningOptions};
 ghost use Rattle.pie_commands.specs.Tuning.{AsksFor, EndsParams, given_or};
@@ -17,6 +17,36 @@ use pie_tuning::{
     packets_of, params_for, rate_of, time_of, write_opening,
 };
 use std::io::Write;
+
+/// The rate that an option tells, and else none.
+fn rate_in(options: &ArgMatches<'_>) -> Result<u64, OptionFault>
+    ensures { result ≡ given_or rate_of 0 (first_of (codes "rate") (rows_of (found_of options.now))) }
+{
+    match text(options, "rate") {
+        Some(text) => rate_of(text),
+        None => Ok(0),
+    }
+}
+
+/// The time that the option of this name tells, and else 15 ms.
+fn time_in(options: &ArgMatches<'_>, name: &str) -> Result<u64, OptionFault>
+    ensures { result ≡ given_or time_of 15_000_000 (first_of name.now (rows_of (found_of options.now))) }
+{
+    match text(options, name) {
+        Some(text) => time_of(text),
+        None => Ok(15_000_000),
+    }
+}
+
+/// The packets that an option tells, and else 1000.
+fn packets_in(options: &ArgMatches<'_>) -> Result<u64, OptionFault>
+    ensures { result ≡ given_or packets_of 1000 (first_of (codes "limit") (rows_of (found_of options.now))) }
+{
+    match text(options, "limit") {
+        Some(text) => packets_of(text),
+        None => Ok(1000),
+    }
+}
 
 /// The number that an option tells; none, with a line on `errors`, where it tells none.
 fn read_of<E: Write>(read: Result<u64, OptionFault>, name: &str, errors: &mut E) -> Option<u64>
@@ -37,26 +67,10 @@ fn asked_in<E: Write>(options: &ArgMatches<'_>, errors: &mut E) -> Option<Tuning
     ensures asked { IfSome result (AsksFor (rows_of (found_of options.now))) }
     ensures none { result ≡ None → (asked : TuningOptions) → AsksFor (rows_of (found_of options.now)) asked → ⊥ }
 {
-    let rate = read_of(
-        text(options, "rate").map_or(Ok(0), |text| rate_of(text)),
-        "rate",
-        errors,
-    )?;
-    let target = read_of(
-        text(options, "target").map_or(Ok(15_000_000), |text| time_of(text)),
-        "target",
-        errors,
-    )?;
-    let t_update = read_of(
-        text(options, "tupdate").map_or(Ok(15_000_000), |text| time_of(text)),
-        "tupdate",
-        errors,
-    )?;
-    let packets = read_of(
-        text(options, "limit").map_or(Ok(1000), |text| packets_of(text)),
-        "limit",
-        errors,
-    )?;
+    let rate = read_of(rate_in(options), "rate", errors)?;
+    let target = read_of(time_in(options, "target"), "target", errors)?;
+    let t_update = read_of(time_in(options, "tupdate"), "tupdate", errors)?;
+    let packets = read_of(packets_in(options), "limit", errors)?;
     let Some(decay) = decay_of(options) else {
         let _ = writeln!(errors, "pie: --decay is zero or half");
         return None;

@@ -130,10 +130,12 @@ pub(crate) fn make_storm<H: Threads + Wait + Clock + Sync, W: Write, E: Write>(
 
 /// How often the caller of an event is another than that of the event before it.
 fn changes_of_caller(events: &[Event]) -> u64 {
-    let pairs = events.iter().zip(events.iter().skip(1));
-    pairs
-        .filter(|(one, next)| one.caller != next.caller)
-        .count() as u64
+    let mut changes = 0;
+    for place in 1..events.len() {
+        let is_change = events[place].caller != events[place - 1].caller;
+        changes = u64::saturating_add(changes, u64::from(is_change));
+    }
+    changes
 }
 
 /// Says on `errors` how many events there are, and how many changes of caller, where the options ask for it. A failed write is passed over.

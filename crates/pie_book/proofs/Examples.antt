@@ -11,6 +11,7 @@ use Rattle.pie_event.specs.declared.registers.Registers.{Registers}
 use Rattle.pie_event.specs.declared.resume_refusal.ResumeRefusal.TheVariants as resume
 use Rattle.pie_event.specs.declared.resume_refusal.QueueRefusal.TheVariants as queue
 use Rattle.pie_event.specs.declared.resume_refusal.EndRefusal.TheVariants as end
+use Rattle.pie_event.specs.declared.refusal.OpenRefusal.TheVariants as opens
 use Rattle.pie_book.specs.declared.standing.Standing.{Standing}
 use Rattle.pie_event.specs.declared.refusal.Refusal.TheVariants.{Moment, Size, TooSoon, Exhausted, HistoryFull}
 use Rattle.pie_aqm.proofs.Examples.{small, worked as worked_calls}
@@ -20,7 +21,8 @@ use Rattle.pie_book.specs.{Empty, Left, Updated, Done, Event, Mode, Bounded, Rol
 use Rattle.pie_book.specs.{registers_after, largest_queue, largest_delay, stats_after, waited, held_after, effective_moment, admitted, departed_count}
 use Rattle.pie_book.specs.{waiting_after, shown, deed, fits, last_events, without_last, tail_with, first_run, core_after, first_core, CoreView}
 use Rattle.pie_book.specs.{IsLegalAt, refusal_after, held_after_calls, calls_of, after_calls, resume_refusal, queue_refusal}
-use Rattle.pie_book.specs.{end_refusal, core_of, ResumingView, are_reached, DroppedPackets}
+use Rattle.pie_book.specs.{end_refusal, core_of, ResumingView, are_reached, DroppedPackets, Limits, ExcerptView, event_told, goes_on_refusal}
+use Rattle.pie_book.specs.{happened_in, has_room, most_kept}
 
 -- all that a theorem on a worked history computes with
 unfoldable pub worked : Type 0
@@ -37,7 +39,7 @@ misfits : (map (deed (Arrive 1 (packet 7 60) 0)) (Empty ∷ Left (packet 7 60) �
     × (map (deed (Depart 1)) (Enqueued ∷ Marked ∷ DroppedEarly ∷ Updated 2 3 4 ∷ Done ∷ []) ≡ nothing ∷ nothing ∷ nothing ∷ nothing ∷ nothing ∷ [])
 misfits = (refl, refl)
 
-all_answers : List Answer
+abbrev all_answers : List Answer
 all_answers = Enqueued ∷ Marked ∷ DroppedEarly ∷ DroppedBytes ∷ DroppedPackets ∷ Empty ∷ Left (packet 7 60) ∷ Updated 2 3 4 ∷ Done ∷ []
 
 -- which of all answers each command can have
@@ -46,7 +48,6 @@ fitting : (map (fits (Arrive 1 (packet 7 60) 0)) all_answers ≡ true ∷ true �
     × (map (fits (Update 1)) all_answers ≡ false ∷ false ∷ false ∷ false ∷ false ∷ false ∷ false ∷ true ∷ false ∷ [])
     × (map (fits (Reset 1)) all_answers ≡ false ∷ false ∷ false ∷ false ∷ false ∷ false ∷ false ∷ false ∷ true ∷ [])
     × (map (fits (SetParams 1 default_profile)) all_answers ≡ false ∷ false ∷ false ∷ false ∷ false ∷ false ∷ false ∷ false ∷ true ∷ [])
-unfolding all_answers
 fitting = (refl, refl, refl, refl, refl)
 
 abbrev opened : Mode → ℕ → ℕ → Opening
@@ -139,6 +140,12 @@ tails : (map (λ n. moments (last_events n three)) (0 ∷ 2 ∷ 3 ∷ []) ≡ []
 unfolding worked
 tails = (refl, refl, refl, refl)
 
+-- an entry of the tail tells its event, whatever that is; an answer that the command cannot have stands for none
+entries : let told = λ (events : List Event). map (λ e. event_told (happened_in e)) events in
+    (told (history 14) ≡ history 14) × (told three ≡ three) × (told (event_of 3 (Depart 4) Marked ∷ []) ≡ event_of 3 (Depart 4) Empty ∷ [])
+unfolding worked
+entries = (refl, refl, refl)
+
 -- ---- a core that goes on from the numbers after the run, and from the packets that waited: each refusal stands before the next
 
 abbrev numbers : Standing
@@ -160,6 +167,21 @@ resumes : (map (λ events. resume_refusal (record opening.limits { events = even
     ≡ Some resume.Bytes ∷ Some (resume.Unsound Accu) ∷ Some resume.Statistics ∷ None ∷ [])
 unfolding worked
 resumes = (refl, refl)
+
+-- a book goes on at good limits with the packets and the events of the core, which has no tail
+goes_on : let refusal = λ (limits : Limits) (moment : ℕ).
+    goes_on_refusal (record opening { limits = limits; moment = moment }) (core_of opening.limits numbers []) in
+    (map (λ limits. refusal limits 7) (record opening.limits { tail = 1 } ∷ record opening.limits { tail = 0 }
+    ∷ record opening.limits { packets = 5 } ∷ record opening.limits { events = 99 } ∷ [])
+    ≡ None ∷ Some opens.BadLimits ∷ Some opens.BadLimits ∷ Some opens.BadLimits ∷ []) × (refusal opening.limits (2 ^ 60) ≡ Some opens.Moment)
+goes_on = (refl, refl)
+
+-- twice the 32 events of the tail, or twice the 4 packets; one packet's or one event's room less is too little
+rooms : (excerpt : ExcerptView) → let has = λ (packets events : ℕ).
+    has_room (record excerpt { packets_room = packets; events_room = events }) opening.limits in
+    (map most_kept (opening.limits ∷ record opening.limits { tail = 3 } ∷ []) ≡ 64 ∷ 8 ∷ [])
+    × (has 4 64 ≡ true) × (has 3 64 ≡ false) × (has 4 63 ≡ false)
+rooms excerpt = (refl, refl, refl, refl)
 
 -- three of the four were handed in, the newest of which arrived at 1001003; 500 bytes are missing
 abbrev handed : ℕ → ℕ → ResumingView

@@ -109,8 +109,7 @@ impl Core {
     fn close(&mut self)
         ensures { self.new ≡ closed self.old }
     {
-        let bytes = self.queue.bytes();
-        self.tally.queue_is(bytes);
+        self.tally.queue_is(self.queue.bytes());
     }
 
     /// The verdict on an arriving packet, which is queued where it says so.
@@ -170,9 +169,8 @@ impl Core {
             }
             Verdict::Marked => {
                 let marked = Packet {
-                    tag: packet.tag,
-                    size: packet.size,
                     ecn: Ecn::Ce,
+                    ..packet
                 };
                 let _ = self.queue.admit(marked, now);
             }

@@ -60,16 +60,6 @@ impl Tally {
         Tally { count, stats }
     }
 
-    /// The same tally.
-    pub(crate) fn copied(&self) -> Tally
-        ensures { result ≡ self.now }
-    {
-        Tally {
-            count: self.count,
-            stats: self.stats,
-        }
-    }
-
     /// One more arrival, with its verdict.
     #[tactic(auto, using(std::proofs::lemmas::Bool::Decides::nat_tests), unfolding(crate::specs::Statistics::are_reached))]
     pub(crate) fn arrived(&mut self, verdict: Verdict)

@@ -36,14 +36,8 @@ fn push_ended(page: &mut Page, by_flow: &ByFlow, ends: bool, span: &Span, flows:
         return Ok(());
     }
     let mut text = page.words();
-    push_flows(
-        page.allocator(),
-        &mut text,
-        by_flow.form,
-        span,
-        by_flow.most as usize,
-        flows,
-    )?;
+    let (alloc, most) = (page.allocator(), by_flow.most as usize);
+    push_flows(alloc, &mut text, by_flow.form, span, most, flows)?;
     page.put(text)
 }
 

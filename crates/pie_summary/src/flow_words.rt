@@ -271,12 +271,8 @@ pub(crate) fn push_flows(
 ) -> Written
     ensures { OnOk result (string_bytes page.new ≡ string_bytes page.old ++ flows_said form span.now most flows.now) }
 {
-    let total = sums_beside(&[], flows);
-    let heading = Heading {
-        form,
-        span: *span,
-        total,
-    };
+    let (span, total) = (*span, sums_beside(&[], flows));
+    let heading = Heading { form, span, total };
     match first_of(alloc, flows, most) {
         Ok(first) => {
             let pushed = heading.push_parts(page, most, first.as_slice(), flows);

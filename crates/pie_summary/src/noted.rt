@@ -198,11 +198,8 @@ impl Met {
         ensures noted { (one : Explained) (packet : Packet) → Meets self.now one → one.told.event.answer ≡ Left packet → packet.size ≡ size
             → one.told.waited ≡ waited → one.told.cause ≡ None → size_in one ≡ None → result ≡ noted_of one }
     {
-        let packet = Packet {
-            tag: 0,
-            size,
-            ecn: Ecn::NotEct,
-        };
+        let (tag, ecn) = (0, Ecn::NotEct);
+        let packet = Packet { tag, size, ecn };
         self.noted(Answer::Left(packet), 15, None, waited)
     }
 
@@ -225,12 +222,8 @@ impl Met {
         ensures noted { (one : Explained) (prob burst : ℕ) → Meets self.now one → one.told.event.answer ≡ Updated delay prob burst
             → one.told.cause ≡ None → size_in one ≡ None → result ≡ noted_of one }
     {
-        let answer = Answer::Updated {
-            delay,
-            prob: 0,
-            burst: 0,
-        };
-        self.noted(answer, 15, None, 0)
+        let (prob, burst) = (0, 0);
+        self.noted(Answer::Updated { delay, prob, burst }, 15, None, 0)
     }
 
     /// A reset, or new parameters.
@@ -261,11 +254,6 @@ pub(crate) fn noted_of(all: &Explained) -> Noted
         burst: after.burst,
         target: after.params.target().units(),
     };
-    let size = size_by(told.event.command);
-    met.noted(
-        told.event.answer,
-        cause_place(told.cause),
-        size,
-        told.waited,
-    )
+    let (size, cause) = (size_by(told.event.command), cause_place(told.cause));
+    met.noted(told.event.answer, cause, size, told.waited)
 }

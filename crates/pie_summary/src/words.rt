@@ -171,10 +171,10 @@ fn push_later(page: &mut String, meter: &Meter, most: u64) -> Written
 fn push_turned(page: &mut String, way: &str, turned: &Bounds) -> Written
     ensures { OnOk result (string_bytes page.new ≡ string_bytes page.old ++ turned_words way.now turned.now) }
 {
-    let (count, first, last) = (turned.count, Millis(turned.first), Millis(turned.last));
-    if count == 0 {
+    if turned.count == 0 {
         return Ok(());
     }
+    let (count, first, last) = (turned.count, Millis(turned.first), Millis(turned.last));
     write!(
         page,
         "  turned {way} {count} times, first at {first},\n    and last at {last}\n"

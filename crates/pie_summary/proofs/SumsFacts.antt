@@ -48,6 +48,9 @@ unfolding meter_of
 reached_later [] one some = absurd (some refl)
 reached_later (first ∷ rest) one some = refl
 
+pub reached_more : (shown : List Explained) (one : Explained) → (kept (length (map moment_at shown)) ≡ 0 → ⊥) → meter_in shown ≡ reached shown one
+reached_more shown one some = reached_later shown one (λ none. some (ap (λ (all : List Explained). kept (length (map moment_at all))) none))
+
 pub reached_none : (shown : List Explained) (one : Explained) (moment : ℕ) → (noted_of one).moment ≡ moment → kept (length (map moment_at shown)) ≡ 0
     → record (meter_of [] []) { first = moment; since = moment } ≡ reached shown one
 unfolding last_or

@@ -33,7 +33,7 @@ impl Sums {
     }
 
     /// Has the meter begin at this moment, where there was no event.
-    #[tactic(auto, using(crate::proofs::SumsFacts::reached_later, crate::proofs::SumsFacts::reached_none), unfolding(crate::specs::Sums::sums_of))]
+    #[tactic(auto, using(crate::proofs::SumsFacts::reached_more, crate::proofs::SumsFacts::reached_none), unfolding(crate::specs::Sums::sums_of))]
     fn reach(&mut self, moment: u64)
         ensures { (shown : List Explained) (one : Explained) → (noted_of one).moment ≡ moment → self.old ≡ sums_of shown
             → self.new ≡ record (sums_of shown) { meter = reached shown one } }

@@ -28,11 +28,10 @@ fn push_row(page: &mut String, name: &str, count: u64, all: u64) -> Written
 fn push_cause(page: &mut String, name: CauseName, causes: &[u64; 15], all: u64) -> Written
     ensures { OnOk result (string_bytes page.new ≡ string_bytes page.old ++ cause_row name causes.now all) }
 {
-    let count = causes[name.place()];
-    if count == 0 {
-        return Ok(());
+    match causes[name.place()] {
+        0 => Ok(()),
+        count => push_row(page, name.word(), count, all),
     }
-    push_row(page, name.word(), count, all)
 }
 
 /// How many arrivals each of these causes decided, where it decided some.
@@ -88,11 +87,11 @@ pub(crate) fn push_head(page: &mut String, moments: &Bounds) -> Written
 pub(crate) fn push_times(page: &mut String, by_wall: bool, spaces: &str, times: &Bounds) -> Written
     ensures { OnOk result (string_bytes page.new ≡ string_bytes page.old ++ time_words by_wall spaces.now times.now) }
 {
-    if !by_wall || times.count == 0 {
-        return Ok(());
-    }
     let (first, last) = (Utc(times.first), Utc(times.last));
-    write!(page, "{spaces}by the time of day from {first} to {last}\n")
+    match (by_wall, times.count) {
+        (false, _) | (true, 0) => Ok(()),
+        (true, _) => write!(page, "{spaces}by the time of day from {first} to {last}\n"),
+    }
 }
 
 /// How many updates there were, the delays that they took, and the probabilities after the events.
@@ -115,13 +114,12 @@ fn push_updates(page: &mut String, meter: &Meter) -> Written
 fn push_disagree(page: &mut String, above: u64, late: u64) -> Written
     ensures { OnOk result (string_bytes page.new ≡ string_bytes page.old ++ disagree_words above late) }
 {
-    if above < late / 2 || late < above / 2 {
-        write!(
+    match (above < late / 2, late < above / 2) {
+        (false, false) => Ok(()),
+        (true, _) | (false, true) => write!(
             page,
             "    the two times disagree: the controller's delay was not what packets waited\n"
-        )
-    } else {
-        Ok(())
+        ),
     }
 }
 
@@ -171,14 +169,14 @@ fn push_later(page: &mut String, meter: &Meter, most: u64) -> Written
 fn push_turned(page: &mut String, way: &str, turned: &Bounds) -> Written
     ensures { OnOk result (string_bytes page.new ≡ string_bytes page.old ++ turned_words way.now turned.now) }
 {
-    if turned.count == 0 {
-        return Ok(());
+    let (first, last) = (Millis(turned.first), Millis(turned.last));
+    match turned.count {
+        0 => Ok(()),
+        count => write!(
+            page,
+            "  turned {way} {count} times, first at {first},\n    and last at {last}\n"
+        ),
     }
-    let (count, first, last) = (turned.count, Millis(turned.first), Millis(turned.last));
-    write!(
-        page,
-        "  turned {way} {count} times, first at {first},\n    and last at {last}\n"
-    )
 }
 
 /// What became of the arrivals.

@@ -1,5 +1,6 @@
 //! What an open port has: a caller of a link, and a share of the link.
-ghost use Rattle.std.specs.Prelude.{◌≡◌, ◌≢◌, ◌==◌, ◌+◌, ◌↔◌, IfOk, IfErr, IfSome, IsOk, IsTrue, OnOk, OnErr, Some, false, if◌then◌else◌};
+ghost use Rattle.std.specs.Prelude.{◌≡◌, ◌≢◌, ◌==◌, ◌+◌, ◌↔◌, ◌≤◌, IfOk, IfErr, IfSome, IsOk, IsTrue, OnOk, OnErr, Some, false, if◌then◌else◌};
+ghost use Rattle.std.specs.Prelude.{vec_capacity};
 ghost use Rattle.pie_link_c.specs.{arc_value, has_bad_ecn};
 
 use crate::code::{NO_MEMORY, ONE_NUMBER};
@@ -54,12 +55,21 @@ impl Port {
         ensures headline { IfSome result (λ port. KeepsOneHistory
             ⟦<LockRule as TableRule<Option<KeptBook>, Place<Entry, Opening>, LockOpening<KeptBook>>>⟧.holds port.lock) }
     {
-        let Ok((link, caller)) = Link::open_with(alloc, opening, callers) else {
-            return None;
-        };
         let Some(folded) = room(alloc) else {
             return None;
         };
+        let Ok((link, caller)) = Link::open_with(alloc, opening, callers) else {
+            return None;
+        };
+        Port::of_link(alloc, link, caller, folded)
+    }
+
+    // The port of this caller, or nothing for want of memory.
+    fn of_link(alloc: Global, link: Link, caller: Caller, folded: Vec<Recorded>) -> Option<Port>
+        requires own { caller.lock ≡ link }
+        requires room { 64 ≤ vec_capacity folded }
+        ensures { IfSome result (λ port. port ≡ caller) }
+    {
         match Arc::new(alloc, link) {
             Ok(link) => Some(Port {
                 link,
@@ -226,10 +236,10 @@ fn boxed(alloc: Global, link: &Arc<Link, Global>, caller: Caller) -> Result<Box<
     ensures port { IfOk result (λ port. port.value ≡ caller) }
     ensures back { IfErr result (λ back. back ≡ caller) }
 {
-    let Ok(link) = Arc::try_clone(link) else {
+    let Some(folded) = room(alloc) else {
         return Err(caller);
     };
-    let Some(folded) = room(alloc) else {
+    let Ok(link) = Arc::try_clone(link) else {
         return Err(caller);
     };
     let port = Port {

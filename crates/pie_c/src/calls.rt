@@ -257,7 +257,8 @@ fn depart_stamped(state: &mut PieState, size: u32, left: u64, arrived: u64, mome
     }
     let mut held = raw(state);
     held.depart(size, left, arrived, moment);
-    state.keep_waited(&held);
+    state.moment = held.moment;
+    state.waited = held.waited;
     DONE
 }
 

@@ -80,15 +80,6 @@ impl PieState {
         self.waited = held.waited;
     }
 
-    /// What a departure changes where delays come from time stamps: the moment, and what the packet had waited.
-    #[inline(always)]
-    pub(crate) fn keep_waited(&mut self, held: &RawController)
-        ensures { self.new ≡ record self.old { moment = held.now.moment; waited = held.now.waited } }
-    {
-        self.moment = held.moment;
-        self.waited = held.waited;
-    }
-
     /// What a departure changes, and new parameters beside themselves: the moment and the estimate of the departure rate.
     #[inline(always)]
     pub(crate) fn keep_departed(&mut self, held: &RawController)

@@ -63,8 +63,5 @@ fn opened(alloc: Global, opening: &PieOpening, callers: u16) -> Result<Box<Port>
     let Some(port) = Port::of_opening(alloc, opening, callers) else {
         return Err(NO_MEMORY);
     };
-    match Box::new(alloc, port) {
-        Ok(port) => Ok(port),
-        Err(_) => Err(NO_MEMORY),
-    }
+    Ok(port)
 }

@@ -47,13 +47,13 @@ impl Port {
     ghost use Rattle.pie_link_c.specs.{first_pass, without_highest, highest_alone, IsBeside, IsBothOf, number_of, are_in_range, TriesToAnswer};
     ghost use Rattle.pie_link_c.specs.{KeepsOneHistory, StaysOne, IsSetUnless, IsTriedUnless, IsFolded, command_in, has_bad_ecn};
 
-    /// The port with all numbers of a new link, or nothing for want of memory or of callers.
-    pub(crate) fn of_opening(alloc: Global, opening: Opening, callers: u16) -> Option<Port>
-        ensures origin { IfSome result (λ port. port.lock.origin ≡ Some opening) }
-        ensures numbers { IfSome result (λ port. port.lock.numbers ≡ callers) }
-        ensures first { IfSome result (λ port. port ≡ first_pass port.lock callers) }
+    /// The port with all numbers of a new link, in a box, or nothing for want of memory or of callers.
+    pub(crate) fn of_opening(alloc: Global, opening: Opening, callers: u16) -> Option<Box<Port>>
+        ensures origin { IfSome result (λ port. port.value.lock.origin ≡ Some opening) }
+        ensures numbers { IfSome result (λ port. port.value.lock.numbers ≡ callers) }
+        ensures first { IfSome result (λ port. port.value ≡ first_pass port.value.lock callers) }
         ensures headline { IfSome result (λ port. KeepsOneHistory
-            ⟦<LockRule as TableRule<Option<KeptBook>, Place<Entry, Opening>, LockOpening<KeptBook>>>⟧.holds port.lock) }
+            ⟦<LockRule as TableRule<Option<KeptBook>, Place<Entry, Opening>, LockOpening<KeptBook>>>⟧.holds port.value.lock) }
     {
         let Some(folded) = room(alloc) else {
             return None;
@@ -65,19 +65,25 @@ impl Port {
     }
 
     // The port of this caller, or nothing for want of memory.
-    fn of_link(alloc: Global, link: Link, caller: Caller, folded: Vec<Recorded>) -> Option<Port>
+    fn of_link(
+        alloc: Global,
+        link: Link,
+        caller: Caller,
+        folded: Vec<Recorded>,
+    ) -> Option<Box<Port>>
         requires own { caller.lock ≡ link }
         requires room { 64 ≤ vec_capacity folded }
-        ensures { IfSome result (λ port. port ≡ caller) }
+        ensures { IfSome result (λ port. port.value ≡ caller) }
     {
-        match Arc::new(alloc, link) {
-            Ok(link) => Some(Port {
-                link,
-                caller,
-                folded,
-            }),
-            Err(_) => None,
-        }
+        let Ok(link) = Arc::new(alloc, link) else {
+            return None;
+        };
+        let port = Port {
+            link,
+            caller,
+            folded,
+        };
+        Box::new(alloc, port).ok()
     }
 
     /// Asks what the event says.

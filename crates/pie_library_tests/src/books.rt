@@ -5,6 +5,7 @@ use crate::flushes::Sink;
 use crate::seen::{Seen, begin};
 use pie_book::{Book, Command, Excerpt, FoldRefusal, Limits, OpenRefusal};
 use pie_excerpt::write_excerpt;
+use pie_link::Arrival;
 use pie_params::Params;
 use pie_queue::{Ecn, Packet};
 use pie_record::TraceFault;
@@ -36,6 +37,17 @@ pub(crate) fn arrive(moment: u64, tag: u64) -> Command {
         moment,
         packet: packet(tag, 100),
         word: 0,
+    }
+}
+
+/// The same, of a burst.
+pub(crate) fn arrival(moment: u64, tag: u64) -> Arrival {
+    let packet = packet(tag, 100);
+    let word = 0;
+    Arrival {
+        moment,
+        packet,
+        word,
     }
 }
 

@@ -149,23 +149,26 @@ fn time<R: Clock + Print, D: Decides>(
     report.checksum("book", name, sum);
 }
 
+/// What is measured is opened with these.
+const LIMITS: Limits = Limits {
+    packets: 1024,
+    tail: TAIL,
+    events: 1 << 40,
+};
+
+/// Prints it of a book.
+fn time_book<R: Clock + Print>(to: &mut Report<R>, alloc: Global, name: &'static str, mode: Mode) {
+    if let Some(mut book) = open_book(alloc, LIMITS, mode) {
+        time(to, alloc, name, &mut book);
+    }
+}
+
 /// Prints the time of one event decided only (`Core::step`), and decided and recorded (`Book::apply`) in a bounded book that is folded whenever its
 /// tail is full, and in a rolling one.
 pub fn measure<R: Clock + Print>(report: &mut Report<R>, alloc: Global) {
-    let limits = Limits {
-        packets: 1024,
-        tail: TAIL,
-        events: 1 << 40,
-    };
-    if let Ok(mut core) = Core::open(alloc, limits, Params::default_profile(), 0) {
+    if let Ok(mut core) = Core::open(alloc, LIMITS, Params::default_profile(), 0) {
         time(report, alloc, "decided", &mut core);
     }
-    for (name, mode) in [
-        ("recorded_bounded", Mode::Bounded),
-        ("recorded_rolling", Mode::Rolling),
-    ] {
-        if let Some(mut book) = open_book(alloc, limits, mode) {
-            time(report, alloc, name, &mut book);
-        }
-    }
+    time_book(report, alloc, "recorded_bounded", Mode::Bounded);
+    time_book(report, alloc, "recorded_rolling", Mode::Rolling);
 }

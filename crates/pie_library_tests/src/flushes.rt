@@ -74,8 +74,8 @@ pub(crate) const WRITES: [(Writes, &str); 7] = [
 ];
 
 /// Whether a call answers that the writer failed.
-fn is_write<T: Drop>(answer: Result<T, TraceFault>) -> bool {
-    matches!(answer, Err(TraceFault::Write))
+fn is_write(fault: Option<TraceFault>) -> bool {
+    matches!(fault, Some(TraceFault::Write))
 }
 
 fn explained(alloc: Global, text: &[u8], writer: &mut Sink) -> bool {
@@ -93,18 +93,18 @@ fn written(alloc: Global, writer: &mut Sink) -> bool {
         command: Command::Depart { moment: 1 },
         answer: Answer::Empty,
     };
-    event.fits() && is_write(write_history(alloc, writer, &opening(), &[event]))
+    event.fits() && is_write(write_history(alloc, writer, &opening(), &[event]).err())
 }
 
 impl Writes {
     /// Whether it answers that the writer failed. (A run of one record at the most meets a text that is too long.)
     fn fails(self, alloc: Global, text: &[u8], writer: &mut Sink) -> bool {
         match self {
-            Writes::Run => is_write(run_trace(alloc, text, writer)),
-            Writes::RunWithin => is_write(run_trace_within(alloc, text, writer, 1)),
-            Writes::Migrate => is_write(migrate(alloc, text, writer)),
+            Writes::Run => is_write(run_trace(alloc, text, writer).err()),
+            Writes::RunWithin => is_write(run_trace_within(alloc, text, writer, 1).err()),
+            Writes::Migrate => is_write(migrate(alloc, text, writer).err()),
             Writes::Explain => explained(alloc, text, writer),
-            Writes::Finding => is_write(write_finding(Finding::Clean { events: 3 }, writer)),
+            Writes::Finding => is_write(write_finding(Finding::Clean { events: 3 }, writer).err()),
             Writes::Opening => write_opening(&opening(), writer).is_err(),
             Writes::History => written(alloc, writer),
         }

@@ -40,7 +40,7 @@ impl Place for AtLink<'_> {
         }
     }
 
-    fn call<R: Wait>(mut self, rt: &R, sends: bool, turn: u64) -> Self {
+    fn call<R: Wait + Clock>(mut self, rt: &R, sends: bool, turn: u64) -> Self {
         let (moment, packet) = (turn.wrapping_mul(BETWEEN), packet(turn, 1000));
         if sends {
             let _ = self.link.depart(rt, &mut self.caller, moment);
@@ -56,7 +56,7 @@ impl Place for &Mutex<Book> {
         Some(*self)
     }
 
-    fn call<R: Wait>(self, rt: &R, sends: bool, turn: u64) -> Self {
+    fn call<R: Wait + Clock>(self, rt: &R, sends: bool, turn: u64) -> Self {
         let (moment, packet, word) = (turn.wrapping_mul(BETWEEN), packet(turn, 1000), 0);
         let command = if sends {
             Command::Depart { moment }
@@ -72,19 +72,26 @@ impl Place for &Mutex<Book> {
     }
 }
 
+/// Prints it of a link.
+fn at_link<R: Threads + Wait + Clock + Print + Sync>(to: &mut Report<R>, alloc: Global, by: u16) {
+    if let Ok((link, caller)) = Link::open_with(alloc, opening(LIMITS, Mode::Rolling), 10) {
+        let link = &link;
+        time(to, alloc, "link", by, 1, AtLink { link, caller });
+    }
+}
+
+/// Prints it of a mutex.
+fn at_mutex<R: Threads + Wait + Clock + Print + Sync>(to: &mut Report<R>, alloc: Global, by: u16) {
+    if let Some(book) = open_book(alloc, LIMITS, Mode::Rolling) {
+        time(to, alloc, "link_mutex", by, 1, &Mutex::new(book));
+    }
+}
+
 /// Prints the time of an event with no contention, and how many there are in a second by 1, 2, 4 and 8 threads that enqueue beside one that sends,
 /// for the link and for the mutex.
 pub fn measure<R: Threads + Wait + Clock + Print + Sync>(report: &mut Report<R>, alloc: Global) {
-    for threads in THREADS {
-        let jobs = threads.saturating_add(1);
-        if let Ok((link, caller)) = Link::open_with(alloc, opening(LIMITS, Mode::Rolling), 10) {
-            let link = &link;
-            let place = AtLink { link, caller };
-            time(report, alloc, "link", threads, jobs, place);
-        }
-        if let Some(book) = open_book(alloc, LIMITS, Mode::Rolling) {
-            let place = &Mutex::new(book);
-            time(report, alloc, "link_mutex", threads, jobs, place);
-        }
+    for place in 0..THREADS.len() {
+        at_link(report, alloc, THREADS[place]);
+        at_mutex(report, alloc, THREADS[place]);
     }
 }

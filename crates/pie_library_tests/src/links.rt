@@ -1,29 +1,19 @@
 //! Links: calls that want memory, and what a caller is answered that lacks numbers at a link that is free, since no clause says that it isn't busy.
 //! Of what the calls promise nothing is needed here but that the caller stays one of the link's.
 ghost use Rattle.std.specs.Prelude.{◌≡◌, IfOk};
-ghost use Rattle.pie_link.specs.Views.{StaysOne};
 
-use crate::books::{arrive, limits, packet};
+use crate::books::{arrival, arrive, limits};
 use crate::seen::{Seen, begin};
 use pie_book::{Answer, Command, Excerpt, FoldRefusal, Limits, OpenRefusal, Opening, Refusal};
-use pie_link::{Arrival, Caller, Link, LinkRefusal, Told, Tried};
+use pie_link::{Caller, Link, LinkRefusal, Told, Tried};
 use pie_params::Params;
 use std::alloc::Global;
 use std::sync::Wait;
 
-/// How a call is made.
-#[derive(Clone, Copy)]
-pub(crate) enum How {
-    /// By the call that never blocks.
-    Tries,
-    /// By the call that waits for the book.
-    Waits,
-}
-
 /// Whether a command is taken, by the call that never blocks. (That a call which waits answers so is proved.)
 fn tries(link: &Link, caller: &mut Caller, command: Command) -> bool
     requires own { caller.old.lock ≡ link.now }
-    ensures stays { StaysOne caller.old caller.new }
+    ensures { caller.new.lock ≡ link.now }
 {
     match command {
         Command::Arrive {
@@ -40,27 +30,32 @@ fn tries(link: &Link, caller: &mut Caller, command: Command) -> bool
     }
 }
 
-/// How many events a fold of two hands out, and the number of the last; or whether it was refused for want of memory.
-fn fold_two<R: Wait>(rt: &R, link: &Link, caller: &mut Caller, how: How) -> Result<(u64, u64), bool>
+/// How many events a fold of two hands out that doesn't wait, and the number of the last; or whether it was refused for want of memory.
+fn try_two(link: &Link, caller: &mut Caller) -> Result<(u64, u64), bool>
     requires own { caller.old.lock ≡ link.now }
-    ensures stays { StaysOne caller.old caller.new }
+    ensures { caller.new.lock ≡ link.now }
 {
-    match how {
-        How::Tries => match link.try_fold(caller, 2) {
-            Ok(told) => Ok((told.answer.len() as u64, told.number)),
-            Err(why) => Err(matches!(why, Tried::Refused(FoldRefusal::Memory))),
-        },
-        How::Waits => match link.fold(rt, caller, 2) {
-            Ok(told) => Ok((told.answer.len() as u64, told.number)),
-            Err(why) => Err(matches!(why, FoldRefusal::Memory)),
-        },
+    match link.try_fold(caller, 2) {
+        Ok(told) => Ok((told.answer.len() as u64, told.number)),
+        Err(why) => Err(matches!(why, Tried::Refused(FoldRefusal::Memory))),
+    }
+}
+
+/// The same of one that waits.
+fn fold_two<R: Wait>(rt: &R, link: &Link, caller: &mut Caller) -> Result<(u64, u64), bool>
+    requires own { caller.old.lock ≡ link.now }
+    ensures { caller.new.lock ≡ link.now }
+{
+    match link.fold(rt, caller, 2) {
+        Ok(told) => Ok((told.answer.len() as u64, told.number)),
+        Err(why) => Err(matches!(why, FoldRefusal::Memory)),
     }
 }
 
 /// How many events the book of a link has, as a caller reads it; 0 where the lock is not free.
 fn count(link: &Link, caller: &mut Caller) -> u64
     requires own { caller.old.lock ≡ link.now }
-    ensures stays { StaysOne caller.old caller.new }
+    ensures { caller.new.lock ≡ link.now }
 {
     match link.try_registers(caller) {
         Ok(told) => told.answer.count,
@@ -92,22 +87,34 @@ pub(crate) fn open<R: Wait + Print>(rt: &R, alloc: Global, name: &str) -> Seen {
 }
 
 /// Three events and a fold of two. Where it was refused the lock is free, and the book has the same events.
-fn fold_at<R: Wait + Print>(rt: &R, link: &Link, caller: &mut Caller, how: How, name: &str) -> Seen
+fn fold_at<R: Wait + Print>(
+    rt: &R,
+    link: &Link,
+    caller: &mut Caller,
+    waits: bool,
+    name: &str,
+) -> Seen
     requires own { caller.old.lock ≡ link.now }
 {
     let _ = tries(link, caller, arrive(1, 1));
     let _ = tries(link, caller, Command::Depart { moment: 2 });
     let _ = tries(link, caller, Command::Depart { moment: 3 });
     begin(rt, name);
-    match fold_two(rt, link, caller, how) {
+    let folded = if waits {
+        fold_two(rt, link, caller)
+    } else {
+        try_two(link, caller)
+    };
+    match folded {
         Ok((many, number)) => Seen::done(many, number),
         Err(is_memory) => Seen::refused(is_memory, count(link, caller)),
     }
 }
 
-pub(crate) fn fold<R: Wait + Print>(rt: &R, alloc: Global, how: How, name: &str) -> Seen {
+/// A fold by the call that waits for the book, or by the one that never blocks.
+pub(crate) fn fold<R: Wait + Print>(rt: &R, alloc: Global, waits: bool, name: &str) -> Seen {
     match Link::open(alloc, limits(8), Params::default_profile(), 0, 2) {
-        Ok((link, mut one)) => fold_at(rt, &link, &mut one, how, name),
+        Ok((link, mut one)) => fold_at(rt, &link, &mut one, waits, name),
         Err(_) => Seen::NOTHING,
     }
 }
@@ -117,7 +124,7 @@ pub(crate) fn fold<R: Wait + Print>(rt: &R, alloc: Global, how: How, name: &str)
 /// Whether one of each command is taken.
 fn takes_each(link: &Link, caller: &mut Caller) -> bool
     requires own { caller.old.lock ≡ link.now }
-    ensures stays { StaysOne caller.old caller.new }
+    ensures { caller.new.lock ≡ link.now }
 {
     let (moment, params) = (15_000_000, Params::default_profile());
     tries(link, caller, arrive(10, 1))
@@ -130,13 +137,9 @@ fn takes_each(link: &Link, caller: &mut Caller) -> bool
 /// How many answers there are to a burst of two packets, and to departures until none is left.
 fn burst<R: Wait>(rt: &R, alloc: Global, link: &Link, caller: &mut Caller) -> u64
     requires own { caller.old.lock ≡ link.now }
-    ensures stays { StaysOne caller.old caller.new }
+    ensures { caller.new.lock ≡ link.now }
 {
-    let one = Arrival {
-        moment: 15_000_000,
-        packet: packet(1, 100),
-        word: 0,
-    };
+    let one = arrival(15_000_000, 1);
     let mut answers: Vec<Result<Told<Answer>, Refusal>> = Vec::new(alloc);
     let _ = answers.reserve(5);
     let _ = link.try_arrive_all(caller, &[one, one], &mut answers);
@@ -147,7 +150,7 @@ fn burst<R: Wait>(rt: &R, alloc: Global, link: &Link, caller: &mut Caller) -> u6
 /// How long packets waited in all, as a caller reads it; 0 where the lock is not free.
 fn waited(link: &Link, caller: &mut Caller) -> u128
     requires own { caller.old.lock ≡ link.now }
-    ensures stays { StaysOne caller.old caller.new }
+    ensures { caller.new.lock ≡ link.now }
 {
     match link.try_stats(caller) {
         Ok(told) => told.answer.waited,
@@ -158,7 +161,7 @@ fn waited(link: &Link, caller: &mut Caller) -> u128
 /// How many of the book's last events a caller is told.
 fn told(alloc: Global, link: &Link, caller: &mut Caller) -> usize
     requires own { caller.old.lock ≡ link.now }
-    ensures stays { StaysOne caller.old caller.new }
+    ensures { caller.new.lock ≡ link.now }
 {
     let opening = Opening::usual(limits(16), Params::default_profile(), 0);
     let Ok(mut excerpt) = Excerpt::with_room(alloc, opening) else {
@@ -171,15 +174,15 @@ fn told(alloc: Global, link: &Link, caller: &mut Caller) -> usize
 /// Whether ten events are made, read and folded.
 fn is_done<R: Wait>(rt: &R, alloc: Global, link: &Link, caller: &mut Caller) -> bool
     requires own { caller.old.lock ≡ link.now }
-    ensures stays { StaysOne caller.old caller.new }
+    ensures { caller.new.lock ≡ link.now }
 {
     let are_taken = takes_each(link, caller);
     let answers = burst(rt, alloc, link, caller);
     let count = count(link, caller);
     let waited = waited(link, caller);
     let told = told(alloc, link, caller);
-    let folded = fold_two(rt, link, caller, How::Tries);
-    are_taken && answers == 5 && count == 10 && waited == 10 && told == 10 && folded == Ok((2, 2))
+    let is_folded = matches!(try_two(link, caller), Ok((2, 2)));
+    are_taken && answers == 5 && count == 10 && waited == 10 && told == 10 && is_folded
 }
 
 /// Whether this caller closes the link, with a book that holds the other eight.
@@ -187,7 +190,7 @@ fn closes(link: Link, caller: Caller) -> bool
     requires own { caller.lock ≡ link }
 {
     match link.close(caller) {
-        Ok(book) => book.count() == 10 && book.tail_len() == 8,
+        Ok(book) => (book.count() == 10) & (book.tail_len() == 8),
         Err(_) => false,
     }
 }

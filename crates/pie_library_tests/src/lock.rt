@@ -3,10 +3,10 @@
 ghost use Rattle.std.specs.Prelude.{◌≡◌, Some};
 ghost use Rattle.pie_lock.specs.Tally.{Tells};
 
+use crate::places::{Place, jobs_at, toil_all};
 use pie_lock::{Counter, CounterEntry, Held, Pass, RuledLock, no_entries, one_entry};
 use std::alloc::Global;
 use std::sync::Wait;
-use std::thread;
 use std::thread::{Threads, sleep};
 use std::time::{Clock, Duration};
 
@@ -18,15 +18,13 @@ const LONG: u64 = 200;
 pub(crate) struct AtLock<'a> {
     pub(crate) lock: &'a RuledLock<Counter>,
     pub(crate) pass: Pass<Counter>,
+    /// How long it holds the lock in a turn, in milliseconds.
+    pub(crate) long: u64,
     ghost own: { pass.lock ≡ lock.now },
 }
 
 /// Adds one, and puts the counter back.
-pub(crate) fn add_one(
-    lock: &RuledLock<Counter>,
-    mut held: Held<Counter>,
-    caller: u16,
-) -> Pass<Counter>
+fn add_one(lock: &RuledLock<Counter>, mut held: Held<Counter>, caller: u16) -> Pass<Counter>
     requires own { held.lock ≡ lock.now }
     requires caller { held.first ≡ caller }
     requires kept { (held.lock.origin ≡ Some tt) × Tells held.state held.front }
@@ -40,62 +38,53 @@ pub(crate) fn add_one(
     }
 }
 
-/// Takes the lock, has the state for long, and makes one call; the number is that of the calls.
-fn take_and_add<R: Wait + Clock>(rt: &R, one: AtLock) -> u64 {
-    let AtLock { lock, pass } = one;
-    let caller = pass.first();
-    let held = lock.take(rt, pass);
-    sleep(rt, Duration::from_millis(LONG));
-    drop(add_one(lock, held, caller));
-    1
+/// Lets so many milliseconds pass.
+fn hold<R: Clock>(rt: &R, long: u64) {
+    if long != 0 {
+        sleep(rt, Duration::from_millis(long));
+    }
 }
 
-/// Three that have a pass each. (Without memory there are fewer, and the test fails.)
-fn three<'a>(
-    alloc: Global,
-    lock: &'a RuledLock<Counter>,
-    pass: &mut Pass<Counter>,
-) -> Vec<AtLock<'a>>
-    requires own { pass.old.lock ≡ lock.now }
-    ensures { pass.new.lock ≡ lock.now }
-{
-    let mut all = Vec::new(alloc);
-    for _ in 0..3 {
-        if let Ok(pass) = lock.share(pass) {
-            let _ = all.push(AtLock { lock, pass });
+impl Place for AtLock<'_> {
+    fn share(&mut self) -> Option<Self> {
+        let (lock, long) = (self.lock, self.long);
+        match lock.share(&mut self.pass) {
+            Ok(pass) => Some(AtLock { lock, pass, long }),
+            Err(_) => None,
         }
     }
-    all
+
+    fn call<R: Wait + Clock>(self, rt: &R, _sends: bool, _turn: u64) -> Self {
+        let AtLock { lock, pass, long } = self;
+        let caller = pass.first();
+        let held = lock.take(rt, pass);
+        hold(rt, long);
+        let pass = add_one(lock, held, caller);
+        lock.wake();
+        AtLock { lock, pass, long }
+    }
 }
 
-/// Three threads, of which two sleep while the first has the state, and one still while the second has it.
-fn three_take<R: Threads + Wait + Clock + Sync>(
-    rt: &R,
-    alloc: Global,
-    lock: &RuledLock<Counter>,
-    pass: &mut Pass<Counter>,
-) -> bool
-    requires own { pass.old.lock ≡ lock.now }
-    ensures { pass.new.lock ≡ lock.now }
-{
-    let all = three(alloc, lock, pass);
-    thread::map_vec(rt, all, &|one: AtLock| { take_and_add(rt, one) }).is_ok()
+/// Whether a lock has counted three.
+fn has_three<R: Wait>(rt: &R, place: AtLock) -> bool {
+    let AtLock { lock, pass, .. } = place;
+    let mut held = lock.take(rt, pass);
+    let counter = held.state();
+    let (count, total) = (counter.count(), counter.total());
+    drop(lock.put(held, no_entries()));
+    count == 3 && total == 3
 }
 
-/// Whether a lock that closes has counted three.
-fn has_three(lock: RuledLock<Counter>, pass: Pass<Counter>) -> bool
-    requires own { pass.lock ≡ lock }
-{
-    let Ok(counter) = lock.close(pass) else {
-        return false;
-    };
-    counter.count() == 3 && counter.total() == 3
-}
-
-/// Whether all three have been there.
+/// Whether all of three threads have been there, of which two sleep while the first has the state, and one still while the second has it. (Without
+/// memory there are fewer, and the test fails.)
 pub(crate) fn all_wake<R: Threads + Wait + Clock + Sync>(rt: &R, alloc: Global) -> bool {
     match RuledLock::new(alloc, Counter::new(), 4) {
-        Ok((lock, mut pass)) => { three_take(rt, alloc, &lock, &mut pass) & has_three(lock, pass) }
+        Ok((lock, pass)) => {
+            let (lock, long) = (&lock, LONG);
+            let mut place = AtLock { lock, pass, long };
+            let jobs = jobs_at(alloc, &mut place, 3);
+            toil_all(rt, jobs, 1) & has_three(rt, place)
+        }
         Err(_) => false,
     }
 }

@@ -22,66 +22,75 @@ pub trait Place {
     fn share(&mut self) -> Option<Self>;
 
     /// The call of a turn, by a thread that sends or by another.
-    fn call<R: Wait>(self, rt: &R, sends: bool, turn: u64) -> Self;
+    fn call<R: Wait + Clock>(self, rt: &R, sends: bool, turn: u64) -> Self;
 }
 
 /// What one of several threads does at its place.
 #[derive(Drop)]
-struct Job<P> {
+pub struct Job<P> {
     place: P,
     sends: bool,
 }
 
 /// Jobs for so many threads, of which the first sends. (Without memory there are fewer.)
-fn jobs_at<P: Place + Drop>(alloc: Global, place: &mut P, threads: u16) -> Vec<Job<P>> {
+pub fn jobs_at<P: Place + Drop>(alloc: Global, place: &mut P, threads: u16) -> Vec<Job<P>> {
     let mut jobs = Vec::new(alloc);
     for nth in 0..threads {
         if let Some(place) = place.share() {
-            let _ = jobs.push(Job {
-                place,
-                sends: nth == 0,
-            });
+            let sends = nth == 0;
+            let _ = jobs.push(Job { place, sends });
         }
     }
     jobs
 }
 
-/// The calls of one of several threads; the number is theirs.
-fn toil<R: Wait, P: Place + Drop>(rt: &R, job: Job<P>) -> u64 {
+/// So many calls of one of several threads; the number is theirs.
+fn toil<R: Wait + Clock, P: Place + Drop>(rt: &R, job: Job<P>, calls: u64) -> u64 {
     let Job { mut place, sends } = job;
-    for turn in 0..PER_THREAD {
+    for turn in 0..calls {
         place = place.call(rt, sends, turn);
     }
-    PER_THREAD
+    calls
+}
+
+/// So many calls of a thread for each job; whether there was memory for the threads.
+pub fn toil_all<R: Threads + Wait + Clock + Sync, P: Place + Send + Drop>(
+    rt: &R,
+    jobs: Vec<Job<P>>,
+    calls: u64,
+) -> bool {
+    thread::map_vec(rt, jobs, &|job: Job<P>| { toil(rt, job, calls) }).is_ok()
 }
 
 /// Calls of one thread, in turn as one that sends and as another.
-fn call_alone<R: Wait, P: Place + Drop>(rt: &R, place: P) {
-    let mut place = place;
+fn call_alone<R: Wait + Clock, P: Place + Drop>(rt: &R, place: P) {
+    let (mut place, mut sends) = (place, false);
     for turn in 0..UNCONTENDED {
-        place = place.call(rt, turn % 2 == 1, turn);
+        place = place.call(rt, sends, turn);
+        sends = !sends;
     }
 }
 
-/// Prints how long a call takes, or how many there are in a second by `jobs` threads; of them so many are named.
+/// Prints how long a call takes, or how many there are in a second by so many threads, and by those that send beside them.
 pub fn time<R: Threads + Wait + Clock + Print + Sync, P: Place + Send + Drop>(
     report: &mut Report<R>,
     alloc: Global,
     name: &'static str,
     threads: u16,
-    jobs: u16,
+    senders: u16,
     mut place: P,
 ) {
     if threads == 0 {
         let start = report.start();
         call_alone(report.rt, place);
         report.nanos(name, "uncontended", start, UNCONTENDED);
-        return;
+    } else {
+        let jobs = threads.saturating_add(senders);
+        let all = jobs_at(alloc, &mut place, jobs);
+        let start = report.start();
+        let _ = toil_all(report.rt, all, PER_THREAD);
+        let rate = report.rate(start, u64::from(jobs) * PER_THREAD);
+        let said = println!(report.rt; "{name}_threads_{threads} {rate} calls/s");
+        report.printed(said);
     }
-    let (rt, all) = (report.rt, jobs_at(alloc, &mut place, jobs));
-    let start = report.start();
-    let _ = thread::map_vec(rt, all, &|job: Job<P>| { toil(rt, job) });
-    let rate = report.rate(start, u64::from(jobs) * PER_THREAD);
-    let said = println!(report.rt; "{name}_threads_{threads} {rate} calls/s");
-    report.printed(said);
 }

@@ -1,14 +1,15 @@
-//! What the measurements print, in lines `name value unit`.
+//! What is printed: of the measurements lines `name value unit`.
 
 use std::io;
+use std::io::ErrorKind;
 use std::rt::Clock;
 use std::time::Instant;
 
-/// What is printed on, and the first failure of the clock or of the output: so no `?` stands beside what is measured.
+/// What is printed on, and the kind of the first failure of the clock or of the output: so no `?` stands beside what is measured.
 #[derive(Drop)]
 pub struct Report<'a, R> {
     pub rt: &'a R,
-    failure: Option<io::Error>,
+    failure: Option<ErrorKind>,
 }
 
 impl<'a, R: Clock + Print> Report<'a, R> {
@@ -20,32 +21,27 @@ impl<'a, R: Clock + Print> Report<'a, R> {
     pub fn end(self) -> io::Result<()> {
         match self.failure {
             None => Ok(()),
-            Some(why) => Err(why),
+            Some(kind) => Err(io::Error::from(kind)),
         }
     }
 
-    fn fail(&mut self, why: io::Error) {
-        if self.failure.is_none() {
-            self.failure = Some(why);
+    /// What was not refused; the first refusal is kept.
+    fn kept<T: Drop>(&mut self, it: io::Result<T>) -> Option<T> {
+        if let Err(why) = &it {
+            self.failure = self.failure.or(Some(why.kind()));
         }
+        it.ok()
     }
 
     /// Takes in whether a line was printed.
     pub fn printed(&mut self, said: io::Result<()>) {
-        if let Err(why) = said {
-            self.fail(why);
-        }
+        let _ = self.kept(said);
     }
 
     /// The moment at which what is measured begins; nothing where the clock fails.
     pub fn start(&mut self) -> Option<Instant> {
-        match Instant::now(self.rt) {
-            Ok(start) => Some(start),
-            Err(why) => {
-                self.fail(why);
-                None
-            }
-        }
+        let now = Instant::now(self.rt);
+        self.kept(now)
     }
 
     /// The nanoseconds since then.
@@ -53,12 +49,10 @@ impl<'a, R: Clock + Print> Report<'a, R> {
         let Some(start) = start else {
             return 0;
         };
-        match start.elapsed(self.rt) {
-            Ok(spent) => spent.as_nanos(),
-            Err(why) => {
-                self.fail(why);
-                0
-            }
+        let spent = start.elapsed(self.rt);
+        match self.kept(spent) {
+            Some(spent) => spent.as_nanos(),
+            None => 0,
         }
     }
 

@@ -18,7 +18,8 @@ const DEPARTURES: [(u32, u64, u64); 3] = [
 /// Whether the average of both cycles is 14 milliseconds, and none is begun then.
 fn are_cycles_averaged() -> bool {
     let mut rate = Rate::cleared();
-    for (size, left, moment) in DEPARTURES {
+    for place in 0..DEPARTURES.len() {
+        let (size, left, moment) = DEPARTURES[place];
         if let Some(moment) = Nanos::from_units(moment) {
             rate.departed(size, left, moment, 16_384);
         }

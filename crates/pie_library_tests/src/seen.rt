@@ -1,6 +1,7 @@
 //! What a call answered, and the lines that are printed.
 
-use std::io;
+use crate::report::Report;
+use std::rt::Clock;
 
 /// What a call answered, and two numbers that were seen then: its test says which.
 #[derive(Clone, Copy)]
@@ -43,13 +44,15 @@ pub(crate) fn begin(rt: &impl Print, name: &str) {
 }
 
 /// Prints what was seen.
-pub(crate) fn tell(rt: &impl Print, name: &str, seen: Seen) -> io::Result<()> {
+pub(crate) fn tell<R: Clock + Print>(report: &mut Report<R>, name: &str, seen: Seen) {
     let Seen { answer, one, other } = seen;
-    println!(rt; "{name}: {answer}, {one}, {other}")
+    let said = println!(report.rt; "{name}: {answer}, {one}, {other}");
+    report.printed(said);
 }
 
 /// Says whether a test holds.
-pub(crate) fn say(rt: &impl Print, name: &str, holds: bool) -> io::Result<()> {
+pub(crate) fn say<R: Clock + Print>(report: &mut Report<R>, name: &str, holds: bool) {
     let word = if holds { "holds" } else { "fails" };
-    println!(rt; "{name}: {word}")
+    let said = println!(report.rt; "{name}: {word}");
+    report.printed(said);
 }

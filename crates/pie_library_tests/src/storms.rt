@@ -1,7 +1,7 @@
 //! What no clause of a storm says: that a gate stands around each call, and that a fold is asked for and finds what the tail holds. (That its workers
 //! are at work at once, and bursts: tests/program/storms.sh.)
 
-use crate::books::packet;
+use crate::books::arrival;
 use crossbeam_utils::Backoff;
 use pie_book::{Limits, Profile};
 use pie_params::{Elements, Params};
@@ -46,16 +46,10 @@ impl Gate for Hold {
     }
 }
 
-/// One list with an arrival at each of these moments. (Without memory a list is too short, and the test fails.)
-fn arrivals(alloc: Global, of: &[u64]) -> Vec<Arrival> {
+/// A list of these arrivals. (Without memory it is too short, and the test fails.)
+fn arrivals(alloc: Global, of: &[Arrival]) -> Vec<Arrival> {
     let mut list = Vec::new(alloc);
-    for moment in of {
-        let _ = list.push(Arrival {
-            moment: *moment,
-            packet: packet(*moment, 100),
-            word: 0,
-        });
-    }
+    let _ = list.extend_from_slice(of);
     list
 }
 
@@ -63,8 +57,8 @@ fn arrivals(alloc: Global, of: &[u64]) -> Vec<Arrival> {
 fn plan(alloc: Global) -> Plan {
     let params = Params::default_profile();
     let mut arriving = Vec::new(alloc);
-    let _ = arriving.push(arrivals(alloc, &[9, 3]));
-    let _ = arriving.push(arrivals(alloc, &[5]));
+    let _ = arriving.push(arrivals(alloc, &[arrival(9, 9), arrival(3, 3)]));
+    let _ = arriving.push(arrivals(alloc, &[arrival(5, 5)]));
     let mut changes = Vec::new(alloc);
     let _ = changes.push(Change { moment: 4, params });
     let mut folds = Vec::new(alloc);

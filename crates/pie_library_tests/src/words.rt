@@ -57,27 +57,32 @@ fn say_why_others_are_refused(alloc: Global) -> bool {
     say(alloc, &openings) & say(alloc, &folds) & say(alloc, &resumings)
 }
 
-/// Those of parameters, of a queue and its packets, of a trace longer than a test can run, and of a pass.
-fn say_what_is_wrong(alloc: Global) -> bool {
-    let params = [(
-        BadParam(Field::DqThreshold),
-        "the parameter dq_threshold is out of its range",
-    )];
+/// Those of a queue and its packets.
+fn say_why_a_queue_refuses(alloc: Global) -> bool {
     let queues = [(Memory, "out of memory")];
-    let traces = [(TraceFault::TooLong, "too many records")];
     let orders = [(
         QueueRefusal::Order,
         "a packet that arrived before its predecessor",
     )];
     let ends = [(EndRefusal::Missing, "fewer packets than were announced")];
+    say(alloc, &queues) & say(alloc, &orders) & say(alloc, &ends)
+}
+
+/// Those of parameters, of a trace longer than a test can run, and of a pass.
+fn say_what_is_wrong(alloc: Global) -> bool {
+    let params = [(
+        BadParam(Field::DqThreshold),
+        "the parameter dq_threshold is out of its range",
+    )];
+    let traces = [(TraceFault::TooLong, "too many records")];
     let passes = [(OneNumber, "a pass with one number can't be shared")];
-    let of_queues = say(alloc, &queues) & say(alloc, &orders) & say(alloc, &ends);
-    of_queues & say(alloc, &params) & say(alloc, &traces) & say(alloc, &passes)
+    say(alloc, &params) & say(alloc, &traces) & say(alloc, &passes)
 }
 
 pub(crate) fn refusals_in_words(alloc: Global) -> bool {
     say_why_a_command_is_refused(alloc)
         & say_why_others_are_refused(alloc)
+        & say_why_a_queue_refuses(alloc)
         & say_what_is_wrong(alloc)
 }
 
@@ -89,13 +94,16 @@ pub(crate) fn the_largest_ring(alloc: Global) -> bool {
     }
 }
 
-/// Whether a new book shows that it has no event, and when it was opened.
+/// Whether a book shows that it has no event, and when it was opened.
+fn is_as_opened(book: &mut Book) -> bool {
+    let checkpoint = book.checkpoint();
+    book.event(0).is_none() && book.opening().moment == 3 && checkpoint == book.registers()
+}
+
+/// Whether a new book does.
 fn shows_its_opening(alloc: Global) -> bool {
     match Book::open(alloc, limits(16), Params::default_profile(), 3) {
-        Ok(mut book) => {
-            let checkpoint = book.checkpoint();
-            book.event(0).is_none() && book.opening().moment == 3 && checkpoint == book.registers()
-        }
+        Ok(mut book) => is_as_opened(&mut book),
         Err(_) => false,
     }
 }
@@ -128,7 +136,8 @@ fn are_gains_bounded() -> bool {
 fn is_history_read(alloc: Global) -> bool {
     match HistoryLines::open(alloc, HISTORY) {
         Ok((mut lines, opening)) => {
-            opening.limits.packets == 4 && matches!(lines.next_line(), Ok(Some(Line::Made(_))))
+            let is_made = matches!(lines.next_line(), Ok(Some(Line::Made(_))));
+            is_made & (opening.limits.packets == 4)
         }
         Err(_) => false,
     }

@@ -1,7 +1,8 @@
 //! The numbers of a controller that often stay as they are from one event to the next, where others change: their text is kept, and not
 //! written a second time.
 ghost use Rattle.std.specs.Prelude.{◌≡◌, ◌+◌, ◌≤◌, [], length};
-ghost use Rattle.pie_explain.specs.Record.{onto, steady_fields};
+ghost use Rattle.pie_explain.specs.Record.{held_fields, onto, steady_fields};
+ghost use Rattle.std.specs.Prelude.{true};
 
 use pie_book::Registers;
 use pie_page::Row;
@@ -42,12 +43,13 @@ impl Steady {
         }
     }
 
-    /// Takes these numbers in place of the earlier ones.
-    fn take(&mut self, held: &Registers)
-        ensures { self.new ≡ onto (steady_fields held.now.prob held.now.accu held.now.burst) [] }
+    /// Takes these numbers in place of the earlier ones, and tells whether they are the same.
+    fn take(&mut self, held: &Registers) -> bool
+        ensures text { self.new ≡ onto (steady_fields held.now.prob held.now.accu held.now.burst) [] }
+        ensures same { result ≡ true → self.new ≡ self.old }
     {
         if self.prob == held.prob && self.accu == held.accu && self.burst == held.burst {
-            return;
+            return true;
         }
         self.text.clear();
         self.text.number(held.burst);
@@ -56,15 +58,75 @@ impl Steady {
         self.prob = held.prob;
         self.accu = held.accu;
         self.burst = held.burst;
+        false
+    }
+}
+
+/// All numbers of a controller that were put last, and their text as fields of a row, each with a comma after it: what it holds after an event
+/// mostly is what it holds before the next.
+#[derive(Drop)]
+pub(crate) struct Held {
+    bytes: u64,
+    packets: u64,
+    delay: u64,
+    steady: Steady,
+    text: Row,
+}
+
+impl Model for Held {
+    ghost use Rattle.std.specs.Prelude.{ℕ, ◌≡◌, ◌≤◌, ◌∷◌, List, [], length, decimal};
+    ghost use Rattle.pie_explain.specs.Record.{onto};
+
+    ghost Value = { List ℕ };
+
+    ghost view = { λ held. held.text };
+
+    ghost invariant = { λ held. (held.text ≡ onto (decimal held.bytes ∷ decimal held.packets ∷ decimal held.delay ∷ []) held.steady)
+        × (length held.text ≤ 126) };
+}
+
+impl Held {
+    /// Zeros.
+    pub(crate) fn new() -> Held {
+        let (steady, mut text) = (Steady::new(), Row::new());
+        text.text(steady.text.as_bytes());
+        text.number(0);
+        text.number(0);
+        text.number(0);
+        Held {
+            bytes: 0,
+            packets: 0,
+            delay: 0,
+            steady,
+            text,
+        }
     }
 
-    /// Puts these numbers before the rest of a row.
-    pub(crate) fn put(&mut self, row: &mut Row, held: &Registers)
-        requires { length row.old + 63 ≤ 512 }
-        ensures text { row.new ≡ onto (steady_fields held.now.prob held.now.accu held.now.burst) row.old }
-        ensures long { length row.new ≤ length row.old + 63 }
+    /// Takes these numbers in place of the earlier ones.
+    pub(crate) fn take(&mut self, held: &Registers, delay: u64)
+        ensures { self.new ≡ onto (held_fields held.now delay) [] }
     {
-        self.take(held);
-        row.text(self.text.as_bytes());
+        let (bytes, packets) = (held.bytes, held.packets);
+        if self.steady.take(held)
+            && (self.bytes == bytes && self.packets == packets && self.delay == delay)
+        {
+            return;
+        }
+        self.text.clear();
+        self.text.text(self.steady.text.as_bytes());
+        self.text.number(delay);
+        self.text.number(packets);
+        self.text.number(bytes);
+        self.bytes = bytes;
+        self.packets = packets;
+        self.delay = delay;
+    }
+
+    /// Their text.
+    pub(crate) fn as_bytes(&self) -> &[u8]
+        ensures text { result.now ≡ self.now }
+        ensures long { length result.now ≤ 126 }
+    {
+        self.text.as_bytes()
     }
 }

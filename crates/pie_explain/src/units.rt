@@ -1,8 +1,25 @@
 //! Numbers as people read them, with the exact whole number in parentheses.
+use itoa::Buffer;
 use pie_record::Clock;
 use pie_units::Utc;
 use std::fmt;
 use std::fmt::Display;
+
+/// A number, whose digits `itoa` finds in fewer instructions than `std::fmt`.
+#[derive(Clone, Copy)]
+struct Digits(u64);
+
+impl Display for Digits {
+    ghost use Rattle.std.specs.Prelude.{Some};
+    ghost use Rattle.std.specs.Fmt.{decimal};
+
+    ghost output = { λ number. Some (decimal number.0) };
+
+    fn fmt<W: fmt::Write>(&self, f: &mut fmt::Formatter<W>) -> fmt::Result {
+        let mut digits = Buffer::new();
+        f.write_str(digits.format(self.0))
+    }
+}
 
 /// A time or a moment in nanoseconds, in milliseconds.
 #[derive(Clone, Copy, Debug)]
@@ -16,8 +33,8 @@ impl Display for Millis {
 
     #[tactic(auto, using(crate::proofs::WordFacts::padded), unfolding(crate::specs::Words::millis))]
     fn fmt<W: fmt::Write>(&self, f: &mut fmt::Formatter<W>) -> fmt::Result {
-        let (whole, rest) = (self.0 / 1_000_000, self.0 % 1_000_000);
-        let exact = self.0;
+        let (whole, rest) = (Digits(self.0 / 1_000_000), self.0 % 1_000_000);
+        let exact = Digits(self.0);
         write!(f, "{whole}.{rest:06} ms ({exact} ns)")
     }
 }
@@ -63,9 +80,9 @@ impl Display for PerCent {
 
     #[tactic(auto, using(crate::proofs::WordFacts::padded), unfolding(crate::specs::Words::per_cent))]
     fn fmt<W: fmt::Write>(&self, f: &mut fmt::Formatter<W>) -> fmt::Result {
-        let whole = self.0 / 10_000_000_000;
+        let whole = Digits(self.0 / 10_000_000_000);
         let rest = self.0 % 10_000_000_000 / 1_000_000;
-        let exact = self.0;
+        let exact = Digits(self.0);
         write!(f, "{whole}.{rest:04} % ({exact})")
     }
 }

@@ -7,7 +7,7 @@ ghost use Rattle.pie_explain.specs.Words.{ecn_name, joined, last_words, lasting_
 ghost use Rattle.pie_explain.specs.Words.{scaled_words, setter_words, sum_words, turned_words, update_words, verdict_text, words_by};
 
 use crate::explanation::{Explained, Explanation};
-use crate::units::{Millis, MomentWords, PerCent, Word};
+use crate::units::{Digits, Millis, MomentWords, PerCent, Word};
 use pie_book::{Answer, Cause, Command, Fate, Registers};
 use pie_event::Setter;
 use pie_queue::{Ecn, Packet};
@@ -48,8 +48,8 @@ fn verdict_text(answer: Answer) -> &'static str
 fn push_packet(page: &mut String, number: u64, packet: Packet) -> Written
     ensures { OnOk result (string_bytes page.new ≡ string_bytes page.old ++ packet_words number packet) }
 {
-    let Packet { tag, size, ecn } = packet;
-    let ecn = ecn_name(ecn);
+    let (number, ecn) = (Digits(number), ecn_name(packet.ecn));
+    let (tag, size) = (Digits(packet.tag), Digits(u64::from(packet.size)));
     write!(page, "event {number}: packet {tag}, {size} bytes, {ecn}: ")
 }
 
@@ -378,8 +378,8 @@ fn push_before(page: &mut String, clock: Option<Clock>, told: &Explanation) -> W
     ensures { OnOk result (string_bytes page.new ≡ string_bytes page.old ++ before_words clock told.now) }
 {
     let before = &told.before;
-    let (packets, bytes, delay) = (before.packets, before.bytes, Millis(told.delay));
-    let burst = Millis(before.burst);
+    let (packets, bytes) = (Digits(before.packets), Digits(before.bytes));
+    let (delay, burst) = (Millis(told.delay), Millis(before.burst));
     write!(
         page,
         "  before it: {packets} packets, {bytes} bytes, a delay of {delay}\n"

@@ -7,7 +7,7 @@ use std::fmt::Display;
 
 /// A number, whose digits `itoa` finds in fewer instructions than `std::fmt`.
 #[derive(Clone, Copy)]
-struct Digits(u64);
+pub(crate) struct Digits(pub(crate) u64);
 
 impl Display for Digits {
     ghost use Rattle.std.specs.Prelude.{Some};

@@ -340,7 +340,10 @@ fn push_setter(page: &mut String, set_by: Setter, before: &Registers) -> Written
     let prob = PerCent(before.prob);
     match set_by {
         Setter::Opening => write!(page, "  probability {prob}, as at the opening;"),
-        Setter::Event(event) => write!(page, "  probability {prob}, set by event {event};"),
+        Setter::Event(event) => {
+            let event = Digits(event);
+            write!(page, "  probability {prob}, set by event {event};")
+        }
         Setter::Untold => write!(page, "  probability {prob}, set before this text begins;"),
     }
 }

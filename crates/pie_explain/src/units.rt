@@ -56,10 +56,7 @@ impl Display for MomentWords {
     fn fmt<W: fmt::Write>(&self, f: &mut fmt::Formatter<W>) -> fmt::Result {
         let exact = self.moment;
         match self.clock {
-            None => {
-                let time = Millis(exact);
-                write!(f, "{time}")
-            }
+            None => Millis(exact).fmt(f),
             Some(clock) => {
                 let time = Utc(clock.unix_at(exact));
                 write!(f, "{time} ({exact} ns)")

@@ -1,7 +1,7 @@
 //! What decides an arrival: the first case of the rules that holds, with the numbers that it compared. `pie_early` and `pie_aqm` find it.
 
 /// Why a picked packet was marked or dropped (RFC 8033, section 5.1).
-#[derive(Clone, Copy, Debug, PartialEq, Eq)]
+#[derive(Clone, Copy)]
 pub enum Fate {
     /// Marked: its endpoints understand a mark, and the probability is below `mark_ecnth`.
     Marked {
@@ -20,7 +20,7 @@ pub enum Fate {
 /// What decided an arrival: the first case of the rules that held, in this order, with the numbers that it compared. All are
 /// those of before the arrival. Bytes are without the arriving packet, times are in nanoseconds, probabilities in units of
 /// `10^-12`.
-#[derive(Clone, Copy, Debug, PartialEq, Eq)]
+#[derive(Clone, Copy)]
 pub enum Cause {
     /// Tail drop: with the packet the queue would hold more bytes than `limit_bytes` (RFC 8033, Appendix A).
     NoRoomInBytes {

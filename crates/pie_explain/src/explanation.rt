@@ -14,7 +14,7 @@ use pie_record::Clock;
 
 /// One event and the numbers that it met: all are those of before the event. Times are in nanoseconds, probabilities in units
 /// of `10^-12`.
-#[derive(Clone, Copy, Debug)]
+#[derive(Clone, Copy)]
 pub struct Explanation {
     /// The number of the event, counted from 1.
     pub number: u64,
@@ -40,7 +40,7 @@ pub struct Explanation {
 }
 
 /// An explanation, and what the controller held after the event.
-#[derive(Clone, Copy, Debug)]
+#[derive(Clone, Copy)]
 pub struct Explained {
     /// The event and the numbers that it met.
     pub told: Explanation,

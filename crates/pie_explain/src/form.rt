@@ -4,7 +4,7 @@ ghost use Rattle.std.specs.Prelude.{◌≡◌, None, if◌then◌else◌};
 use pie_record::Clock;
 
 /// How explanations are written.
-#[derive(Clone, Copy, Debug, PartialEq, Eq)]
+#[derive(Clone, Copy)]
 pub struct Form {
     /// As CSV: a header row, and then one record an event; else in words, some lines an event.
     pub csv: bool,

@@ -8,7 +8,7 @@ use pie_record::Clock;
 use pie_units::When;
 
 /// Which events of a history are explained.
-#[derive(Clone, Copy, Debug, PartialEq, Eq)]
+#[derive(Clone, Copy)]
 pub struct Selection {
     /// Which events are chosen.
     pub which: Which,

@@ -22,7 +22,7 @@ impl Display for Digits {
 }
 
 /// A time or a moment in nanoseconds, in milliseconds.
-#[derive(Clone, Copy, Debug)]
+#[derive(Clone, Copy)]
 pub struct Millis(pub u64);
 
 impl Display for Millis {
@@ -66,7 +66,7 @@ impl Display for MomentWords {
 }
 
 /// A probability in units of `10^-12`, in per cent, rounded down.
-#[derive(Clone, Copy, Debug)]
+#[derive(Clone, Copy)]
 pub struct PerCent(pub u64);
 
 impl Display for PerCent {
@@ -104,7 +104,7 @@ impl Display for Word {
 }
 
 /// A count as a part of all, in per cent, rounded down; 0 where there are none.
-#[derive(Clone, Copy, Debug)]
+#[derive(Clone, Copy)]
 pub struct Share {
     /// How many of them.
     pub count: u64,

@@ -6,7 +6,7 @@ use pie_book::{Answer, Command, Event};
 use pie_queue::Packet;
 
 /// Which events of a history are explained.
-#[derive(Clone, Copy, Debug, PartialEq, Eq)]
+#[derive(Clone, Copy)]
 pub enum Which {
     /// The event with this number, counted from 1.
     Number(u64),

@@ -169,7 +169,7 @@ impl Nanos {
 }
 
 /// An accumulated probability, at most 9.5, in units of `10^-12` (RFC 8033, section 5.4).
-#[derive(Clone, Copy, Debug, PartialEq, Eq)]
+#[derive(Clone, Copy)]
 pub struct Accu {
     sum: u64,
 }

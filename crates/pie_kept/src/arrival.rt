@@ -6,7 +6,7 @@ use pie_book::Command;
 use pie_queue::Packet;
 
 /// A packet that arrives in a burst (this project's own): what `Command::Arrive` has.
-#[derive(Clone, Copy, Debug, PartialEq, Eq)]
+#[derive(Clone, Copy)]
 pub struct Arrival {
     /// The moment that the caller hands in, in nanoseconds: at most `2^60 - 1`.
     pub moment: u64,

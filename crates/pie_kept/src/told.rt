@@ -1,7 +1,7 @@
 //! What a caller is told.
 
 /// What a call was answered, and at which place of the history.
-#[derive(Debug, Drop)]
+#[derive(Drop)]
 pub struct Told<T> {
     /// The answer.
     pub answer: T,

@@ -5,7 +5,7 @@ use pie_link::LinkRefusal;
 use thiserror::Error;
 
 /// What a storm ended with (this project's own).
-#[derive(Debug, Drop)]
+#[derive(Drop)]
 pub struct StormEnd {
     /// All events, in the order in which the link recorded them.
     pub events: Vec<Event>,

@@ -3,7 +3,7 @@
 use pie_book::{Elements, Profile};
 
 /// The numbers that a storm's plan is made of, and the choices that its book is opened with (this project's own).
-#[derive(Clone, Copy, Debug, PartialEq, Eq)]
+#[derive(Clone, Copy)]
 pub struct StormNumbers {
     /// How many senders there are: 2 to 8.
     pub senders: u16,

@@ -13,7 +13,7 @@ use pie_queue::MAX_SIZE;
 pub const LONGEST_BURST: u16 = 1024;
 
 /// New parameters from a moment on (this project's own).
-#[derive(Clone, Copy, Debug, PartialEq, Eq)]
+#[derive(Clone, Copy)]
 pub struct Change {
     /// The moment that is handed in, in nanoseconds: at most `2^60 - 1`.
     pub moment: u64,
@@ -34,7 +34,7 @@ impl Change {
 }
 
 /// What a caller of a storm asks the link for (this project's own).
-#[derive(Clone, Copy, Debug)]
+#[derive(Clone, Copy)]
 pub enum Call {
     /// A command.
     Ask(Command),
@@ -45,7 +45,7 @@ pub enum Call {
 /// What each worker of a storm does, call by call (this project's own). Moments are nanoseconds, at most `2^60 - 1`, and
 /// those of a list may fall. With N lists of arrivals the callers 1 to N send them, caller N + 1 makes the departures, N + 2
 /// the updates, N + 3 the changes of the parameters, and N + 4 the folds.
-#[derive(Debug, Drop)]
+#[derive(Drop)]
 pub struct Plan {
     /// The limits of the book. Tail and events have room for all arrivals, departures, updates and changes.
     pub limits: Limits,

@@ -17,7 +17,7 @@ use std::alloc::AllocError;
 /// and of all others in one. Of all events, or of each period that has some; each is written when its last event is known.
 ///
 /// A flow is the upper 32 bits of its packets' tags (this project's own). Memory is taken for each flow of a period.
-#[derive(Clone, Copy, Debug, PartialEq, Eq)]
+#[derive(Clone, Copy)]
 pub struct ByFlow {
     /// In words, or as CSV: a header row, and one record a flow and period. By times of day words tell those of the first and the last event
     /// that has one, and a last field of a record that of the first.

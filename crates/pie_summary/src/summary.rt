@@ -16,7 +16,7 @@ use std::alloc::AllocError;
 /// Summaries of the explained events: how many arrivals each verdict and each cause had, how long packets waited, what the updates
 /// made, and when the controller turned on and off. One of all events, or one of each period that has some; each is written when its
 /// last event is known.
-#[derive(Clone, Copy, Debug, PartialEq, Eq)]
+#[derive(Clone, Copy)]
 pub struct Summary {
     /// In words, or as CSV: a header row, and one record a summary. By times of day a line tells those of the first and the last event that has
     /// one, and a last field of a record that of the first.

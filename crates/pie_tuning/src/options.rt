@@ -5,7 +5,7 @@ ghost use Rattle.pie_tuning.specs.Opening.{can_stall, elements_for, gain_of, par
 use pie_params::{Decay, Delay, Elements, Params, Picking, RawParams, Size, Step};
 
 /// What is asked for.
-#[derive(Clone, Copy, Debug, PartialEq, Eq)]
+#[derive(Clone, Copy)]
 pub struct TuningOptions {
     /// The link's rate, in bits a second; 0 where it isn't known.
     pub rate: u64,

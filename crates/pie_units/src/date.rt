@@ -3,7 +3,7 @@ ghost use Rattle.std.specs.Prelude.{◌≡◌, ◌≤◌, ◌<◌};
 ghost use Rattle.pie_units.specs.Date.{date_in, date_of, day_number, days_in_month, is_leap, march_month, march_year, month_of, year_among, year_day};
 
 /// A date of the Gregorian calendar.
-#[derive(Clone, Copy, Debug, PartialEq, Eq)]
+#[derive(Clone, Copy)]
 pub struct Date {
     /// The year.
     pub year: u64,

@@ -22,7 +22,7 @@ pub enum MomentFault {
 }
 
 /// A moment, or a length of time, in nanoseconds: at most 2^60 - 1.
-#[derive(Clone, Copy, Debug, PartialEq, Eq)]
+#[derive(Clone, Copy)]
 pub struct Moment(pub u64);
 
 /// Why a text is no moment, by what it is no number for.

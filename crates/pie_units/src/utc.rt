@@ -30,7 +30,7 @@ pub enum UtcFault {
 }
 
 /// A time of day: so many nanoseconds after 1970-01-01T00:00:00Z, leap seconds not counted. It is written with nine decimals of a second.
-#[derive(Clone, Copy, Debug, PartialEq, Eq)]
+#[derive(Clone, Copy)]
 pub struct Utc(pub u64);
 
 impl Display for Utc {

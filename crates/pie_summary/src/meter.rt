@@ -68,7 +68,8 @@ fn count<const N: usize>(counts: &mut [u64; N], place: usize)
     requires { place < length counts.old }
     ensures { counts.new ≡ slice_set counts.old place (min (slice_index counts.old place + 1) (2 ^ 64 - 1)) }
 {
-    counts[place] = counts[place].saturating_add(1);
+    let held = counts[place];
+    counts[place] = held.saturating_add(1);
 }
 
 /// Counts one more at the place of what decided an arrival; any other event's place lies behind them.

@@ -60,7 +60,10 @@ impl Place for AtLock<'_> {
         let held = lock.take(rt, pass);
         hold(rt, long);
         let pass = add_one(lock, held, caller);
-        lock.wake();
+        // (nobody wakes those that sleep while it is held for long: they have to look again)
+        if long == 0 {
+            lock.wake();
+        }
         AtLock { lock, pass, long }
     }
 }

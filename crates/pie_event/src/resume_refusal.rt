@@ -1,71 +1,51 @@
 //! Why no core goes on from the numbers and packets that were handed in.
 
 use crate::register::Register;
-use std::error::Error;
-use std::fmt;
 
 /// Why no core goes on from these numbers (this project's own). The refusals are looked for in this order.
-#[derive(Clone, Copy, Debug, PartialEq, Eq)]
+#[derive(Clone, Copy, Debug, PartialEq, Eq, thiserror::Error)]
 pub enum ResumeRefusal {
     /// A limit is out of its range.
+    #[error("limits out of range")]
     BadLimits,
     /// There were more events than the limits allow.
+    #[error("more events than the limits allow")]
     Count,
     /// More packets wait than the ring holds.
+    #[error("more packets than the ring holds")]
     Packets,
     /// More than `2^30` bytes wait.
+    #[error("more bytes than a queue holds")]
     Bytes,
     /// No controller holds this number.
+    #[error("a number that no controller holds")]
     Unsound(Register),
     /// A statistic is greater than so many events can make it.
+    #[error("statistics out of range")]
     Statistics,
     /// There was no memory for the queue.
+    #[error("out of memory")]
     Memory,
 }
 
-impl Error for ResumeRefusal {}
-
-impl fmt::Display for ResumeRefusal {
-    fn fmt<W: fmt::Write>(&self, f: &mut fmt::Formatter<W>) -> fmt::Result {
-        f.write_str(match self {
-            ResumeRefusal::BadLimits => "limits out of range",
-            ResumeRefusal::Count => "more events than the limits allow",
-            ResumeRefusal::Packets => "more packets than the ring holds",
-            ResumeRefusal::Bytes => "more bytes than a queue holds",
-            ResumeRefusal::Unsound(_) => "a number that no controller holds",
-            ResumeRefusal::Statistics => "statistics out of range",
-            ResumeRefusal::Memory => "out of memory",
-        })
-    }
-}
-
 /// Why a packet can't be the next that waits (this project's own); nothing has changed. The refusals are looked for in this order.
-#[derive(Clone, Copy, Debug, PartialEq, Eq)]
+#[derive(Clone, Copy, Debug, PartialEq, Eq, thiserror::Error)]
 pub enum QueueRefusal {
     /// As many packets were handed in as wait.
+    #[error("more packets than were announced")]
     TooMany,
     /// Its size is outside 1 to 65535 bytes.
+    #[error("packet size out of range")]
     Size,
     /// With it there are more bytes than wait.
+    #[error("more bytes than were announced")]
     TooManyBytes,
     /// It arrived after the effective moment.
+    #[error("a packet that arrives later")]
     Moment,
     /// It arrived before the packet that was handed in before it.
+    #[error("a packet that arrived before its predecessor")]
     Order,
-}
-
-impl Error for QueueRefusal {}
-
-impl fmt::Display for QueueRefusal {
-    fn fmt<W: fmt::Write>(&self, f: &mut fmt::Formatter<W>) -> fmt::Result {
-        f.write_str(match self {
-            QueueRefusal::TooMany => "more packets than were announced",
-            QueueRefusal::Size => "packet size out of range",
-            QueueRefusal::TooManyBytes => "more bytes than were announced",
-            QueueRefusal::Moment => "a packet that arrives later",
-            QueueRefusal::Order => "a packet that arrived before its predecessor",
-        })
-    }
 }
 
 /// Why the packets that were handed in aren't all (this project's own). The refusals are looked for in this order.

@@ -2,8 +2,8 @@
 """Tries mutations: the wrong bodies of crates/NAME/mutations/, each of which the prover has to refuse. Those of a crate that change other functions
 are made in one copy of it, where one check judges each function by itself: so a mutation costs some seconds, and not a crate's loading. What can't be
 judged so is tried alone: where an edit is outside functions, or its functions are still proved and a caller may refuse it, the whole crate is
-checked, or the functions that a line `check: NAME` of the edit has. The last line says how many were refused, in how long. Exit status 1 where one
-was not.
+checked, or the functions that a line `check: NAME` of the edit has. A crate's checks go one after another, and take from those before what they
+proved of functions that no edit changes. The last line says how many were refused, in how long. Exit status 1 where one was not.
 
 With --share it is part of the gate, after `rt ci`, whose libraries it takes: a fortieth of all, by the day of the commit, in shares that cost about
 the same. So 40 days try all, and the same commit tries the same. One that wants a whole crate is told there as NOT RUN.
@@ -27,8 +27,12 @@ from pathlib import Path
 ROOT = Path(__file__).resolve().parent.parent
 ME = "tests/mutations.py"
 SHARES, DAY = 40, 24 * 60 * 60
+# What a check costs, in seconds of a processor: to load what the crate stands on, to prove a line of the functions that it reaches, to judge an edit.
+LOADING, LINE_PROVED, EDIT = 13, 0.08, 2
+# About as many a crate's checks take, one after another, that lie in one share.
+TOGETHER = 140
 # As many mutations are made in one copy at most: a check keeps all that it finds in memory.
-MOST = 12
+MOST = 24
 PARTS = ("src", "specs", "proofs")
 # A line of crates.txt: a crate, whether it is a static library, and what it stands on.
 LINE = re.compile(r"(\w+)([\w= +]*):([^#]*)")
@@ -144,6 +148,32 @@ def function_at(file, text, at):
     return inside if "::" in inside or module in ("lib", "main") else f"{module}::{inside}"
 
 
+@functools.cache
+def functions_of(crate):
+    """How many lines each function of a crate has, by its last name, and which words stand in it."""
+    found = {}
+    for path in (ROOT / "crates" / crate / "src").rglob("*.rt"):
+        lines = path.read_text().splitlines()
+        for at, line in enumerate(lines):
+            begun = FUNCTION.match(line)
+            if begun:
+                text = lines[at : next((it for it in range(at, len(lines)) if lines[it] == begun[1] + "}"), at) + 1]
+                count, known = found.get(begun[2], (0, set()))
+                found[begun[2]] = count + len(text), known | {*re.findall(r"\w+", " ".join(text[1:]))}
+    return found
+
+
+def lines_reached(crate, functions):
+    """About how many lines the functions have that a check of these proves: they and all that they call in their crate."""
+    known, found, wanted = functions_of(crate), set(), [it.rpartition("::")[2] for it in functions]
+    while wanted:
+        name = wanted.pop()
+        if name in known and name not in found:
+            found.add(name)
+            wanted += known[name][1]
+    return sum(known[it][0] for it in found)
+
+
 def words(kit, crate, functions):
     """The prover's words that check these functions of a crate, or with none all of it."""
     stands, is_static = CRATES[crate]
@@ -171,8 +201,8 @@ def put(mutation, texts):
     return texts
 
 
-def checked(kit, mutations, functions):
-    """What the prover answers where these mutations stand in a copy of their crate."""
+def checked(kit, kept, mutations, functions):
+    """What the prover answers where these mutations stand in a copy of their crate. kept: a folder for what it proves, or nothing."""
     texts = {}
     for it in mutations:
         texts = put(it, texts)
@@ -182,8 +212,9 @@ def checked(kit, mutations, functions):
                 shutil.copytree(mutations[0].folder / part, Path(room, part))
         for file, text in texts.items():
             Path(room, file).write_text(text)
-        run = lambda: subprocess.run(words(kit, mutations[0].crate, functions), cwd=room, stdin=subprocess.DEVNULL, stdout=subprocess.PIPE,
-            stderr=subprocess.STDOUT, errors="replace", check=False)
+        asked = [*words(kit, mutations[0].crate, functions), *(["--incremental", kept] if kept else [])]
+        run = lambda: subprocess.run(asked, cwd=room, stdin=subprocess.DEVNULL, stdout=subprocess.PIPE, stderr=subprocess.STDOUT, errors="replace",
+            check=False)
         done = run()
         # most likely for memory
         return run() if done.returncode == -signal.SIGKILL else done
@@ -208,12 +239,12 @@ def judged(done):
     return True, f"refused{only}{': ' if first else ''}{first[:140]}"
 
 
-def tried_alone(kit, mutation, is_share):
+def tried_alone(kit, kept, mutation, is_share):
     """Whether the prover refuses a mutation, and what to say of it."""
-    found = judged(checked(kit, [mutation], mutation.goals())) if mutation.goals() else None
+    found = judged(checked(kit, kept, [mutation], mutation.goals())) if mutation.goals() else None
     if found is None and is_share:
         return None, "NOT RUN: it wants its whole crate checked"
-    found = found or judged(checked(kit, [mutation], []))
+    found = found or judged(checked(kit, kept, [mutation], []))
     return found or (False, "NOT REFUSED: the crate is still proved with it")
 
 
@@ -224,11 +255,11 @@ def verdicts(done):
     return dict(re.findall(r"^fn (\S+): (proved|not proved|no proof)", done.stdout, re.MULTILINE))
 
 
-def tried(kit, batch, is_share):
+def tried(kit, kept, batch, is_share):
     """Of each mutation of a batch whether the prover refuses it, and what to say of it."""
     told = {}
     if len(batch) > 1:
-        found = verdicts(checked(kit, batch, sorted({name for it in batch for name in it.goals()})))
+        found = verdicts(checked(kit, kept, batch, goals_of(batch)))
         for it in batch:
             said = [verdict for name in it.goals() for whole, verdict in found.items() if f"::{whole}".endswith(f"::{name}")]
             if len(said) == len(it.goals()) and any(verdict != "proved" for verdict in said):
@@ -236,8 +267,18 @@ def tried(kit, batch, is_share):
         if not found:
             # (one of them stops the check before any proof)
             half = len(batch) // 2
-            return [*tried(kit, batch[:half], is_share), *tried(kit, batch[half:], is_share)]
-    return [(it, *(told.get(it) or tried_alone(kit, it, is_share))) for it in batch]
+            return [*tried(kit, kept, batch[:half], is_share), *tried(kit, kept, batch[half:], is_share)]
+    return [(it, *(told.get(it) or tried_alone(kit, kept, it, is_share))) for it in batch]
+
+
+def tried_in_turn(kit, groups, is_share):
+    """What is said of each mutation of these batches of one crate."""
+    with tempfile.TemporaryDirectory(prefix="pie-mutation-kept-") as kept:
+        return [said for batch in groups for said in tried(kit, kept if len(groups) > 1 else None, batch, is_share)]
+
+
+def goals_of(batch):
+    return sorted({name for it in batch for name in it.goals()})
 
 
 def batches(mutations):
@@ -267,16 +308,27 @@ def named(wanted):
     return [path for path in every if not wanted or any(is_in(path, word) for word in wanted)]
 
 
-def cost(batch):
-    """About how many seconds of a processor a batch takes: a crate loads what it stands on, and a function is judged in some four."""
-    return 10 + 1.5 * len(below(batch[0].crate)) + 4 * len(batch)
+def cost(groups):
+    """About how many seconds of a processor it takes to try these batches of one crate, one after another."""
+    return sum(LOADING + EDIT * len(it) for it in groups) + LINE_PROVED * lines_reached(groups[0][0].crate, {name for it in groups for name in goals_of(it)})
+
+
+def by_crate(groups, limit=None):
+    """The batches of each crate, and with a limit in parts that cost no more, where a batch alone doesn't."""
+    found = []
+    for batch in sorted(groups, key=lambda it: it[0].crate):
+        if found and found[-1][0][0].crate == batch[0].crate and (limit is None or cost([*found[-1], batch]) <= limit):
+            found[-1].append(batch)
+        else:
+            found.append([batch])
+    return sorted(found, key=lambda it: (-cost(it), it[0][0].name))
 
 
 def shared(groups):
-    """The batches in as many shares as there are days, each of which costs about the same."""
+    """The batches in as many shares as there are days, each of which costs about the same; those of one crate lie together."""
     shares = [[] for _ in range(SHARES)]
-    for batch in sorted(groups, key=lambda it: (-cost(it), it[0].name)):
-        min(shares, key=lambda it: sum(map(cost, it))).append(batch)
+    for part in by_crate(groups, TOGETHER):
+        min(shares, key=lambda it: sum(map(cost, it))).append(part)
     return shares
 
 
@@ -308,20 +360,20 @@ def main():
     if given.share is not None:
         day = commit_day() if given.share < 0 else given.share
         share = shared(batches(mutations))[day % SHARES] if day is not None else []
-        groups = [it for it in share if it[0].has_libraries()]
-        if not rt or not groups:
+        parts = [it for it in share if it[0][0].has_libraries()]
+        if not rt or not parts:
             print(f"NOT RUN: {ME}: a share of the mutations, without rt, the commit's date or the libraries of rt ci")
             return 0
-        every, here = (sum(map(len, it)) for it in (share, groups))
+        every, here = (sum(len(batch) for part in it for batch in part) for it in (share, parts))
         print(f"{ME}: day {day}, so share {day % SHARES} of {SHARES}: {every}, of which {here} have their libraries here", flush=True)
     elif not rt:
         sys.exit(f"{ME}: there is no rt")
     else:
         build_below(mutations)
-        groups = batches(mutations)
+        parts = by_crate(batches(mutations))
     kit, begun, used, counts = Path(rt).resolve().parent.parent, time.monotonic(), seconds(), {True: 0, False: 0, None: 0}
     with ThreadPoolExecutor(max(given.jobs, 1)) as pool:
-        for found in pool.map(lambda it: tried(kit, it, given.share is not None), groups):
+        for found in pool.map(lambda it: tried_in_turn(kit, it, given.share is not None), parts):
             for it, is_refused, text in found:
                 counts[is_refused] += 1
                 print(f"{'NOT RUN: ' if is_refused is None else ''}{ME}: {it.name}: {text}", flush=True)

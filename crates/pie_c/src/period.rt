@@ -7,8 +7,8 @@ ghost use Rattle.pie_summary.specs.Summary.{header, said_of};
 use pie_abi::code::{BAD_MOMENT, DONE};
 use pie_abi::write_text;
 use pie_fixed::MAX_NANOS;
-use pie_page::LongRow;
 use pie_summary::LivePeriod;
+use pie_text::LongRow;
 
 /// Refused: a length of periods out of its range.
 pub const BAD_EVERY: u32 = 128;

@@ -10,8 +10,8 @@ use crate::explanation::Explained;
 use crate::form::Form;
 use crate::record::{NAMES, RecordWriter};
 use crate::text::{Written, push_text};
-use pie_page::Page;
 use pie_record::Clock;
+use pie_text::Page;
 use std::alloc::AllocError;
 
 /// What is written of the explained events, one after another.

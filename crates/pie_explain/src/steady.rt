@@ -5,7 +5,7 @@ ghost use Rattle.pie_explain.specs.Record.{held_fields, onto, steady_fields};
 ghost use Rattle.std.specs.Prelude.{true};
 
 use pie_book::Registers;
-use pie_page::Row;
+use pie_text::Row;
 use std::marker::Model;
 
 /// The probabilities and the burst allowance that were put last, and their text as fields of a row, each with a comma after it.

@@ -10,7 +10,7 @@ use crate::period::{begins, period_of};
 use crate::spans::Span;
 use crate::words::Written;
 use pie_explain::{Explained, Form, Report, push_header};
-use pie_page::Page;
+use pie_text::Page;
 use std::alloc::AllocError;
 
 /// Sums of the explained events by flow: what arrived, what became of it and how long it waited, of each of the flows with the most bytes,

@@ -13,8 +13,8 @@ use crate::noted::Noted;
 use crate::ranges::{RANGES, clear_counts, count_some};
 use crate::record::{NAMES, push_record};
 use pie_explain::time_of;
-use pie_page::LongRow;
 use pie_record::Clock;
+use pie_text::LongRow;
 
 /// The numbers of the last events, as far back as they are in the same period, as `pie explain --every` sums them up.
 #[repr(C)]

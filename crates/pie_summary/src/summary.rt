@@ -10,7 +10,7 @@ use crate::record::{NAMES, push_record};
 use crate::sums::Sums;
 use crate::words::{Written, push_words};
 use pie_explain::{Explained, Form, Report, Which, push_header};
-use pie_page::{LongRow, Page};
+use pie_text::{LongRow, Page};
 use std::alloc::AllocError;
 
 /// Summaries of the explained events: how many arrivals each verdict and each cause had, how long packets waited, what the updates

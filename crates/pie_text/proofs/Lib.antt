@@ -1,3 +1,4 @@
+pub mod RowFacts
 pub mod PlainFacts
 pub mod Records
 pub mod LostFacts

@@ -6,9 +6,8 @@ ghost use Rattle.pie_record.specs.Write.{opening_row};
 ghost use Rattle.pie_tuning.specs.Opening.{opening_for};
 
 use pie_book::{Choices, Limits, Mode, Opening, Profile};
-use pie_page::Row;
 use pie_params::{Elements, Params};
-use pie_text::put_opening;
+use pie_text::{Row, put_opening};
 use std::io;
 use std::io::Write;
 

@@ -3,12 +3,12 @@ use Rattle.std.specs.Prelude.{ℕ, ◌≡◌, ◌<◌, ◌≤◌, ◌^◌, ◌�
 use Rattle.std.specs.Io.KnownBytes.{Appends}
 use Rattle.clap.specs.Words.{Row, Text, first_of}
 use Rattle.pie_params.specs.Range.{IsInRange}
-use Rattle.pie_tuning.specs.declared.options.TuningOptions.{TuningOptions}
-use Rattle.pie_tuning.specs.declared.units.OptionFault.{OptionFault}
+use Rattle.pie_units.specs.declared.options.TuningOptions.{TuningOptions}
+use Rattle.pie_units.specs.declared.option_units.OptionFault.{OptionFault}
 use Rattle.pie_record.specs.Text.{text_of}
 use Rattle.pie_record.specs.Write.{opening_row}
-use Rattle.pie_tuning.specs.Opening.{elements_for, gain_of, opening_for, params_for}
-use Rattle.pie_tuning.specs.Units.{packets_of, rate_of, time_of}
+use Rattle.pie_units.specs.Opening.{elements_for, gain_of, opening_for, params_for}
+use Rattle.pie_units.specs.Units.{packets_of, rate_of, time_of}
 use Rattle.pie_options.specs.Words.{flag_given, number_or}
 use Rattle.pie_record.specs.declared.fault.TraceFault.TheVariants as trace_fault
 use Rattle.pie_commands.specs.StormEnds.{decay_in}

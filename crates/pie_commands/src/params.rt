@@ -1,8 +1,8 @@
 //! `pie params`: the parameters and the choices that `tc`'s options ask for, as the record that opens a book.
 ghost use Rattle.std.specs.Prelude.{◌≡◌, ℕ, IfSome, None, Ok, codes};
 ghost use Rattle.clap.specs.Words.{first_of, found_of, rows_of};
-ghost use Rattle.pie_tuning.specs.Units.{packets_of, rate_of, time_of};
-ghost use Rattle.pie_tuning.specs.declared.options.TuningOptions.{TuningOptions};
+ghost use Rattle.pie_units.specs.Units.{packets_of, rate_of, time_of};
+ghost use Rattle.pie_units.specs.declared.options.TuningOptions.{TuningOptions};
 ghost use Rattle.pie_commands.specs.Tuning.{AsksFor, EndsParams, given_or};
 
 use crate::end::{End, failed, faulted};
@@ -12,7 +12,7 @@ use pie_book::Limits;
 use pie_options::{flag, number, number_or, text};
 use pie_params::{Params, RawParams};
 use pie_trace::TraceFault;
-use pie_tuning::{
+use pie_units::{
     OptionFault, TuningOptions, can_stall, elements_for, gain_of, is_short, opening_for,
     packets_of, params_for, rate_of, time_of, write_opening,
 };

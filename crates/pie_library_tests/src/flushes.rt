@@ -6,7 +6,7 @@ use pie_book::{Answer, Command, Event, Opening};
 use pie_explain::{ExplainFault, Form, Selection, Which, explain};
 use pie_params::{Elements, Params};
 use pie_trace::{TraceFault, migrate, run_trace, run_trace_within, write_history};
-use pie_tuning::{opening_for, write_opening};
+use pie_units::{opening_for, write_opening};
 use std::alloc::Global;
 use std::io;
 use std::io::{ErrorKind, Write};

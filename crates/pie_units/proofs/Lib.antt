@@ -2,3 +2,4 @@ mod ExamplesUnits
 mod ExamplesDates
 pub mod DigitFacts
 pub mod WrittenFacts
+mod ExamplesOptions

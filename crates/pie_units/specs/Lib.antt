@@ -4,3 +4,5 @@ pub mod Written
 pub mod Date
 pub mod Utc
 pub mod When
+pub mod Opening
+pub mod Units

@@ -1,8 +1,9 @@
 //! The numbers of `tc`'s options, with units: `20ms`, `100mbit`, `1000p`.
 ghost use Rattle.std.specs.Prelude.{◌≡◌};
-ghost use Rattle.pie_tuning.specs.Units.{packets_of, rate_of, time_of, told};
+ghost use Rattle.pie_units.specs.Units.{packets_of, rate_of, time_of, told};
 
-use pie_units::{Quantity, UnitFault, read};
+use crate::unit::Quantity;
+use crate::written::{UnitFault, read};
 use std::fmt;
 use thiserror::Error;
 
@@ -56,7 +57,7 @@ fn told(kind: Quantity, text: &str) -> Result<u64, OptionFault>
 ///
 /// # Errors
 ///
-/// `Unread`, as `pie_units::read` says why.
+/// `Unread`, as `read` says why.
 pub fn time_of(text: &str) -> Result<u64, OptionFault>
     ensures { result ≡ time_of text.now }
 {
@@ -67,7 +68,7 @@ pub fn time_of(text: &str) -> Result<u64, OptionFault>
 ///
 /// # Errors
 ///
-/// `Unread`, as `pie_units::read` says why, and `NoRate` for 0.
+/// `Unread`, as `read` says why, and `NoRate` for 0.
 pub fn rate_of(text: &str) -> Result<u64, OptionFault>
     ensures { result ≡ rate_of text.now }
 {
@@ -81,7 +82,7 @@ pub fn rate_of(text: &str) -> Result<u64, OptionFault>
 ///
 /// # Errors
 ///
-/// `Unread`, as `pie_units::read` says why.
+/// `Unread`, as `read` says why.
 pub fn packets_of(text: &str) -> Result<u64, OptionFault>
     ensures { result ≡ packets_of text.now }
 {

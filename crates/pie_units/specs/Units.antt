@@ -4,8 +4,8 @@ use Rattle.std.specs.Result.{result_map_both}
 use Rattle.pie_units.specs.declared.unit.Quantity.{Quantity}
 use Rattle.pie_units.specs.declared.unit.Quantity.TheVariants.{Time, Rate, Packets}
 use Rattle.pie_units.specs.Written.{value_of}
-use Rattle.pie_tuning.specs.declared.units.OptionFault.{OptionFault}
-use Rattle.pie_tuning.specs.declared.units.OptionFault.TheVariants.{Unread, NoRate}
+use Rattle.pie_units.specs.declared.option_units.OptionFault.{OptionFault}
+use Rattle.pie_units.specs.declared.option_units.OptionFault.TheVariants.{Unread, NoRate}
 
 -- the number of this kind that was read, or why there is none
 abbrev pub told : Quantity → List ℕ → Result ℕ OptionFault

@@ -3,9 +3,9 @@ ghost use Rattle.std.specs.Prelude.{◌≡◌, OnOk};
 ghost use Rattle.std.specs.Io.KnownBytes.{Appends};
 ghost use Rattle.pie_record.specs.Text.{text_of};
 ghost use Rattle.pie_record.specs.Write.{opening_row};
-ghost use Rattle.pie_tuning.specs.Opening.{opening_for};
+ghost use Rattle.pie_units.specs.Opening.{opening_for};
 
-use pie_book::{Choices, Limits, Mode, Opening, Profile};
+use pie_event::{Choices, Limits, Mode, Opening, Profile};
 use pie_params::{Elements, Params};
 use pie_text::{Row, put_opening};
 use std::io;

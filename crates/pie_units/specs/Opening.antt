@@ -11,7 +11,7 @@ use Rattle.pie_params.specs.Profile.{default_profile, profile_for}
 use Rattle.pie_event.specs.declared.profile.Profile.TheVariants.{One}
 use Rattle.pie_event.specs.declared.opening.Mode.TheVariants.{Rolling}
 use Rattle.pie_event.specs.declared.opening.Opening.{Opening}
-use Rattle.pie_tuning.specs.declared.options.TuningOptions.{TuningOptions}
+use Rattle.pie_units.specs.declared.options.TuningOptions.{TuningOptions}
 
 -- a gain of `tc` counts sixteenths per second
 abbrev pub gain_of : ℕ → ℕ

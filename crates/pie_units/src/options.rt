@@ -1,6 +1,6 @@
 //! The parameters and the choices that a link of some rate is to have.
 ghost use Rattle.std.specs.Prelude.{◌≡◌, ◌≤◌, ◌*◌, nat_lt};
-ghost use Rattle.pie_tuning.specs.Opening.{can_stall, elements_for, gain_of, params_for};
+ghost use Rattle.pie_units.specs.Opening.{can_stall, elements_for, gain_of, params_for};
 
 use pie_params::{Decay, Delay, Elements, Params, Picking, RawParams, Size, Step};
 

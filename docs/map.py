@@ -21,7 +21,7 @@ BEGIN, END = "<!-- by docs/map.py from crates.txt -->", "<!-- to here -->"
 # where a packet comes in from outside, its colour, and its way: each crate stands on the next
 WAYS = {"a trace": ("#c07000", ["pie", "pie_commands", "pie_trace", "pie_book", "pie_aqm", "pie_early"]),
         "a call from C": ("#6a3fb5", ["pie_c", "pie_aqm", "pie_early"]),
-        "a thread at a link": ("#b0305c", ["pie_link", "pie_kept", "pie_book", "pie_aqm", "pie_early"])}
+        "a thread at a link": ("#b0305c", ["pie_link", "pie_book", "pie_aqm", "pie_early"])}
 COLOURS = {"rules": "#e8f1e4", "words": "#f4f4ec", "controller": "#cfe5c4", "book": "#dce6f5", "text": "#f5f0d8", "threads": "#f3dfe6", "laws": "#f6e9d8", "C": "#e3ddf0",
            "program": "#e6eaec", "tests and measures": "#ffffff"}
 

@@ -4,14 +4,14 @@ ghost use Rattle.pie_params.specs.Range.{first_bad};
 ghost use Rattle.pie_event.specs.Opening.{opening_refusal};
 ghost use Rattle.pie_book.specs.Book.{BookView};
 ghost use Rattle.pie_guarantees.specs.{Opening, IsLawful, SetsInRange};
-ghost use Rattle.pie_kept.specs.Entries.{events_in};
-ghost use Rattle.pie_kept.specs.declared.entry.Entry.{Entry};
+ghost use Rattle.pie_link.specs.Entries.{events_in};
+ghost use Rattle.pie_link.specs.declared.entry.Entry.{Entry};
 ghost use Rattle.pie_link.specs.Headline.{IsFree, IsKeyOf, IsOneHistory, KeepsOneHistory, LiesIn, LockKey, LockState, callers_of};
 ghost use Rattle.pie_link.specs.Views.{LinkView};
 
 use atomic_table::TableRule;
 use pie_book::Opening as LinkOpening;
-use pie_kept::{Entry as LinkEntry, KeptBook};
+use pie_link::{Entry as LinkEntry, KeptBook};
 use pie_lock::{LockOpening, LockRule, Place};
 
 /// All laws here hold of the one history of a link, whenever its lock is free and whatever its callers do: its opening is one that a link accepts,

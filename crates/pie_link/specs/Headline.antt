@@ -19,7 +19,7 @@ use Rattle.pie_book.specs.Core.{registers_of}
 use Rattle.pie_book.specs.History.{waiting_after}
 use Rattle.pie_book.specs.Registers.{registers_after}
 use Rattle.pie_book.specs.Statistics.{stats_after}
-use Rattle.pie_kept.specs.Kept.{KeptView}
+use Rattle.pie_link.specs.Kept.{KeptView}
 use Rattle.pie_link.specs.Views.{LinkView}
 
 -- a caller: the entries that it has been shown, and its numbers first..limit

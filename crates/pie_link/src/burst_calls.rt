@@ -3,17 +3,19 @@
 //! No burst takes memory: what takes its replies is the caller's, such as a vector that has room for them.
 ghost use Rattle.std.specs.Prelude.{◌≡◌, ◌≢◌, ◌+◌, ◌≤◌, ◌<◌, ◌↔◌, IsTrue, Err, IfErr, IfOk, IsOk, List, None, OnOk, OnErr, length, map, vec_len};
 ghost use Rattle.std.specs.Prelude.{vec_capacity};
-ghost use Rattle.pie_kept.specs.Bursts.{Reply, always, arrive, departures, has_left};
-ghost use Rattle.pie_link.specs.Bursts.{AnswersAll, AnswersWithin, TriesToAnswerAll, WasNotDone, WasRefused};
+ghost use Rattle.pie_link.specs.Bursts.{Reply, always, arrive, departures, has_left};
+ghost use Rattle.pie_link.specs.CallerBursts.{AnswersAll, AnswersWithin, TriesToAnswerAll, WasNotDone, WasRefused};
 ghost use Rattle.pie_link.specs.Views.{StaysOne, WasBusy};
 ghost use Rattle.pie_link.specs.declared.told.Tried.TheVariants.{Busy};
 
+use crate::arrival::Arrival;
+use crate::burst::{Burst, Replies};
 use crate::caller::Caller;
 use crate::link::Link;
 use crate::told::{NoRoom, Tried};
 use crate::turn;
+use crate::vectors::{Arrivals, Departures};
 use core::mem::{replace, replace_with};
-use pie_kept::{Arrival, Arrivals, Burst, Departures, Replies};
 use std::sync::Wait;
 
 // Whether a vector has room for so many more.
@@ -110,7 +112,7 @@ impl Link {
     ///
     /// `Refused` with `NoRoom` exactly where `answers` has room for fewer answers than there are packets; `Busy` where another caller has
     /// the book, which doesn't come for a burst of no packets. Nothing is done then.
-    #[tactic(auto, unfolding(crate::specs::Bursts::TriesToAnswerAll))]
+    #[tactic(auto, unfolding(crate::specs::CallerBursts::TriesToAnswerAll))]
     pub fn try_arrive_all(
         &self,
         caller: &mut Caller,

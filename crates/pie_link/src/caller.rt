@@ -1,7 +1,7 @@
 //! A caller of a link.
 ghost use Rattle.std.specs.Prelude.{◌≡◌, ◌<◌};
 
-use pie_kept::KeptBook;
+use crate::kept_book::KeptBook;
 use pie_lock::Pass;
 use std::marker::Model;
 

@@ -7,10 +7,10 @@ ghost use Rattle.pie_event.specs.declared.command.Command.TheVariants.{Arrive, D
 ghost use Rattle.pie_book.specs.Registers.{registers_after};
 ghost use Rattle.pie_book.specs.Statistics.{stats_after};
 ghost use Rattle.pie_link.specs.Commands.{Answers, TriesToAnswer};
-ghost use Rattle.pie_link.specs.Folds.{Folds, TriesToFold, TriesToFoldInto};
-ghost use Rattle.pie_link.specs.Readings.{Reads, TriesToRead};
+ghost use Rattle.pie_link.specs.CallerFolds.{Folds, TriesToFold, TriesToFoldInto};
+ghost use Rattle.pie_link.specs.CallerReadings.{Reads, TriesToRead};
 ghost use Rattle.pie_link.specs.Views.{StaysOne};
-ghost use Rattle.pie_link.specs.Excerpts.{FillsExcerpt, TriesToFillExcerpt};
+ghost use Rattle.pie_link.specs.CallerExcerpts.{FillsExcerpt, TriesToFillExcerpt};
 
 use crate::caller::Caller;
 use crate::link::Link;

@@ -3,13 +3,14 @@ ghost use Rattle.std.specs.Prelude.{◌≡◌, ◌+◌, ◌<◌, ◌≤◌, ◌�
 ghost use Rattle.pie_event.specs.declared.opening.Mode.TheVariants.{Bounded};
 ghost use Rattle.pie_event.specs.declared.profile.Profile.TheVariants.{One};
 ghost use Rattle.pie_params.specs.Elements.{usual};
-ghost use Rattle.pie_kept.specs.declared.entry.Entry.{Entry};
+ghost use Rattle.pie_link.specs.declared.entry.Entry.{Entry};
 
 use crate::caller::Caller;
+use crate::entry::Entry;
+use crate::kept_book::KeptBook;
 use crate::refusal::LinkRefusal;
 use atomic_table::TableRule;
 use pie_book::{Book, Limits, OpenRefusal, Opening, registers_look_back};
-use pie_kept::{Entry, KeptBook};
 use pie_lock::{LockOpening, LockRule, OneNumber, Pass, Place, RuledLock, StillHeld};
 use pie_params::Params;
 use std::alloc::Global;
@@ -34,8 +35,8 @@ impl Link {
     ghost use Rattle.pie_book.specs.Book.{Tells};
     ghost use Rattle.pie_lock.specs.Views.{HoldsAll};
     ghost use Rattle.pie_lock.specs.Promises.{first_pass, without_highest, highest_alone, IsBeside, IsBothOf};
-    ghost use Rattle.pie_kept.specs.Entries.{number_of};
-    ghost use Rattle.pie_kept.specs.Kept.{TellsEntries};
+    ghost use Rattle.pie_link.specs.Entries.{number_of};
+    ghost use Rattle.pie_link.specs.Kept.{TellsEntries};
     ghost use Rattle.pie_link.specs.Views.{IsHistoryFor};
     ghost use Rattle.pie_link.specs.Headline.{KeepsOneHistory};
     ghost use Rattle.pie_link.specs.Opening.{link_refusal, IsRefusedFor};

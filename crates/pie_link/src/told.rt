@@ -1,7 +1,16 @@
 //! What a caller is told, and why nothing was done.
 
-pub use pie_kept::Told;
 use thiserror::Error;
+
+/// What a call was answered, and at which place of the history.
+#[derive(Drop)]
+pub struct Told<T> {
+    /// The answer.
+    pub answer: T,
+    /// At a command, the number of its event; events are numbered from 1. At registers and statistics, how many events
+    /// they speak of. At a fold, the number of the last event in the checkpoint after it, 0 where there is none.
+    pub number: u64,
+}
 
 /// Why a call that never blocks has no answer.
 #[derive(Clone, Copy, Debug, PartialEq, Eq)]

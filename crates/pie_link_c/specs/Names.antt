@@ -20,12 +20,12 @@ pub use Rattle.pie_event.specs.declared.command.Command.TheVariants.{SetParams}
 pub use Rattle.pie_event.specs.declared.command.Event.{Event}
 pub use Rattle.pie_event.specs.declared.opening.Opening.{Opening}
 pub use Rattle.pie_event.specs.declared.refusal.Refusal.{Refusal}
-pub use Rattle.pie_kept.specs.Bursts.{Reply, always, has_left_or_updated}
-pub use Rattle.pie_kept.specs.Entries.{number_of}
-pub use Rattle.pie_kept.specs.declared.told.Told.{Told}
-unfoldable pub use Rattle.pie_link.specs.Bursts.{AnswersWithin}
+pub use Rattle.pie_link.specs.Bursts.{Reply, always, has_left_or_updated}
+pub use Rattle.pie_link.specs.Entries.{number_of}
+pub use Rattle.pie_link.specs.declared.told.Told.{Told}
+unfoldable pub use Rattle.pie_link.specs.CallerBursts.{AnswersWithin}
 unfoldable pub use Rattle.pie_link.specs.Commands.{TriesToAnswer}
-unfoldable pub use Rattle.pie_link.specs.Folds.{TriesToFoldInto}
+unfoldable pub use Rattle.pie_link.specs.CallerFolds.{TriesToFoldInto}
 unfoldable pub use Rattle.pie_link.specs.Headline.{KeepsOneHistory}
 pub use Rattle.pie_link.specs.Views.{CallerView, LinkView, StaysOne, WasBusy}
 pub use Rattle.pie_link.specs.declared.told.Tried.{Tried}

@@ -3,7 +3,7 @@ use Rattle.std.specs.Prelude.{ℕ, ◌≡◌, ◌+◌, ◌-◌, ◌^◌, Bool, t
 use Rattle.pie_link_c.specs.Names.{Event, Opening, Refusal, Told, CallerView, StaysOne, Tried, params_of}
 use Rattle.pie_event.specs.declared.registers.Registers.{Registers}
 use Rattle.pie_event.specs.declared.stats.Stats.{Stats}
-use Rattle.pie_link.specs.Readings.{TriesToRead}
+use Rattle.pie_link.specs.CallerReadings.{TriesToRead}
 use Rattle.pie_abi.specs.Stats.{stats_of}
 use Rattle.pie_link_c.specs.Calls.{AtPort}
 use Rattle.pie_link_c.specs.declared.readings.PieRegisters.{PieRegisters}

@@ -13,7 +13,7 @@ use pie_abi::code::{BAD_ECN, DONE};
 use pie_abi::event::UPDATE;
 use pie_abi::packet::ecn;
 use pie_event::{Answer, Command, Refusal};
-use pie_kept::{Burst, Reply};
+use pie_link::{Burst, Reply};
 use pie_queue::{Ecn, Packet};
 use std::alloc::Global;
 use std::marker::PhantomData;

@@ -10,8 +10,7 @@ use pie_abi::PieOpening;
 use pie_abi::code::DONE;
 use pie_abi::opening::checked;
 use pie_event::Opening;
-use pie_kept::KeptBook;
-use pie_link::Entry;
+use pie_link::{Entry, KeptBook};
 use pie_lock::{LockOpening, LockRule, Place};
 use std::alloc::Global;
 

@@ -17,7 +17,7 @@ use Rattle.pie_lock.specs.Views.{HoldsAll}
 use Rattle.pie_book.specs.Book.{BookView, Tells}
 use Rattle.pie_book.specs.Registers.{registers_after}
 use Rattle.pie_book.specs.Statistics.{stats_after}
-use Rattle.pie_kept.specs.Kept.{TellsEntries}
+use Rattle.pie_link.specs.Kept.{TellsEntries}
 use Rattle.pie_storm.specs.declared.ending.StormEnd.{StormEnd}
 use Rattle.pie_storm.specs.declared.ending.StormFault.{StormFault}
 use Rattle.pie_storm.proofs.Making.{IsRight, few_made, handed_alone, handed_same, made_on, numbered, own_entry, stays}

@@ -14,10 +14,10 @@ use Rattle.pie_event.specs.declared.refusal.FoldRefusal.TheVariants.{TooMany, Me
 use Rattle.pie_event.specs.declared.refusal.Refusal.TheVariants.{TooSoon, Moment, Size, Exhausted, HistoryFull}
 use Rattle.pie_book.specs.Decision.{is_too_soon}
 use Rattle.pie_link.specs.Commands.{Answers}
-use Rattle.pie_link.specs.Folds.{Folds}
+use Rattle.pie_link.specs.CallerFolds.{Folds}
 use Rattle.pie_storm.specs.Storms.{IsEntryOf, TakenIn, WasPassedOver, added_by}
-use Rattle.pie_kept.specs.Bursts.{burst_within, entries_by, entries_within, refused_or_told, replies_within, reply_in, refusal_in}
-use Rattle.pie_link.specs.Bursts.{AnswersAll, AnswersWithin}
+use Rattle.pie_link.specs.Bursts.{burst_within, entries_by, entries_within, refused_or_told, replies_within, reply_in, refusal_in}
+use Rattle.pie_link.specs.CallerBursts.{AnswersAll, AnswersWithin}
 use Rattle.pie_link.specs.Views.{IsTurn}
 use Rattle.pie_storm.proofs.PlanFacts.{IsCallOf, all_at, calls_are}
 

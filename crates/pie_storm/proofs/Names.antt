@@ -19,13 +19,13 @@ pub use Rattle.pie_event.specs.declared.command.Event.{Event}
 pub use Rattle.pie_event.specs.declared.opening.Mode.TheVariants.{Bounded, Rolling}
 pub use Rattle.pie_event.specs.declared.opening.Opening.{Opening}
 pub use Rattle.pie_event.specs.declared.refusal.Refusal.{Refusal}
-pub use Rattle.pie_kept.specs.Bursts.{Reply, always, arrive}
-pub use Rattle.pie_kept.specs.Entries.{entries_of, events_in, handed_out, handed_to, left_in, number_of, tail_in}
-pub use Rattle.pie_kept.specs.EntryLaws.{EntriesLookBack}
-pub use Rattle.pie_kept.specs.declared.arrival.Arrival.{Arrival}
-pub use Rattle.pie_kept.specs.declared.entry.Entry.{Entry}
-pub use Rattle.pie_kept.specs.declared.entry.Entry.TheVariants.{Folded, Made}
-pub use Rattle.pie_kept.specs.declared.told.Told.{Told}
+pub use Rattle.pie_link.specs.Bursts.{Reply, always, arrive}
+pub use Rattle.pie_link.specs.Entries.{entries_of, events_in, handed_out, handed_to, left_in, number_of, tail_in}
+pub use Rattle.pie_link.specs.EntryLaws.{EntriesLookBack}
+pub use Rattle.pie_link.specs.declared.arrival.Arrival.{Arrival}
+pub use Rattle.pie_link.specs.declared.entry.Entry.{Entry}
+pub use Rattle.pie_link.specs.declared.entry.Entry.TheVariants.{Folded, Made}
+pub use Rattle.pie_link.specs.declared.told.Told.{Told}
 pub use Rattle.pie_link.specs.Views.{CallerView, LinkView}
 pub use Rattle.pie_lock.proofs.Owns.{NoneOwn, goes_on_itself, gone_on, own_none}
 pub use Rattle.pie_lock.specs.Own.{is_within, own}

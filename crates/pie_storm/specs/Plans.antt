@@ -9,8 +9,8 @@ use Rattle.pie_event.specs.declared.opening.Opening.{Opening}
 use Rattle.pie_event.specs.Opening.{last_moment}
 use Rattle.pie_event.specs.Deed.{handed_in}
 use Rattle.pie_book.specs.Decision.{has_bad_size}
-use Rattle.pie_kept.specs.declared.arrival.Arrival.{Arrival}
-use Rattle.pie_kept.specs.Bursts.{arrive}
+use Rattle.pie_link.specs.declared.arrival.Arrival.{Arrival}
+use Rattle.pie_link.specs.Bursts.{arrive}
 use Rattle.pie_storm.specs.declared.plan.Call.{Call}
 use Rattle.pie_storm.specs.declared.plan.Call.TheVariants.{Ask, Fold}
 use Rattle.pie_storm.specs.declared.plan.Change.{Change}

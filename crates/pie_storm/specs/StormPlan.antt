@@ -11,7 +11,7 @@ use Rattle.pie_queue.specs.declared.ecn.Ecn.TheVariants.{NotEct, Ect1, Ect0, Ce}
 use Rattle.pie_params.specs.Profile.{default_profile}
 use Rattle.pie_params.specs.declared.raw.RawParams.{RawParams}
 use Rattle.pie_storm.specs.declared.numbers.StormNumbers.{StormNumbers}
-use Rattle.pie_kept.specs.declared.arrival.Arrival.{Arrival}
+use Rattle.pie_link.specs.declared.arrival.Arrival.{Arrival}
 use Rattle.pie_storm.specs.declared.plan.Change.{Change}
 use Rattle.pie_storm.specs.declared.plan.Plan.{Plan}
 

@@ -11,13 +11,13 @@ use Rattle.pie_event.specs.declared.refusal.Refusal.{Refusal}
 use Rattle.pie_event.specs.declared.refusal.Refusal.TheVariants.{TooSoon}
 use Rattle.pie_event.specs.declared.refusal.FoldRefusal.{FoldRefusal}
 use Rattle.pie_event.specs.declared.refusal.FoldRefusal.TheVariants.{TooMany, Memory}
-use Rattle.pie_kept.specs.declared.told.Told.{Told}
+use Rattle.pie_link.specs.declared.told.Told.{Told}
 use Rattle.pie_book.specs.Decision.{IsLegal, refusal_by_rule}
 use Rattle.pie_book.specs.Registers.{registers_after}
 use Rattle.pie_book.specs.Statistics.{stats_after}
-use Rattle.pie_kept.specs.declared.entry.Entry.{Entry}
-use Rattle.pie_kept.specs.declared.entry.Entry.TheVariants.{Made, Folded}
-use Rattle.pie_kept.specs.Entries.{entries_of, events_in, handed_to, number_of, tail_in}
+use Rattle.pie_link.specs.declared.entry.Entry.{Entry}
+use Rattle.pie_link.specs.declared.entry.Entry.TheVariants.{Made, Folded}
+use Rattle.pie_link.specs.Entries.{entries_of, events_in, handed_to, number_of, tail_in}
 use Rattle.pie_link.specs.Views.{LinkView, CallerView}
 use Rattle.pie_storm.specs.declared.ending.StormEnd.{StormEnd}
 use Rattle.pie_storm.specs.declared.plan.Plan.{Plan}

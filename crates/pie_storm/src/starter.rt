@@ -6,7 +6,7 @@ ghost use Rattle.pie_book.specs.Book.{Tells};
 ghost use Rattle.pie_book.specs.Registers.{registers_after};
 ghost use Rattle.pie_book.specs.Statistics.{stats_after};
 ghost use Rattle.pie_storm.specs.declared.plan.Plan.{Plan};
-ghost use Rattle.pie_kept.specs.Entries.{number_of};
+ghost use Rattle.pie_link.specs.Entries.{number_of};
 ghost use Rattle.pie_link.specs.declared.refusal.LinkRefusal.{LinkRefusal};
 ghost use Rattle.pie_link.specs.Opening.{IsRefusedFor, link_refusal};
 ghost use Rattle.pie_storm.specs.Plans.{IsSound, senders, updater};

@@ -1,5 +1,5 @@
 use Rattle.pie_storm.proofs.Names.{◌≡◌, ◌∙◌, List, arith, map, subst, Reply, always, arrive, folder, AddedByAll}
-use Rattle.pie_link.specs.Bursts.{AnswersAll}
+use Rattle.pie_link.specs.CallerBursts.{AnswersAll}
 use Rattle.pie_storm.proofs.Making.{burst_next, few_by_all}
 use Rattle.pie_storm.proofs.worker.send_next.Goals as goal
 

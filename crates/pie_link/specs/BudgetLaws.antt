@@ -1,0 +1,11 @@
+-- The law of a burst's budget.
+use Rattle.std.specs.Prelude.{ℕ, ◌≤◌, Bool, List, [], Some}
+use Rattle.pie_event.specs.declared.command.Command.{Command}
+use Rattle.pie_event.specs.declared.opening.Opening.{Opening}
+use Rattle.pie_link.specs.declared.entry.Entry.{Entry}
+use Rattle.pie_link.specs.Bursts.{Reply, departed_bytes, entries_within}
+
+-- the packets that depart in a burst come to no more bytes than its budget has
+abbrev pub BurstsStayWithin : Type 0
+BurstsStayWithin = (bytes : ℕ) (goes_on : Reply → Bool) (opening : Opening) (caller : ℕ) (history : List Entry) (commands : List Command)
+    → departed_bytes (entries_within (Some bytes) goes_on opening caller history [] commands) ≤ bytes

@@ -1,0 +1,100 @@
+//! Bursts whose replies are pushed to a vector that has room for them.
+ghost use Rattle.std.specs.Prelude.{◌≡◌, ◌+◌, ◌-◌, ◌≤◌, drop, length, map, vec_capacity, vec_len};
+ghost use Rattle.pie_event.specs.declared.command.Command.TheVariants.{Depart};
+ghost use Rattle.pie_link.specs.Bursts.{always, arrive, departures, has_left};
+
+use crate::arrival::Arrival;
+use crate::burst::{Burst, Replies, Reply};
+use pie_book::{Answer, Command};
+
+/// Packets that arrive one after another, all of them.
+#[derive(Drop)]
+pub struct Arrivals<'a> {
+    /// The packets.
+    pub arrivals: &'a [Arrival],
+    /// Where the replies go.
+    pub replies: Replies,
+}
+
+/// Departures at one moment: so many, or until no packet leaves.
+#[derive(Drop)]
+pub struct Departures {
+    /// The moment, in nanoseconds: at most `2^60 - 1`.
+    pub moment: u64,
+    /// How many at most.
+    pub most: usize,
+    /// Where the replies go.
+    pub replies: Replies,
+}
+
+impl Burst for Arrivals<'_> {
+    ghost commands = { λ b place. map arrive (drop place b.arrivals.now) };
+
+    ghost goes_on = { λ b. always };
+
+    ghost shows = { λ first b replies. b.replies.items ≡ replies };
+
+    ghost room = { λ b. vec_capacity b.replies };
+
+    ghost has_room = { λ b place. vec_len b.replies + length b.arrivals.now ≤ vec_capacity b.replies + place };
+
+    #[inline(always)]
+    fn count(&self) -> usize {
+        self.arrivals.len()
+    }
+
+    #[inline(always)]
+    fn command(&self, place: usize) -> Command {
+        self.arrivals[place].command()
+    }
+
+    #[inline(always)]
+    fn take(&mut self, place: usize, reply: Reply) -> bool {
+        let _ = place;
+        self.replies.push_reserved(reply);
+        true
+    }
+}
+
+impl Burst for Departures {
+    ghost commands = { λ b place. departures (b.most - place) b.moment };
+
+    ghost goes_on = { λ b. has_left };
+
+    ghost shows = { λ first b replies. b.replies.items ≡ replies };
+
+    ghost room = { λ b. vec_capacity b.replies };
+
+    ghost has_room = { λ b place. vec_len b.replies + b.most ≤ vec_capacity b.replies + place };
+
+    #[inline(always)]
+    fn count(&self) -> usize {
+        self.most
+    }
+
+    #[inline(always)]
+    fn command(&self, place: usize) -> Command {
+        let _ = place;
+        Command::Depart {
+            moment: self.moment,
+        }
+    }
+
+    #[inline(always)]
+    fn take(&mut self, place: usize, reply: Reply) -> bool {
+        let _ = place;
+        let goes_on = has_left(&reply);
+        self.replies.push_reserved(reply);
+        goes_on
+    }
+}
+
+// Whether a packet left.
+fn has_left(reply: &Reply) -> bool
+    ensures { result ≡ has_left reply.now }
+{
+    match reply {
+        Ok(told) => matches!(told.answer, Answer::Left(_)),
+        Err(_) => false,
+    }
+}

@@ -1,5 +1,5 @@
 #!/usr/bin/env python3
-"""Holds the wrong bodies to the code: what each mutation and each must-fail edit replaces (`old:`, by `new:`, one after another) stands in its file
+"""Holds the wrong bodies to the code: what each mutation replaces (`old:`, by `new:`, one after another) stands in its file
 once. So none is passed over when the code has changed: whether the prover refuses it, tests/mutations.py and the gate try. Exit status 1
 where a text isn't there, or more than once.
 
@@ -38,7 +38,7 @@ def stale(edit):
 
 
 def main():
-    edits = sorted([*ROOT.glob("crates/*/mutations/*.edit"), *ROOT.glob("crates/*/must-fail/*.edit")])
+    edits = sorted(ROOT.glob("crates/*/mutations/*.edit"))
     found = [line for edit in edits for line in stale(edit)]
     print("\n".join(found) or f"{NAME}: {len(edits)} wrong bodies stand in the code as it is")
     sys.exit(bool(found) or not edits)

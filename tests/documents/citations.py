@@ -13,7 +13,7 @@ from pathlib import Path
 ROOT = Path(__file__).resolve().parent.parent.parent
 NAME = os.path.relpath(__file__, ROOT)
 CITED = re.compile(r"\bRattle\.(\w+)\.proofs\b")
-LEFT = {"pie_aqm": 5, "pie_audit": 1, "pie_book": 5, "pie_commands": 2, "pie_cut": 8, "pie_excerpt": 3, "pie_explain": 2, "pie_guarantees": 8,
+LEFT = {"pie_aqm": 5, "pie_audit": 1, "pie_book": 5, "pie_cut": 8, "pie_excerpt": 3, "pie_explain": 2, "pie_guarantees": 8,
         "pie_storm": 2, "pie_summary": 4, "pie_trace": 4}
 
 

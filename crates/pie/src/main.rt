@@ -1,8 +1,7 @@
 //! `pie`: runs traces of a PIE queue controller (RFC 8033), writes their histories, audits them and explains their events.
 #![tactic(auto)]
 
-use pie_commands::command;
-use pie_files::Output;
+use pie_commands::{Output, command};
 use std::env;
 use std::io::ErrorKind;
 use std::process::ExitCode;

@@ -11,6 +11,8 @@ pub use Rattle.std.specs.Str.{bytes_eq}
 pub use Rattle.clap.proofs.WalkLemmas.{one_text-rows, raw_values-rows}
 pub use Rattle.clap.specs.Words.{App, HasMatchesOf, Text, app_of, found_of, kind_of, one_text, rows_of, subcommand_name_of, subcommand_rows_of, takes}
 pub use Rattle.pie_audit.specs.Text.{FindsEither}
+pub use Rattle.pie_commands.proofs.FileFacts.{Stays, reads-given, stays-on}
+pub use Rattle.pie_commands.proofs.WordFacts.{name-found, options-in, same-word}
 pub use Rattle.pie_commands.specs.Choice.{tale_of, told_by, units_of}
 unfoldable pub use Rattle.pie_commands.specs.Choice.{choice_of}
 pub use Rattle.pie_commands.specs.CutEnds.{CutsInto, CutsLast, around, between, cut_ends, end_of_cut, is_named, last_of}
@@ -19,24 +21,22 @@ pub use Rattle.pie_commands.specs.Ends.{EndsBy, Migrates, end_of, status_of}
 pub use Rattle.pie_commands.specs.ExplainEnds.{end_of_explain, explain_ends}
 pub use Rattle.pie_commands.specs.FileAudits.{AreTold, AuditsFiles, EndsEither, EndsFiles, TellsRead, TellsText, Told, is_broken, is_unfound}
 pub use Rattle.pie_commands.specs.FileAudits.{lines_of, told_lines, worst}
+pub use Rattle.pie_commands.specs.Files.{Name, ReadsNamed, file_of, text_given}
+pub use Rattle.pie_commands.specs.Output.{Held, IsEmpty, Keeps, Places, Settles}
 pub use Rattle.pie_commands.specs.Outputs.{EndsAt, EndsIn, is_whole, settled}
 pub use Rattle.pie_commands.specs.StormEnds.{EndsStorm, elements_in, numbers_in, storm_ends}
 pub use Rattle.pie_commands.specs.Subcommands.{Answers, EndsAs, EndsTask, EndsTo, Finds, may_differ, output_for}
+pub use Rattle.pie_commands.specs.Words.{file_in, files_in, is_forced, is_joined, options_in, pie_app, subcommand_in}
 pub use Rattle.pie_commands.specs.declared.cut.Pieces.TheVariants.{Every, Part}
 pub use Rattle.pie_commands.specs.declared.cut.Wanted.TheVariants.{Last, Once}
 pub use Rattle.pie_commands.specs.declared.end.End.{End}
 pub use Rattle.pie_commands.specs.declared.end.End.TheVariants.{Done, Failed, Fault, Unable}
+pub use Rattle.pie_commands.specs.declared.options.subcommand.Subcommand.TheVariants.{Audit, Cut, Explain, Migrate, Params, Run, Storm}
 pub use Rattle.pie_cut.specs.Joined.{EndView, JoinsText}
 pub use Rattle.pie_cut.specs.Last.{LastEither}
 pub use Rattle.pie_cut.specs.declared.joined.Joined.{Joined}
 pub use Rattle.pie_explain.specs.declared.selection.Selection.{Selection}
 pub use Rattle.pie_explain.specs.declared.explanation.Explained.{Explained}
-pub use Rattle.pie_files.proofs.FileFacts.{Stays, reads-given, stays-on}
-pub use Rattle.pie_files.specs.Files.{Name, ReadsNamed, file_of, text_given}
-pub use Rattle.pie_files.specs.Output.{Held, IsEmpty, Keeps, Places, Settles}
-pub use Rattle.pie_options.proofs.WordFacts.{name-found, options-in, same-word}
-pub use Rattle.pie_options.specs.Words.{file_in, files_in, is_forced, is_joined, options_in, pie_app, subcommand_in}
-pub use Rattle.pie_options.specs.declared.subcommand.Subcommand.TheVariants.{Audit, Cut, Explain, Migrate, Params, Run, Storm}
 pub use Rattle.pie_params.specs.declared.elements.Elements.{Elements}
 pub use Rattle.pie_record.specs.Fault.{IsWrite}
 pub use Rattle.pie_record.specs.Text.{records_of, text_of}

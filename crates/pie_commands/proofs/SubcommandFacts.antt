@@ -10,8 +10,8 @@ use Rattle.clap.specs.Words.{Row}
 use Rattle.clap.specs.declared.error.Error.{Error}
 use Rattle.clap.specs.declared.error.kind.ErrorKind.TheVariants.{OutOfMemory}
 use Rattle.clap.specs.declared.parser.matches.ArgMatches.{ArgMatches}
-use Rattle.pie_options.specs.declared.subcommand.Subcommand.{Subcommand}
-use Rattle.pie_options.specs.Subcommands.{word_of}
+use Rattle.pie_commands.specs.declared.options.subcommand.Subcommand.{Subcommand}
+use Rattle.pie_commands.specs.SubcommandWords.{word_of}
 use Rattle.pie_commands.specs.declared.end.End.TheVariants.{Differs}
 use Rattle.pie_commands.specs.declared.tasks.Task.{Task}
 use Rattle.pie_commands.proofs.EndFacts.{IsKept, by-kept, known-kept}

@@ -14,7 +14,7 @@ use Rattle.pie_cut.specs.Answer.{CutsEither, TextTold}
 use Rattle.pie_cut.specs.Last.{LastEither}
 use Rattle.pie_cut.specs.Segment.{IsInSegments, every_answer}
 use Rattle.pie_units.specs.declared.when.When.{When}
-use Rattle.pie_options.specs.Words.{number_given}
+use Rattle.pie_commands.specs.Words.{number_given}
 use Rattle.pie_commands.specs.declared.end.End.{End}
 use Rattle.pie_commands.specs.declared.end.End.TheVariants.{Done, Differs, Fault, Failed}
 use Rattle.pie_commands.specs.declared.cut.Pieces.{Pieces}

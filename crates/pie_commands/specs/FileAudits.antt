@@ -13,7 +13,7 @@ use Rattle.pie_cut.specs.declared.joined.Joined.{Joined}
 use Rattle.pie_cut.specs.declared.joined.Joint.{Joint}
 use Rattle.pie_cut.specs.declared.joined.Joint.TheVariants.{Follows, Gap, Unlike}
 use Rattle.pie_cut.specs.Joined.{EndView, IsLeftBy, JoinsText}
-use Rattle.pie_files.specs.Files.{text_given}
+use Rattle.pie_commands.specs.Files.{text_given}
 use Rattle.pie_commands.specs.declared.end.End.{End}
 use Rattle.pie_commands.specs.declared.end.End.TheVariants.{Done, Differs, Fault, Unable, Failed}
 use Rattle.pie_commands.specs.Ends.{EndsAudit}

@@ -1,9 +1,17 @@
+pub mod Arguments
+pub mod Building
 pub mod Choice
 pub mod CutEnds
 pub mod Ends
 pub mod ExplainEnds
 pub mod FileAudits
+pub mod Files
+pub mod Host
+pub mod Output
 pub mod Outputs
 pub mod StormEnds
+pub mod SubcommandWords
 pub mod Subcommands
 pub mod Tuning
+pub mod Watched
+pub mod Words

@@ -1,8 +1,8 @@
 -- What a subcommand writes that may write to a file, and what becomes of files meanwhile.
 use Rattle.std.specs.Prelude.{ℕ, ◌≡◌, ◌⊎◌, ◌&&◌, if◌then◌else◌, not, List, Bool, true, false, Option, Some, None}
 use Rattle.clap.specs.Words.{Text}
-use Rattle.pie_files.specs.Files.{file_of}
-use Rattle.pie_files.specs.Output.{Held, IsEmpty, Keeps, Settles}
+use Rattle.pie_commands.specs.Files.{file_of}
+use Rattle.pie_commands.specs.Output.{Held, IsEmpty, Keeps, Settles}
 use Rattle.pie_commands.specs.declared.end.End.{End}
 use Rattle.pie_commands.specs.declared.end.End.TheVariants.{Done, Differs, Unable}
 

@@ -18,7 +18,7 @@ use Rattle.pie_record.specs.FirstRecord.{which_of}
 use Rattle.pie_record.specs.Words.{decay_word, delay_word, picking_word, size_word, step_word}
 use Rattle.pie_storm.specs.declared.numbers.StormNumbers.{StormNumbers}
 use Rattle.pie_storm.specs.declared.plan.Plan.{Plan}
-use Rattle.pie_options.specs.Words.{number_or}
+use Rattle.pie_commands.specs.Words.{number_or}
 use Rattle.pie_storm.specs.StormHistory.{WritesStorm}
 use Rattle.pie_storm.specs.StormPlan.{IsStormPlan}
 use Rattle.pie_record.specs.Fault.{IsWrite}

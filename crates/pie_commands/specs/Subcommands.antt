@@ -4,12 +4,12 @@ use Rattle.clap.specs.Words.{HasMatchesOf, Row, Text, kind_of, takes}
 use Rattle.clap.specs.declared.error.Error.{Error}
 use Rattle.clap.specs.declared.error.kind.ErrorKind.TheVariants.{OutOfMemory}
 use Rattle.clap.specs.declared.parser.matches.ArgMatches.{ArgMatches}
-use Rattle.pie_options.specs.declared.subcommand.Subcommand.{Subcommand}
-use Rattle.pie_options.specs.declared.subcommand.Subcommand.TheVariants.{Run, Audit, Explain, Cut, Migrate, Storm, Params}
-use Rattle.pie_options.specs.Subcommands.{word_of}
-use Rattle.pie_options.specs.Words.{Asks, file_in, files_in, is_forced, is_joined, options_in, output_in, pie_app, subcommand_in}
-use Rattle.pie_files.specs.Files.{text_given}
-use Rattle.pie_files.specs.Output.{Held, Keeps}
+use Rattle.pie_commands.specs.declared.options.subcommand.Subcommand.{Subcommand}
+use Rattle.pie_commands.specs.declared.options.subcommand.Subcommand.TheVariants.{Run, Audit, Explain, Cut, Migrate, Storm, Params}
+use Rattle.pie_commands.specs.SubcommandWords.{word_of}
+use Rattle.pie_commands.specs.Words.{Asks, file_in, files_in, is_forced, is_joined, options_in, output_in, pie_app, subcommand_in}
+use Rattle.pie_commands.specs.Files.{text_given}
+use Rattle.pie_commands.specs.Output.{Held, Keeps}
 use Rattle.pie_commands.specs.declared.end.End.{End}
 use Rattle.pie_commands.specs.declared.tasks.Task.{Task}
 use Rattle.pie_commands.specs.declared.tasks.Task.TheVariants as task

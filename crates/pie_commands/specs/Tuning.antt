@@ -9,7 +9,7 @@ use Rattle.pie_record.specs.Text.{text_of}
 use Rattle.pie_record.specs.Write.{opening_row}
 use Rattle.pie_units.specs.Opening.{elements_for, gain_of, opening_for, params_for}
 use Rattle.pie_units.specs.Units.{packets_of, rate_of, time_of}
-use Rattle.pie_options.specs.Words.{flag_given, number_or}
+use Rattle.pie_commands.specs.Words.{flag_given, number_or}
 use Rattle.pie_record.specs.declared.fault.TraceFault.TheVariants as trace_fault
 use Rattle.pie_commands.specs.StormEnds.{decay_in}
 use Rattle.pie_commands.specs.declared.end.End.{End}

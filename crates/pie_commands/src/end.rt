@@ -3,7 +3,7 @@ ghost use Rattle.std.specs.Prelude.{◌≡◌, false, true};
 ghost use Rattle.pie_commands.specs.Ends.{end_of, is_unwritten, status_of, told_status};
 ghost use Rattle.pie_commands.specs.Outputs.{is_whole, settled};
 
-use pie_files::fault;
+use crate::faults::fault;
 use pie_trace::TraceFault;
 use std::fmt::Display;
 use std::io::Write;

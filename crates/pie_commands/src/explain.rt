@@ -7,11 +7,12 @@ ghost use Rattle.pie_commands.specs.Choice.{choice_of, chosen, every_of, form_of
 ghost use Rattle.pie_commands.specs.ExplainEnds.{EndsExplain, end_of_explain};
 
 use crate::end::{End, failed, faulted};
+use crate::faults::fault;
 use crate::moments::{NO_ORDER, bound, in_order, moment, said};
+use crate::options::{flag, number};
+use crate::watched::Watched;
 use clap::ArgMatches;
 use pie_explain::{ExplainFault, Form, Selection, Which};
-use pie_files::{Watched, fault};
-use pie_options::{flag, number};
 use pie_summary::{ByFlow, Summary};
 use std::alloc::Global;
 use std::io::{Read, Write};

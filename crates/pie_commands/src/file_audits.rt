@@ -2,12 +2,15 @@
 ghost use Rattle.std.specs.Prelude.{◌≡◌, ◌<◌, ◌||◌, [], IfOk, None, OnErr, OnOk, Some, get_or, length, map, true};
 ghost use Rattle.std.specs.Io.KnownBytes.{Appends};
 ghost use Rattle.pie_commands.specs.FileAudits.{EndsFiles, TellsRead, TellsText, is_broken, is_unfound, line_of_joint, lines_of, named_line, worst};
-ghost use Rattle.pie_files.specs.Files.{ReadsNamed, left_for};
+ghost use Rattle.pie_commands.specs.Files.{ReadsNamed, left_for};
 
 use crate::end::{End, faulted};
+use crate::faults::named_fault;
+use crate::files::NamedFiles;
+use crate::reading::reader_named;
+use crate::watched::Watched;
 use pie_audit::{Finding, audit};
 use pie_cut::{Joined, Joint, TextEnd, audit_joined};
-use pie_files::{NamedFiles, Watched, named_fault, reader_named};
 use pie_trace::TraceFault;
 use std::alloc::Global;
 use std::io;

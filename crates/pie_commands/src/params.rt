@@ -6,10 +6,10 @@ ghost use Rattle.pie_units.specs.declared.options.TuningOptions.{TuningOptions};
 ghost use Rattle.pie_commands.specs.Tuning.{AsksFor, EndsParams, given_or};
 
 use crate::end::{End, failed, faulted};
+use crate::options::{flag, number, number_or, text};
 use crate::storm::decay_of;
 use clap::ArgMatches;
 use pie_book::Limits;
-use pie_options::{flag, number, number_or, text};
 use pie_params::{Params, RawParams};
 use pie_trace::TraceFault;
 use pie_units::{

@@ -1,21 +1,22 @@
 //! A subcommand with its options, over the writer that is handed in or the file that the options name.
 ghost use Rattle.std.specs.Prelude.{◌≡◌, option_map};
 ghost use Rattle.clap.specs.Words.{found_of, rows_of};
-ghost use Rattle.pie_files.specs.Files.{file_of};
-ghost use Rattle.pie_options.specs.Words.{file_in, is_forced};
+ghost use Rattle.pie_commands.specs.Files.{file_of};
+ghost use Rattle.pie_commands.specs.Words.{file_in, is_forced};
 ghost use Rattle.pie_commands.specs.Outputs.{EndsAt};
 ghost use Rattle.pie_commands.specs.Subcommands.{EndsAs, EndsTo, output_for};
 
 use crate::audit::audit;
 use crate::cut::cut;
 use crate::end::End;
+use crate::files::NamedFiles;
+use crate::options::{Subcommand, file, flag, output};
+use crate::output::{make_for, settle};
 use crate::params::params;
 use crate::screen::Screen;
 use crate::storm::make_storm;
 use crate::tasks::{Task, of_options};
 use clap::ArgMatches;
-use pie_files::{NamedFiles, make_for, settle};
-use pie_options::{Subcommand, file, flag, output};
 use std::alloc::Global;
 use std::io::{Read, Write};
 use std::marker::Sync;

@@ -3,21 +3,21 @@ ghost use Rattle.std.specs.Prelude.{◌≡◌, ◌≤◌, List, IfSome, None, So
 ghost use Rattle.clap.specs.Matches.{subcommand_name_of};
 ghost use Rattle.clap.specs.Words.{Row, Text, found_of, kind_of, rows_of, subcommand_rows_of};
 ghost use Rattle.clap.specs.declared.error.kind.ErrorKind.{ErrorKind};
-ghost use Rattle.pie_options.specs.Subcommands.{word_of};
-ghost use Rattle.pie_options.specs.declared.subcommand.Subcommand.{Subcommand};
-ghost use Rattle.pie_options.specs.Words.{Asks, options_in, subcommand_in};
-ghost use Rattle.pie_files.specs.Output.{Keeps};
+ghost use Rattle.pie_commands.specs.SubcommandWords.{word_of};
+ghost use Rattle.pie_commands.specs.declared.options.subcommand.Subcommand.{Subcommand};
+ghost use Rattle.pie_commands.specs.Words.{Asks, options_in, subcommand_in};
+ghost use Rattle.pie_commands.specs.Output.{Keeps};
 ghost use Rattle.pie_commands.specs.declared.end.End.{End};
 ghost use Rattle.pie_commands.specs.Ends.{status_of};
 ghost use Rattle.pie_commands.specs.Subcommands.{Answers, EndsTo, Finds, may_differ};
 
 use crate::end::{End, failed, faulted, unable};
+use crate::files::NamedFiles;
+use crate::options::{Subcommand, options};
 use crate::perform::performed;
 use crate::screen::Screen;
 use clap::error::ErrorKind;
 use clap::{ArgMatches, Error};
-use pie_files::NamedFiles;
-use pie_options::{Subcommand, options};
 use pie_trace::TraceFault;
 use std::alloc::Global;
 use std::io::{Read, Write};

@@ -1,7 +1,7 @@
 //! Whether progress is told while a subcommand reads.
 
+use crate::options::{flag, output};
 use clap::ArgMatches;
-use pie_options::{flag, output};
 use std::io::IsTerminal;
 use std::time::Clock;
 

@@ -2,13 +2,13 @@
 ghost use Rattle.std.specs.Prelude.{◌≡◌, Some, codes, option_map};
 ghost use Rattle.clap.specs.Words.{found_of, rows_of};
 ghost use Rattle.pie_commands.specs.StormEnds.{EndsStorm, choice_by, decay_in, elements_in, numbers_in, profile_by};
-ghost use Rattle.pie_options.specs.Words.{number_or};
+ghost use Rattle.pie_commands.specs.Words.{number_or};
 ghost use Rattle.pie_storm.specs.StormPlan.{HasStormRange};
 
 use crate::end::{End, failed, faulted, unable};
+use crate::options::{flag, number_or, text};
 use clap::ArgMatches;
 use pie_book::{Event, Profile};
-use pie_options::{flag, number_or, text};
 use pie_params::{Decay, Delay, Elements, Picking, Size, Step};
 use pie_record::first_record::which_of;
 use pie_record::words::{decay_word, delay_word, picking_word, size_word, step_word};

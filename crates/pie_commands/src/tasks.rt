@@ -2,19 +2,21 @@
 ghost use Rattle.std.specs.Prelude.{OnOk};
 ghost use Rattle.std.specs.Io.KnownBytes.{Appends};
 ghost use Rattle.clap.specs.Words.{found_of, rows_of};
-ghost use Rattle.pie_files.specs.Files.{text_given};
-ghost use Rattle.pie_options.specs.Words.{file_in};
+ghost use Rattle.pie_commands.specs.Files.{text_given};
+ghost use Rattle.pie_commands.specs.Words.{file_in};
 ghost use Rattle.pie_commands.specs.Ends.{counts_line};
 ghost use Rattle.pie_commands.specs.Subcommands.{CanDo, EndsTask};
 
 use crate::cut::{Pieces, cut_out};
 use crate::end::{End, ended};
 use crate::explain::explain;
+use crate::files::NamedFiles;
+use crate::options::{file, flag};
+use crate::reading::reader_of;
 use crate::screen::{Screen, shows_progress};
+use crate::watched::Watched;
 use crate::{audit, cut};
 use clap::ArgMatches;
-use pie_files::{NamedFiles, Watched, reader_of};
-use pie_options::{file, flag};
 use pie_trace::{RunEnd, TraceFault, migrate, run_trace};
 use std::alloc::Global;
 use std::io;

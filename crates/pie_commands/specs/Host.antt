@@ -1,0 +1,21 @@
+-- What a clause reads of an output.
+use Rattle.std.specs.Prelude.{ℕ, ◌||◌, Bool, true, false, Result, Ok, Err}
+use Rattle.std.specs.IoError.{error_kind}
+use Rattle.std.specs.declared.io.Error.{Error}
+use Rattle.std.specs.declared.io.ErrorKind.{ErrorKind}
+use Rattle.std.specs.declared.io.ErrorKind.TheVariants.{BrokenPipe}
+use Rattle.pie_commands.specs.declared.host.Output.{Output}
+
+-- nobody reads it any more
+abbrev pub is_closed : Output → Bool
+is_closed output = output.is_closed
+
+-- a write fails so where nobody reads what is written
+abbrev pub is_broken : ErrorKind → Bool
+is_broken BrokenPipe = true
+is_broken _ = false
+
+-- .. also since a write that was answered so
+abbrev pub has_closed : Bool → Result ℕ Error → Bool
+has_closed was (Ok count) = was
+has_closed was (Err why) = was || is_broken (error_kind why)

@@ -1,0 +1,147 @@
+-- The command line: what `pie` takes, which words ask for which subcommand, and what they give its options.
+use Rattle.std.specs.Prelude.{ℕ, ◌≡◌, ◌-◌, ◌^◌, List, [], ◌∷◌, Bool, true, false, Option, Some, None, option_and_then, option_map, unwrap_or, codes}
+use Rattle.std.specs.Prelude.{if◌then◌else◌, max, min}
+use Rattle.std.specs.Option.{option_map_or}
+use Rattle.std.specs.Str.{bytes_eq}
+use Rattle.std.specs.Str.Parse.{digits_value, without_leading_plus}
+use Rattle.clap.specs.ValueTests.{accepts}
+use Rattle.clap.specs.Words.{App, Row, Rule, Text, all_of, first_of, new_app, new_rule, one_of, subcommand_of, takes, with_rule, with_subcommand}
+use Rattle.clap.specs.declared.builder.action.ArgAction.TheVariants.{Append, SetTrue}
+use Rattle.clap.specs.declared.builder.value_parser.ValueParser.TheVariants.{Unsigned}
+use Rattle.pie_commands.specs.declared.options.subcommand.Subcommand.{Subcommand}
+use Rattle.pie_commands.specs.declared.options.subcommand.Subcommand.TheVariants.{Run, Audit, Explain, Cut, Migrate, Storm, Params}
+use Rattle.pie_commands.specs.SubcommandWords.{word_of}
+
+-- `pie`, which has a version and wants a subcommand
+abbrev pub pie_alone : App
+pie_alone = record (new_app (codes "pie")) { top = record (new_app (codes "pie")).top { has_version = true; subcommand_required = true } }
+
+-- an option whose value is a number in a range
+abbrev pub number_rule : Text → ℕ → ℕ → Rule
+number_rule name least most = record (new_rule name) { long = Some name; value_names = 1; parser = Some (Unsigned least most) }
+
+-- an option with no value
+abbrev pub flag_rule : Text → Rule
+flag_rule name = record (new_rule name) { long = Some name; action = Some SetTrue }
+
+-- an option whose value is a text
+abbrev pub text_rule : Text → Rule
+text_rule name = record (new_rule name) { long = Some name; value_names = 1 }
+
+-- a file, which may be named
+abbrev pub file_rule : Rule
+file_rule = record (new_rule (codes "file")) { value_names = 1 }
+
+-- files, of which any number may be named
+abbrev pub files_rule : Rule
+files_rule = record (new_rule (codes "file")) { value_names = 1; action = Some Append }
+
+-- the options of what tells how far reading has come, and of what may write to a file: which, and that one which is there may be replaced
+abbrev pub progress_rule : Rule
+progress_rule = flag_rule (codes "progress")
+
+abbrev pub output_rule : Rule
+output_rule = record (new_rule (codes "output")) { long = Some (codes "output"); short = Some 111; value_names = 1 }
+
+abbrev pub force_rule : Rule
+force_rule = flag_rule (codes "force")
+
+-- a command to which each of a list is added, one after the other
+abbrev pub with_each : {A : Type 0} → (App → A → App) → App → List A → App
+with_each add app [] = app
+with_each add app (one ∷ more) = with_each add (add app one) more
+
+-- .. these rules
+abbrev pub with_rules : App → List Rule → App
+with_rules = with_each with_rule
+
+-- what each subcommand takes
+abbrev pub rules_for : Subcommand → List Rule
+rules_for Run = flag_rule (codes "count") ∷ progress_rule ∷ output_rule ∷ force_rule ∷ file_rule ∷ []
+rules_for Audit = flag_rule (codes "joined") ∷ progress_rule ∷ files_rule ∷ []
+rules_for Explain = number_rule (codes "event") 1 (2 ^ 64 - 1) ∷ number_rule (codes "tag") 0 (2 ^ 64 - 1) ∷ flag_rule (codes "lost")
+    ∷ flag_rule (codes "marked") ∷ flag_rule (codes "all") ∷ text_rule (codes "from") ∷ text_rule (codes "to") ∷ flag_rule (codes "summary")
+    ∷ text_rule (codes "every") ∷ number_rule (codes "flows") 1 1000 ∷ flag_rule (codes "digest") ∷ flag_rule (codes "csv") ∷ flag_rule (codes "wall")
+    ∷ progress_rule ∷ output_rule ∷ force_rule ∷ file_rule ∷ []
+rules_for Cut = text_rule (codes "from") ∷ text_rule (codes "to") ∷ number_rule (codes "event") 1 (2 ^ 64 - 1)
+    ∷ number_rule (codes "around") 0 (2 ^ 64 - 1) ∷ number_rule (codes "last") 1 (2 ^ 64 - 1) ∷ number_rule (codes "every") 1 (2 ^ 64 - 1)
+    ∷ progress_rule ∷ output_rule ∷ force_rule ∷ file_rule ∷ []
+rules_for Migrate = progress_rule ∷ output_rule ∷ force_rule ∷ file_rule ∷ []
+rules_for Storm = number_rule (codes "senders") 2 8 ∷ number_rule (codes "packets") 1 10_000 ∷ number_rule (codes "burst") 1 1024
+    ∷ number_rule (codes "seed") 0 (2 ^ 64 - 1) ∷ number_rule (codes "load") 50 200 ∷ number_rule (codes "changes") 0 100 ∷ number_rule (codes "folds") 0 100
+    ∷ number_rule (codes "profile") 1 2 ∷ text_rule (codes "delay") ∷ text_rule (codes "picking") ∷ text_rule (codes "step")
+    ∷ text_rule (codes "size") ∷ text_rule (codes "decay") ∷ flag_rule (codes "count") ∷ []
+rules_for Params = text_rule (codes "rate") ∷ text_rule (codes "target") ∷ text_rule (codes "tupdate") ∷ text_rule (codes "limit")
+    ∷ number_rule (codes "alpha") 0 32 ∷ number_rule (codes "beta") 0 32 ∷ flag_rule (codes "ecn") ∷ flag_rule (codes "bytemode")
+    ∷ number_rule (codes "mtu") 1 65535 ∷ flag_rule (codes "dq_rate_estimator") ∷ flag_rule (codes "no_derandomization")
+    ∷ flag_rule (codes "no_cap_drop_adjustment") ∷ text_rule (codes "decay") ∷ []
+
+abbrev pub app_for : Subcommand → App
+app_for subcommand = with_rules (new_app (word_of subcommand)) (rules_for subcommand)
+
+-- `pie` with one more subcommand, with these, and with all of them
+abbrev pub adds : App → Subcommand → App
+adds app subcommand = with_subcommand app (app_for subcommand).top
+
+abbrev pub with_subcommands : App → List Subcommand → App
+with_subcommands = with_each adds
+
+abbrev pub pie_app : App
+pie_app = with_subcommands pie_alone (Run ∷ Audit ∷ Explain ∷ Cut ∷ Migrate ∷ Storm ∷ Params ∷ [])
+
+-- ---- subcommands
+
+-- the subcommand that `clap` finds in any words
+abbrev pub subcommand_in : List Text → Option Text
+subcommand_in words = option_map (λ p. p.0) (subcommand_of pie_app words)
+
+-- the words ask for this subcommand, with any options: they are no request for help, and `clap` refuses them for want of memory alone
+pub record Asks (subcommand : Text) (words : List Text) : Type 0 where
+  pub taken : takes pie_app words ≡ true
+  pub found : subcommand_in words ≡ Some subcommand
+
+-- ---- options
+
+-- what the words give the options of their subcommand
+abbrev pub options_in : List Text → List Row
+options_in words = unwrap_or (option_map (λ p. p.1) (subcommand_of pie_app words)) []
+
+-- the number below 2^64 that a text writes in decimal digits
+abbrev pub number_of : Text → Option ℕ
+number_of text = if accepts false (Unsigned 0 (2 ^ 64 - 1)) text then Some (digits_value 10 (without_leading_plus text)) else None
+
+-- the number that an option is given
+abbrev pub number_given : Text → List Row → Option ℕ
+number_given name options = option_and_then number_of (one_of name options)
+
+-- an option with no value is there
+abbrev pub flag_given : Text → List Row → Bool
+flag_given name options = option_map_or (λ text. bytes_eq text (codes "true")) (one_of name options) false
+
+-- the number that an option is given, and without it another; moved into its range, though `clap` refuses words that give one out of it
+abbrev pub number_or : Text → ℕ → ℕ → ℕ → List Row → ℕ
+number_or name least most unnamed options = max least (min (unwrap_or (number_given name options) unnamed) most)
+
+-- the file that the words of a subcommand name, where it takes one
+abbrev pub file_in : List Row → Option Text
+file_in options = first_of (codes "file") options
+
+-- the files that they name, where it takes any number
+abbrev pub files_in : List Row → List Text
+files_in options = unwrap_or (all_of (codes "file") options) []
+
+-- the files that they name are those of one history
+abbrev pub is_joined : List Row → Bool
+is_joined options = flag_given (codes "joined") options
+
+-- a file that is there may be replaced
+abbrev pub is_forced : List Row → Bool
+is_forced options = flag_given (codes "force") options
+
+-- the file that is to be made, where the options name one: `-` is the name of none, but standard output
+abbrev pub file_made : Option Text → Option Text
+file_made None = None
+file_made (Some name) = if bytes_eq name (codes "-") then None else Some name
+
+abbrev pub output_in : List Row → Option Text
+output_in options = file_made (first_of (codes "output") options)

@@ -1,0 +1,63 @@
+//! What opens, makes and moves files by their names.
+ghost use Rattle.std.specs.Prelude.{◌≡◌, ℕ, true, Bool, List, Option, IfErr, IfOk, IfSome, IsOk, IsSome, Some, option_map};
+ghost use Rattle.pie_commands.specs.Output.{IsEmpty, Keeps, KeepsBut, MayHave};
+
+use std::io;
+use std::io::{Read, Write};
+
+/// What opens, makes and moves files by their names. What a file holds is known where this says it.
+///
+/// No name of a file is `-`, which the words of `pie` have for standard input: whoever calls this has looked at that.
+pub trait NamedFiles {
+    /// A file that was opened to be read.
+    type File: Read + Drop;
+
+    ghost holds: { Self → List ℕ → Option (List ℕ) };
+
+    // What is known of a file that was just made: that it is empty, or nothing.
+    ghost fresh: { Option (List ℕ) };
+
+    // Whether a call here fails for no other reason than what is said of it.
+    ghost works: { Bool };
+
+    /// Opens the file of this name to read it.
+    ///
+    /// # Errors
+    ///
+    /// Where there is no such file, or it can't be opened.
+    fn open_named(&self, name: &str) -> io::Result<Self::File>
+        ensures opened { IfOk result (λ file. Self.File.remaining file ≡ holds self.now name.now) }
+        ensures works { works ≡ true → IsSome (holds self.now name.now) → IsOk result };
+
+    /// Whether a name leads to the file of another name, by that or by any other; or, with none, to standard input.
+    fn is_one(&self, name: &str, other: Option<&str>) -> bool
+        ensures { IsSome (holds self.now name.now) → option_map (λ other. other.now) other.entry ≡ Some name.now → result ≡ true };
+
+    /// A file that was made to be written.
+    type Made: Write + Drop;
+
+    /// Makes an empty file that `place` can move onto this name, and changes no other. A pipe or a device of this name is opened as it is.
+    ///
+    /// # Errors
+    ///
+    /// Where a file of this name is there that must not be replaced, or the new one can't be made.
+    fn make(&mut self, name: &str, is_forced: bool) -> io::Result<Self::Made>
+        ensures fresh { IfOk result (λ made. Self.Made.contents made ≡ fresh) }
+        ensures empty { IsEmpty fresh }
+        ensures keeps { Keeps (holds self.old) (holds self.new) };
+
+    /// Moves what was made onto this name, whose file, if there is one, has to be one that may be replaced.
+    ///
+    /// # Errors
+    ///
+    /// Where such a file is there that must not be, or what was made can't be kept or moved.
+    fn place(&mut self, made: &mut Self::Made, name: &str, is_forced: bool) -> io::Result<()>
+        ensures placed { IfOk result (λ _. IfSome (Self.Made.contents made.old) (λ text. holds self.new name.now ≡ Some text)) }
+        ensures keeps { KeepsBut is_forced name.now (holds self.old) (holds self.new) }
+        ensures fails { IfErr result (λ _. Keeps (holds self.old) (holds self.new)) }
+        ensures works { works ≡ true → MayHave is_forced (holds self.old name.now) → IsOk result };
+
+    /// Leaves what was made where it is, and answers the name that it has there; or removes it, where nothing was written.
+    fn leave(&mut self, made: Self::Made) -> Option<String>
+        ensures { Keeps (holds self.old) (holds self.new) };
+}

@@ -1,0 +1,113 @@
+//! What a subcommand takes, as data: its options, and the files that it reads.
+ghost use Rattle.std.specs.Prelude.{◌≡◌, false};
+ghost use Rattle.clap.specs.Words.{new_rule, rule_of};
+ghost use Rattle.pie_commands.specs.Arguments.{rule_for};
+ghost use Rattle.pie_commands.specs.Words.{text_rule};
+
+use clap::builder::ValueParser;
+use clap::{Arg, ArgAction};
+use std::alloc::Global;
+
+/// What the words give an option, or name in place of one.
+#[derive(Clone, Copy)]
+pub(crate) enum Takes {
+    /// Nothing: it is there or not.
+    Nothing,
+    /// A whole number in a range.
+    Number(u64, u64),
+    /// A text, which help calls so.
+    Value(&'static str),
+    /// The same, of an option that this letter stands for too.
+    Lettered(char, &'static str),
+    /// A file, with no option before it.
+    File,
+    /// Any number of files, with no option before them.
+    Files,
+}
+
+/// An option of a subcommand, or a file that it takes.
+#[derive(Clone, Copy)]
+pub(crate) struct Argument {
+    /// Its name, which an option has behind two dashes.
+    pub(crate) name: &'static str,
+    pub(crate) takes: Takes,
+    /// What `--help` says of it.
+    pub(crate) help: &'static str,
+}
+
+/// What the command line has of a subcommand.
+#[derive(Clone, Copy)]
+pub(crate) struct Page<'a> {
+    /// The word that asks for it.
+    pub(crate) word: &'a str,
+    /// What it is for.
+    pub(crate) about: &'a str,
+    /// What its help says below its options.
+    pub(crate) help: &'a str,
+    /// What it takes.
+    pub(crate) arguments: &'a [Argument],
+}
+
+/// A row of a table of arguments: the name, what it takes, and what `--help` says of it.
+macro_rules! row {
+    ($name:literal: $takes:ident $(($($of:expr),+))?, $help:literal) => {
+        Argument { name: $name, takes: Takes::$takes $(($($of),+))?, help: $help }
+    };
+}
+
+pub(crate) use row;
+
+/// What asks to be told how far reading has come.
+pub(crate) const PROGRESS: Argument =
+    row!("progress": Nothing, "Show on standard error how much was read, as is done where that is a terminal");
+
+/// The file to write in place of standard output.
+pub(crate) const OUTPUT: Argument = row!("output": Lettered('o', "FILE"),
+    "Write to this file, which is there once all of it was written, and not to standard output");
+
+/// What allows that file to be replaced.
+pub(crate) const FORCE: Argument =
+    row!("force": Nothing, "Replace the file that -o names, where it is there already");
+
+/// A file that may be named.
+pub(crate) const FILE: Argument = row!("file": File, "The file to read; - or none: standard input");
+
+/// An argument of this name, before it is known what it takes.
+fn named<'a>(alloc: Global, name: &'a str, help: &'a str) -> Arg<'a>
+    ensures rule { rule_of result ≡ new_rule name.now }
+    ensures local { result.global ≡ false }
+{
+    Arg::new(alloc, name).help(help)
+}
+
+/// An option of this name, whose value help calls so.
+fn valued<'a>(alloc: Global, argument: Argument, value: &'static str) -> Arg<'a>
+    ensures rule { rule_of result ≡ text_rule argument.name.now }
+    ensures local { result.global ≡ false }
+{
+    named(alloc, argument.name, argument.help)
+        .long(argument.name)
+        .value_name(value)
+}
+
+/// What `clap` knows of it.
+pub(crate) fn arg_of<'a>(alloc: Global, argument: Argument) -> Arg<'a>
+    ensures rule { rule_of result ≡ rule_for argument }
+    ensures local { result.global ≡ false }
+{
+    let Argument { name, takes, help } = argument;
+    match takes {
+        Takes::Nothing => named(alloc, name, help)
+            .long(name)
+            .action(ArgAction::SetTrue),
+        Takes::Number(least, most) => {
+            valued(alloc, argument, "N").value_parser(ValueParser::unsigned(least, most))
+        }
+        Takes::Value(value) => valued(alloc, argument, value),
+        Takes::Lettered(letter, value) => valued(alloc, argument, value).short(letter),
+        Takes::File => named(alloc, name, help).value_name("FILE"),
+        Takes::Files => named(alloc, name, help)
+            .value_name("FILE")
+            .action(ArgAction::Append),
+    }
+}

@@ -1,0 +1,159 @@
+//! The command line of `pie`: the command of `clap`, made from what each subcommand takes.
+ghost use Rattle.std.specs.Prelude.{◌≡◌, ◌<◌, ◌∷◌, IfOk, List, [], get_or, length, map};
+ghost use Rattle.clap.specs.Words.{App, Rule, app_of, new_app, new_rule, with_rule};
+ghost use Rattle.pie_commands.specs.Arguments.{rule_for};
+ghost use Rattle.pie_commands.specs.Building.{Wants};
+ghost use Rattle.pie_commands.specs.SubcommandWords.{word_of};
+ghost use Rattle.pie_commands.specs.Words.{adds, app_for, pie_alone, pie_app, rules_for, with_rules, with_subcommands};
+
+use crate::options::argument::{Argument, Page, arg_of};
+use crate::options::subcommand::Subcommand;
+use crate::options::{audit, cut, explain, migrate, params, run, storm};
+use clap::Command;
+use std::alloc::{AllocError, Global};
+
+/// What `pie --version` prints after the name.
+const VERSION: &str = "0.1.0";
+
+/// What `pie --help` says below its subcommands.
+pub(crate) const PIE_HELP: &str =
+    "Example: run a trace of one arrival and one departure, and see what was decided:
+
+  printf 'open,0,4,16,100\\narrive,1,10,7,1500,ect0,0\\ndepart,2,25\\n' | pie run
+
+What a run writes is its history, which pie audit decides again and pie explain explains.";
+
+/// A subcommand without what it takes.
+fn plain<'a>(alloc: Global, name: &'a str, about: &'a str, help: &'a str) -> Command<'a>
+    ensures { app_of result ≡ new_app name.now }
+{
+    Command::new(alloc, name).about(about).after_help(help)
+}
+
+/// What there is of a command, with one more argument, which is made only where there is a command.
+fn with_argument<'a>(
+    alloc: Global,
+    begun: Result<Command<'a>, AllocError>,
+    argument: Argument,
+) -> Result<Command<'a>, AllocError>
+    ensures { (rules : List Rule) (whole : App) → Wants with_rule (rule_for argument ∷ rules) whole begun.entry → Wants with_rule rules whole result }
+{
+    match begun {
+        Ok(command) => command.arg(arg_of(alloc, argument)),
+        Err(why) => Err(why),
+    }
+}
+
+/// The argument at this place.
+fn argument_at(arguments: &[Argument], place: usize) -> Argument
+    requires { place < length arguments.now }
+    ensures { rule_for result ≡ get_or (map rule_for arguments.now) place (new_rule []) }
+{
+    arguments[place]
+}
+
+/// The subcommand of this name, with what it takes.
+fn command_of<'a>(
+    alloc: Global,
+    name: &'a str,
+    about: &'a str,
+    help: &'a str,
+    arguments: &[Argument],
+) -> Result<Command<'a>, AllocError>
+    ensures { IfOk result (λ command. app_of command ≡ with_rules (new_app name.now) (map rule_for arguments.now)) }
+{
+    let mut command = Ok(plain(alloc, name, about, help));
+    for place in 0..arguments.len() {
+        command = with_argument(alloc, command, argument_at(arguments, place));
+    }
+    command
+}
+
+/// What there is of a subcommand.
+fn page_of<'a>(subcommand: Subcommand) -> Page<'a>
+    ensures word { result.word.now ≡ word_of subcommand }
+    ensures arguments { map rule_for result.arguments.now ≡ rules_for subcommand }
+{
+    match subcommand {
+        Subcommand::Run => run::PAGE,
+        Subcommand::Audit => audit::PAGE,
+        Subcommand::Explain => explain::PAGE,
+        Subcommand::Cut => cut::PAGE,
+        Subcommand::Migrate => migrate::PAGE,
+        Subcommand::Storm => storm::PAGE,
+        Subcommand::Params => params::PAGE,
+    }
+}
+
+/// What `clap` knows of a subcommand.
+fn command_for<'a>(alloc: Global, subcommand: Subcommand) -> Result<Command<'a>, AllocError>
+    ensures { IfOk result (λ command. app_of command ≡ app_for subcommand) }
+{
+    let page = page_of(subcommand);
+    command_of(alloc, page.word, page.about, page.help, page.arguments)
+}
+
+/// `pie` without its subcommands.
+fn alone<'a>(alloc: Global) -> Command<'a>
+    ensures { app_of result ≡ pie_alone }
+{
+    Command::new(alloc, "pie")
+        .about("A PIE queue controller (RFC 8033) whose every decision is recorded")
+        .version(VERSION)
+        .after_help(PIE_HELP)
+        .subcommand_required(true)
+}
+
+/// What there is of `pie`, with one more subcommand.
+fn with_subcommand<'a>(
+    alloc: Global,
+    begun: Result<Command<'a>, AllocError>,
+    subcommand: Subcommand,
+) -> Result<Command<'a>, AllocError>
+    ensures { (subcommands : List Subcommand) (whole : App) → Wants adds (subcommand ∷ subcommands) whole begun.entry
+        → Wants adds subcommands whole result }
+{
+    match begun {
+        Ok(pie) => match command_for(alloc, subcommand) {
+            Ok(command) => pie.subcommand(command),
+            Err(why) => {
+                drop(pie);
+                Err(why)
+            }
+        },
+        Err(why) => Err(why),
+    }
+}
+
+/// `pie` and these subcommands.
+fn with_each<'a>(alloc: Global, subcommands: &[Subcommand]) -> Result<Command<'a>, AllocError>
+    ensures { IfOk result (λ pie. app_of pie ≡ with_subcommands pie_alone subcommands.now) }
+{
+    let mut pie = Ok(alone(alloc));
+    for subcommand in subcommands {
+        pie = with_subcommand(alloc, pie, *subcommand);
+    }
+    pie
+}
+
+/// `pie` and its subcommands.
+///
+/// # Errors
+///
+/// `AllocError` where there was no memory for them.
+pub(crate) fn options<'a>(alloc: Global) -> Result<Command<'a>, AllocError>
+    ensures { IfOk result (λ options. app_of options ≡ pie_app) }
+{
+    with_each(
+        alloc,
+        &[
+            Subcommand::Run,
+            Subcommand::Audit,
+            Subcommand::Explain,
+            Subcommand::Cut,
+            Subcommand::Migrate,
+            Subcommand::Storm,
+            Subcommand::Params,
+        ],
+    )
+}

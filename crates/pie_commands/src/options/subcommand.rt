@@ -1,0 +1,42 @@
+//! The subcommands of `pie`.
+ghost use Rattle.std.specs.Prelude.{◌≡◌, IfSome, Some};
+ghost use Rattle.pie_commands.specs.declared.options.subcommand.Subcommand.{Subcommand};
+ghost use Rattle.pie_commands.specs.SubcommandWords.{word_of};
+
+/// What `pie` is asked to do.
+#[derive(Clone, Copy)]
+pub(crate) enum Subcommand {
+    /// Run a trace.
+    Run,
+    /// Audit histories.
+    Audit,
+    /// Explain a history.
+    Explain,
+    /// Cut a part out of a history.
+    Cut,
+    /// Write a history in version two.
+    Migrate,
+    /// Make a storm.
+    Storm,
+    /// Write parameters as a record.
+    Params,
+}
+
+impl Subcommand {
+    /// The subcommand that a word asks for.
+    pub(crate) fn named(word: &str) -> Option<Subcommand>
+        ensures named { IfSome result (λ subcommand. word.now ≡ word_of subcommand) }
+        ensures each { (subcommand : Subcommand) → word.now ≡ word_of subcommand → result ≡ Some subcommand }
+    {
+        match word {
+            "run" => Some(Subcommand::Run),
+            "audit" => Some(Subcommand::Audit),
+            "explain" => Some(Subcommand::Explain),
+            "cut" => Some(Subcommand::Cut),
+            "migrate" => Some(Subcommand::Migrate),
+            "storm" => Some(Subcommand::Storm),
+            "params" => Some(Subcommand::Params),
+            _ => None,
+        }
+    }
+}

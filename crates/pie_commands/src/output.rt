@@ -1,0 +1,105 @@
+//! An output that is made, and then put in its place or left.
+ghost use Rattle.std.specs.Prelude.{◌≡◌, false, true, IfSome, IsSome, None, Some, option_map};
+ghost use Rattle.pie_commands.specs.Files.{file_of};
+ghost use Rattle.pie_commands.specs.Output.{IsEmpty, Keeps, MayHave, Settles};
+
+use crate::faults::named_fault;
+use crate::files::NamedFiles;
+use std::io::Write;
+
+/// The file that is read: none for `-`, which is standard input.
+fn file_of<'a>(read: Option<&'a str>) -> Option<&'a str>
+    ensures { option_map (λ name. name.now) result ≡ file_of (option_map (λ name. name.now) read.entry) }
+{
+    match read {
+        Some(name) => { if name == "-" { None } else { Some(name) } }
+        None => None,
+    }
+}
+
+/// A new file that can be moved onto this name; or none, with a line on `errors`, where it can't be made, where a file is there that must not be
+/// replaced, and where that is what is read.
+pub(crate) fn make_for<H: NamedFiles, E: Write>(
+    rt: &mut H,
+    name: &str,
+    read: Option<&str>,
+    is_forced: bool,
+    errors: &mut E,
+) -> Option<H::Made>
+    ensures fresh { IfSome result (λ made. H.Made.contents made ≡ H.fresh) }
+    ensures empty { IfSome result (λ _. IsEmpty H.fresh) }
+    ensures keeps { Keeps (H.holds rt.old) (H.holds rt.new) }
+    ensures other { IfSome result (λ _. IsSome (H.holds rt.old name.now)
+        → file_of (option_map (λ other. other.now) read.entry) ≡ Some name.now → ⊥) }
+{
+    if rt.is_one(name, file_of(read)) {
+        named_fault(
+            errors,
+            name,
+            "this is what is read, and can't be written too",
+        );
+        return None;
+    }
+    match rt.make(name, is_forced) {
+        Ok(made) => Some(made),
+        Err(why) => {
+            named_fault(errors, name, why);
+            None
+        }
+    }
+}
+
+/// Moves what was made onto its name, where that can be done; else says on `errors` what goes wrong.
+fn put<H: NamedFiles, E: Write>(
+    rt: &mut H,
+    made: &mut H::Made,
+    name: &str,
+    is_forced: bool,
+    errors: &mut E,
+) -> bool
+    ensures settles { Settles result None is_forced name.now (H.Made.contents made.old) (H.holds rt.old) (H.holds rt.new) }
+    ensures works { H.works ≡ true → MayHave is_forced (H.holds rt.old name.now) → result ≡ true }
+{
+    match rt.place(made, name, is_forced) {
+        Ok(()) => true,
+        Err(why) => {
+            named_fault(errors, name, why);
+            false
+        }
+    }
+}
+
+/// Leaves what was made under its other name, which is said on `errors` where something was written.
+fn abandon<H: NamedFiles, E: Write>(rt: &mut H, made: H::Made, errors: &mut E)
+    ensures { Keeps (H.holds rt.old) (H.holds rt.new) }
+{
+    if let Some(other) = rt.leave(made) {
+        named_fault(
+            errors,
+            other.as_str(),
+            "this has what was written until then",
+        );
+    }
+}
+
+/// Moves what was made onto its name, where it `is_whole`, and answers whether it is there. Else, or where it can't be moved, which is said on
+/// `errors`, it stays under its other name, and the file of its name as it was.
+pub(crate) fn settle<H: NamedFiles, E: Write>(
+    rt: &mut H,
+    made: H::Made,
+    name: &str,
+    is_forced: bool,
+    is_whole: bool,
+    errors: &mut E,
+) -> bool
+    ensures settles { Settles result None is_forced name.now (H.Made.contents made) (H.holds rt.old) (H.holds rt.new) }
+    ensures part { is_whole ≡ false → result ≡ false }
+    ensures whole { is_whole ≡ true → H.works ≡ true → MayHave is_forced (H.holds rt.old name.now) → result ≡ true }
+{
+    let mut made = made;
+    if is_whole && put(rt, &mut made, name, is_forced, errors) {
+        return true;
+    }
+    abandon(rt, made, errors);
+    false
+}

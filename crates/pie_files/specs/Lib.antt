@@ -1,4 +1,0 @@
-pub mod Files
-pub mod Host
-pub mod Output
-pub mod Watched

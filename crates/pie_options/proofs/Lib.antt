@@ -1,5 +1,0 @@
-mod Names
-mod CommandFacts
-mod ExamplesWords
-mod GivenFacts
-pub mod WordFacts

@@ -1,9 +1,0 @@
--- How far `pie` or a subcommand of it has been put together, where there was memory for it.
-use Rattle.std.specs.Prelude.{◌≡◌, IfOk, List, Result}
-use Rattle.clap.specs.Words.{App, app_of}
-use Rattle.clap.specs.declared.builder.command.Command.{Command}
-use Rattle.pie_options.specs.Words.{with_each}
-
--- with each of these added it is the whole
-abbrev pub Wants : {A E : Type 0} → (App → A → App) → List A → App → Result Command E → Type 0
-Wants add left whole begun = IfOk begun (λ command. with_each add (app_of command) left ≡ whole)

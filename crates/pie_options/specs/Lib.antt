@@ -1,4 +1,0 @@
-pub mod Arguments
-pub mod Building
-pub mod Subcommands
-pub mod Words

@@ -1,7 +1,7 @@
 #!/usr/bin/env python3
 """Holds include/pie.h, include/pie_link.h and the Rust declarations (bindings/rust/src) to the source of the libraries (crates/pie_abi/src,
-crates/pie_c/src, crates/pie_link_c/src): structs with the
-order, names and widths of their fields; functions with the order, names and widths of their parameters; codes, ECN fields, the version.
+crates/pie_c/src, crates/pie_port/src, crates/pie_link_c/src): structs with the order, names and widths of their fields; functions with the order,
+names and widths of their parameters; codes, ECN fields, the version.
 The ranges, defaults and tables of rates that comments tell are compared with one another, docs/FORMATS.md and docs/PARAMETERS.md, the orders in which
 calls refuse with the source; the words of a flight recorder's memory are those of include/pie_flight.h. Exit status 1 where something differs.
 
@@ -280,27 +280,28 @@ def compare_numbers(header, source):
 
 
 def compare_link(root):
-    """include/pie_link.h, beside crates/pie_link_c: its calls with their parameters, its codes, the words for them, and port and excerpt, of which C
-    sees a pointer."""
+    """include/pie_link.h, beside crates/pie_link_c, its calls with their parameters, and crates/pie_port: its codes, the words for them, and port and
+    excerpt, of which C sees a pointer."""
     header = Header((root / "include/pie_link.h").read_text())
     names = {**TYPES, "PiePort": "pie_port", "PieExcerpt": "pie_excerpt", "PieRegisters": "pie_registers", "PieTotals": "pie_totals"}
-    source = Rust(read_source(root / "crates/pie_link_c/src", "*.rt"), names, r'pub extern "C" ')
+    text = "\n".join(read_source(root / f"crates/{it}/src", "*.rt") for it in ("pie_port", "pie_link_c"))
+    source = Rust(text, names, r'pub extern "C" ')
     # (a `Global` takes no bytes: C hands nothing over)
     calls = {name: (result, [it for it in given if it[0] != "Global"]) for name, (result, given) in source.functions.items()}
     given = {name: (result, [(kind, {"added": "new"}.get(field, field)) for kind, field in it]) for name, (result, it) in header.functions.items()}
     yield from same("include/pie_link.h: calls", given, calls, "in crates/pie_link_c/src")
     for handle in ("PiePort", "PieExcerpt"):
         if not re.search(rf"pub struct {handle} \{{\s*at: \*mut u8,\s*alloc: Global,\s*///.*?\s*pub ghost", source.text):
-            yield f"crates/pie_link_c/src: a {names[handle]} is not a pointer alone"
+            yield f"crates/pie_port/src: a {names[handle]} is not a pointer alone"
         yield from same(f"include/pie_link.h: a {names[handle]}", header.structs.get(names[handle]), [("&mut void", "at")], "here")
     for name in ("pie_registers", "pie_totals"):
-        yield from same(f"include/pie_link.h: struct {name}", header.structs.get(name), source.structs.get(name), "in crates/pie_link_c/src")
+        yield from same(f"include/pie_link.h: struct {name}", header.structs.get(name), source.structs.get(name), "in crates/pie_port/src")
     most = re.findall(r"const MOST: usize = (\d+);", source.text)
-    yield from same("include/pie_link.h: how many events a fold hands out", [header.defines.get("PIE_LINK_MOST")], most, "in crates/pie_link_c/src")
+    yield from same("include/pie_link.h: how many events a fold hands out", [header.defines.get("PIE_LINK_MOST")], most, "in crates/pie_port/src")
     found = {"PIE_" + name: int(number) for name, number in re.findall(r"const ([A-Z_]+): u32 = (\d+);", source.text)}
-    yield from same("include/pie_link.h: codes", header.constants, found, "in crates/pie_link_c/src")
+    yield from same("include/pie_link.h: codes", header.constants, found, "in crates/pie_port/src")
     words = re.findall(r"case (PIE_\w+): return", header.text)
-    yield from same("include/pie_link.h: the codes that have words", sorted(words), sorted(found), "in crates/pie_link_c/src")
+    yield from same("include/pie_link.h: the codes that have words", sorted(words), sorted(found), "in crates/pie_port/src")
     tries = {name[13:] for name in calls if name.startswith("pie_link_try_")}
     waits = set(re.findall(r"static inline uint32_t pie_link_(\w+)\(struct pie_port", header.text))
     yield from same("include/pie_link.h: the calls that wait", sorted(waits), sorted(tries), "of those that don't")

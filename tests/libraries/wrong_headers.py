@@ -100,7 +100,7 @@ EDITS = [
 
 
 def copied(folder):
-    for name in ("include", "bindings", "crates/pie_abi/src", "crates/pie_c/src", "crates/pie_link_c/src", "crates/pie_summary/src", "docs"):
+    for name in ("include", "bindings", "crates/pie_abi/src", "crates/pie_c/src", "crates/pie_port/src", "crates/pie_link_c/src", "crates/pie_summary/src", "docs"):
         shutil.copytree(ROOT / name, folder / name, ignore=shutil.ignore_patterns("target"))
 
 

@@ -1,121 +1,13 @@
 //! Readings: what the book behind a port holds, as a struct of the caller's.
-ghost use Rattle.std.specs.Prelude.{◌≡◌};
-ghost use Rattle.pie_link_c.specs.{TriesToReadInto, registers_of, totals_of};
+ghost use Rattle.pie_port.specs.Readings.{TriesToReadInto, registers_of, totals_of};
 ghost use Rattle.pie_book.specs.Registers.{registers_after};
 ghost use Rattle.pie_book.specs.Statistics.{stats_after};
-ghost use Rattle.pie_link_c.specs.Readings.{IsReadInto};
 
-use crate::code::{BUSY, CLOSED};
-use crate::handle::PiePort;
-use crate::port::Port;
-use pie_abi::code::DONE;
-use pie_abi::{PieParams, PieStats};
-use pie_event::{Refusal, Registers, Stats};
-use pie_link::{Told, Tried};
+use pie_port::{PiePort, PieRegisters, PieTotals};
 use std::alloc::Global;
-
-/// What the controller and its queue hold. Times are in nanoseconds, probabilities in units of `10^-12` (RFC 8033, sections 4.2, 4.4, 5.2 and 5.3).
-#[repr(C)]
-#[derive(Clone, Copy)]
-pub struct PieRegisters {
-    /// How many events there were.
-    pub count: u64,
-    /// The effective moment, the greatest so far.
-    pub moment: u64,
-    /// How many packets wait.
-    pub packets: u64,
-    /// Their bytes.
-    pub bytes: u64,
-    /// The probability of drop or mark.
-    pub prob: u64,
-    /// The delay at the last update.
-    pub old_delay: u64,
-    /// The accumulated probability.
-    pub accu: u64,
-    /// The burst allowance.
-    pub burst: u64,
-    /// The moment of the last update, or of the opening.
-    pub last: u64,
-    /// The moment from which the next update is due.
-    pub due: u64,
-    /// The average time in which `dq_threshold` bytes depart; 0 with no sample.
-    pub average: u64,
-    /// 1 where a cycle of the departure rate is begun, and else 0.
-    pub measuring: u64,
-    /// 1 while the controller is active, and else 0; always 1 in profile one.
-    pub active: u64,
-    /// The parameters in force.
-    pub params: PieParams,
-}
-
-/// The statistics of all events.
-#[repr(C)]
-#[derive(Clone, Copy)]
-pub struct PieTotals {
-    /// How many events there were.
-    pub count: u64,
-    /// Their statistics.
-    pub stats: PieStats,
-}
-
-// The registers, with the number of events, as a struct.
-fn registers(told: &Told<Registers>) -> PieRegisters
-    ensures { result ≡ registers_of told.now }
-{
-    let r = &told.answer;
-    let params = r.params.raw();
-    PieRegisters {
-        count: told.number,
-        moment: r.moment,
-        packets: r.packets,
-        bytes: r.bytes,
-        prob: r.prob,
-        old_delay: r.old,
-        accu: r.accu,
-        burst: r.burst,
-        last: r.last,
-        due: r.last.saturating_add(params.t_update),
-        average: r.average,
-        measuring: u64::from(r.measuring),
-        active: u64::from(r.active),
-        params: PieParams::from_raw(params),
-    }
-}
-
-impl Port {
-    /// Reads the registers.
-    fn try_registers(&mut self, out: &mut PieRegisters) -> u32
-        ensures { IsReadInto registers_after registers_of self.old out.old result out.new self.new }
-    {
-        match self.link.try_registers(&mut self.caller) {
-            Ok(told) => {
-                *out = registers(&told);
-                DONE
-            }
-            Err(_) => BUSY,
-        }
-    }
-
-    /// Reads the statistics.
-    fn try_stats(&mut self, out: &mut PieTotals) -> u32
-        ensures { IsReadInto stats_after totals_of self.old out.old result out.new self.new }
-    {
-        match self.link.try_stats(&mut self.caller) {
-            Ok(told) => {
-                *out = PieTotals {
-                    count: told.number,
-                    stats: PieStats::of(&told.answer),
-                };
-                DONE
-            }
-            Err(_) => BUSY,
-        }
-    }
-}
 
 /// What the controller and its queue hold after all events.
 #[unsafe(no_mangle)]
-#[tactic(auto, unfolding(crate::specs::Calls::AtPort))]
 pub extern "C" fn pie_link_try_registers(
     alloc: Global,
     port: &mut PiePort,
@@ -123,17 +15,11 @@ pub extern "C" fn pie_link_try_registers(
 ) -> u32
     ensures { TriesToReadInto registers_after registers_of port.old.port registers.old result registers.new port.new.port }
 {
-    let Some(mut held) = port.take(alloc) else {
-        return CLOSED;
-    };
-    let code = held.try_registers(registers);
-    port.put(held);
-    code
+    pie_port::try_registers(alloc, port, registers)
 }
 
 /// The statistics of all events.
 #[unsafe(no_mangle)]
-#[tactic(auto, unfolding(crate::specs::Calls::AtPort))]
 pub extern "C" fn pie_link_try_stats(
     alloc: Global,
     port: &mut PiePort,
@@ -141,10 +27,5 @@ pub extern "C" fn pie_link_try_stats(
 ) -> u32
     ensures { TriesToReadInto stats_after totals_of port.old.port totals.old result totals.new port.new.port }
 {
-    let Some(mut held) = port.take(alloc) else {
-        return CLOSED;
-    };
-    let code = held.try_stats(totals);
-    port.put(held);
-    code
+    pie_port::try_stats(alloc, port, totals)
 }

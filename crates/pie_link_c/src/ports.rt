@@ -1,0 +1,58 @@
+//! A link is opened, one port of it becomes two, two become one, and a port is closed.
+ghost use Rattle.std.specs.Prelude.{◌≡◌, ◌≢◌, None};
+ghost use Rattle.pie_link.specs.Headline.{KeepsOneHistory};
+ghost use Rattle.pie_port.specs.Calls.{AreOfOneLink, Gathers, IsOpened, Shares, close_code, open_refusal};
+
+use atomic_table::TableRule;
+use pie_abi::PieOpening;
+use pie_event::Opening;
+use pie_link::{Entry, KeptBook};
+use pie_lock::{LockOpening, LockRule, Place};
+use pie_port::PiePort;
+use std::alloc::Global;
+
+/// Opens a link of so many callers by an opening, and the port with all their numbers, which then shares them. The port is closed before.
+///
+/// Refuses an open port, then what `pie_open` refuses of the opening, and then no callers; and where there is no memory, all stays as it was.
+#[unsafe(no_mangle)]
+pub extern "C" fn pie_link_open(
+    alloc: Global,
+    opening: &PieOpening,
+    callers: u16,
+    port: &mut PiePort,
+) -> u32
+    ensures refused { open_refusal port.old.port opening.now callers ≢ 0 → result ≡ open_refusal port.old.port opening.now callers }
+    ensures kept { result ≢ 0 → port.new.port ≡ port.old.port }
+    ensures done { open_refusal port.old.port opening.now callers ≡ 0 → result ≢ 123 → result ≡ 0 }
+    ensures opened { result ≡ 0 → IsOpened (KeepsOneHistory
+        ⟦<LockRule as TableRule<Option<KeptBook>, Place<Entry, Opening>, LockOpening<KeptBook>>>⟧.holds) opening.now callers port.new.port }
+{
+    pie_port::open(alloc, opening, callers, port)
+}
+
+/// Opens `new`, which is closed before, with the highest number of `port`: a caller of its own, for another thread. Where the port has one number
+/// alone, or where there is no memory, all stays as it was.
+#[unsafe(no_mangle)]
+pub extern "C" fn pie_link_share(alloc: Global, port: &mut PiePort, new: &mut PiePort) -> u32
+    ensures { Shares port.old.port new.old.port result port.new.port new.new.port }
+{
+    pie_port::share(alloc, port, new)
+}
+
+/// Takes the numbers of `other`, which is closed then, where the range of one begins where that of the other ends. Both are of one link.
+#[unsafe(no_mangle)]
+pub extern "C" fn pie_link_gather(alloc: Global, port: &mut PiePort, other: &mut PiePort) -> u32
+    requires own { AreOfOneLink port.old.port other.old.port }
+    ensures { Gathers port.old.port other.old.port result port.new.port other.new.port }
+{
+    pie_port::gather(alloc, port, other)
+}
+
+/// Closes a port, and frees the link with its last one. Its numbers are nobody's then.
+#[unsafe(no_mangle)]
+pub extern "C" fn pie_link_close(alloc: Global, port: &mut PiePort) -> u32
+    ensures answer { result ≡ close_code port.old.port }
+    ensures closed { port.new.port ≡ None }
+{
+    pie_port::close(alloc, port)
+}

@@ -1,0 +1,77 @@
+-- What a fold at a port promises, and how an event of the history lies in a caller's struct.
+use Rattle.std.specs.Prelude.{ℕ, ◌≡◌, List, [], ◌∷◌, ◌++◌, Option, Result, Ok, Err, drop, length, map, min}
+use Rattle.pie_port.specs.Names.{bits_of, Answer, Command, SetParams, Event, Refusal, TriesToFoldInto, CallerView, StaysOne, Tried, PieEvent}
+use Rattle.pie_port.specs.Names.{PieParams, arrived_event, bare_event, params_of}
+use Rattle.pie_event.specs.declared.command.Command.TheVariants.{Arrive, Depart, Update, Reset}
+use Rattle.pie_port.specs.declared.filling.Asked.TheVariants as asked
+use Rattle.pie_port.specs.Calls.{AtPort}
+use Rattle.pie_port.specs.Events.{answer_number, answered_event}
+
+-- ---- an event in a struct
+
+-- an event of this moment and caller, all else 0
+abbrev pub blank : ℕ → ℕ → PieEvent
+blank moment caller = record {
+  moment = moment;
+  tag = 0;
+  word = 0;
+  delay = 0;
+  prob = 0;
+  burst = 0;
+  size = 0;
+  answer = 0;
+  caller = caller;
+  kind = 0;
+  ecn = 0;
+  reserved = 0;
+}
+
+-- what was asked, and the packet that left or an update's numbers
+abbrev pub struct_with : ℕ → Answer → Command → PieEvent
+struct_with caller a (Arrive moment packet word) =
+    arrived_event (record (blank moment caller) { tag = packet.tag; word = word; size = packet.size; ecn = bits_of packet.ecn }) (answer_number a)
+struct_with caller a (Depart moment) = answered_event asked.Depart (blank moment caller) a
+struct_with caller a (Update moment) = answered_event asked.Update (blank moment caller) a
+struct_with caller a (Reset moment) = bare_event 4 (blank moment caller) (answer_number a)
+struct_with caller a (SetParams moment params) = bare_event 5 (blank moment caller) (answer_number a)
+
+abbrev pub struct_of : Event → PieEvent
+struct_of event = struct_with event.caller event.answer event.command
+
+-- the parameters that it sets, and else those that were there
+abbrev pub params_in : PieParams → Command → PieParams
+params_in p (SetParams moment params) = params_of params
+params_in p _ = p
+
+-- ---- a fold
+
+-- these events lie in the first of the structs, and the others are as they were
+abbrev pub written_events : List PieEvent → List Event → List PieEvent
+written_events structs events = map struct_of events ++ drop (length events) structs
+
+-- the parameters that the last of these events sets that sets some, and else those that were there
+abbrev pub params_after : PieParams → List Event → PieParams
+params_after p [] = p
+params_after p (event ∷ events) = params_after (params_in p event.command) events
+
+-- what it answers
+abbrev pub fold_code : Result (Unit {0}) (Tried Refusal) → List Event → ℕ
+fold_code (Ok done) [] = 106
+fold_code (Ok done) (event ∷ events) = 0
+fold_code (Err why) events = 121
+
+-- what an open port's caller was handed out, up to so many events as there are structs, at most 64; or that the link was busy, and none were
+pub record IsFolded (before : CallerView) (structs : List PieEvent) (p : PieParams) (code : ℕ) (written : List PieEvent) (folded : ℕ)
+    (params : PieParams) (after : CallerView) : Type 0 where
+  pub reply : Result (Unit {0}) (Tried Refusal)
+  pub events : List Event
+  pub tried : TriesToFoldInto before.lock before (min (length structs) 64) reply [] events after
+  pub stays : StaysOne before after
+  pub told : code ≡ fold_code reply events
+  pub count : folded ≡ length events
+  pub filled : written ≡ written_events structs events
+  pub set : params ≡ params_after p events
+
+abbrev pub TriesToFoldAll : Option CallerView → List PieEvent → PieParams → ℕ → List PieEvent → ℕ → PieParams → Option CallerView → Type 0
+TriesToFoldAll port structs p code written folded params after = AtPort port code after ((written ≡ structs) × (folded ≡ 0) × (params ≡ p))
+    (λ before now. IsFolded before structs p code written folded params now)

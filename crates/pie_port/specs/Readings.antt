@@ -1,0 +1,62 @@
+-- What a reading at a port promises, and how registers and statistics lie in a caller's struct.
+use Rattle.std.specs.Prelude.{ℕ, ◌≡◌, ◌+◌, ◌-◌, ◌^◌, Bool, true, false, List, Option, Result, Ok, Err, min}
+use Rattle.pie_port.specs.Names.{Event, Opening, Refusal, Told, CallerView, StaysOne, Tried, params_of}
+use Rattle.pie_event.specs.declared.registers.Registers.{Registers}
+use Rattle.pie_event.specs.declared.stats.Stats.{Stats}
+use Rattle.pie_link.specs.CallerReadings.{TriesToRead}
+use Rattle.pie_abi.specs.Stats.{stats_of}
+use Rattle.pie_port.specs.Calls.{AtPort}
+use Rattle.pie_port.specs.declared.readings.PieRegisters.{PieRegisters}
+use Rattle.pie_port.specs.declared.readings.PieTotals.{PieTotals}
+
+-- ---- in a struct
+
+abbrev pub bit : Bool → ℕ
+bit true = 1
+bit false = 0
+
+-- the registers, with how many events there were, and when the next update is due
+abbrev pub registers_of : Told Registers → PieRegisters
+registers_of told = record {
+  count = told.number;
+  moment = told.answer.moment;
+  packets = told.answer.packets;
+  bytes = told.answer.bytes;
+  prob = told.answer.prob;
+  old_delay = told.answer.old;
+  accu = told.answer.accu;
+  burst = told.answer.burst;
+  last = told.answer.last;
+  due = min (told.answer.last + told.answer.params.t_update) (2 ^ 64 - 1);
+  average = told.answer.average;
+  measuring = bit told.answer.measuring;
+  active = bit told.answer.active;
+  params = params_of told.answer.params;
+}
+
+-- the statistics, with how many events there were
+abbrev pub totals_of : Told Stats → PieTotals
+totals_of told = record { count = told.number; stats = stats_of told.answer }
+
+-- ---- a reading
+
+abbrev pub read_code : {A : Type 0} → Result (Told A) (Tried Refusal) → ℕ
+read_code (Ok told) = 0
+read_code (Err why) = 121
+
+-- the caller's struct, which stays as it was where the link was busy
+abbrev pub read_into : {A B : Type 0} → (Told A → B) → B → Result (Told A) (Tried Refusal) → B
+read_into struct_of held (Ok told) = struct_of told
+read_into struct_of held (Err why) = held
+
+module _ {A B : Type 0} (value_after : Opening → List Event → A) (struct_of : Told A → B) where
+  -- what an open port's caller read, or that the link was busy; and the code and the struct that tell it
+  pub record IsReadInto (before : CallerView) (held : B) (code : ℕ) (written : B) (after : CallerView) : Type 0 where
+    pub reply : Result (Told A) (Tried Refusal)
+    pub tried : TriesToRead value_after before.lock before reply after
+    pub stays : StaysOne before after
+    pub told : code ≡ read_code reply
+    pub filled : written ≡ read_into struct_of held reply
+
+  abbrev pub TriesToReadInto : Option CallerView → B → ℕ → B → Option CallerView → Type 0
+  TriesToReadInto port held code written after = AtPort port code after (written ≡ held) (λ before now. IsReadInto before held code written now)

@@ -1,0 +1,300 @@
+//! Bursts: several events in one turn, that lie where the caller has them: each is read and written in its place. No call waits, and none takes
+//! memory.
+ghost use Rattle.std.specs.Prelude.{◌≡◌, ◌<◌, Bool, drop, length, map, slice_index_or, slice_set, ℕ, None};
+ghost use Rattle.pie_port.specs.{Reply, always, has_left_or_updated, PieEvent, Asked, Arrive, Depart, asks, asks_unless, riding, told_event};
+ghost use Rattle.pie_port.specs.{has_bad_ecn, IsTriedAll, TriesAll, budget_of};
+
+use crate::code::{BUSY, CLOSED, of_refusal};
+use crate::filling::{Asked, fill_answer, fill_number};
+use crate::handle::PiePort;
+use crate::port::{Port, has_bad_ecn};
+use pie_abi::PieEvent;
+use pie_abi::code::{BAD_ECN, DONE};
+use pie_abi::event::UPDATE;
+use pie_abi::packet::ecn;
+use pie_event::{Answer, Command, Refusal};
+use pie_link::{Burst, Reply};
+use pie_queue::{Ecn, Packet};
+use std::alloc::Global;
+use std::marker::PhantomData;
+
+/// A kind of burst: what its events ask, but for the updates among them, and after which replies it goes on. Each is compiled for its own.
+pub(crate) trait Kind {
+    ghost asked: { Asked };
+
+    ghost goes_on: { Reply → Bool };
+
+    /// What its events ask.
+    fn asks() -> Asked
+        ensures { result ≡ asked };
+
+    /// Whether it goes on after this reply.
+    fn is_to_go_on(reply: &Reply) -> bool
+        ensures { result ≡ goes_on reply.now };
+}
+
+/// Packets arrive.
+pub(crate) struct Arrivals;
+
+impl Kind for Arrivals {
+    ghost asked = { Arrive };
+
+    ghost goes_on = { always };
+
+    #[inline(always)]
+    fn asks() -> Asked {
+        Asked::Arrive
+    }
+
+    #[inline(always)]
+    fn is_to_go_on(_: &Reply) -> bool {
+        true
+    }
+}
+
+/// Packets depart.
+pub(crate) struct Departures;
+
+impl Kind for Departures {
+    ghost asked = { Depart };
+
+    ghost goes_on = { has_left_or_updated };
+
+    #[inline(always)]
+    fn asks() -> Asked {
+        Asked::Depart
+    }
+
+    // A packet left, an update was made, or it came too soon.
+    #[inline(always)]
+    fn is_to_go_on(reply: &Reply) -> bool {
+        match reply {
+            Ok(told) => matches!(told.answer, Answer::Left(_) | Answer::Updated { .. }),
+            Err(why) => matches!(why, Refusal::TooSoon { .. }),
+        }
+    }
+}
+
+/// A burst of events of one kind, and updates among them.
+#[derive(Drop)]
+pub(crate) struct Asking<'a, K> {
+    /// The events.
+    pub(crate) events: &'a mut [PieEvent],
+    /// How many have been asked.
+    pub(crate) done: usize,
+    /// The number under which they stand.
+    pub(crate) caller: u16,
+    pub(crate) kind: PhantomData<K>,
+}
+
+// What an event of a burst asks.
+#[inline(always)]
+fn riding(asked: Asked, event: &PieEvent) -> Asked
+    ensures { result ≡ riding asked event.now }
+{
+    if event.kind == UPDATE {
+        Asked::Update
+    } else {
+        asked
+    }
+}
+
+// The arrival that an event asks for. Where its ECN field is none the packet has no bytes here, so that the book refuses it.
+#[inline(always)]
+fn arrival_of(event: &PieEvent) -> Command
+    ensures { result ≡ asks_unless (has_bad_ecn Arrive event.now) Arrive event.now }
+{
+    let (size, ecn) = match ecn(u32::from(event.ecn)) {
+        Some(ecn) => (event.size, ecn),
+        None => (0, Ecn::Ce),
+    };
+    Command::Arrive {
+        moment: event.moment,
+        packet: Packet {
+            tag: event.tag,
+            size,
+            ecn,
+        },
+        word: event.word,
+    }
+}
+
+// What an event of a burst asks, as a command.
+#[inline(always)]
+fn command_of(asked: Asked, event: &PieEvent) -> Command
+    ensures { result ≡ asks asked event.now }
+{
+    let moment = event.moment;
+    match riding(asked, event) {
+        Asked::Arrive => arrival_of(event),
+        Asked::Depart => Command::Depart { moment },
+        Asked::Update => Command::Update { moment },
+        Asked::Reset => Command::Reset { moment },
+    }
+}
+
+// Fills in what an event of a burst was told, under the caller's number.
+#[inline(always)]
+fn tell(event: &mut PieEvent, asked: Asked, caller: u16, reply: &Reply)
+    ensures { event.new ≡ told_event asked caller event.old reply.now }
+{
+    let asked = riding(asked, event);
+    if has_bad_ecn(asked, event) {
+        fill_number(event, asked, BAD_ECN);
+    } else {
+        match reply {
+            Ok(told) => fill_answer(event, asked, &told.answer),
+            Err(why) => fill_number(event, asked, of_refusal(why)),
+        }
+    }
+    event.caller = caller;
+}
+
+// Fills in what the event at a place was told.
+#[inline(always)]
+fn tell_at(events: &mut [PieEvent], place: usize, asked: Asked, caller: u16, reply: &Reply)
+    requires { place < length events.old }
+    ensures { (d : PieEvent) → events.new
+        ≡ slice_set events.old place (told_event asked caller (slice_index_or events.old place d) reply.now) }
+{
+    tell(&mut events[place], asked, caller, reply);
+}
+
+impl<K: Kind> Burst for Asking<'_, K> {
+    ghost use Rattle.pie_port.specs.{Took};
+
+    ghost commands = { λ b place. map (asks K.asked) (drop place b.events.now) };
+
+    ghost goes_on = { λ b. K.goes_on };
+
+    ghost shows = { λ first b replies. (b.events.ghost_name ≡ first.events.ghost_name)
+        × Took K.asked first.caller b.caller first.events.now b.events.now b.done replies };
+
+    ghost room = { λ b. b.events.ghost_name };
+
+    ghost has_room = { λ b place. b.done ≡ place };
+
+    #[inline(always)]
+    fn count(&self) -> usize {
+        self.events.len()
+    }
+
+    #[inline(always)]
+    fn command(&self, place: usize) -> Command {
+        let events = &*self.events;
+        command_of(K::asks(), &events[place])
+    }
+
+    #[inline(always)]
+    fn take(&mut self, place: usize, reply: Reply) -> bool {
+        tell_at(self.events, place, K::asks(), self.caller, &reply);
+        self.done = place + 1;
+        K::is_to_go_on(&reply)
+    }
+}
+
+// The budget that a number of bytes says: the greatest is none.
+fn budget_of(bytes: u64) -> Option<u64>
+    ensures { result ≡ budget_of bytes }
+{
+    if bytes == u64::MAX { None } else { Some(bytes) }
+}
+
+impl Port {
+    // Asks a burst, and writes the code.
+    fn ask_all<'a, K: Kind>(
+        &mut self,
+        budget: Option<u64>,
+        burst: Asking<'a, K>,
+        code: &mut u32,
+    ) -> Asking<'a, K>
+        requires fresh { burst.done ≡ 0 }
+        requires caller { burst.caller ≡ self.old.first }
+        ensures same { result.events.ghost_name ≡ burst.entry.events.ghost_name }
+        ensures tried { IsTriedAll K.asked budget K.goes_on self.old burst.entry.events.now result.done code.new result.events.now self.new }
+    {
+        match self.link.try_answer_all(&mut self.caller, budget, burst) {
+            Ok(after) => {
+                *code = DONE;
+                after
+            }
+            Err(back) => {
+                *code = BUSY;
+                back
+            }
+        }
+    }
+
+    // The same of events.
+    fn begin_all<'a, K: Kind>(
+        &mut self,
+        budget: Option<u64>,
+        events: &'a mut [PieEvent],
+        code: &mut u32,
+    ) -> Asking<'a, K>
+        ensures same { result.events.ghost_name ≡ events.entry.ghost_name }
+        ensures tried { IsTriedAll K.asked budget K.goes_on self.old events.entry.now result.done code.new result.events.now self.new }
+    {
+        let caller = self.caller.first();
+        let burst = Asking {
+            events,
+            done: 0,
+            caller,
+            kind: PhantomData,
+        };
+        self.ask_all(budget, burst, code)
+    }
+
+    /// Events of this kind are asked, one after another and within a budget of bytes, and updates ride among them. It answers a code, and how
+    /// many were asked.
+    fn try_all<K: Kind>(&mut self, budget: Option<u64>, events: &mut [PieEvent]) -> (u32, usize)
+        ensures { IsTriedAll K.asked budget K.goes_on self.old events.old result.1 result.0 events.new self.new }
+    {
+        let mut code = DONE;
+        let after = self.begin_all::<K>(budget, events, &mut code);
+        (code, after.done)
+    }
+}
+
+// The same at a port as C holds it.
+#[inline(always)]
+#[tactic(auto, unfolding(crate::specs::Calls::AtPort))]
+fn try_all<K: Kind>(
+    alloc: Global,
+    port: &mut PiePort,
+    budget: Option<u64>,
+    events: &mut [PieEvent],
+) -> (u32, usize)
+    ensures { TriesAll K.asked budget K.goes_on port.old.port events.old result.1 result.0 events.new port.new.port }
+{
+    let Some(mut held) = port.take(alloc) else {
+        return (CLOSED, 0);
+    };
+    let tried = held.try_all::<K>(budget, events);
+    port.put(held);
+    tried
+}
+
+/// Packets arrive, one after another, in one turn, and updates among them.
+#[inline(always)]
+pub fn try_arrive_all(alloc: Global, port: &mut PiePort, events: &mut [PieEvent]) -> u32
+    ensures { (count : ℕ) × TriesAll Arrive None always port.old.port events.old count result events.new port.new.port }
+{
+    try_all::<Arrivals>(alloc, port, None, events).0
+}
+
+/// Packets depart, one after another, in one turn and within a budget of bytes, and updates among them. `made` is how many events were asked.
+#[inline(always)]
+pub fn try_depart_all(
+    alloc: Global,
+    port: &mut PiePort,
+    bytes: u64,
+    events: &mut [PieEvent],
+    made: &mut usize,
+) -> u32
+    ensures { TriesAll Depart (budget_of bytes) has_left_or_updated port.old.port events.old made.new result events.new port.new.port }
+{
+    let (code, asked) = try_all::<Departures>(alloc, port, budget_of(bytes), events);
+    *made = asked;
+    code
+}

@@ -1,0 +1,41 @@
+//! The calls for one event. None waits, and none takes memory.
+ghost use Rattle.pie_port.specs.{Tries, TriesToSet};
+
+use crate::code::CLOSED;
+use crate::filling::Asked;
+use crate::handle::PiePort;
+use pie_abi::{PieEvent, PieParams};
+use std::alloc::Global;
+
+/// Asks what the event says, where the port is open.
+#[inline(always)]
+#[tactic(auto, unfolding(crate::specs::Calls::AtPort))]
+pub fn try_event(alloc: Global, port: &mut PiePort, asked: Asked, event: &mut PieEvent) -> u32
+    ensures { Tries asked port.old.port event.old result event.new port.new.port }
+{
+    let Some(mut held) = port.take(alloc) else {
+        return CLOSED;
+    };
+    let code = held.try_event(asked, event);
+    port.put(held);
+    code
+}
+
+/// Asks for new parameters, where the port is open.
+#[inline(always)]
+#[tactic(auto, unfolding(crate::specs::Calls::AtPort))]
+pub fn try_set_params(
+    alloc: Global,
+    port: &mut PiePort,
+    params: &PieParams,
+    event: &mut PieEvent,
+) -> u32
+    ensures { TriesToSet params.now port.old.port event.old result event.new port.new.port }
+{
+    let Some(mut held) = port.take(alloc) else {
+        return CLOSED;
+    };
+    let code = held.try_set_params(params, event);
+    port.put(held);
+    code
+}

@@ -1,0 +1,82 @@
+//! What a call at a port answers, beside the codes of pie_abi.
+ghost use Rattle.std.specs.Prelude.{◌≡◌};
+ghost use Rattle.pie_port.specs.{answer_number, code_of, refusal_number};
+
+use pie_abi::code::{
+    BAD_MOMENT, BAD_SIZE, DONE, EARLY, MARK, NONE, OVER_BYTES, OVER_PACKETS, TOO_SOON,
+};
+use pie_event::{Answer, Refusal};
+use pie_link::{Told, Tried};
+
+/// Refused: there were as many events as the opening allows.
+pub(crate) const EXHAUSTED: u32 = 104;
+
+/// Refused: the event log of a link that lets none go is full.
+pub(crate) const FULL: u32 = 105;
+
+/// Refused: a fold of an event where the log holds none.
+pub(crate) const TOO_MANY: u32 = 106;
+
+/// Nothing was done: another port has the turn.
+pub(crate) const BUSY: u32 = 121;
+
+/// Nothing was done: the port is closed.
+pub(crate) const CLOSED: u32 = 122;
+
+/// Nothing was done: there was no memory.
+pub(crate) const NO_MEMORY: u32 = 123;
+
+/// Refused: a link for no callers.
+pub(crate) const NO_CALLERS: u32 = 124;
+
+/// Refused: a port that has one number has none to share.
+pub(crate) const ONE_NUMBER: u32 = 125;
+
+/// Refused: two ports of whose numbers neither's follow on the other's.
+pub(crate) const APART: u32 = 126;
+
+/// Refused: a port that is to be opened is open.
+pub(crate) const OPEN: u32 = 127;
+
+/// Refused: an excerpt with less room than those of the link may need.
+pub(crate) const TOO_SMALL: u32 = 129;
+
+/// The number of an answer.
+#[inline(always)]
+pub(crate) fn of_answer(answer: &Answer) -> u32
+    ensures { result ≡ answer_number answer.now }
+{
+    match answer {
+        Answer::Enqueued | Answer::Left(_) | Answer::Updated { .. } | Answer::Done => DONE,
+        Answer::Marked => MARK,
+        Answer::DroppedEarly => EARLY,
+        Answer::DroppedBytes => OVER_BYTES,
+        Answer::DroppedPackets => OVER_PACKETS,
+        Answer::Empty => NONE,
+    }
+}
+
+/// The number of a refusal.
+pub(crate) fn of_refusal(why: &Refusal) -> u32
+    ensures { result ≡ refusal_number why.now }
+{
+    match why {
+        Refusal::Moment => BAD_MOMENT,
+        Refusal::Size => BAD_SIZE,
+        Refusal::TooSoon { .. } => TOO_SOON,
+        Refusal::Exhausted => EXHAUSTED,
+        Refusal::HistoryFull => FULL,
+    }
+}
+
+/// The number of what a call was told.
+#[inline(always)]
+pub(crate) fn of_reply(reply: &Result<Told<Answer>, Tried<Refusal>>) -> u32
+    ensures { result ≡ code_of reply.now }
+{
+    match reply {
+        Ok(told) => of_answer(&told.answer),
+        Err(Tried::Busy) => BUSY,
+        Err(Tried::Refused(why)) => of_refusal(why),
+    }
+}

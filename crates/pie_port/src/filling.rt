@@ -1,0 +1,102 @@
+//! What a call for one event asks, and what it fills in.
+ghost use Rattle.std.specs.Prelude.{◌≡◌};
+ghost use Rattle.pie_port.specs.{set_event, code_of, answered_event, numbered_event, under};
+ghost use Rattle.pie_port.specs.Events.{filled};
+
+use crate::code::{BUSY, of_answer, of_refusal, of_reply};
+use pie_abi::PieEvent;
+use pie_abi::event::{DEPART, PARAMS, RESET, UPDATE};
+use pie_event::{Answer, Refusal};
+use pie_link::{Told, Tried};
+
+/// A call for one event, but new parameters, which come beside it.
+#[derive(Clone, Copy)]
+pub enum Asked {
+    /// The packet that the event names arrives.
+    Arrive,
+    /// The link asks for the next packet.
+    Depart,
+    /// The probability is to be computed anew.
+    Update,
+    /// The probability, the delays and the rate estimate are to start anew.
+    Reset,
+}
+
+/// Fills in a number, and 0 where a number plays no part.
+#[inline(always)]
+pub(crate) fn fill_number(event: &mut PieEvent, asked: Asked, number: u32)
+    ensures { event.new ≡ numbered_event asked event.old number }
+{
+    match asked {
+        Asked::Arrive => event.keep_arrived(number),
+        Asked::Depart => event.keep_bare(DEPART, number),
+        Asked::Update => event.keep_bare(UPDATE, number),
+        Asked::Reset => event.keep_bare(RESET, number),
+    }
+}
+
+/// Fills in an answer.
+#[inline(always)]
+pub(crate) fn fill_answer(event: &mut PieEvent, asked: Asked, answer: &Answer)
+    ensures { event.new ≡ answered_event asked event.old answer.now }
+{
+    let number = of_answer(answer);
+    fill_number(event, asked, number);
+    match answer {
+        Answer::Left(packet) => {
+            event.tag = packet.tag;
+            event.size = packet.size;
+            event.ecn = packet.ecn.bits();
+        }
+        Answer::Updated { delay, prob, burst } => {
+            event.delay = *delay;
+            event.prob = *prob;
+            event.burst = *burst;
+        }
+        _ => {}
+    }
+}
+
+/// Fills in what a call was told, under the caller's number, and answers its code. Where the link was busy the event stays as it was.
+#[inline(always)]
+pub(crate) fn fill(
+    event: &mut PieEvent,
+    asked: Asked,
+    caller: u16,
+    reply: &Result<Told<Answer>, Tried<Refusal>>,
+) -> u32
+    ensures code { result ≡ code_of reply.now }
+    ensures event { event.new ≡ filled asked caller event.old reply.now }
+{
+    match reply {
+        Ok(told) => {
+            fill_answer(event, asked, &told.answer);
+            event.caller = caller;
+            of_answer(&told.answer)
+        }
+        Err(Tried::Busy) => BUSY,
+        Err(Tried::Refused(why)) => {
+            let number = of_refusal(why);
+            fill_number(event, asked, number);
+            event.caller = caller;
+            number
+        }
+    }
+}
+
+/// Fills in what a call for new parameters was told, under the caller's number, and answers its code.
+pub(crate) fn fill_set(
+    event: &mut PieEvent,
+    caller: u16,
+    reply: &Result<Told<Answer>, Tried<Refusal>>,
+) -> u32
+    ensures code { result ≡ code_of reply.now }
+    ensures event { event.new ≡ set_event caller event.old reply.now }
+{
+    let number = of_reply(reply);
+    if !matches!(reply, Err(Tried::Busy)) {
+        event.keep_bare(PARAMS, number);
+        event.caller = caller;
+    }
+    number
+}

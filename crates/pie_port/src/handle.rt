@@ -1,0 +1,175 @@
+//! A port and an excerpt as C holds them: a box as its pointer, which is null where there is none.
+ghost use Rattle.std.specs.Prelude.{◌≡◌, Option, Some, None, MatchOption};
+ghost use Rattle.std_alloc.specs.Box.Ownership.{box_owns};
+ghost use Rattle.pie_port.specs.{CallerView, ExcerptText};
+ghost use Rattle.pie_port.specs.Owned.{maybe_port, maybe_text, owns_port_if, owns_text_if};
+
+use crate::excerpt::ExcerptText;
+use crate::port::Port;
+use core::mem::replace;
+use std::alloc::{Allocator, Global};
+use std::marker::Model;
+use std::ptr::null_mut;
+
+// A box as its pointer.
+pub(crate) struct Loose<T, A: Allocator> {
+    pub(crate) at: *mut T,
+    pub(crate) alloc: A,
+    pub(crate) ghost value: { T },
+}
+
+impl<T, A: Allocator> Model for Loose<T, A> {
+    ghost also_owns = { λ l. box_owns (A.dealloc_token l.alloc) T.row l.at l.value };
+}
+
+impl<T: Drop, A: Allocator> Loose<T, A> {
+    pub(crate) fn of(value: Box<T, A>) -> Loose<T, A>
+        ensures { result.value ≡ value.value }
+    {
+        let (at, alloc) = Box::into_raw_with_allocator(value);
+        Loose { at, alloc }
+    }
+
+    pub(crate) fn into_box(self) -> Box<T, A>
+        ensures { result.value ≡ self.value }
+    {
+        let Loose { at, alloc } = self;
+        unsafe { Box::from_raw(alloc, at) }
+    }
+}
+
+/// A port: a pointer that is null where it is closed. Zeros are a closed port. C moves it, and does no more with it.
+#[repr(C)]
+pub struct PiePort {
+    at: *mut u8,
+    alloc: Global,
+    /// The caller that it has, where it is open.
+    pub ghost port: { Option CallerView } by { maybe_port },
+}
+
+impl Model for PiePort {
+    ghost also_owns = { λ p. owns_port_if p.alloc p.at p.port };
+}
+
+impl PiePort {
+    /// What is open, by its pointer.
+    pub(crate) fn into_loose(self) -> Option<Loose<Port, Global>>
+        ensures { MatchOption result (self.port ≡ None) (λ l. self.port ≡ Some l.value) }
+    {
+        let PiePort { at, alloc } = self;
+        if at.is_null() {
+            None
+        } else {
+            let at = at as *mut Port;
+            Some(Loose { at, alloc })
+        }
+    }
+
+    /// An open port, by its pointer.
+    pub(crate) fn of_loose(loose: Loose<Port, Global>) -> PiePort
+        ensures { result.port ≡ Some loose.value }
+    {
+        let Loose { at, alloc } = loose;
+        let at = at as *mut u8;
+        PiePort { at, alloc }
+    }
+
+    /// A closed port.
+    pub(crate) fn none(alloc: Global) -> PiePort
+        ensures { result.port ≡ None }
+    {
+        PiePort {
+            at: null_mut(),
+            alloc,
+        }
+    }
+
+    /// What is open; a closed port stays.
+    #[inline(always)]
+    pub(crate) fn take(&mut self, alloc: Global) -> Option<Box<Port>>
+        ensures before { MatchOption result (self.old.port ≡ None) (λ b. self.old.port ≡ Some b.value) }
+        ensures after { self.new.port ≡ None }
+    {
+        match replace(self, PiePort::none(alloc)).into_loose() {
+            None => None,
+            Some(loose) => Some(loose.into_box()),
+        }
+    }
+
+    /// Opens it with this.
+    #[inline(always)]
+    pub(crate) fn put(&mut self, held: Box<Port>)
+        ensures { self.new.port ≡ Some held.value }
+    {
+        if let Some(loose) = replace(self, PiePort::of_loose(Loose::of(held))).into_loose() {
+            drop(loose.into_box());
+        }
+    }
+}
+
+/// An excerpt: a pointer that is null where it is closed. Zeros are a closed excerpt. C moves it, and does no more with it.
+#[repr(C)]
+pub struct PieExcerpt {
+    at: *mut u8,
+    alloc: Global,
+    /// The excerpt with its text, where it is open.
+    pub ghost text: { Option ExcerptText } by { maybe_text },
+}
+
+impl Model for PieExcerpt {
+    ghost also_owns = { λ p. owns_text_if p.alloc p.at p.text };
+}
+
+impl PieExcerpt {
+    /// What is open, by its pointer.
+    pub(crate) fn into_loose(self) -> Option<Loose<ExcerptText, Global>>
+        ensures { MatchOption result (self.text ≡ None) (λ l. self.text ≡ Some l.value) }
+    {
+        let PieExcerpt { at, alloc } = self;
+        if at.is_null() {
+            None
+        } else {
+            let at = at as *mut ExcerptText;
+            Some(Loose { at, alloc })
+        }
+    }
+
+    /// An open excerpt, by its pointer.
+    pub(crate) fn of_loose(loose: Loose<ExcerptText, Global>) -> PieExcerpt
+        ensures { result.text ≡ Some loose.value }
+    {
+        let Loose { at, alloc } = loose;
+        let at = at as *mut u8;
+        PieExcerpt { at, alloc }
+    }
+
+    /// A closed excerpt.
+    pub(crate) fn none(alloc: Global) -> PieExcerpt
+        ensures { result.text ≡ None }
+    {
+        PieExcerpt {
+            at: null_mut(),
+            alloc,
+        }
+    }
+
+    /// What is open; a closed excerpt stays.
+    pub(crate) fn take(&mut self, alloc: Global) -> Option<Box<ExcerptText>>
+        ensures before { MatchOption result (self.old.text ≡ None) (λ b. self.old.text ≡ Some b.value) }
+        ensures after { self.new.text ≡ None }
+    {
+        match replace(self, PieExcerpt::none(alloc)).into_loose() {
+            None => None,
+            Some(loose) => Some(loose.into_box()),
+        }
+    }
+
+    /// Opens it with this.
+    pub(crate) fn put(&mut self, held: Box<ExcerptText>)
+        ensures { self.new.text ≡ Some held.value }
+    {
+        if let Some(loose) = replace(self, PieExcerpt::of_loose(Loose::of(held))).into_loose() {
+            drop(loose.into_box());
+        }
+    }
+}

@@ -1,0 +1,270 @@
+//! What an open port has: a caller of a link, and a share of the link.
+ghost use Rattle.std.specs.Prelude.{◌≡◌, ◌≢◌, ◌==◌, ◌+◌, ◌↔◌, ◌≤◌, IfOk, IfErr, IfSome, IsOk, IsTrue, OnOk, OnErr, Some, false, if◌then◌else◌};
+ghost use Rattle.std.specs.Prelude.{vec_capacity};
+ghost use Rattle.pie_port.specs.{arc_value, has_bad_ecn};
+
+use crate::code::{NO_MEMORY, ONE_NUMBER};
+use crate::excerpt::ExcerptText;
+use crate::filling::{Asked, fill, fill_number, fill_set};
+use crate::folding::{MOST, room, write_folded};
+use atomic_table::TableRule;
+use pie_abi::code::{BAD_ECN, BAD_PARAMS};
+use pie_abi::event::PARAMS;
+use pie_abi::packet::ecn;
+use pie_abi::{PieEvent, PieParams};
+use pie_book::Recorded;
+use pie_event::{Answer, Opening, Refusal};
+use pie_link::{Caller, Entry, KeptBook, Link, Told, Tried};
+use pie_lock::{LockOpening, LockRule, Place};
+use pie_params::Params;
+use pie_queue::Packet;
+use std::alloc::{AllocFailed, Global};
+use std::marker::Model;
+use std::sync::Arc;
+
+/// A caller of a link, and a share of the link.
+#[derive(Drop)]
+pub struct Port {
+    pub(crate) link: Arc<Link, Global>,
+    pub(crate) caller: Caller,
+    /// Where the events go that a fold hands out.
+    folded: Vec<Recorded>,
+}
+
+impl Model for Port {
+    ghost use Rattle.std.specs.Prelude.{◌≡◌, ◌≤◌, vec_capacity};
+    ghost use Rattle.pie_port.specs.{arc_value, CallerView};
+
+    ghost Value = { CallerView };
+
+    ghost view = { λ p. p.caller };
+
+    ghost invariant = { λ p. (p.caller.lock ≡ arc_value p.link) × (64 ≤ vec_capacity p.folded) };
+}
+
+impl Port {
+    ghost use Rattle.pie_port.specs.{first_pass, without_highest, highest_alone, IsBeside, IsBothOf, number_of, are_in_range, TriesToAnswer};
+    ghost use Rattle.pie_port.specs.{KeepsOneHistory, StaysOne, IsSetUnless, IsTriedUnless, IsFolded, command_in, has_bad_ecn};
+
+    /// The port with all numbers of a new link, in a box, or nothing for want of memory or of callers.
+    pub(crate) fn of_opening(alloc: Global, opening: Opening, callers: u16) -> Option<Box<Port>>
+        ensures origin { IfSome result (λ port. port.value.lock.origin ≡ Some opening) }
+        ensures numbers { IfSome result (λ port. port.value.lock.numbers ≡ callers) }
+        ensures first { IfSome result (λ port. port.value ≡ first_pass port.value.lock callers) }
+        ensures headline { IfSome result (λ port. KeepsOneHistory
+            ⟦<LockRule as TableRule<Option<KeptBook>, Place<Entry, Opening>, LockOpening<KeptBook>>>⟧.holds port.value.lock) }
+    {
+        let Some(folded) = room(alloc) else {
+            return None;
+        };
+        let Ok((link, caller)) = Link::open_with(alloc, opening, callers) else {
+            return None;
+        };
+        Port::of_link(alloc, link, caller, folded)
+    }
+
+    // The port of this caller, or nothing for want of memory.
+    fn of_link(
+        alloc: Global,
+        link: Link,
+        caller: Caller,
+        folded: Vec<Recorded>,
+    ) -> Option<Box<Port>>
+        requires own { caller.lock ≡ link }
+        requires room { 64 ≤ vec_capacity folded }
+        ensures { IfSome result (λ port. port.value ≡ caller) }
+    {
+        let Ok(link) = Arc::new(alloc, link) else {
+            return None;
+        };
+        let port = Port {
+            link,
+            caller,
+            folded,
+        };
+        Box::new(alloc, port).ok()
+    }
+
+    /// Asks what the event says.
+    #[inline(always)]
+    fn ask(&mut self, asked: Asked, event: &PieEvent) -> Result<Told<Answer>, Tried<Refusal>>
+        requires ecn { has_bad_ecn asked event.now ≡ false }
+        ensures tried { TriesToAnswer self.old.lock self.old (command_in asked event.now) result self.new }
+        ensures stays { StaysOne self.old self.new }
+    {
+        match asked {
+            Asked::Arrive => {
+                let Some(ecn) = ecn(u32::from(event.ecn)) else {
+                    unreachable!()
+                };
+                let packet = Packet {
+                    tag: event.tag,
+                    size: event.size,
+                    ecn,
+                };
+                self.link
+                    .try_arrive(&mut self.caller, event.moment, packet, event.word)
+            }
+            Asked::Depart => self.link.try_depart(&mut self.caller, event.moment),
+            Asked::Update => self.link.try_update(&mut self.caller, event.moment),
+            Asked::Reset => self.link.try_reset(&mut self.caller, event.moment),
+        }
+    }
+
+    /// Asks what the event says, and fills in what was told.
+    #[inline(always)]
+    pub(crate) fn try_event(&mut self, asked: Asked, event: &mut PieEvent) -> u32
+        ensures { IsTriedUnless (has_bad_ecn asked event.old) asked self.old event.old result event.new self.new }
+    {
+        let caller = self.caller.first();
+        if has_bad_ecn(asked, event) {
+            fill_number(event, asked, BAD_ECN);
+            event.caller = caller;
+            return BAD_ECN;
+        }
+        let reply = self.ask(asked, event);
+        fill(event, asked, caller, &reply)
+    }
+
+    /// Asks for new parameters, and fills in what was told.
+    #[tactic(auto, unfolding(pie_abi::specs::Params::are_in_range))]
+    pub(crate) fn try_set_params(&mut self, params: &PieParams, event: &mut PieEvent) -> u32
+        ensures { IsSetUnless (are_in_range params.now) params.now self.old event.old result event.new self.new }
+    {
+        let caller = self.caller.first();
+        let Some(params) = Params::from_raw(params.raw()) else {
+            event.keep_bare(PARAMS, BAD_PARAMS);
+            event.caller = caller;
+            return BAD_PARAMS;
+        };
+        let reply = self
+            .link
+            .try_set_params(&mut self.caller, event.moment, params);
+        fill_set(event, caller, &reply)
+    }
+
+    /// Asks for the oldest events of the log, and writes what was handed out.
+    pub(crate) fn try_fold(
+        &mut self,
+        events: &mut [PieEvent],
+        count: &mut usize,
+        params: &mut PieParams,
+    ) -> u32
+        ensures { IsFolded self.old events.old params.old result events.new count.new params.new self.new }
+    {
+        self.folded.clear();
+        let most = events.len().min(MOST);
+        let reply = self
+            .link
+            .try_fold_into(&mut self.caller, most, &mut self.folded);
+        write_folded(&reply, &self.folded, events, count, params)
+    }
+
+    /// A new port with the highest number of this one, which keeps it where the new one can't be had.
+    pub(crate) fn share(&mut self, alloc: Global) -> Result<Box<Port>, u32>
+        ensures shared { IfOk result (λ new. new.value ≡ highest_alone self.old) }
+        ensures rest { OnOk result (self.new ≡ without_highest self.old) }
+        ensures kept { OnErr result (self.new ≡ self.old) }
+        ensures one { IfOk result (λ _. self.old.limit ≢ self.old.first + 1) }
+        ensures codes { IfErr result (λ code. code ≡ (if self.old.limit == self.old.first + 1 then 125 else 123)) }
+    {
+        let _ = self.caller.first();
+        let Ok(caller) = self.link.share(&mut self.caller) else {
+            return Err(ONE_NUMBER);
+        };
+        match boxed(alloc, &self.link, caller) {
+            Ok(port) => Ok(port),
+            Err(caller) => {
+                self.take_back(caller);
+                Err(NO_MEMORY)
+            }
+        }
+    }
+
+    /// Takes in the numbers of a caller whose range follows on its own, or is followed by it.
+    fn take_back(&mut self, other: Caller)
+        requires own { other.lock ≡ self.old.lock }
+        requires beside { IsBeside self.old other }
+        ensures { IsBothOf number_of self.old other self.new }
+    {
+        let _ = self.link.gather(&mut self.caller, other);
+    }
+
+    /// Takes in the numbers of another port of the link, or hands it back where their ranges are apart.
+    pub(crate) fn gather(&mut self, other: Box<Port>) -> Result<(), Box<Port>>
+        requires own { other.value.lock ≡ self.old.lock }
+        ensures both { OnOk result (IsBothOf number_of self.old other.value self.new) }
+        ensures beside { IsOk result ↔ IsBeside self.old other.value }
+        ensures back { IfErr result (λ back. back.value ≡ other.value) }
+        ensures unchanged { OnErr result (self.new ≡ self.old) }
+    {
+        if !self.is_beside(&other) {
+            return Err(other);
+        }
+        self.take_back(Box::into_inner(other).into_caller());
+        Ok(())
+    }
+
+    /// Whether the range of one begins where that of the other ends.
+    fn is_beside(&self, other: &Port) -> bool
+        ensures { IsTrue result ↔ IsBeside self.now other.now }
+    {
+        self.caller.limit() == other.caller.first() || other.caller.limit() == self.caller.first()
+    }
+
+    /// The caller; the share of the link is let go.
+    fn into_caller(self) -> Caller
+        ensures { result ≡ self }
+    {
+        let Port {
+            link,
+            caller,
+            folded,
+        } = self;
+        drop(link);
+        drop(folded);
+        caller
+    }
+}
+
+/// Whether the event names a packet whose ECN field is none.
+#[inline(always)]
+pub(crate) fn has_bad_ecn(asked: Asked, event: &PieEvent) -> bool
+    ensures { result ≡ has_bad_ecn asked event.now }
+{
+    matches!(asked, Asked::Arrive) && event.ecn > 3
+}
+
+/// A box of a port, or the caller back for want of memory.
+fn boxed(alloc: Global, link: &Arc<Link, Global>, caller: Caller) -> Result<Box<Port>, Caller>
+    requires own { caller.lock ≡ arc_value link.now }
+    ensures port { IfOk result (λ port. port.value ≡ caller) }
+    ensures back { IfErr result (λ back. back ≡ caller) }
+{
+    let Some(folded) = room(alloc) else {
+        return Err(caller);
+    };
+    let Ok(link) = Arc::try_clone(link) else {
+        return Err(caller);
+    };
+    let port = Port {
+        link,
+        caller,
+        folded,
+    };
+    match Box::new(alloc, port) {
+        Ok(port) => Ok(port),
+        Err(AllocFailed { value }) => Err(value.into_caller()),
+    }
+}
+
+/// What a type has to be so that its values may go to another thread.
+fn goes_to_another_thread<T: Send>(value: &T) {
+    let _ = value;
+}
+
+/// A port and an excerpt may go to another thread: the check shows it of their types here. It does nothing.
+pub(crate) fn ports_cross_threads(port: &Port, text: &ExcerptText) {
+    goes_to_another_thread(port);
+    goes_to_another_thread(text);
+}

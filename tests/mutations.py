@@ -27,16 +27,18 @@ from pathlib import Path
 ROOT = Path(__file__).resolve().parent.parent
 ME = "tests/mutations.py"
 SHARES, DAY = 40, 24 * 60 * 60
-# What a check costs, in seconds of a processor: to load what the crate stands on, to prove a line of the functions that it reaches, to judge an edit.
-LOADING, LINE_PROVED, EDIT = 13, 0.08, 2
+# What a check costs, in seconds of a processor: to load what the crate stands on, to prove a line of the functions that it reaches, to judge an
+# edit. pie_link's edits are dearer: most searches there go on long before they end in nothing.
+LOADING, LINE_PROVED, EDIT, DEAR = 13, 0.08, 2, {"pie_link": 6}
 # About as many a crate's checks take, one after another, that lie in one share.
-TOGETHER = 140
-# As many mutations are made in one copy at most: a check keeps all that it finds in memory.
-MOST = 24
+TOGETHER = 160
+# As many mutations are made in one copy at most, and of dear ones half as many: a check keeps all that it finds in memory.
+MOST = 20
 PARTS = ("src", "specs", "proofs")
 # A line of crates.txt: a crate, whether it is a static library, and what it stands on.
 LINE = re.compile(r"(\w+)([\w= +]*):([^#]*)")
 FUNCTION = re.compile(r"( *)(?:pub(?:\(\w+\))? )?(?:unsafe )?(?:extern \"C\" )?fn (\w+)")
+CALLED = re.compile(r"\b(\w+)(?:::<[^()]*>)?\(")
 # What the prover says where it met a limit of its own, and where it could not read a text.
 LIMIT = re.compile(r"antt ran out of|outgrew the memory limit|stopped at the step limit")
 UNREAD = re.compile(r"error\[[\w-]+\]|src/\S+: error: (?!`)|(is not in scope|is no name|operand is missing|expected the end|cannot continue)")
@@ -150,7 +152,7 @@ def function_at(file, text, at):
 
 @functools.cache
 def functions_of(crate):
-    """How many lines each function of a crate has, by its last name, and which words stand in it."""
+    """How many lines each function of a crate has, by its last name, and what is called in it."""
     found = {}
     for path in (ROOT / "crates" / crate / "src").rglob("*.rt"):
         lines = path.read_text().splitlines()
@@ -159,7 +161,7 @@ def functions_of(crate):
             if begun:
                 text = lines[at : next((it for it in range(at, len(lines)) if lines[it] == begun[1] + "}"), at) + 1]
                 count, known = found.get(begun[2], (0, set()))
-                found[begun[2]] = count + len(text), known | {*re.findall(r"\w+", " ".join(text[1:]))}
+                found[begun[2]] = count + len(text), known | {*CALLED.findall(" ".join(text[1:]))}
     return found
 
 
@@ -281,13 +283,17 @@ def goals_of(batch):
     return sorted({name for it in batch for name in it.goals()})
 
 
+def most(crate):
+    return MOST // 2 if crate in DEAR else MOST
+
+
 def batches(mutations):
     """The mutations in groups that one check can judge: of one crate, and no two of a group change the same function."""
     found = []
     for it in mutations:
         for group in found if it.goals() else ():
             texts, names = group["texts"], {*group["names"]}
-            if it.crate == group["crate"] and len(group["all"]) < MOST and not names & {*it.goals(), *it.functions} and put(it, texts) is not None:
+            if it.crate == group["crate"] and len(group["all"]) < most(it.crate) and not names & {*it.goals(), *it.functions} and put(it, texts) is not None:
                 group["all"].append(it)
                 group["names"] += [*it.goals(), *it.functions]
                 group["texts"] = put(it, texts)
@@ -310,7 +316,8 @@ def named(wanted):
 
 def cost(groups):
     """About how many seconds of a processor it takes to try these batches of one crate, one after another."""
-    return sum(LOADING + EDIT * len(it) for it in groups) + LINE_PROVED * lines_reached(groups[0][0].crate, {name for it in groups for name in goals_of(it)})
+    crate, names = groups[0][0].crate, {name for it in groups for name in goals_of(it)}
+    return sum(LOADING + DEAR.get(crate, EDIT) * len(it) for it in groups) + LINE_PROVED * lines_reached(crate, names)
 
 
 def by_crate(groups, limit=None):

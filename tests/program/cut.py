@@ -21,7 +21,7 @@ from checks import ROOT, check, finish  # noqa: E402
 from excerpts import audited, bad_params, explained, rows_within, segments_of  # noqa: E402
 from running import run  # noqa: E402
 
-FIRST, RUNS = ([int(word) for word in sys.argv[2:4]] + [1, 12][len(sys.argv[2:4]) :])[:2]
+FIRST, RUNS = ([int(word) for word in sys.argv[2:4]] + [1, 8][len(sys.argv[2:4]) :])[:2]
 # How many events a random history has at most; up to how many a history is small; and at how many places another is cut.
 EVENTS, SMALL, PLACES = 60, 12, 6
 NOTES = ("refused,", "folded,", "shown,", "tallied,")

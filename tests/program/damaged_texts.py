@@ -33,7 +33,7 @@ TRACES = [
 COMMANDS = {"run": plain.run, "audit": plain.audit, "migrate": plain.migrate, "explain --all --csv": plain.explain}
 OF_A_HISTORY = [name for name in COMMANDS if name != "run"]
 # How thinly the records behind the first are damaged in versions two and three.
-THIN = 7
+THIN = 10
 # Bytes that mean something to a reader of records.
 TELLING = b'0,\n"'
 

@@ -28,12 +28,12 @@ ROOT = Path(__file__).resolve().parent.parent
 ME = "tests/mutations.py"
 SHARES, DAY = 40, 24 * 60 * 60
 # What a check costs, in seconds of a processor: to load what the crate stands on, to prove a line of the functions that it reaches, to judge an
-# edit. pie_link's edits are dearer: most searches there go on long before they end in nothing.
-LOADING, LINE_PROVED, EDIT, DEAR = 13, 0.08, 2, {"pie_link": 6}
+# edit: where most searches go on long before they end in nothing, more.
+LOADING, LINE_PROVED, EDIT, DEAR = 13, 0.08, 2.5, {"pie_link": 6, "pie_book": 4}
 # About as many a crate's checks take, one after another, that lie in one share.
-TOGETHER = 160
+TOGETHER = 170
 # As many mutations are made in one copy at most, and of dear ones half as many: a check keeps all that it finds in memory.
-MOST = 20
+MOST = 16
 PARTS = ("src", "specs", "proofs")
 # A line of crates.txt: a crate, whether it is a static library, and what it stands on.
 LINE = re.compile(r"(\w+)([\w= +]*):([^#]*)")

@@ -30,6 +30,8 @@ SHARES, DAY = 40, 24 * 60 * 60
 # What a check costs, in seconds of a processor: to load what the crate stands on, to prove a line of the functions that it reaches, to judge an
 # edit: where most searches go on long before they end in nothing, more.
 LOADING, LINE_PROVED, EDIT, DEAR = 13, 0.08, 2.5, {"pie_link": 6, "pie_book": 4}
+# A crate with at most so many lines of functions is small: in a share it is checked whole where an edit wants that.
+SMALL = 400
 # About as many a crate's checks take, one after another, that lie in one share.
 TOGETHER = 170
 # As many mutations are made in one copy at most, and of dear ones half as many: a check keeps all that it finds in memory.
@@ -165,9 +167,10 @@ def functions_of(crate):
     return found
 
 
-def lines_reached(crate, functions):
-    """About how many lines the functions have that a check of these proves: they and all that they call in their crate."""
-    known, found, wanted = functions_of(crate), set(), [it.rpartition("::")[2] for it in functions]
+def lines_reached(crate, functions=None):
+    """About how many lines the functions have that a check of these proves, they and all that they call in their crate; with none, of the whole."""
+    known, found = functions_of(crate), set()
+    wanted = list(known) if functions is None else [it.rpartition("::")[2] for it in functions]
     while wanted:
         name = wanted.pop()
         if name in known and name not in found:
@@ -244,7 +247,7 @@ def judged(done):
 def tried_alone(kit, kept, mutation, is_share):
     """Whether the prover refuses a mutation, and what to say of it."""
     found = judged(checked(kit, kept, [mutation], mutation.goals())) if mutation.goals() else None
-    if found is None and is_share:
+    if found is None and is_share and lines_reached(mutation.crate) > SMALL:
         return None, "NOT RUN: it wants its whole crate checked"
     found = found or judged(checked(kit, kept, [mutation], []))
     return found or (False, "NOT REFUSED: the crate is still proved with it")
@@ -316,7 +319,8 @@ def named(wanted):
 
 def cost(groups):
     """About how many seconds of a processor it takes to try these batches of one crate, one after another."""
-    crate, names = groups[0][0].crate, {name for it in groups for name in goals_of(it)}
+    crate, is_whole = groups[0][0].crate, any(not it.goals() for batch in groups for it in batch)
+    names = None if is_whole else {name for it in groups for name in goals_of(it)}
     return sum(LOADING + DEAR.get(crate, EDIT) * len(it) for it in groups) + LINE_PROVED * lines_reached(crate, names)
 
 

@@ -1,6 +1,6 @@
 # What the tests of include/pie_flight.h and include/pie_follow.h share, for bash's `.`: of NAME, whose test is tests/libraries/NAME.c, `header_test
 # NAME ARGUMENT.. EVENTS` builds the test as C11, C++11 and C++17 with warnings as errors, and with the sanitizers, and runs each in a folder of its
-# own, `$work`: as C++17, which differs from C++11 in what compiles, with a tenth of the events. It works at the top of the repository, and sets
+# own, `$work`: as C++17, which differs from C++11 in what compiles, with a quarter of the events. It works at the top of the repository, and sets
 # `$failed` where something fails.
 cd "$(dirname "$0")/../.."
 cc=${CC:-cc}
@@ -47,7 +47,7 @@ header_test() {
     if command -v "$cxx" > /dev/null; then
         # shellcheck disable=SC2086
         try "c++11" "$cxx" -x c++ -std=c++11 -O2 $warnings -Iinclude
-        arguments=("${@:1:$#-1}" "$((${!#} / 10))")
+        arguments=("${@:1:$#-1}" "$((${!#} / 4))")
         # shellcheck disable=SC2086
         try "c++17" "$cxx" -x c++ -std=c++17 -O2 $warnings -Iinclude
         arguments=("$@")

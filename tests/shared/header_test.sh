@@ -1,7 +1,6 @@
 # What the tests of include/pie_flight.h and include/pie_follow.h share, for bash's `.`: of NAME, whose test is tests/libraries/NAME.c, `header_test
-# NAME ARGUMENT.. EVENTS` builds the test as C11, C++11 and C++17 with warnings as errors, and with the sanitizers, and runs each in a folder of its
-# own, `$work`: as C++17, which differs from C++11 in what compiles, with a quarter of the events. It works at the top of the repository, and sets
-# `$failed` where something fails.
+# NAME ARGUMENT..` builds the test as C11, C++11 and C++17 with warnings as errors, and with the sanitizers, and runs each in a folder of its own,
+# `$work`. It works at the top of the repository, and sets `$failed` where something fails.
 cd "$(dirname "$0")/../.."
 cc=${CC:-cc}
 cxx=${CXX:-c++}
@@ -45,12 +44,10 @@ header_test() {
     # shellcheck disable=SC2086
     try "C11" "$cc" -std=c11 -O2 $warnings -Iinclude
     if command -v "$cxx" > /dev/null; then
-        # shellcheck disable=SC2086
-        try "c++11" "$cxx" -x c++ -std=c++11 -O2 $warnings -Iinclude
-        arguments=("${@:1:$#-1}" "$((${!#} / 4))")
-        # shellcheck disable=SC2086
-        try "c++17" "$cxx" -x c++ -std=c++17 -O2 $warnings -Iinclude
-        arguments=("$@")
+        for standard in c++11 c++17; do
+            # shellcheck disable=SC2086
+            try "$standard" "$cxx" -x c++ -std=$standard -O2 $warnings -Iinclude
+        done
     else
         echo "NOT RUN: $script: no C++ compiler ($cxx) here"
     fi

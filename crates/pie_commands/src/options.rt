@@ -1,7 +1,7 @@
-//! The command line of `pie`: which words ask for which subcommand, and what they give its options.
+//! The words of the command line: which ask for which subcommand, and what they give its options.
 //!
-//! `options` answers exactly the command `pie_app` of `clap`, whatever the memory for it; `number`, `flag`, `file` and the others of given.rt
-//! read of the options that `clap` matched what the words give them, and `Subcommand::named` the subcommand of a word.
+//! `options` answers exactly the command `pie_app` of `clap` (specs/Words.antt), or that there was no memory for it; `number`, `flag`, `file` and
+//! the others of given.rt read of the options that `clap` matched what the words give them, and `Subcommand::named` the subcommand of a word.
 
 mod argument;
 mod audit;

@@ -1,9 +1,10 @@
-//! Records of a history as plain bytes: the opening, an event, a refusal, a fold, the registers, the statistics and the time of day, each made from
-//! its last field to its first in a row, with no memory taken. What is written is the text that pie_record's definitions give. Whoever writes a
-//! record calls this crate.
+//! Records of a history as plain bytes: the opening, an event, a refusal, a fold, the registers, the statistics and the time of day, each made in a
+//! `Row`. What is made is the text that pie_record's definitions give. Whoever makes a record calls this crate; pie_record hands on those that were
+//! read.
 //!
-//! A `Row` has exactly what was put before it, from its last field to its first; a `LongRow` what was added to it, in that order; a `Page`, which
-//! waits to be written out, the bytes that were pushed and the words that were put onto it, in their order.
+//! A `Row` has exactly what was put before it, from its last field to its first; a `LongRow` what was added to it, in that order: neither takes
+//! memory. A `Page`, on which explanations wait to be written out, has the bytes that were pushed and the words that were put onto it, in their
+//! order.
 //!
 //! `write_history`: what was written is the opening's record and a record for each event (clause `written`), and it is read back as the same
 //! opening and events (`read_back`).

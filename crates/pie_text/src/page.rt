@@ -1,4 +1,4 @@
-//! A page: what waits to be written out, as bytes, since rows of CSV are made of them.
+//! A page: bytes that wait to be written out, explanations in words or as CSV.
 ghost use Rattle.std.specs.Prelude.{◌≡◌, ◌++◌, [], OnOk, length, string_bytes};
 
 use std::alloc::{AllocError, Global};

@@ -5,7 +5,8 @@
 //! `Utc::from_str` for a time of day (`utc_in`), which a `Utc` writes as `utc_text` says.
 //!
 //! Numbers of `tc`'s options have refusals of their own (`time_of`, `rate_of`, `packets_of`). `params_for` has the nine parameters of what was
-//! asked for, `elements_for` RFC 8033's optional elements, and `write_opening` writes exactly the record of their opening (`opening_for`).
+//! asked for (`TuningOptions`), `elements_for` RFC 8033's optional elements, and `write_opening` writes exactly the record of their opening
+//! (`opening_for`).
 #![tactic(auto)]
 
 mod date;

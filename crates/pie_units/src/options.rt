@@ -1,4 +1,4 @@
-//! The parameters and the choices that a link of some rate is to have.
+//! What `tc`'s options ask for (`TuningOptions`), and the parameters and the optional elements of it.
 ghost use Rattle.std.specs.Prelude.{◌≡◌, ◌≤◌, ◌*◌, nat_lt};
 ghost use Rattle.pie_units.specs.Opening.{can_stall, elements_for, gain_of, params_for};
 

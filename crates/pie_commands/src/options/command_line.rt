@@ -1,4 +1,4 @@
-//! The command line of `pie`: the command of `clap`, made from what each subcommand takes.
+//! The command of `clap` for the command line, made from what each subcommand takes.
 ghost use Rattle.std.specs.Prelude.{◌≡◌, ◌<◌, ◌∷◌, IfOk, List, [], get_or, length, map};
 ghost use Rattle.clap.specs.Words.{App, Rule, app_of, new_app, new_rule, with_rule};
 ghost use Rattle.pie_commands.specs.Arguments.{rule_for};

@@ -1,7 +1,7 @@
 #!/usr/bin/env python3
 """Builds the static libraries, crates/pie_c/out/libpie_c.a and crates/pie_link_c/out/libpie_link_c.a, or that of the crate that is named. `rt lib`
 does that too, and proves again what it has no kept work of: in a fresh clone all crates below. Where the gate has just proved these (`rt ci` leaves each
-library in out/rlib, with no stamp), and no source is newer than they are, the crate alone is proved and compiled, over them; and where the library is
+library in out/rlib, with no stamp), and none is older than its sources, the crate alone is proved and compiled, over them; and where the library is
 newer than all of these, it stays.
 
 usage: bindings/c/library.py [CRATE]"""
@@ -45,12 +45,12 @@ def newest(folder):
 
 
 def left_by_the_gate(crates):
-    """When `rt ci` left the last of the libraries of these, or nothing where one is not there, or something changed since."""
+    """When `rt ci` left the last of the libraries of these, or nothing where one is not there, or its crate changed since."""
     made, stamped = [f"{it.folder}/out/rlib/{it.name}.rlib" for it in crates], [f"{it.folder}/out/rlib/stamp" for it in crates]
     if not all(map(os.path.isdir, made)) or any(map(os.path.exists, stamped)):
         return None
     times = [os.path.getmtime(it) for it in made]
-    return max(times) if max(newest(it.folder) for it in crates) < min(times) else None
+    return max(times) if all(newest(it.folder) < at for it, at in zip(crates, times)) else None
 
 
 def main():

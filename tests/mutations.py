@@ -6,7 +6,8 @@ checked, or the functions that a line `check: NAME` of the edit has. A crate's c
 proved of functions that no edit changes. The last line says how many were refused, in how long. Exit status 1 where one was not.
 
 With --share it is part of the gate, after `rt ci`, whose libraries it takes: a fortieth of all, by the day of the commit, in shares that cost about
-the same. So 40 days try all, and the same commit tries the same. One that wants a whole crate is told there as NOT RUN.
+the same. So 40 days try all, and the same commit tries the same. One that wants a whole crate that is not small is told there as
+NOT RUN.
 
 usage: tests/mutations.py [--jobs N] [NAME | NAME/EDIT ..]      as pie_book, or pie_book/departs_half; all, where none is named
        tests/mutations.py [--jobs N] --share [DAY]              DAY: in place of the commit's, as a number of days"""
@@ -296,7 +297,7 @@ def batches(mutations):
     for it in mutations:
         for group in found if it.goals() else ():
             texts, names = group["texts"], {*group["names"]}
-            if it.crate == group["crate"] and len(group["all"]) < most(it.crate) and not names & {*it.goals(), *it.functions} and put(it, texts) is not None:
+            if it.crate == group["crate"] and len(group["all"]) < most(it.crate) and not names & {*it.goals(), *it.functions} and put(it, texts):
                 group["all"].append(it)
                 group["names"] += [*it.goals(), *it.functions]
                 group["texts"] = put(it, texts)

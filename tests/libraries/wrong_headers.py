@@ -100,7 +100,8 @@ EDITS = [
 
 
 def copied(folder):
-    for name in ("include", "bindings", "crates/pie_abi/src", "crates/pie_c/src", "crates/pie_port/src", "crates/pie_link_c/src", "crates/pie_summary/src", "docs"):
+    crates = ("pie_abi", "pie_c", "pie_port", "pie_link_c", "pie_summary")
+    for name in ("include", "bindings", *(f"crates/{it}/src" for it in crates), "docs"):
         shutil.copytree(ROOT / name, folder / name, ignore=shutil.ignore_patterns("target"))
 
 

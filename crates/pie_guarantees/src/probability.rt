@@ -58,7 +58,7 @@ pub fn how_fast_the_probability_changes()
     ensures not_yet_faded { after_updates 86 usual default_profile 0 1_000_000_000_000 ≡ 100_263_958_315 }
 {}
 
-/// What n updates of one delay make of a probability, by the table of auto-tuning (RFC 8033, section 5.1.1), whatever the parameters: from a
+/// What n updates of one delay make of a probability, by the table of auto-tuning (RFC 8033, section 4.2), whatever the parameters: from a
 /// probability they raise it by at least n times alpha over the divisor there for each nanosecond above the target, at most 2 points each (`rises`),
 /// and while it has come no further than `most` by no more than that over the divisor at `most` (`rises_no_faster`); below the target they lower it
 /// so (`falls`, and where it does not decay `falls_no_faster`). So it is at 10 per cent after the updates that each row of the table takes, one after

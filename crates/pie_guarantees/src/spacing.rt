@@ -23,7 +23,8 @@ pub fn picks_are_far_apart()
 
 /// Where probabilities accumulate and the probability counts as at least `least` for each considered packet, above 0: as long as none is
 /// picked, and nothing else starts the accumulated probability anew, there are so few considered packets that these times `least` are below 8.5
-/// (RFC 8033, section 5.4). So at 1 per cent at least one of 850 in a row is picked.
+/// (RFC 8033, section 5.4). So at 1 per cent at least one of 850 in a row is
+/// picked, and after a tail drop the count begins again.
 pub fn picks_are_not_too_far_apart()
     ensures { (least : ℕ) → BetweenAny (λ opening before between. opening.choices.elements.picking ≡ Derandomized → 0 < least
         → AllAlong (CountsAtLeast least opening) before between → AllAlong (GoesOn opening) before between

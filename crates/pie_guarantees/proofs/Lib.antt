@@ -9,3 +9,4 @@ pub mod ProbabilityFacts
 pub mod SpacingFacts
 pub mod TextFacts
 pub mod RateFacts
+pub mod ClockFacts

@@ -77,6 +77,7 @@ library() {
     # the link, for a program that has several threads; it stands over the other, whose calls open it and write its events
     put 644 crates/pie_link_c/out/libpie_link_c.a lib/libpie_link.a
     put 644 include/pie_link.h include/pie_link.h
+    put 644 bindings/c/thread_sanitizer.txt share/pie/thread_sanitizer.txt
     told_to_pkg_config pie_link "-lpie_link -lpie_c -pthread"
     if ! command -v "${CC:-cc}" > /dev/null; then
         echo "install.sh: no C compiler (${CC:-cc}) here, so libpie.so was not linked, and is left out" >&2

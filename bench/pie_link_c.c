@@ -87,7 +87,7 @@ static inline void pause_a_little(void) {
 /* Takes the lock: a spin lock's caller looks until it is free, and after a while gives the processor up, as a caller that waits for a turn at a
  * link. */
 static inline void take(struct worker *worker) {
-    struct pie_link_patience waited = {0, 0};
+    uint32_t rounds = 0;
     for (;;) {
         if (worker->kind == MUTEX) {
             pthread_mutex_lock(&shared.mutex);
@@ -95,8 +95,8 @@ static inline void take(struct worker *worker) {
         }
         if (atomic_load_explicit(&shared.lock, memory_order_relaxed) == 0 && !atomic_exchange_explicit(&shared.lock, 1, memory_order_acquire))
             break;
-        if (waited.rounds < 16)
-            pie_link_wait(&waited);
+        if (rounds < 7)
+            pie_link_pause(rounds++);
         else
             sched_yield();
     }
@@ -327,10 +327,10 @@ static void open_link(int threads) {
 static double changes_of_log(int threads, uint32_t burst) {
     struct pie_event events[PIE_LINK_MOST];
     struct pie_params params;
-    uint64_t count = 0, changes = 0;
+    uint64_t count = 0, changes = 0, last;
     size_t folded;
     int before = 0;
-    while (pie_link_fold(&workers[0].port, events, PIE_LINK_MOST, &folded, &params) == PIE_DONE)
+    while (pie_link_fold(&workers[0].port, events, PIE_LINK_MOST, &folded, &last, &params) == PIE_DONE)
         for (size_t i = 0; i < folded; i++, count++) {
             changes += events[i].caller != before;
             before = events[i].caller;

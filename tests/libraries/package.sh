@@ -119,6 +119,7 @@ mkdir -p "$work/clone/crates/pie" "$work/clone/crates/pie_c" "$work/clone/crates
 cp -r install.sh include report man completions LICENSE-MIT LICENSE-APACHE "$work/clone"
 cp -r --parents bindings/python/library.sh bindings/python/native "$work/clone"
 install -D bindings/c/library.py "$work/clone/bindings/c/library.py"
+install -D bindings/c/thread_sanitizer.txt "$work/clone/bindings/c/thread_sanitizer.txt"
 printf '%s\n' '#!/bin/sh' 'here=$(basename "$PWD")' 'mkdir -p out' 'case "$here $1" in' \
     "'pie run') cp \"$repository/crates/pie/out/pie\" out ;;" "'pie_c lib') cp \"$repository/crates/pie_c/out/libpie_c.a\" out ;;" \
     "'pie_link_c lib') cp \"$repository/crates/pie_link_c/out/libpie_link_c.a\" out ;;" \

@@ -10,3 +10,4 @@ pub mod SpacingFacts
 pub mod TextFacts
 pub mod RateFacts
 pub mod ClockFacts
+pub mod RecoveryFacts

@@ -42,6 +42,7 @@ pub use Rattle.pie_book.specs.Types.{ArrivingPacket, DroppedBytes, DroppedPacket
 pub use Rattle.pie_book.specs.Types.{Refusal, Reset, Verdict}
 pub use Rattle.pie_control.proofs.Bounds.{bounded_of-below, decay-below, int_div-below}
 pub use Rattle.pie_control.specs.Next.{decays}
+unfoldable pub use Rattle.pie_control.specs.Delay.{delay_of}
 unfoldable pub use Rattle.pie_control.specs.Next.{decayed, next, raw_step, tuned_step, tuning_divisor}
 pub use Rattle.pie_early.specs.Decision.{counted, counted_as, joined, picked_choice}
 unfoldable pub use Rattle.pie_early.specs.Decision.{is_considered, is_picked}

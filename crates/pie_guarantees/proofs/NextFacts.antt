@@ -6,7 +6,7 @@ use Rattle.pie_guarantees.proofs.Names.{tuning_divisor}
 use Rattle.pie_params.specs.declared.raw.RawParams.{RawParams}
 use Rattle.pie_params.specs.declared.elements.Decay.{Decay}
 
-div-mono : (a b d : ℕ) → 0 < d → a ≤ b → a / d ≤ b / d
+pub div-mono : (a b d : ℕ) → 0 < d → a ≤ b → a / d ≤ b / d
 div-mono a b d some le = le-div (a / d) b d some (omega (arith, div-mul-le_self a d, le))
 
 mul-mono : (g : ℕ) (x y : ℤ) → x ≤ℤ y → (pos g *ℤ x) ≤ℤ (pos g *ℤ y)

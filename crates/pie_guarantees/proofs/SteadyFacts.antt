@@ -44,7 +44,7 @@ one-rise elements params prob delay some above =
     rw (none_decays elements.decay params delay delay some above, raw-above params delay above)
     (grind (arith, nat_tests, ints, clamps), grind (arith, nat_tests, ints, clamps))
 
-fallen-step : (elements : Elements) (params : RawParams) (prob delay : ℕ) → delay ≤ params.target
+pub fallen-step : (elements : Elements) (params : RawParams) (prob delay : ℕ) → delay ≤ params.target
     → tuned_step elements.step prob (raw_step params delay delay) ≡ pos 0 -ℤ pos (untuned_fall params delay / tuning_divisor prob)
 fallen-step elements params prob delay below =
     ap (λ (z : ℤ). tuned_step elements.step prob z) (raw-below params delay below) ∙ tuned-below elements.step prob (untuned_fall params delay)

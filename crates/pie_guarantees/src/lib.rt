@@ -13,6 +13,7 @@ pub mod marks;
 pub mod peace;
 pub mod probability;
 pub mod rates;
+pub mod recovery;
 pub mod spacing;
 pub mod threads;
 pub mod worked;
@@ -33,7 +34,8 @@ pub use probability::{
     how_fast_the_probability_changes, steady_delays_move_the_probability,
     the_probability_follows_the_delay, what_gives_a_higher_probability,
 };
-pub use rates::the_rate_lies_between_its_samples;
+pub use rates::{the_estimated_delay_lies_between, the_rate_lies_between_its_samples};
+pub use recovery::controllers_recover;
 pub use spacing::{
     picks_are_far_apart, picks_are_not_too_far_apart, picks_never_follow_at_once,
     picks_share_the_probability, picks_start_anew,

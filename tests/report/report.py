@@ -101,10 +101,10 @@ def broken(folder):
 
 def unusual(folder):
     """Histories with times of day, with the greatest numbers and over the longest time, and with one event."""
-    beginning = "open3,1,rate,derandomized,capped,unscaled,bounded,0,1,32,100000\n"
+    beginning = "open3,1,rate,derandomized,capped,unscaled,rolling,0,1,32,100000\n"
     last, tag = 2**60 - 1, 2**64 - 1
     texts = {
-        "clock": "clock,0,1795550400000000000\n" + "".join(f"arrive,1,{at}000000,1,1250,not,0\ndepart,2,{at}000001\n" for at in range(0, 3000, 10)),
+        "clock": "clock,0,1795550400000000000\n" + "".join(f"arrive,1,{at},1,1250,not,0\ndepart,2,{at + 1}\n" for at in range(0, 3 * 10**9, 10**7)),
         "large": "".join(f"arrive,65535,{at},{tag - at % 7},65535,ect1,{tag}\n" * 4 for at in (0, last - 1)) + f"depart,2,{last}\n",
         "one event": "arrive,1,0,1,1250,not,0\n",
     }
@@ -437,7 +437,7 @@ def hold_axes(driver, pages_of):
     unit = "return [...document.querySelectorAll('svg text')].map((it) => it.textContent).filter((it) => /^(UTC|[a-z]+)$/.test(it))"
     for name, wanted, each, took in (("no events", "ms", r"\d", "0 ns"), ("one event", "ms", r"\d", "0 ns"),
                                      ("large", "d", r"\d{1,5}", "13344 d"), ("clock", "UTC", r"20:00:0\d(\.\d)?", "2.99 s"),
-                                     ("overload", "ms", r"\d{1,4}", "1.49 s|1.5 s|1.49[0-9]* s")):
+                                     ("overload", "ms", r"\d{1,3}", "898 ms")):
         page = Page(driver, f"axes of {name}", pages_of[name])
         found = page.run(labels)
         page.says(len(found) > 2 and all(re.fullmatch(each, it) for it in found), f"times {found}")

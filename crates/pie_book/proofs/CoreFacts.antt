@@ -2,7 +2,7 @@
 -- after each command.
 use Rattle.std.proofs.Common.{◌≡◌, ◌≤◌, ◌<◌, ◌+◌, ℕ, List, [], ◌∷◌, ◌++◌, map, length, true, refl, ap, subst, ◌∙◌, sym, arith, length-append, max}
 use Rattle.std.proofs.Common.{None, Some, All, is_some, append-nil, drop, Bool, cond, Option, filter_map, drop-drop, length-drop, if◌then◌else◌}
-use Rattle.std.proofs.Common.{sum_by, ◌↔◌, add-zero}
+use Rattle.std.proofs.Common.{sum_by, ◌↔◌, add-zero, ◌==◌}
 use Rattle.std.proofs.lemmas.Bool.Decides.{nat_tests}
 use Rattle.std.proofs.lemmas.List.{map-append, drop-append-le, append_assoc}
 use Rattle.std.proofs.lemmas.List.Elements.{All-cons, All-head, All-nil, All-push, All-tail, All-pop}
@@ -14,7 +14,8 @@ use Rattle.pie_book.specs.{registers_after, event_of, opened_of, shown, age_of_o
 use Rattle.pie_book.specs.{call_in, waiting_next, bytes_of, HasThreshold, after_call, Place, places, greatest, Deed, deed, departure, fits, handed_in}
 use Rattle.pie_book.specs.{deed_of, admission, departed, marked, queued, count_of, is_departure, bytes_departed, is_update, first_bad, SetParams}
 use Rattle.pie_book.specs.{IsNext, CommandFits, refusal_with, active_after, arriving_size, event_shown, oldest_since, shown_at, delay_at, core_after}
-use Rattle.pie_book.specs.{first_core, registers_with, after_calls, call_at, calls_of, held_after_calls, Follows}
+use Rattle.pie_book.specs.{first_core, registers_with, after_calls, call_at, calls_of, held_after_calls, Follows, cause_in, apply_in, outcome}
+use Rattle.pie_book.specs.{core_along, is_refused_full, or_full, refused_or}
 use Rattle.pie_aqm.specs.Steps.{cause, bytes_with, now_at}
 use Rattle.pie_aqm.proofs.Places.{place_of, places-push, from_places-push, greatest-push, with_one}
 use Rattle.pie_event.specs.Deed.{with_ce}
@@ -215,6 +216,19 @@ module _ (opening : Opening) (core : CoreView) (history : List Event) (shows : S
       ≡ cause_after opening history (Arrive moment packet word)
   cause_is moment packet word =
       λ i. Some (cause (held-is i) (arrival_of (shows.waiting i) (shows.packets i) packet word) (length (shows.waiting i)))
+
+-- the cause of its answer is the one after the history
+pub cause_found : (opening : Opening) (core : CoreView) (history : List Event) → Shows opening core history → (command : Command)
+    → cause_in core command ≡ cause_after opening history command
+cause_found opening core history shows (Arrive moment packet word) = cause_is opening core history shows moment packet word
+cause_found opening core history shows _ = refl
+
+-- the result of a command in a book is the outcome after the history
+pub outcome_is : (opening : Opening) (core : CoreView) (history : List Event) → Shows opening core history → (held : ℕ) (command : Command)
+    → apply_in opening core held command ≡ outcome opening (record { history = history; held = held }) command
+outcome_is opening core history shows held command =
+    λ i. refused_or (or_full (refusal_is opening core history shows command i)
+    (is_refused_full opening.choices.mode (held == opening.limits.tail))) (next_decided opening core history shows command i)
 
 -- ---- with no event
 
@@ -426,3 +440,15 @@ module _ (opening : Opening) where
             let next = next-legal opening core history event shows (at_place (IsLegalAt opening) history event rest legal) in
             (next, (later next).1 (subst (λ (h : List Event). IsLegal opening h) (sym joined) legal)),
       )
+
+  -- the core that events which follow from it leave shows the history with them
+  pub follows_shown : (core : CoreView) (history events : List Event) → Shows opening core history → first_bad core.held.params ≡ None
+      → All (λ event. CommandFits event.command) events → Follows core events → Shows opening (core_along core events) (history ++ events)
+  unfolding Follows core_along
+  follows_shown core history [] shows good fit follows = subst (λ (h : List Event). Shows opening core h) (sym (append-nil history)) shows
+  follows_shown core history (event ∷ events) shows good fit follows =
+      let joined : (history ++ event ∷ []) ++ events ≡ history ++ (event ∷ events) = append_assoc history (event ∷ []) events in
+      subst (λ (h : List Event). Shows opening (core_along (core_after core event.command) events) h) joined
+      (follows_shown (core_after core event.command) (history ++ event ∷ []) events (next-core opening core history event shows good follows.0)
+      (good-next core event.command good (All-head (λ e. CommandFits e.command) event events fit)) (All-tail (λ e. CommandFits e.command) event events fit)
+      follows.1)

@@ -1,7 +1,7 @@
 -- The definitions on worked histories, refusals and runs, and events whose answer the command cannot have, which no run makes: each theorem computes.
 -- More worked histories are rows of tests/rows, which tests/shared/reference.py reckons by looking back.
 use Rattle.std.specs.Prelude.{⊤, ℕ, ◌≡◌, ◌+◌, ◌^◌, List, [], ◌∷◌, ◌++◌, true, false, map, take, length, Some, None, Ok, Err}
-use Rattle.std.proofs.Common.{refl}
+use Rattle.std.proofs.Common.{refl, ap, arith}
 use Rattle.pie_params.specs.Profile.{default_profile}
 use Rattle.pie_params.specs.Elements.{usual}
 use Rattle.pie_queue.specs.declared.ecn.Ecn.TheVariants.{NotEct, Ect0}
@@ -11,7 +11,6 @@ use Rattle.pie_event.specs.declared.registers.Registers.{Registers}
 use Rattle.pie_event.specs.declared.resume_refusal.ResumeRefusal.TheVariants as resume
 use Rattle.pie_event.specs.declared.resume_refusal.QueueRefusal.TheVariants as queue
 use Rattle.pie_event.specs.declared.resume_refusal.EndRefusal.TheVariants as end
-use Rattle.pie_event.specs.declared.refusal.OpenRefusal.TheVariants as opens
 use Rattle.pie_book.specs.declared.standing.Standing.{Standing}
 use Rattle.pie_event.specs.declared.refusal.Refusal.TheVariants.{Moment, Size, TooSoon, Exhausted, HistoryFull}
 use Rattle.pie_aqm.proofs.Examples.{small, worked as worked_calls}
@@ -21,13 +20,19 @@ use Rattle.pie_book.specs.{Empty, Left, Updated, Done, Event, Mode, Bounded, Rol
 use Rattle.pie_book.specs.{registers_after, largest_queue, largest_delay, stats_after, waited, held_after, effective_moment, admitted, departed_count}
 use Rattle.pie_book.specs.{waiting_after, shown, deed, fits, last_events, without_last, tail_with, first_run, core_after, first_core, CoreView}
 use Rattle.pie_book.specs.{IsLegalAt, refusal_after, held_after_calls, calls_of, after_calls, resume_refusal, queue_refusal}
-use Rattle.pie_book.specs.{end_refusal, core_of, ResumingView, are_reached, DroppedPackets, Limits, ExcerptView, event_told, goes_on_refusal}
-use Rattle.pie_book.specs.{happened_in, has_room, most_kept}
+use Rattle.pie_book.specs.{end_refusal, core_of, ResumingView, are_reached, DroppedPackets, ExcerptView, event_told, MayOpen, HasLimits}
+use Rattle.pie_book.specs.{IsNotContinued, Profile, Two, Elements}
+use Rattle.pie_params.specs.declared.elements.Delay.{Delay}
+use Rattle.pie_params.specs.declared.elements.Delay.TheVariants.{Rate, Stamp}
+use Rattle.pie_book.specs.declared.book.ContinueRefusal.TheVariants as continue
+use Rattle.pie_book.specs.{happened_in, has_room, most_kept, apply_in, cause_in, core_along, no_stats, step_in}
+use Rattle.pie_aqm.specs.Steps.{cause}
+use Rattle.pie_event.specs.declared.cause.Cause.TheVariants as causes
 
 -- all that a theorem on a worked history computes with
 unfoldable pub worked : Type 0
 unfolding worked_calls admitted effective_moment waiting_after departed_count held_after shown registers_after stats_after largest_queue largest_delay
-    waited progress_after answers_from calls_of after_calls are_reached
+    waited progress_after answers_from calls_of after_calls are_reached core_along cause
 worked = ⊤
 
 abbrev packet : ℕ → ℕ → Packet
@@ -168,13 +173,53 @@ resumes : (map (λ events. resume_refusal (record opening.limits { events = even
 unfolding worked
 resumes = (refl, refl)
 
--- a book goes on at good limits with the packets and the events of the core, which has no tail
-goes_on : let refusal = λ (limits : Limits) (moment : ℕ).
-    goes_on_refusal (record opening { limits = limits; moment = moment }) (core_of opening.limits numbers []) in
-    (map (λ limits. refusal limits 7) (record opening.limits { tail = 1 } ∷ record opening.limits { tail = 0 }
-    ∷ record opening.limits { packets = 5 } ∷ record opening.limits { events = 99 } ∷ [])
-    ≡ None ∷ Some opens.BadLimits ∷ Some opens.BadLimits ∷ Some opens.BadLimits ∷ []) × (refusal opening.limits (2 ^ 60) ≡ Some opens.Moment)
-goes_on = (refl, refl)
+-- a core may have had an opening with its limits of packets and events, its profile and its elements, whose moment is not after its own
+abbrev opened_at : Profile → Delay → ℕ → Opening
+opened_at profile delay moment = record opening {
+  limits = record opening.limits { tail = 1 };
+  moment = moment;
+  choices = record opening.choices { profile = profile; elements = record usual { delay = delay } };
+}
+
+one-two : One ≡ Two → ⊥
+one-two e = cc
+
+rate-stamp : Rate ≡ Stamp → ⊥
+rate-stamp e = cc
+
+continued : let core = core_of opening.limits numbers [] in
+    MayOpen (opened_at One Rate 1001005) core
+    × (HasLimits (record opening { limits = record opening.limits { packets = 5 } }) core → ⊥)
+    × (HasLimits (record opening { limits = record opening.limits { events = 99 } }) core → ⊥)
+    × IsNotContinued (opened_at Two Rate 0) core continue.OtherProfile
+    × IsNotContinued (opened_at One Stamp 0) core continue.OtherElements
+    × IsNotContinued (opened_at One Rate 1001006) core continue.LaterOpening
+unfolding worked
+continued = (
+  record { limits = (refl, refl); profile = refl; elements = refl; moment = omega arith },
+  λ has. (let packets = has.0 in omega (arith, packets)),
+  λ has. (let events = has.1 in omega (arith, events)),
+  ((refl, refl), λ same. one-two same),
+  ((refl, refl), refl, λ same. rate-stamp (ap (λ (e : Elements). e.delay) same)),
+  ((refl, refl), refl, refl, omega arith),
+)
+
+-- a core that no history reaches: three arrivals of which none was queued, and a packet that waits. It has room for one event more
+abbrev unreached : CoreView
+unreached = record (core_of opening.limits numbers (take 1 (waiting_after opening (history 14)))) {
+  count = 99;
+  stats = record no_stats { arrivals = 3 };
+}
+
+unreached_steps : (map (step_in unreached) (Depart (2 ^ 60) ∷ sized 0 ∷ sized 100 ∷ Depart 5 ∷ [])
+    ≡ Err Moment ∷ Err Size ∷ Ok Enqueued ∷ Ok (Left (packet 3 1024)) ∷ [])
+    × (stats_in (core_after unreached (Depart 5)).stats ≡ 3 ∷ 0 ∷ 0 ∷ 0 ∷ 0 ∷ 0 ∷ 1 ∷ 1024 ∷ 0 ∷ 0 ∷ 0 ∷ 0 ∷ 0 ∷ 0 ∷ 1001005 ∷ [])
+    × (step_in (core_along unreached (event_of 1 (Depart 5) Empty ∷ [])) (Depart 6) ≡ Err Exhausted)
+    × (apply_in (opened Bounded 3 100) unreached 3 (Depart 5) ≡ Err HistoryFull)
+    × (apply_in (opened Rolling 3 100) unreached 3 (Depart 5) ≡ Ok (Left (packet 3 1024)))
+    × (cause_in unreached (Depart 5) ≡ None) × (cause_in unreached (sized 100) ≡ Some (causes.BurstAllowed 50))
+unfolding worked
+unreached_steps = (refl, refl, refl, refl, refl, refl, refl)
 
 -- twice the 32 events of the tail, or twice the 4 packets; one packet's or one event's room less is too little
 rooms : (excerpt : ExcerptView) → let has = λ (packets events : ℕ).

@@ -1,5 +1,6 @@
 pub mod CoreFacts
 pub mod BookFacts
+pub mod CarriedFacts
 pub mod RunFacts
 pub mod RangeFacts
 pub mod Examples

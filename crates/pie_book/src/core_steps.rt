@@ -1,9 +1,9 @@
 //! A core decides a command: its controller makes one call, its queue takes the packet in or lets the oldest go, and its tally counts what was
 //! done.
-ghost use Rattle.std.specs.Prelude.{◌≡◌, ◌<◌, ◌++◌, ◌∷◌, [], List, None, Some, IfOk, IfErr, OnErr, ◌==◌, ◌≤◌, ◌^◌, ◌+◌, length, true, false};
+ghost use Rattle.std.specs.Prelude.{◌≡◌, ◌<◌, ◌++◌, ◌∷◌, [], List, None, Some, IfOk, IfErr, OnErr, OnOk, ◌==◌, ◌≤◌, ◌^◌, ◌+◌, length, true, false};
 ghost use Rattle.pie_book.specs.{Event, Opening, decision, refusal_by_rule, event_of, refused_or, Arrive, Depart, Update, Reset, SetParams};
 ghost use Rattle.pie_book.specs.{handed_in, arrival_deed, IsSize, bytes_of, HasThreshold, Shows, closed, refusal_of, after_command, answer_in};
-ghost use Rattle.pie_book.specs.{call_in, arrival_of, departure_call, waiting_next, answer_of};
+ghost use Rattle.pie_book.specs.{call_in, arrival_of, departure_call, waiting_next, answer_of, step_in, core_after, IsNext};
 ghost use Rattle.pie_event.specs.Verdict.{is_queued};
 
 use crate::deciding_core::Core;
@@ -28,6 +28,8 @@ impl Core {
             → result ≡ refused_or (refusal_by_rule opening history command) (decision opening history command) }
         ensures shows { (opening : Opening) (history : List Event) → Shows opening self.old history
             → IfOk result (λ answer. Shows opening self.new (history ++ event_of caller command answer ∷ [])) }
+        ensures answers { result ≡ step_in self.old command }
+        ensures after { OnOk result (self.new ≡ core_after self.old command) }
         ensures refused { OnErr result (self.new ≡ self.old) }
     {
         match self.taken(&command) {
@@ -75,6 +77,9 @@ impl Core {
         requires room { self.old.count < self.old.events }
         requires moment { moment ≡ handed_in command }
         ensures event { result ≡ event_of caller command result.answer }
+        ensures answer { result.answer ≡ answer_in self.old command }
+        ensures next { IsNext self.old result }
+        ensures after { self.new ≡ core_after self.old command }
         ensures decides { (opening : Opening) (history : List Event) → Shows opening self.old history
             → result.answer ≡ decision opening history command }
         ensures shows { (opening : Opening) (history : List Event) → Shows opening self.old history

@@ -3,6 +3,7 @@ ghost use Rattle.std.specs.Prelude.{◌≡◌, List, true, ◌++◌, ◌∷◌, 
 ghost use Rattle.pie_book.specs.{One, Event, Rolling, Opening, CoreView, Shows, registers_of, registers_after, active_after, answers, without_folds};
 ghost use Rattle.pie_book.specs.{AreSameUntilFull, RawParams, Command, IsLegal, decision, refusal_by_rule, event_of, stats_after, Update, first_core};
 ghost use Rattle.pie_book.specs.{core_after, held_after_calls, opened_by, call_of, refusal_of, answer_by, is_too_soon, waiting_after, first_bad};
+ghost use Rattle.pie_book.specs.{answer_in, apply_in, cause_after, cause_in, core_along, outcome, Follows};
 ghost use Rattle.pie_book.specs.{fits, opening_refusal, AnswerFits, CommandFits, ParamsFit, RegistersFit, StatsFit, after_call};
 ghost use Rattle.pie_book.specs.Run.{Step};
 ghost use Rattle.pie_aqm.specs.Steps.{due, due_of, now_at};
@@ -36,6 +37,30 @@ pub fn profile_one_is_always_active()
 pub fn registers_look_back()
     ensures { (opening : Opening) (core : CoreView) (history : List Event) → Shows opening core history
         → registers_of core ≡ registers_after opening history }
+{}
+
+/// The result of a step on a core and the result of looking back agree for every history that the core shows: the refusal, the answer and the
+/// cause of each command, the result in a book of this tail, and the core afterwards, for one command and for events that follow one another
+/// (this project's own). The clauses of `Core::step` and `Book::apply` state both. A core that no history leads to has the first alone.
+///
+/// It does nothing: its contract is the law.
+#[tactic(auto, using(crate::proofs::CoreFacts::refusal_is, crate::proofs::CoreFacts::next_decided, crate::proofs::CoreFacts::cause_found, crate::proofs::CoreFacts::outcome_is))]
+pub fn steps_look_back()
+    ensures refusal { (opening : Opening) (core : CoreView) (history : List Event) → Shows opening core history
+        → (command : Command) → refusal_of core command ≡ refusal_by_rule opening history command }
+    ensures answer { (opening : Opening) (core : CoreView) (history : List Event) → Shows opening core history
+        → (command : Command) → answer_in core command ≡ decision opening history command }
+    ensures cause { (opening : Opening) (core : CoreView) (history : List Event) → Shows opening core history
+        → (command : Command) → cause_in core command ≡ cause_after opening history command }
+    ensures outcome { (opening : Opening) (core : CoreView) (history : List Event) → Shows opening core history
+        → (held : ℕ) (command : Command)
+        → apply_in opening core held command ≡ outcome opening (record { history = history; held = held }) command }
+    ensures after { (opening : Opening) (core : CoreView) (history : List Event) → Shows opening core history
+        → (caller : ℕ) (command : Command) → first_bad core.held.params ≡ None → refusal_of core command ≡ None
+        → Shows opening (core_after core command) (history ++ event_of caller command (answer_in core command) ∷ []) }
+    ensures along { (opening : Opening) (core : CoreView) (history : List Event) (events : List Event) → Shows opening core history
+        → first_bad core.held.params ≡ None → All (λ event. CommandFits event.command) events → Follows core events
+        → Shows opening (core_along core events) (history ++ events) }
 {}
 
 /// After every legal history, from an opening that a book accepts, each register, statistic and answer is a number that its

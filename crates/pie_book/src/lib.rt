@@ -31,12 +31,12 @@ mod recorded;
 pub mod standing;
 mod tally;
 
-pub use book::Book;
+pub use book::{Book, ContinueRefusal};
 pub use deciding_core::Core;
 pub use excerpt::Excerpt;
 pub use law::{
     all_numbers_are_held, folds_change_no_answer, parts_decide_as_a_core,
-    profile_one_is_always_active, registers_look_back, runs_decide_as_a_core,
+    profile_one_is_always_active, registers_look_back, runs_decide_as_a_core, steps_look_back,
 };
 pub use pie_aqm::{Cause, Fate};
 pub use pie_event::{

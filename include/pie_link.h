@@ -154,7 +154,7 @@ static inline void pie_link_default_opening(struct pie_opening *opening, uint64_
     uint64_t packets;
     pie_default_opening(opening, rate);
     packets = 4 * opening->params.limit_bytes / opening->params.mean_pkt;
-    opening->packets = packets < 1024 ? 1024 : packets < opening->packets ? packets : opening->packets;
+    opening->packets = packets < opening->packets ? packets : opening->packets;
 }
 
 /* Opens a link of this many callers, with an empty queue, and the port with all their numbers, 0 to callers - 1. It takes some 72 bytes for each of

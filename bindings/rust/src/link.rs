@@ -35,8 +35,8 @@ static LINKS: AtomicU64 = AtomicU64::new(0);
 /// What is proved of the library `libpie_link.a`, for all interleavings of any number of threads: whenever nobody has the turn, there is one
 /// history of one thread behind all ports. It has each port's calls once and in its order, and every answer is RFC 8033's at its place. A bounded
 /// link ([`Mode::Bounded`](crate::Mode::Bounded)) loses no event. A rolling link, the default, lets its oldest event go when its log is full:
-/// [`Folds::first_number`] shows the gap. Not proved: this crate, which hands each call on; the calls that wait, which are loops over those that don't; and that a call
-/// that waits is ever served. That the calls of several ports may run at once is trusted, as docs/PROMISES.md says.
+/// [`Folds::first_number`] shows the gap. Not proved: this crate, which hands each call on; the calls that wait, which are loops over those that
+/// don't; and that a call that waits is ever served. That the calls of several ports may run at once is trusted, as docs/PROMISES.md says.
 ///
 /// ```
 /// use juniperbowls::{Ecn, Link, Opening, Packet, Verdict};

@@ -394,7 +394,7 @@ static void many_callers(void) {
 
 /* Two links: their ports are not gathered, and calls at one wake no thread at the other. */
 static void two_links(void) {
-    struct pie_port a = PIE_PORT_CLOSED, b = PIE_PORT_CLOSED, other = PIE_PORT_CLOSED;
+    struct pie_port a = PIE_PORT_CLOSED, b = PIE_PORT_CLOSED, second = PIE_PORT_CLOSED, other = PIE_PORT_CLOSED;
     struct pie_link_patience waited = {PIE_LINK_ROUNDS + 1, 1};
     struct pie_opening opening;
     struct pie_event event = event_at(1, 1);
@@ -402,8 +402,13 @@ static void two_links(void) {
     CHECK(opening.packets == 9765);
     pie_link_default_opening(&opening, 0);
     CHECK(opening.packets == 1024);
+    pie_link_default_opening(&opening, UINT64_C(1000000000000));
+    CHECK(opening.packets == 1 << 20);
+    opening.packets = 1000;
     CHECK(pie_link_open(&opening, 2, &a) == PIE_DONE && pie_link_open(&opening, 2, &b) == PIE_DONE && pie_link_share(&b, &other) == PIE_DONE);
-    CHECK(pie_link_gather(&a, &other) == PIE_APART && pie_link_gather(&b, &b) == PIE_APART && other.at != NULL);
+    /* the numbers of `other` follow on those of `a`, but at another link */
+    CHECK(pie_link_share(&a, &second) == PIE_DONE && pie_link_gather(&a, &other) == PIE_APART && other.at != NULL);
+    CHECK(pie_link_gather(&b, &b) == PIE_APART && pie_link_gather(&a, &second) == PIE_DONE);
     CHECK(a.shared != b.shared && other.shared == b.shared);
     PIE_LINK_ADD(a.shared->sleepers, 1); /* as of a thread that sleeps at link a */
     CHECK(pie_link_arrive(&b, &event) == PIE_ENQUEUE && pie_link_depart(&other, &event) == PIE_DONE && PIE_LINK_LOAD(a.shared->turns) == 0);

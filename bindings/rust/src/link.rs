@@ -35,8 +35,8 @@ static LINKS: AtomicU64 = AtomicU64::new(0);
 /// What is proved of the library `libpie_link.a`, for all interleavings of any number of threads: whenever nobody has the turn, there is one
 /// history of one thread behind all ports. It has each port's calls once and in its order, and every answer is RFC 8033's at its place. A bounded
 /// link ([`Mode::Bounded`](crate::Mode::Bounded)) loses no event. A rolling link, the default, lets its oldest event go when its log is full:
-/// [`Folds::first`] shows the gap. Not proved: this crate, which hands each call on; the calls that wait, which are loops over those that don't; and that a call
-/// that waits is ever served. That the calls of several ports may run at once is trusted, as docs/PROMISES.md says.
+/// [`Folds::first_number`] shows the gap. Not proved: this crate, which hands each call on; the calls that wait, which are loops over those that
+/// don't; and that a call that waits is ever served. That the calls of several ports may run at once is trusted, as docs/PROMISES.md says.
 ///
 /// ```
 /// use juniperbowls::{Ecn, Link, Opening, Packet, Verdict};
@@ -150,8 +150,8 @@ pub struct Folds {
 /// }
 /// let written = 0; // the number of the last event that this thread has written
 /// let folds = port.fold()?;
-/// assert_eq!((folds.first(), folds.last()), (4, 5));
-/// assert_eq!(folds.first() - 1 - written, 3); // events that no fold handed out
+/// assert_eq!((folds.first_number(), folds.last_number()), (4, 5));
+/// assert_eq!(folds.first_number() - 1 - written, 3); // events that no fold handed out
 /// # Ok(())
 /// # }
 /// ```
@@ -159,13 +159,13 @@ impl Folds {
     /// Returns the number of the first event that the fold handed out. If it is not one more than the last number of the fold before, events are
     /// missing between the two: a rolling link let them go, or another port folded them.
     #[must_use]
-    pub fn first(&self) -> u64 {
+    pub fn first_number(&self) -> u64 {
         self.last - self.count as u64 + 1
     }
 
     /// Returns the number of the last event that the fold handed out.
     #[must_use]
-    pub fn last(&self) -> u64 {
+    pub fn last_number(&self) -> u64 {
         self.last
     }
 }
@@ -236,7 +236,7 @@ impl Opening {
     pub fn for_link(rate: u64) -> Opening {
         let usual = Opening::for_rate(rate);
         let packets = 4 * usual.params.limit_bytes / usual.params.mean_pkt;
-        Opening { packets: packets.clamp(1024, usual.packets), ..usual }
+        Opening { packets: packets.min(usual.packets), ..usual }
     }
 }
 

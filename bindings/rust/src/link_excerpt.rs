@@ -28,7 +28,7 @@ impl Drop for Excerpt {
 }
 
 impl Excerpt {
-    /// Takes memory for the excerpts of every link with this opening: 48 bytes for each of its `packets`, and 128 for each of `packets` or of
+    /// Takes memory for the excerpts of every link with this opening: 24 bytes for each of its `packets`, and 128 for each of `packets` or of
     /// `tail`, whichever is more. It is an excerpt of no events.
     ///
     /// # Errors

@@ -80,7 +80,7 @@ fn each_call_answers() {
     let totals = second.stats().unwrap();
     assert_eq!((totals.count, totals.stats.arrivals, totals.stats.empty, totals.stats.changes), (8, 2, 1, 1));
     let folds = first.fold().unwrap();
-    assert_eq!((folds.first(), folds.last()), (1, 6)); // (a fold ends with new parameters)
+    assert_eq!((folds.first_number(), folds.last_number()), (1, 6)); // (a fold ends with new parameters)
     let folds = folds.collect::<Vec<_>>();
     assert!(matches!(folds[0], Folded::Event(event) if event.to_string() == "arrive,0,10,7,1000,ect0,9,enqueue"));
     let records = folds[1..].iter().map(Folded::to_string).chain(folded(&mut second)).collect::<Vec<_>>();
@@ -107,8 +107,8 @@ fn gaps() {
     for (events, missing, last) in [(2, 0, 2), (5, 3, 7), (1, 0, 8)] {
         (0..events).for_each(|_| port.reset(1).unwrap());
         let folds = port.fold().unwrap();
-        assert_eq!((folds.first() - 1 - written, folds.last()), (missing, last));
-        written = folds.last();
+        assert_eq!((folds.first_number() - 1 - written, folds.last_number()), (missing, last));
+        written = folds.last_number();
     }
     assert_eq!(port.fold().unwrap_err(), LinkRefusal::NoEvent);
 }

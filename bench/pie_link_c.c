@@ -380,6 +380,7 @@ int main(int count, char **words) {
     int runs = count == 3 ? atoi(words[1]) : 1;
     uint64_t milliseconds = count == 3 ? strtoull(words[2], NULL, 10) : 100;
     pie_default_opening(&opening, UINT64_C(10000000000));
+    opening.choices = PIE_USUAL; /* as the figures of docs/PERFORMANCE.md were measured */
     opening.packets = PACKETS;
     opening.tail = EVENTS;
     memory_bytes = pie_flight_bulk_bytes(EVENTS, PACKETS, MOST_BURST);

@@ -76,7 +76,7 @@ def refused():
 def interrupt():
     """Its files while it runs, and its end, after which that of the metrics is gone."""
     with tempfile.TemporaryDirectory() as work:
-        words = ["--total-num-mbufs", "8192", "--rate=100mbit", "--metrics", f"{work}/pie.prom", "--json", f"{work}/json"]
+        words = ["--total-num-mbufs", "8192", "--rate=100mbit", "--limit", "100p", "--metrics", f"{work}/pie.prom", "--json", f"{work}/json"]
         process = subprocess.Popen(command(RING, *words), stdout=subprocess.PIPE, text=True)
         lines = [process.stdout.readline(), process.stdout.readline()]
         while not files(Path(work, "pie.prom").read_text(), json.loads(Path(work, "json").read_text())):
@@ -91,7 +91,7 @@ def interrupt():
 
 
 def files(metrics, queues):
-    """Checks both; False where they are not of the same moment."""
+    """Checks both; False if they are not of the same moment, or nothing was dropped at the limit yet."""
     family, kinds, numbers = "", {}, {}
     for line in metrics.splitlines():  # each number stands under its family, whose type and help are told
         if line.startswith("# "):
@@ -114,12 +114,13 @@ def files(metrics, queues):
     assert of["arrived_packets_total"] == of["enqueued_packets_total"] + of["marked_packets_total"] + early + over_bytes + over_packets
     lint(metrics)
     (queue,) = queues
-    if queue["packets"] != of["departed_packets_total"]:
+    if queue["packets"] != of["departed_packets_total"] or queue["overlimit"] == 0:
         return False
     assert queue["kind"] == "pie" and queue["options"]["target"] == 15000 and queue["options"]["alpha"] == 2
     assert queue["packets"] > 0
     assert queue["backlog"] == of["queue_bytes"] and queue["prob"] == of["probability_ratio"]
     drops = sum(count for name, count in of.items() if name.endswith("_drops_total"))
+    assert queue["overlimit"] == over_bytes + over_packets and queue["dropped"] == early + queue["overlimit"]  # (as in sch_pie.c)
     assert queue["drops"] == drops and queue["pkts_in"] - queue["packets"] == queue["qlen"] == of["queue_packets"]
     return True
 

@@ -470,7 +470,9 @@ int main(void) {
     struct pie_opening o;
     pie_default_params(&p);
     pie_default_opening(&o, 0);
-    CHECK(pie_open(&pie, &o) == PIE_DONE);
+    struct pie_opening by_rate = o;
+    by_rate.choices = PIE_USUAL;
+    CHECK(pie_open(&pie, &by_rate) == PIE_DONE);
 %s
     return failed;
 }

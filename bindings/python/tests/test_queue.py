@@ -48,7 +48,7 @@ def by_single_calls(opening, moments, sizes, ecn, words, rate, until, history):
             return pie
 
 
-@pytest.mark.parametrize("changes", [{}, {"choices": 31}, {"profile": 2, "limit_bytes": "60kb"}, {"packets": 40}, {"limit_bytes": 20_000}], ids=str)
+@pytest.mark.parametrize("changes", [{}, {"choices": 0}, {"choices": 31}, {"profile": 2, "limit_bytes": "60kb"}, {"packets": 40}, {"limit_bytes": 20_000}], ids=str)
 def test_a_link_is_what_its_single_calls_are(changes, tmp_path):
     rate, (moments, sizes, ecn) = 7_777_777, overload(4000, 7_777_777, load=1.4)
     words = np.random.default_rng(1).integers(1 << 64, size=len(moments), dtype=np.uint64)
@@ -383,7 +383,7 @@ def test_a_wrong_event_is_not_written(tmp_path):
 
 def test_a_million_arrivals():
     moments, sizes, ecn = overload(MILLION, 10**8)
-    queue = Queue(Opening.for_rate("100mbit", choices=Choices.DELAY_STAMP), seed=1)
+    queue = Queue(Opening.for_rate("100mbit"), seed=1)
     events = queue.offer(moments, sizes, "100mbit", ecn=ecn)
     arrivals = events[events["kind"] == Kind.ARRIVE]
     assert np.array_equal(arrivals["tag"], np.arange(MILLION)) and len(events) > 1.8 * MILLION

@@ -62,6 +62,10 @@ CLAUSES = {
         "850_000_000_000 * picks_in between ≤ counted_in opening before between)",
         "counted_in opening before between "
         "< 9_500_000_000_000 * picks_in between + 8_500_000_000_000 * (restarts_in opening before between + 1))"],
+    "lasting_delays_are_answered": [
+        "updates_to_a_tenth (params_after opening before) least ≤ updates_in between → 10 ^ 11 ≤ probability_after opening (before ++ between))",
+        "burst_left opening before ≤ updates_in between * (params_after opening before).t_update → burst_left opening (before ++ between) ≡ 0)",
+        "updates_to_a_tenth default_profile 30_000_000 ≡ 164 }"],
     "a_clock_ahead_delays_updates_by_as_much": [
         "moment < effective_moment opening before + (params_after opening before).t_update }",
         "moment < effective_moment opening before + ahead + (params_after opening (before ++ event ∷ [])).t_update)"],
@@ -125,6 +129,13 @@ def opening_of(row):
     return profile, dict(zip(ELEMENTS, elements)), rest[0], rest[1], dict(zip(FIELDS, rest[4:]))
 
 
+def updates_to_a_tenth(params, delay):
+    """Returns the updates that each row of the table of auto-tuning takes at this delay, up to 10 per cent."""
+    rise = params["alpha"] * (delay - params["target"])
+    rows = ((0, 10**6, 2048), (10**6, 10**7, 512), (10**7, 10**8, 128), (10**8, 10**9, 32), (10**9, 10**10, 8), (10**10, 10**11, 2))
+    return sum((high - low) // min(rise // divisor, 2 * 10**10) + 1 for low, high, divisor in rows)
+
+
 class Samples:
     """The samples of the departure rate since the estimate was cleared, counted from departures."""
 
@@ -154,7 +165,7 @@ class Laws:
         # the sum of what the probability counted as, less 0.85 for each pick; the same, less 9.5 for each pick and 8.5 for each other restart; the
         # greatest of the first while nothing was accumulated, and the least of the second; the sum since the last restart
         self.least_sum, self.most_sum, self.least_start, self.most_start, self.sum = 0, 0, 0, 0, 0
-        self.since_pick, self.idle = None, None
+        self.since_pick, self.idle, self.lasting = None, None, None
         self.now = {"moment": self.start, "packets": 0, "bytes": 0, "prob": 0, "old": 0, "accu": 0, "burst": self.params["max_burst"],
                     "last": self.start, "average": 0, "measuring": 0, "active": int(self.profile == 1)}
         # moments since parameters were set: the last update before, the burst allowance left then, and the updates since
@@ -170,12 +181,13 @@ class Laws:
         if row[0] == "params":
             self.params = dict(zip(FIELDS, map(int, row[3:12])))
             self.limits.append(self.params["limit_bytes"])
-            self.idle = None
+            self.idle = self.lasting = None
         woken = now["active"] > was["active"]
         if row[0] == "reset" or woken or row[0] == "params":
             self.samples.clear()
         if row[0] == "reset" or woken:
             self.restart()
+            self.lasting = None
         kept = [] if row[0] == "params" else self.allowances[-200:]
         self.allowances = kept + [(now["moment"], now["last"], now["burst"], 0)] * (now["burst"] <= self.params["max_burst"])
         self.shares(row, now)
@@ -280,6 +292,7 @@ class Laws:
                 must("calm", now["burst"] == params["max_burst"], row, now)
             self.estimate(row, was, delay)
         self.recover(row, was, now, delay)
+        self.last(row, was, now, delay)
         self.allowances = [(moment, last, burst, updates + 1) for moment, last, burst, updates in self.allowances]
 
     def estimate(self, row, was, delay):
@@ -305,6 +318,17 @@ class Laws:
             hold("recovers in any case", 1203 - self.idle, 0, row, self.idle)
             if self.params["alpha"] * self.params["target"] >= 1_875_000_000:
                 hold("recovers", 181 - self.idle, 0, row, self.idle)
+
+    def last(self, row, was, now, delay):
+        """Counts the updates of a delay at or above the target that does not fall, from the first such delay on."""
+        if not was["active"] or delay < self.params["target"] or delay < was["old"]:
+            self.lasting = None
+            return
+        least, burst, count = self.lasting or (delay, was["burst"], 0)
+        self.lasting = (least, burst, count + 1)
+        hold("burst is used up", max(0, burst - (count + 1) * self.params["t_update"]) - now["burst"], 0, row, now)
+        if self.params["alpha"] * (least - self.params["target"]) >= 2048 and now["prob"] < 10**11:
+            hold("lasting delay", updates_to_a_tenth(self.params, least) - 2 - count, 2, row, count + 1)
 
     def refused(self, line):
         if line[0] == "update" and line[2] <= LAST:
@@ -427,10 +451,13 @@ def worked():
     slow = Worked()
     slow.reach(ONE)
     slow.find(1)
-    for trace, count in ((tuned, 182), (slow, 1204)):
+    lasting = Worked()
+    lasting.find(30_000_000)
+    lasting.set(alpha=125, beta=1250, target=15_000_000)
+    for trace, count, delay in ((tuned, 182, 0), (slow, 1204, 0), (lasting, 164, 30_000_000)):
         for _ in range(count):
-            trace.find(0)
-    return far, at_once, late, quiet, full, steep, tuned, slow
+            trace.find(delay)
+    return far, at_once, late, quiet, full, steep, tuned, slow, lasting
 
 
 def sudden_burst():

@@ -92,13 +92,13 @@ leaves_two opening before event later lawful e =
 finds-none : (v : Verdict) → answer_of v ≡ Empty → ⊥
 finds-none v e = grind (arith, nat_tests)
 
-none-waits : (h : Held) (waiting : List Waiting) (packets : ℕ) (command : Command) → answer_by h waiting packets command ≡ Empty → waiting ≡ []
-none-waits h waiting packets (Arrive moment packet word) e = absurd (finds-none (verdict h (arrival_of waiting packets packet word)) e)
-none-waits h waiting packets _ e = grind (arith, nat_tests)
+empty-queue : (h : Held) (waiting : List Waiting) (packets : ℕ) (command : Command) → answer_by h waiting packets command ≡ Empty → waiting ≡ []
+empty-queue h waiting packets (Arrive moment packet word) e = absurd (finds-none (verdict h (arrival_of waiting packets packet word)) e)
+empty-queue h waiting packets _ e = grind (arith, nat_tests)
 
 pub empty_if_none : AtEachEvent (λ opening before event. event.answer ≡ Empty → waiting_after opening before ≡ [])
 empty_if_none opening before event later lawful e =
-    none-waits (held_after opening before) (waiting_after opening before) opening.limits.packets event.command
+    empty-queue (held_after opening before) (waiting_after opening before) opening.limits.packets event.command
     (sym (step_at opening before event later lawful).here.answered ∙ e)
 
 -- ---- marks and drops of a packet

@@ -11,3 +11,4 @@ pub mod TextFacts
 pub mod RateFacts
 pub mod ClockFacts
 pub mod RecoveryFacts
+pub mod DeadlineFacts

@@ -191,7 +191,7 @@ falls-next fall n h waiting packets command some within keeps free old = record 
 }
 
 -- which commands are updates does not depend on the answer
-same-update : (command : Command) (answer : Answer) → is_update (deed command answer) ≡ is_update (deed command Empty)
+pub same-update : (command : Command) (answer : Answer) → is_update (deed command answer) ≡ is_update (deed command Empty)
 same-update command answer = grind (arith, nat_tests)
 
 -- ---- along a lawful history

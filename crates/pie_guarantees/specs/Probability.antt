@@ -1,5 +1,5 @@
 -- How the probability follows the delay (RFC 8033, sections 4.2, 5.1 and 5.5).
-use Rattle.std.specs.Prelude.{◌≡◌, ◌<◌, ◌+◌, ◌*◌, ◌-◌, ◌/◌, ◌^◌, ◌++◌, ◌∷◌, [], min, ℕ, zero, suc, List, true, false}
+use Rattle.std.specs.Prelude.{◌≡◌, ◌≤◌, ◌<◌, ◌+◌, ◌*◌, ◌-◌, ◌/◌, ◌^◌, ◌++◌, ◌∷◌, [], min, ℕ, zero, suc, List, true, false}
 use Rattle.pie_params.specs.declared.elements.Elements.{Elements}
 use Rattle.pie_control.specs.Next.{next, tuning_divisor}
 use Rattle.pie_guarantees.specs.Names.{deed_of, is_update, RawParams, Event, Opening, active_after, delay_after, params_after, parts_after, is_reset}
@@ -69,3 +69,12 @@ pub record IsCalmUpdate (opening : Opening) (before : List Event) (event : Event
   pub delay : 2 * delay_after opening before < (params_after opening before).target
   pub old_delay : 2 * old_delay_after opening before < (params_after opening before).target
   pub prob : probability_after opening (before ++ event ∷ []) ≡ 0
+
+-- the event sets no parameters and resets nothing, the controller is active, and if the event is an update, it finds a delay of at least `least`
+-- that is not below the delay of the update before it
+pub record IsLasting (least : ℕ) (opening : Opening) (before : List Event) (event : Event) : Type 0 where
+  pub keeps : KeepsParams event.command
+  pub unreset : is_reset (deed_of event) ≡ false
+  pub active : active_after opening before ≡ true
+  pub delay : is_update (deed_of event) ≡ true → least ≤ delay_after opening before
+  pub grows : is_update (deed_of event) ≡ true → old_delay_after opening before ≤ delay_after opening before

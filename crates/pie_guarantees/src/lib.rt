@@ -8,6 +8,7 @@ pub mod bursts;
 pub mod clean;
 pub mod clock;
 pub mod counts;
+pub mod deadline;
 pub mod idle;
 pub mod marks;
 pub mod peace;
@@ -24,6 +25,7 @@ pub use clock::a_clock_ahead_delays_updates_by_as_much;
 pub use counts::{
     every_packet_is_accounted_for, queues_stay_within_their_limits, waits_are_bounded,
 };
+pub use deadline::lasting_delays_are_answered;
 pub use idle::the_link_does_not_idle;
 pub use marks::{capable_packets_are_spared, only_capable_packets_are_marked};
 pub use peace::{

@@ -206,7 +206,7 @@ static void run(int threads, double seconds, const char *sums) {
         }
         /* (the others go on after the one that was cancelled, however long they wait for a processor) */
         is_over = is_cancelled && now() > 2 * half && taken == EXCERPTS && have_gone_on(before, threads);
-        CHECK(now() < 2 * half + UINT64_C(120000000000));
+        CHECK(now() < 2 * half + UINT64_C(1200000000000));
         if (is_empty)
             sched_yield();
     }

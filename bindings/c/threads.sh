@@ -68,10 +68,10 @@ check() {
     [ "$found" != 0 ] || { echo "bindings/c/threads.sh: the example's history has no event ($name)"; exit 1; }
     for excerpt in 1 2 3; do
         is_clean "$work/excerpt.$excerpt" "the example's excerpt $excerpt ($name)"
-        # both senders' packets are there, and some that left
-        for record in ^arrive,2, ^arrive,3, '^depart,1,.*,left,'; do
-            grep -q "$record" "$work/excerpt.$excerpt" || { echo "bindings/c/threads.sh: the example's excerpt $excerpt lacks $record"; exit 1; }
-        done
+    done
+    # both senders' packets are there, and some that left (in one excerpt alone they need not be: a thread may have had no processor for a while)
+    for record in ^arrive,2, ^arrive,3, '^depart,1,.*,left,'; do
+        grep -q "$record" "$work"/excerpt.[123] || { echo "bindings/c/threads.sh: the example's excerpts lack $record"; exit 1; }
     done
     echo "bindings/c: two senders, a link and a reader: 3 excerpts clean, the last up to event $found ($name)"
 }

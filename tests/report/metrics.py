@@ -333,7 +333,7 @@ def recorded(folder, name, opening, packets, last, size=500):
     """What a flight recorder keeps of a history of so many packets, each of which leaves 1 ms after it came: its last events, and the history."""
     trace, path, text = (Path(folder, f"{name}.{ending}") for ending in ("trace", "history", "text"))
     lines = [f"arrive,1,{at * 2000000},{at},{size},not,0\ndepart,2,{at * 2000000 + 1000000}\n" for at in range(1, packets + 1)]
-    trace.write_text("".join([f"open3,1,rate,derandomized,capped,unscaled,bounded,{opening},64,32,100000\n", *lines]))
+    trace.write_text("".join([f"open3,1,rate,derandomized,capped,unscaled,rolling,{opening},64,32,100000\n", *lines]))
     subprocess.run([PROGRAM, "run", "-o", path, trace], check=True)
     text.write_text(cut(path, "--last", str(last)))
     return text, path

@@ -20,6 +20,9 @@
  * for a packet is some thirty to eighty instructions, an update some 270; none waits for anybody or takes memory, so a call may
  * stand under a spin lock.
  *
+ * A call uses at most 512 bytes of stack, pie_write_* at most 2560, pie_link_* at most 4096, pie_link_open at most 12288. This includes all functions that
+ * it calls except those of the C library (memcpy, memmove, memset; pie_link_open and its siblings call malloc and free).
+ *
  * What is easily got wrong, and what to do:
  *
  * - The clock. Take one that never goes back, as CLOCK_MONOTONIC in nanoseconds. Nanoseconds since 1970 are above 2^60 - 1
@@ -73,7 +76,8 @@
 extern "C" {
 #endif
 
-/* The version of this header and of the library. */
+/* The version of this header and of the library. A program that was linked with libpie.so.0 runs with each later libpie.so.0: functions, structs, fields,
+ * offsets and constants of this header and of pie_link.h stay, and others may be added (dist/abi.txt lists them all). */
 #define PIE_VERSION "0.1.0"
 
 #define PIE_MAX_MOMENT UINT64_C(1152921504606846975) /* the latest moment, 2^60 - 1 ns */

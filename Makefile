@@ -52,9 +52,9 @@ $(BUILD)/pie.o: $(BUILD)/pie.S
 	$(assemble) $<
 $(BUILD)/pie.S: $(PIE_S) | $(BUILD)
 	case $< in \
-	*.xz) xz -dc $< > $@.part || python3 -c 'import lzma, sys; sys.stdout.buffer.write(lzma.open(sys.argv[1]).read())' $< > $@.part ;; \
-	*) cp $< $@.part ;; \
-	esac
+	*.xz) if command -v xz > /dev/null; then xz -dc $<; else python3 -c 'import lzma, sys; sys.stdout.buffer.write(lzma.open(sys.argv[1]).read())' $<; fi ;; \
+	*) cat $< ;; \
+	esac > $@.part
 	mv $@.part $@
 
 $(BUILD)/%.o: dist/%.c dist/runtime.h | $(BUILD)

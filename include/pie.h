@@ -20,8 +20,8 @@
  * for a packet is some thirty to eighty instructions, an update some 270; none waits for anybody or takes memory, so a call may
  * stand under a spin lock.
  *
- * A call uses at most 512 bytes of stack, pie_write_* at most 2560, pie_link_* at most 4096, pie_link_open at most 12288. This includes all functions that
- * it calls except those of the C library (memcpy, memmove, memset; pie_link_open and its siblings call malloc and free).
+ * A call uses at most 512 bytes of stack, pie_write_* at most 2560, pie_link_* at most 4096, pie_link_open_port at most 12288. This includes all
+ * functions that it calls except those of the C library (memcpy, memmove, memset; calls that open or close a link also call malloc and free).
  *
  * What is easily got wrong, and what to do:
  *

@@ -10,7 +10,7 @@ pub use Rattle.csv.specs.Writing.{needs_quotes}
 pub use Rattle.pie_book.specs.Core.{CoreView, Shows}
 pub use Rattle.pie_book.specs.Excerpt.{ExcerptView}
 unfoldable pub use Rattle.pie_book.specs.History.{waiting_after}
-pub use Rattle.pie_book.specs.Standing.{ResumingView, StandsFor, begun_with, core_of, end_refusal, queue_refusal, resume_refusal, with_packet}
+pub use Rattle.pie_book.specs.Standing.{MayOpen, ResumingView, StandsFor, begun_with, core_of, end_refusal, queue_refusal, resume_refusal, with_packet}
 pub use Rattle.pie_book.specs.declared.standing.Standing.{Standing}
 pub use Rattle.pie_event.specs.Opening.{opening_refusal}
 pub use Rattle.pie_event.specs.Ranges.{CommandFits, StatsFit}

@@ -81,9 +81,10 @@ def preamble(chance, agrees):
     limits = (chance.choice((max(len(waiting), 1), len(waiting) + 5, 2**20, 2**20)), chance.choice((1, 10, 1000, 2**20, 2**20)),
               max(1, count + chance.choice((3, 1000, 1000, 1000, 2**40))))
     cycle = chance.choice(((0, 0, 0), (1, some(chance, 0, moment), some(chance, 0, now[8] - 1))))
-    setter = chance.choice(("", some(chance, 0, count)))
+    setter = chance.choice(("", some(chance, 0, count if agrees or chance.random() < 0.7 else WORDS)))
+    opened = some(chance, 0, moment if agrees or chance.random() < 0.7 else LATEST)
     accumulated = chance.choice((0, some(chance, 0, 85 * 10**11 - 1), 85 * 10**11 - 1 - some(chance, 0, 10**11), 85 * 10**10 - some(chance, 0, 10**11)))
-    row = ["resume", profile, *told(elements), chance.choice(("bounded", "rolling")), some(chance, 0, moment), *limits, *first, *now, count, setter,
+    row = ["resume", profile, *told(elements), chance.choice(("bounded", "rolling")), opened, *limits, *first, *now, count, setter,
            len(waiting), sum(it[2] for it in waiting), moment, some(chance, 0, 10**12), old, accumulated,
            chance.choice((0, 0, some(chance, 0, 10**12))), some(chance, 0, moment), some(chance, 0, LATEST), *cycle, some(chance, 0, 2**40),
            1 if profile == 1 else chance.randrange(2), *stats]

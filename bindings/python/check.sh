@@ -48,7 +48,6 @@ for file in libpie.so.0 py.typed LICENSE-MIT; do
     [ -e "$work/installed/juniperbowls/$file" ] || { echo "bindings/python/check.sh: the wheel has no $file" && exit 1; }
 done
 # a source distribution, with nothing of the repository in reach, makes the same library
-cp -r bindings/python "$work/module"
 mkdir -p "$work/source"
 (cd bindings/python && "$python" setup.py -q sdist --dist-dir "$work/source") > "$work/said" 2>&1 || {
     cat "$work/said"

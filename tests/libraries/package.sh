@@ -123,7 +123,7 @@ if command -v cargo > /dev/null && [ "$(rustc --version | cut -d. -f2)" -ge 82 ]
         fail "a Rust program was built over a prefix without the library"
     fi
     grep -q "has no libpie_c.a" "$work/refused" || fail "cargo does not say that the library is missing: $(cat "$work/refused")"
-    cargo package --offline --allow-dirty --list --manifest-path bindings/rust/Cargo.toml > "$work/listed"
+    cargo package --offline --allow-dirty --list --manifest-path bindings/rust/Cargo.toml > "$work/listed" 2> "$work/said"
     for file in pie_c.S pie_link_c.S heap.c runtime.h; do
         grep -qx "assembly/$file" "$work/listed" || fail "the package for cargo has no assembly/$file"
     done

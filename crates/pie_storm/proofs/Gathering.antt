@@ -34,11 +34,6 @@ run_fault plan (Ok end) sound none faulted = tt
 run_fault plan (Err why) sound none (inl is) = subst (HasFault plan) (sym is) (sound, none)
 run_fault plan (Err why) sound none (inr is) = subst (HasFault plan) (sym is) (sound, none)
 
--- .. and never for a gap
-pub never_gap : (plan : Plan) (why : StormFault) → HasFault plan why → why ≡ fault.Gap → ⊥
-unfolding HasFault
-never_gap plan why has is = subst (HasFault plan) is has
-
 -- what came of a caller's calls in a history came of them in one that goes on with nothing more of it
 came_on : (law : EntriesLookBack) (plan : Plan) (caller : ℕ) (h k : List Entry) (passed : ℕ) → HasNoMore caller h k → CameOf plan caller h passed
     → CameOf plan caller k passed

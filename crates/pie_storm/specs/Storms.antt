@@ -18,7 +18,7 @@ use Rattle.pie_book.specs.Statistics.{stats_after}
 use Rattle.pie_link.specs.declared.entry.Entry.{Entry}
 use Rattle.pie_link.specs.declared.entry.Entry.TheVariants.{Made, Folded}
 use Rattle.pie_link.specs.Entries.{entries_of, events_in, handed_out, handed_to, number_of, tail_in}
-use Rattle.pie_link.specs.Opening.{IsRefusedFor, link_refusal}
+use Rattle.pie_link.specs.Opening.{IsRefusedFor, IsWantOfMemory, link_refusal}
 use Rattle.pie_link.specs.Views.{LinkView, CallerView}
 use Rattle.pie_link.specs.declared.refusal.LinkRefusal.{LinkRefusal}
 use Rattle.pie_storm.specs.declared.ending.StormEnd.{StormEnd}
@@ -195,3 +195,11 @@ HasFault plan (fault.Opening why) = IsSound plan × IsRefusedFor (refusal_of pla
 HasFault plan fault.Memory = IsSound plan × (refusal_of plan ≡ None)
 HasFault plan fault.Thread = IsSound plan × (refusal_of plan ≡ None)
 HasFault plan fault.Gap = ⊥
+
+-- why a storm by numbers in their ranges has no end: memory or a thread is wanting
+unfoldable pub CanStop : StormFault → Type 0
+CanStop fault.BadPlan = ⊥
+CanStop (fault.Opening why) = IsWantOfMemory why
+CanStop fault.Memory = Unit {0}
+CanStop fault.Thread = Unit {0}
+CanStop fault.Gap = ⊥

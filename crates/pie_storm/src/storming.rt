@@ -1,5 +1,5 @@
 //! A storm is made by its plan, and its events are audited and written as a history.
-ghost use Rattle.std.specs.Prelude.{◌≡◌, ◌≢◌, ◌⊎◌, Err, IfErr, IfOk, OnOk, map};
+ghost use Rattle.std.specs.Prelude.{◌≡◌, IfErr, IfOk, OnOk, map};
 ghost use Rattle.pie_book.specs.Decision.{IsLegal};
 ghost use Rattle.pie_record.specs.declared.history_record.Line.TheVariants.{Made};
 ghost use Rattle.pie_audit.specs.Auditor.{Audits};
@@ -7,7 +7,7 @@ ghost use Rattle.pie_storm.specs.Plans.{opening_of};
 ghost use Rattle.pie_book.specs.Registers.{registers_after};
 ghost use Rattle.pie_book.specs.Statistics.{stats_after};
 ghost use Rattle.pie_record.specs.Fault.{IsWrite};
-ghost use Rattle.pie_storm.specs.Storms.{HasFault, IsEndOf, IsStorm};
+ghost use Rattle.pie_storm.specs.Storms.{CanStop, HasFault, IsEndOf, IsStorm};
 ghost use Rattle.pie_storm.specs.StormHistory.{WritesHistory};
 ghost use Rattle.pie_storm.specs.StormPlan.{HasStormRange, IsStormPlan};
 
@@ -56,8 +56,7 @@ pub fn make_storm<H: Threads + Wait + Clock + Sync>(
     ensures registers { IfOk result (λ made. made.end.registers ≡ registers_after (opening_of made.plan) made.end.events.items) }
     ensures stats { IfOk result (λ made. made.end.stats ≡ stats_after (opening_of made.plan) made.end.events.items) }
     ensures ended { IfOk result (λ made. IsEndOf made.plan made.end) }
-    ensures fault { IfErr result (λ why. (why ≡ StormFault.Memory) ⊎ ((plan : Plan) × IsStormPlan numbers plan × HasFault plan why)) }
-    ensures no_gap { result ≢ Err StormFault.Gap }
+    ensures fault { IfErr result CanStop }
 {
     let plan = match plan_of(alloc, numbers) {
         Ok(plan) => plan,

@@ -29,7 +29,7 @@ DEFINED = re.compile(r"^(?:abbrev |unfoldable )?pub (?:record |data )?(\S+)", re
 PASSED_ON = re.compile(r"^(?:unfoldable )?pub use .*\{(.*)\}", re.M)
 GLOB = re.compile(r"^(.*)\buse Rattle\.pie_guarantees\.specs\.\{(.*)\}", re.M)
 DATA = re.compile(r"^pub data (\w+) : Type 0 where\n((?:  .*\n)+)", re.M)
-NOT_COPIED = ("pie_audit", "pie_record")
+NOT_COPIED = ("pie_audit", "pie_record", "pie_link", "pie_lock", "atomic_table")
 LEMMA = re.compile(r"^ *(?:abbrev )?(?:pub )?([^\s(){}]+) : ", re.M)
 
 
@@ -43,7 +43,7 @@ def read(rule):
 
 
 def below(lines):
-    """Returns the lines of crates.txt of pie_guarantees and of the crates that its laws use, without audits, which one law names."""
+    """Returns the lines of crates.txt of pie_guarantees and of the crates that its laws use, without audits and links, which one law each names."""
     found = {}
     for line in lines:
         head, colon, rest = line.partition(":")

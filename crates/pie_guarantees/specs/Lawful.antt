@@ -2,9 +2,13 @@
 use Rattle.std.specs.Prelude.{◌≡◌, ◌++◌, List, [], ◌∷◌, None, All, ⊤}
 use Rattle.pie_params.specs.Range.{first_bad}
 use Rattle.pie_event.specs.Opening.{opening_refusal}
-use Rattle.pie_guarantees.specs.Names.{Event, Opening}
-pub use Rattle.pie_link.specs.Kept.{SetsInRange}
+use Rattle.pie_guarantees.specs.Names.{Command, SetParams, Event, Opening}
 use Rattle.pie_book.specs.Decision.{IsLegal}
+
+-- new parameters are in their ranges
+abbrev pub SetsInRange : Command → Type 0
+SetsInRange (SetParams moment params) = first_bad params ≡ None
+SetsInRange _ = ⊤
 
 -- limits, parameters and moment of the opening are accepted, new parameters are in their ranges, and each command is taken at its place and
 -- has the answer that the rules give there

@@ -4,7 +4,7 @@ use Rattle.pie_guarantees.proofs.Names.{append_assoc, deed, is_update, after_cal
 use Rattle.pie_guarantees.proofs.Names.{Update, Answer, Event, Opening, call_of, is_too_soon, held_after}
 use Rattle.pie_guarantees.proofs.Names.{params_after, parts_after, effective_moment, waiting_after, AllAllow, Allows, IsAllowed, KeepsParams}
 use Rattle.pie_guarantees.proofs.Names.{SetsAllow, nat_tests, burst_left, updates_in, IsLawful, IsEarly, get_or}
-use Rattle.pie_guarantees.proofs.Names.{◌<◌, bytes_of}
+use Rattle.pie_guarantees.proofs.Names.{◌<◌, bytes_of, refl, Reset}
 use Rattle.pie_aqm.specs.Steps as Steps
 use Rattle.pie_guarantees.proofs.LawfulFacts.{IsStep, all_along, along, counted-cons, first-held, sound_at, step_at}
 use Rattle.pie_guarantees.proofs.EarlyFacts.{early_at}
@@ -181,6 +181,10 @@ allowed_where_kept opening before later lawful keep =
     lawful (all_along (λ (event : Event). KeepsParams event.command) [] before keep) (subst Within (first-held opening) (omega arith))
 
 -- ---- where the allowance is whole
+
+pub reset-whole : (h : Held) (waiting : List Waiting) (packets moment : ℕ)
+    → (after_call h (call_of waiting packets (Reset moment))).control.burst ≡ (after_call h (call_of waiting packets (Reset moment))).params.max_burst
+reset-whole h waiting packets moment = refl
 
 pub wakes-whole : (h : Held) (waiting : List Waiting) (packets : ℕ) (command : Command) → h.active ≡ false
     → (after_call h (call_of waiting packets command)).active ≡ true

@@ -4,7 +4,7 @@ use Rattle.pie_guarantees.proofs.Names.{append_assoc, AtEachEvent, IsLawful, Eve
 use Rattle.pie_guarantees.proofs.Names.{deed, deed_of, is_update, handed_in, refusal_with, refusal_by_rule, after_call, call_of}
 use Rattle.pie_guarantees.proofs.Names.{params_after, effective_moment, held_after, waiting_after, in-range, length}
 use Rattle.pie_event.specs.declared.refusal.Refusal.TheVariants.{TooSoon}
-use Rattle.pie_book.proofs.CoreFacts.{effective_moment-push}
+use Rattle.pie_guarantees.proofs.Names.{effective_moment-push}
 use Rattle.pie_guarantees.proofs.LawfulFacts.{sound_at, step_at}
 
 soon : (now due count events moment why : ℕ) → refusal_with now due count events (Update moment) ≡ Some (TooSoon why) → moment < due

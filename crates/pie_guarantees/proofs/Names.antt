@@ -21,6 +21,7 @@ pub use Rattle.pie_aqm.specs.Places.{Place, places}
 pub use Rattle.pie_aqm.specs.Steps.{anew, bytes_with, choice, chosen, is_calm, judged, now_at, offered}
 unfoldable pub use Rattle.pie_aqm.specs.Steps.{verdict}
 pub use Rattle.pie_book.proofs.CoreFacts.{answer_fits, at_place, departed-of-legal, first_shows, held-is, next-core, next-legal}
+pub use Rattle.pie_book.proofs.CoreFacts.{effective_moment-push, waiting_after-push}
 unfoldable pub use Rattle.pie_book.proofs.Examples.{worked}
 pub use Rattle.pie_book.specs.Decision.{arrival_of, call_of, departure_call}
 pub use Rattle.pie_book.specs.Decision.{IsLegal, IsLegalAt, answer_by, answer_to_departure, decision, has_bad_size, is_too_soon, refusal_by_rule}

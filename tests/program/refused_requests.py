@@ -1,7 +1,7 @@
 #!/usr/bin/env python3
 """Refuses the built program each request for memory, each read and each write in turn, once and from there on (tests/shared/refuse.c): it ends with
 its fault, and what it wrote before is a beginning of what it writes where nothing is refused. So of a long text, whose pages are many; and of short
-ones that are read and written 7 bytes at a time, of each subcommand that reads or writes. So too each request by which it makes, writes, moves and
+ones that are read and written 7 bytes at a time, of each subcommand that reads or writes: there a failed read ends the text of all records before it. So too each request by which it makes, writes, moves and
 removes the file of -o: then what was there is there, or all that there was to write. refused_storms.py beside this does so of a storm.
 
 usage: tests/program/refused_requests.py [PROGRAM]      PROGRAM: crates/pie/out/pie where none is given
@@ -33,6 +33,14 @@ def is_beginning(words, variable, output, want):
     return "--summary" in words or set(output.splitlines()) <= set(want.splitlines())
 
 
+def texts_before(words, given, place):
+    """What may be written before this read, if each before it gave STEP bytes: the output of the records that ended by then, those of the last page
+    among them, or of those that ended one read earlier, since a record may be taken up only with the next read."""
+    for reads in (place - 1, max(place - 2, 0)):
+        read = given[:STEP * reads]
+        yield run(words, read[:read.rfind(b"\n") + 1])[1]
+
+
 def refused(library, met, name, words, given, variables=tuple(FAULTS), **more):
     """Each request for memory, each read and each write refused in turn; answers what is written with none refused, and how many there are."""
     want, counts = run(words, given)[1], {}
@@ -49,6 +57,8 @@ def refused(library, met, name, words, given, variables=tuple(FAULTS), **more):
                 did_with_less = variable == "REFUSE_MEMORY" and not on and (status, output, errors) == (0, want, b"")
                 check(status == 1 and told(words, says, errors) or did_with_less, name, variable, place, on, status, errors[:100])
                 check(is_beginning(words, variable, output, want), name, variable, place, on, "no beginning of the text")
+                if more and given and variable == "REFUSE_READ" and words[0] != "audit":
+                    check(output in texts_before(words, given, place), name, variable, place, on, "not the text of all records before", output[-80:])
             print(f"{NAME}: {name}: {variable} at {counts[variable]} places{' and all after them' if on else ''}")
     return want, counts
 

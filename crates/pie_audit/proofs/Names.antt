@@ -22,9 +22,14 @@ pub use Rattle.pie_audit.specs.{is_active_after, is_device, is_resumed, is_same_
 pub use Rattle.pie_audit.specs.{opening_refusal, option_map, part_rows, records_of, refusal_by_rule, same_answers, sets_after, sets_probability}
 pub use Rattle.pie_audit.specs.{setter_at, setter_by, setter_told, setter_with, start_after, text_finding, written_rows, ⊤}
 pub use Rattle.pie_audit.specs.declared.auditor.Finding.{Finding}
-pub use Rattle.pie_audit.specs.Start.{Start}
-unfoldable pub use Rattle.pie_audit.specs.{TellEach, agrees, event_count, events_of, excerpt_fault, excerpt_lines, finding, first_difference}
-unfoldable pub use Rattle.pie_audit.specs.{history_opening, line_places, opening_of, resumed_of, rows_text, setter_after, version_of, waiting_after}
+pub use Rattle.pie_audit.specs.Start.{Start, from_opening}
+pub use Rattle.pie_audit.specs.Origin.{Begins, IsAccepted, Origin, StandsAfter, agrees_after, count_after, first_setter, at_core, at_opening, is_active_at}
+pub use Rattle.pie_audit.specs.Origin.{most_events}
+pub use Rattle.pie_audit.specs.{AuditsFrom, StandsAt, differs_from, finding, finding_at, finding_from, first_difference, number_at, setter_after, setter_in, start_at}
+unfoldable pub use Rattle.pie_audit.specs.Origin.{agrees_in}
+unfoldable pub use Rattle.pie_book.specs.Core.{core_along}
+unfoldable pub use Rattle.pie_audit.specs.{TellEach, agrees, event_count, events_of, excerpt_fault, excerpt_lines, difference_from}
+unfoldable pub use Rattle.pie_audit.specs.{history_opening, line_places, opening_of, resumed_of, rows_text, setter_among, version_of, waiting_after}
 pub use Rattle.pie_aqm.specs.Places.{Place, after}
 unfoldable pub use Rattle.pie_aqm.specs.Places.{places}
 pub use Rattle.pie_book.specs.Decision.{refusal_with}

@@ -1,4 +1,6 @@
 pub mod Names
+pub mod Agreeing
+pub mod Origin
 pub mod Finding
 pub mod Auditor
 pub mod Text
@@ -10,6 +12,8 @@ pub mod Following
 pub mod Lines
 pub mod Told
 unfoldable pub use Names.*
+unfoldable pub use Agreeing.*
+unfoldable pub use Origin.*
 unfoldable pub use Finding.*
 unfoldable pub use Auditor.*
 unfoldable pub use Text.*

@@ -12,7 +12,7 @@ pub use Rattle.std.proofs.lemmas.List.Folds.{find-append}
 pub use Rattle.std.specs.List.{filter_map, find}
 pub use Rattle.std.specs.Option.{option_or}
 pub use Rattle.std.specs.Prelude.{nat_le, nat_lt, not, slice_get, ◌&&◌, ◌||◌, ◌⊎◌}
-pub use Rattle.pie_cut.specs.{All, Appends, AreSegments, AuditorView, Audits, BeginningsTell, BeginsWith, BegunBy, Clean, Clock, Coming, CoreView}
+pub use Rattle.pie_cut.specs.{All, Appends, AreSegments, AuditorView, AuditsFrom, BeginningsTell, BeginsWith, BegunBy, Clean, Clock, Coming, CoreView}
 pub use Rattle.pie_cut.specs.{Differs, EndView, Err, Event, EventFits, Finding, GoesOn, IfSome, IsCut, IsFound, IsInSegments, IsLegal, IsShort}
 pub use Rattle.pie_cut.specs.{IsText, IsWritten, JoinsBy, Limits, Line, LinePlace, Made, None, Note, Ok, OnOk, Opening, Option, Result, Row, Segments}
 pub use Rattle.pie_cut.specs.{Setter, Shows, Some, Standing, Start, TraceFault, Unmakeable, Waiting, WaitingFits, append_known, are_in_range}
@@ -20,12 +20,14 @@ pub use Rattle.pie_cut.specs.{chosen_at, chosen_by, coming_by, cons_option, end_
 pub use Rattle.pie_cut.specs.{is_past, is_past_at, is_reached_at, is_resumed, is_some, kept, latest_clock, lines_told, met_at, met_by, min, moment_in}
 pub use Rattle.pie_cut.specs.{next_number, number_told, opening_refusal, part_rows, past_by, place_after, queued_row, reached_by, records_of}
 pub use Rattle.pie_cut.specs.{resume_with, segment, set_by_after, start_after, text_of, up_to, waiting_after, whole_lines, within}
-unfoldable pub use Rattle.pie_cut.specs.{chosen, event_count, events_of, excerpt_lines, finding, first_difference, line_places, resume_row, rows_text}
-pub use Rattle.pie_audit.proofs.LegalFacts.{all-made, event_count-push, legal-clean, made-events, difference_here, events_of-none}
+pub use Rattle.pie_cut.specs.{Origin, StandsAt, at_core, at_opening, count_after, finding, finding_from, first_difference, opening_in, standing_of}
+unfoldable pub use Rattle.pie_cut.specs.{chosen, difference_from, event_count, events_of, excerpt_lines, line_places, resume_row, rows_text}
+pub use Rattle.pie_audit.proofs.LegalFacts.{all-made, event_count-push, legal-clean, made-events, difference-push, difference_here, events_of-none}
 pub use Rattle.pie_audit.proofs.LegalFacts.{first_difference-push, legal-of-clean, line_places-push}
-pub use Rattle.pie_audit.proofs.AuditorFacts.{event_count-append, few-events, made-count, none_of, Audits-finding}
+pub use Rattle.pie_audit.proofs.AuditorFacts.{count-push, event_count-append, few-may, made-count, none_of, Audits-finding}
 pub use Rattle.pie_audit.specs.Begun.{WholeBegun}
 pub use Rattle.pie_audit.specs.Finding.{agrees, event_in, finding_by}
+pub use Rattle.pie_audit.specs.Origin.{agrees_after}
 pub use Rattle.pie_audit.specs.Text.{FindsAfter, FindsBy, TellsPart, lines_after}
 pub use Rattle.pie_cut.specs.declared.joined.Joined.{Joined}
 pub use Rattle.pie_cut.specs.declared.joined.Joint.{Joint}
@@ -45,5 +47,5 @@ pub use Rattle.pie_record.specs.Text.{HasField}
 pub use Rattle.pie_record.specs.Write.{line_rows, told_alone, without_notes}
 pub use Rattle.pie_record.specs.declared.version.Version.{Version}
 pub use Rattle.pie_record.specs.declared.version.Version.TheVariants.{Three}
-pub use Rattle.pie_audit.proofs.ToldFacts.{begun-faulted, begun-found, part-begun}
+pub use Rattle.pie_audit.proofs.ToldFacts.{begun-faulted, begun-found, one-value, part-begun}
 pub use Rattle.pie_explain.proofs.ExplainFacts.{all-written, appends-more, appends-page, by-lines}

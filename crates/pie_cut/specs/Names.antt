@@ -2,22 +2,25 @@
 pub use Rattle.std.specs.Io.KnownBytes.{Appends, append_known}
 pub use Rattle.std.specs.List.{cons_option, flat_map}
 pub use Rattle.std.specs.Option.{is_some}
-pub use Rattle.std.specs.Prelude.{All, Bool, Err, IfErr, IfSome, List, None, Ok, OnOk, Option, Result, Some, [], false, length, map, min, true, ℕ}
-pub use Rattle.pie_audit.specs.Auditor.{AuditorView, Audits}
+pub use Rattle.std.specs.Prelude.{All, Bool, Err, IfErr, IfOk, IfSome, List, None, Ok, OnOk, Option, Result, Some, [], false, length, map, min, true, ℕ}
+pub use Rattle.pie_audit.specs.Auditor.{AuditorView, Audits, AuditsFrom}
 pub use Rattle.pie_audit.specs.Begun.{BegunBy}
 pub use Rattle.pie_audit.specs.Finding.{LinePlace}
-unfoldable pub use Rattle.pie_audit.specs.Finding.{events_of, finding, first_difference, line_places}
+pub use Rattle.pie_audit.specs.Finding.{finding, finding_from, first_difference}
+unfoldable pub use Rattle.pie_audit.specs.Finding.{difference_from, events_of, line_places}
+pub use Rattle.pie_audit.specs.Origin.{Origin, at_core, at_opening, count_after, opening_in}
+unfoldable pub use Rattle.pie_book.specs.Core.{core_along}
 pub use Rattle.pie_audit.specs.Following.{Follows, next_number}
-pub use Rattle.pie_audit.specs.Setters.{setter_after, setter_by}
+pub use Rattle.pie_audit.specs.Setters.{setter_in}
 pub use Rattle.pie_audit.specs.Start.{Start, from_opening, setter_told, start_after}
 pub use Rattle.pie_audit.specs.Text.{FindsEither, IsFound, whole_finding}
 unfoldable pub use Rattle.pie_audit.specs.Text.{excerpt_lines}
-pub use Rattle.pie_audit.specs.Told.{BeginningsTell, BeginsAt, TextToldBy, coming_by, fault_by, whole_lines}
+pub use Rattle.pie_audit.specs.Told.{BeginningsTell, BeginsAt, StandsAt, TextToldBy, coming_by, fault_by, whole_lines}
 pub use Rattle.pie_audit.specs.declared.auditor.Finding.{Finding}
 pub use Rattle.pie_audit.specs.declared.auditor.Finding.TheVariants.{Clean, Differs}
 pub use Rattle.pie_book.specs.Core.{CoreView, Shows}
 pub use Rattle.pie_book.specs.Decision.{IsLegal}
-pub use Rattle.pie_book.specs.History.{waiting_after}
+unfoldable pub use Rattle.pie_book.specs.History.{waiting_after}
 pub use Rattle.pie_book.specs.declared.standing.Standing.{Standing}
 pub use Rattle.pie_event.specs.Opening.{are_in_range, opening_refusal}
 pub use Rattle.pie_event.specs.declared.command.Event.{Event}

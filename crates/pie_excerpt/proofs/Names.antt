@@ -17,8 +17,8 @@ pub use Rattle.pie_excerpt.specs.{flag, held_numbers, is_device, is_kind, is_res
 pub use Rattle.pie_excerpt.specs.{number_at, numbers_fault, onto, opened_numbers, opening_row, part_rows, placed_numbers, queue_refusal, queued_after}
 pub use Rattle.pie_excerpt.specs.{queued_by, records_of, resume_of_excerpt, resume_refusal, resume_with, resumed_by, rows_setup, setter_at}
 pub use Rattle.pie_excerpt.specs.{setter_field, setter_of, standing_row, text_of, with_packet}
-pub use Rattle.pie_excerpt.specs.Beginning.{Beginning, is_placed, is_set_within}
-unfoldable pub use Rattle.pie_excerpt.specs.{chosen_at, core_from, field_at, later_at, number, numbers_at, packet_at, params_at, queued_of}
+pub use Rattle.pie_excerpt.specs.Beginning.{Beginning, is_placed, is_set_within, past_most, queue_cut}
+unfoldable pub use Rattle.pie_excerpt.specs.{chosen_at, core_from, fault_within, field_at, later_at, number, numbers_at, packet_at, params_at, queued_of}
 unfoldable pub use Rattle.pie_excerpt.specs.{queued_row, resume_of, resume_row, resumed_of, rows_text, waiting_after, with_queue}
 unfoldable pub use Rattle.csv.specs.Reading.{strip_bom}
 pub use Rattle.pie_aqm.specs.Held.{Held}

@@ -12,7 +12,8 @@ pub mod resume;
 mod writing;
 mod written;
 
-pub use beginning::{Begun, begin_resumed, is_resume};
+pub use beginning::{Begun, begin_resumed, fault_within, is_resume};
+pub use reading::read_resume;
 pub use fits::{params_are_good, resume_fits};
 pub use law::{beginnings_are_written_again, beginnings_go_on, records_are_read_back};
 pub use resume::Resume;

@@ -1,12 +1,12 @@
 -- How explaining a history ends: as its audit would, or with nothing to explain.
 use Rattle.std.specs.Prelude.{◌≡◌, ◌==◌, ◌≤◌, nat_le, ◌&&◌, Ok, if◌then◌else◌}
-use Rattle.pie_explain.specs.Names.{ℕ, nat_lt, List, length, Bool, true, false, Option, Some, None, Result, Err, Appends, Opening, TraceFault, Line}
-use Rattle.pie_explain.specs.Names.{Finding, Audits, AuditorView, event_count, Explained, Setter, Selection, is_whole, Start}
+use Rattle.pie_explain.specs.Names.{ℕ, nat_lt, List, length, Bool, true, false, Option, Some, None, Result, Err, Appends, TraceFault, Line}
+use Rattle.pie_explain.specs.Names.{Finding, AuditsFrom, AuditorView, count_after, Explained, Setter, Selection, is_whole, Start, Origin}
 use Rattle.pie_record.specs.Fault.{is_device}
 use Rattle.pie_audit.specs.declared.auditor.Finding.TheVariants.{Clean}
 use Rattle.pie_audit.specs.declared.following.Follower.{Follower}
 use Rattle.pie_audit.specs.Following.{Follows}
-use Rattle.pie_audit.specs.Finding.{finding as finding_of}
+use Rattle.pie_audit.specs.Finding.{finding_from}
 use Rattle.pie_explain.specs.declared.fault.ExplainFault.{ExplainFault}
 use Rattle.pie_explain.specs.declared.fault.ExplainFault.TheVariants.{Trace, Differs, Earlier, NoEvent, NoTag, NoneWithin}
 use Rattle.pie_explain.specs.declared.which.Which.{Which}
@@ -33,11 +33,11 @@ abbrev pub answered : Selection → ℕ → ℕ → Finding → Result ℕ Expla
 answered choice before explained (finding.Differs event) = Err (Differs event)
 answered choice before explained (Clean events) = if explained == 0 then none_picked (is_whole choice) choice.which before events else Ok explained
 
--- the answer to a history of these lines, of which a text has those after its beginning, and the fault after them
-abbrev pub answer_since : Selection → Start → Opening → List Line → Option TraceFault → Result ℕ ExplainFault
-answer_since choice start opening lines (Some why) = Err (Trace why)
-answer_since choice start opening lines None =
-    answered choice start.events (length (explanations_since start opening choice lines)) (finding_of opening lines)
+-- the answer to these lines, which come after that origin, and of which a text has those after its beginning, and the fault after them
+abbrev pub answer_since : Selection → Start → Origin → List Line → Option TraceFault → Result ℕ ExplainFault
+answer_since choice start origin lines (Some why) = Err (Trace why)
+answer_since choice start origin lines None =
+    answered choice start.events (length (explanations_since start origin choice lines)) (finding_from origin lines)
 
 -- an answer says what the audit of the text answers: its fault, or its first difference; or there is none
 abbrev pub IsAsAudited : Result Finding TraceFault → Result ℕ ExplainFault → Type 0
@@ -50,21 +50,21 @@ IsAsAudited audited other = (events : ℕ) × (audited ≡ Ok (Clean events))
 
 -- these lines were looked at, of which a text has those after its beginning, and were shown their chosen events, of which the tale joined what was
 -- there before, and which were counted
-pub record Explains (start : Start) (opening : Opening) (choice : Selection) (tale : List Explained → List ℕ) (shows : List Explained → Type 0)
+pub record Explains (start : Start) (origin : Origin) (choice : Selection) (tale : List Explained → List ℕ) (shows : List Explained → Type 0)
     (lines : List Line) (auditor : AuditorView) (set_by : Setter) (explained : ℕ) (before now : Option (List ℕ)) : Type 0 where
-  pub follows : Follows start opening lines auditor set_by
-  pub counted : explained ≡ length (explanations_since start opening choice lines)
-  pub few : explained ≤ event_count lines
-  pub shown : shows (explanations_since start opening choice lines)
-  pub written : Appends before now (tale (explanations_since start opening choice lines))
+  pub follows : Follows start origin lines auditor set_by
+  pub counted : explained ≡ length (explanations_since start origin choice lines)
+  pub few : explained ≤ count_after origin lines
+  pub shown : shows (explanations_since start origin choice lines)
+  pub written : Appends before now (tale (explanations_since start origin choice lines))
 
 -- ---- how it ends
 
 -- what is written: the whole tale of the chosen events, of those that a text has after its beginning
-abbrev pub IsSaid : Selection → (List Explained → List ℕ) → Start → Opening → List Line → List ℕ → Type 0
-IsSaid choice whole start opening lines said = said ≡ whole (explanations_since start opening choice lines)
+abbrev pub IsSaid : Selection → (List Explained → List ℕ) → Start → Origin → List Line → List ℕ → Type 0
+IsSaid choice whole start origin lines said = said ≡ whole (explanations_since start origin choice lines)
 
 -- all lines were looked at, and the explained events counted
-abbrev pub HasExplained : Selection → Start → Opening → List Line → Follower → ℕ → Type 0
-HasExplained choice start opening lines follower explained = (start.events ≡ follower.before) × Audits opening follower.auditor lines
-    × (explained ≡ length (explanations_since start opening choice lines))
+abbrev pub HasExplained : Selection → Start → Origin → List Line → Follower → ℕ → Type 0
+HasExplained choice start origin lines follower explained = (start.events ≡ follower.before) × AuditsFrom origin follower.auditor lines
+    × (explained ≡ length (explanations_since start origin choice lines))

@@ -1,5 +1,9 @@
 -- What there is to say of an event after a history: the numbers that it met, and what decided it.
 use Rattle.std.specs.Prelude.{ℕ, max, List, Option}
+use Rattle.pie_aqm.specs.Steps.{delay_in}
+use Rattle.pie_audit.specs.Origin.{Origin, at_core, at_opening}
+use Rattle.pie_book.specs.Core.{CoreView, cause_in, core_along, registers_of}
+use Rattle.pie_queue.specs.Queue.{bytes_of}
 use Rattle.pie_event.specs.declared.command.Event.{Event}
 use Rattle.pie_event.specs.declared.opening.Opening.{Opening}
 use Rattle.pie_event.specs.Deed.{deed_of, handed_in, is_update}
@@ -39,3 +43,45 @@ with_after opening history told = record {
   after = registers_after opening history;
   delay = delay_after opening history;
 }
+
+-- ---- the same of a core, whatever its state
+
+-- the effective moment of an event that a core is about to decide
+abbrev pub moment_met : CoreView → Event → ℕ
+moment_met core event = max core.held.moment (handed_in event.command)
+
+-- the event with this number that a core is about to decide, all numbers being the core's, where this record tells the time of day
+unfoldable pub explanation_in : CoreView → ℕ → Event → Setter → Option Clock → Explanation
+explanation_in core number event set_by clock = record {
+  number = number;
+  event = event;
+  moment = moment_met core event;
+  before = registers_of core;
+  delay = delay_in core.held (bytes_of core.waiting);
+  cause = cause_in core event.command;
+  waited = wait_of (deed_of event) (moment_met core event) core.waiting;
+  set_by = set_by;
+  updates = core.stats.updates;
+  clock = clock;
+}
+
+-- .. with what a core holds that has decided it
+abbrev pub with_core : CoreView → Explanation → Explained
+with_core core told = record { told = told; after = registers_of core; delay = delay_in core.held (bytes_of core.waiting) }
+
+-- ---- of an event of lines, wherever they begin
+
+-- the effective moment of an event after these
+abbrev pub moment_after : Origin → List Event → Event → ℕ
+moment_after (at_opening opening) events event = moment_of opening events event
+moment_after (at_core opening core told) events event = moment_met (core_along core events) event
+
+-- the event with this number after these
+abbrev pub explanation_after : Origin → List Event → ℕ → Event → Setter → Option Clock → Explanation
+explanation_after (at_opening opening) events number event set_by clock = explanation opening events number event set_by clock
+explanation_after (at_core opening core told) events number event set_by clock = explanation_in (core_along core events) number event set_by clock
+
+-- .. with what the controller holds after these, whose last it is
+abbrev pub ended_after : Origin → List Event → Explanation → Explained
+ended_after (at_opening opening) events told = with_after opening events told
+ended_after (at_core opening core set_by) events told = with_core (core_along core events) told

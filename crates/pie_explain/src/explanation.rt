@@ -4,9 +4,8 @@ ghost use Rattle.pie_event.specs.declared.command.Event.{Event};
 ghost use Rattle.pie_event.specs.declared.opening.Opening.{Opening};
 ghost use Rattle.pie_book.specs.Core.{Shows};
 ghost use Rattle.pie_event.specs.Deed.{deed_of};
-ghost use Rattle.pie_book.specs.History.{waiting_after};
 ghost use Rattle.pie_book.specs.Statistics.{wait_of};
-ghost use Rattle.pie_explain.specs.Explanation.{moment_of};
+ghost use Rattle.pie_explain.specs.Explanation.{moment_met, moment_of};
 
 use pie_book::{Answer, Cause, Command, Core, Event, Registers};
 use pie_event::Setter;
@@ -52,8 +51,7 @@ pub struct Explained {
 
 /// How long the packet had waited that an event let go, at its effective moment, and 0 for any other event.
 fn waited(core: &Core, event: &Event, now: u64) -> u64
-    ensures { (opening : Opening) (history : List Event) → Shows opening core.now history
-        → result ≡ wait_of (deed_of event.now) now (waiting_after opening history) }
+    ensures { result ≡ wait_of (deed_of event.now) now core.now.waiting }
 {
     match event.command {
         Command::Depart { .. } => match event.answer {
@@ -70,7 +68,8 @@ fn waited(core: &Core, event: &Event, now: u64) -> u64
 /// The effective moment of an event that a core is about to decide.
 #[tactic(auto, unfolding(pie_book::specs::Registers::registers_after))]
 pub fn moment_of(core: &Core, event: &Event) -> u64
-    ensures { (opening : Opening) (history : List Event) → Shows opening core.now history → result ≡ moment_of opening history event.now }
+    ensures after { (opening : Opening) (history : List Event) → Shows opening core.now history → result ≡ moment_of opening history event.now }
+    ensures in_state { result ≡ moment_met core.now event.now }
 {
     let before = core.registers();
     let handed_in = event.command.moment();
@@ -78,7 +77,7 @@ pub fn moment_of(core: &Core, event: &Event) -> u64
 }
 
 impl Explained {
-    ghost use Rattle.pie_explain.specs.Explanation.{explanation, with_after};
+    ghost use Rattle.pie_explain.specs.Explanation.{explanation, explanation_in, with_after, with_core};
 
     /// What there is to say of an event with this number that a core is about to decide, where `set_by` is what last set the probability, and
     /// `clock` the last record that tells the time of day; made where it stays: as long as the core has not decided it, what it held before stands
@@ -91,8 +90,9 @@ impl Explained {
         set_by: Setter,
         clock: Option<Clock>,
     ) -> Explained
-        ensures { (opening : Opening) (history : List Event) → Shows opening core.now history
+        ensures after { (opening : Opening) (history : List Event) → Shows opening core.now history
             → result.told ≡ explanation opening history number event.now set_by clock }
+        ensures in_state { result.told ≡ explanation_in core.now number event.now set_by clock }
     {
         let before = core.registers();
         let now = moment_of(core, event);
@@ -115,7 +115,9 @@ impl Explained {
     /// Takes what a core holds that has decided the event.
     #[inline(always)]
     pub(crate) fn end(&mut self, core: &Core)
-        ensures { (opening : Opening) (history : List Event) → Shows opening core.now history → self.new ≡ with_after opening history self.old.told }
+        ensures after { (opening : Opening) (history : List Event) → Shows opening core.now history
+            → self.new ≡ with_after opening history self.old.told }
+        ensures in_state { self.new ≡ with_core core.now self.old.told }
     {
         self.after = core.registers();
         self.delay = core.delay();

@@ -1,6 +1,6 @@
 //! How the explanations of an excerpt are those of the whole history.
 ghost use Rattle.std.specs.Prelude.{◌≡◌, ◌++◌, map};
-ghost use Rattle.pie_explain.specs.{List, Option, length, true, false, Event, Opening, Line, Made, TraceFault, Start, from_opening};
+ghost use Rattle.pie_explain.specs.{List, Option, length, true, false, Event, Opening, Line, Made, TraceFault, Start, from_opening, at_opening};
 ghost use Rattle.pie_explain.specs.{IsAsAudited, answer_since, explanations, as_told, explanations_since};
 ghost use Rattle.pie_explain.specs.Names.{Selection};
 ghost use Rattle.pie_audit.specs.Text.{judged};
@@ -12,14 +12,14 @@ ghost use Rattle.pie_audit.specs.Text.{judged};
 #[tactic(auto, using(crate::proofs::ExplainFacts::since_opening, crate::proofs::ExplainFacts::rest_said, crate::proofs::ExplainFacts::as_untold))]
 pub fn excerpts_are_explained_as_the_whole()
     ensures whole { (opening : Opening) (choice : Selection) (lines : List Line)
-        → explanations_since from_opening opening choice lines ≡ explanations opening choice lines }
+        → explanations_since from_opening (at_opening opening) choice lines ≡ explanations (at_opening opening) choice lines }
     ensures rest { (opening : Opening) (choice : Selection) (past : List Event) (lines : List Line)
-        → explanations opening choice (map Made past ++ lines) ≡ explanations opening choice (map Made past)
-        ++ explanations_since (record { events = length past; tells = true }) opening choice (map Made past ++ lines) }
+        → explanations (at_opening opening) choice (map Made past ++ lines) ≡ explanations (at_opening opening) choice (map Made past)
+        ++ explanations_since (record { events = length past; tells = true }) (at_opening opening) choice (map Made past ++ lines) }
     ensures untold { (opening : Opening) (choice : Selection) (past : List Event) (lines : List Line)
-        → explanations_since (record { events = length past; tells = false }) opening choice (map Made past ++ lines)
+        → explanations_since (record { events = length past; tells = false }) (at_opening opening) choice (map Made past ++ lines)
         ≡ map (as_told (record { events = length past; tells = false }))
-        (explanations_since (record { events = length past; tells = true }) opening choice (map Made past ++ lines)) }
+        (explanations_since (record { events = length past; tells = true }) (at_opening opening) choice (map Made past ++ lines)) }
 {}
 
 /// What is answered of a text says what its audit finds: its fault, its first difference, or that there is none.
@@ -28,5 +28,5 @@ pub fn excerpts_are_explained_as_the_whole()
 #[tactic(auto, using(crate::proofs::ExplainFacts::since_audited))]
 pub fn explaining_is_auditing()
     ensures { (start : Start) (choice : Selection) (opening : Opening) (lines : List Line) (fault : Option TraceFault)
-        → IsAsAudited (judged opening lines fault) (answer_since choice start opening lines fault) }
+        → IsAsAudited (judged opening lines fault) (answer_since choice start (at_opening opening) lines fault) }
 {}

@@ -78,7 +78,6 @@ differs-never are_lines whole opening own events event is legal differs =
     cc
 
 no-difference : (opening : Opening) (lines : List Line) (events : ℕ) → finding opening lines ≡ Clean events → first_difference opening lines ≡ None
-unfolding finding
 no-difference opening lines events is = grind (arith, nat_tests)
 
 few-limits : (limits : Limits) (moment n : ℕ) → opening_refusal limits moment ≡ None → limits.events ≡ limits.tail → n ≤ limits.events → n < 2 ^ 32

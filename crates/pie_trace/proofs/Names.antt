@@ -16,6 +16,7 @@ pub use Rattle.pie_trace.specs.{line_told, lines_left, rows_left, migrated_text,
 pub use Rattle.pie_trace.specs.{progress_at_end, queued_row, records_of, refused, refused_count, reply, reply_to_command, reply_to_fold, request_in}
 pub use Rattle.pie_trace.specs.{start, stats_after, text_of, told_by, told_rows}
 pub use Rattle.pie_trace.specs.Reply.{Reply}
+pub use Rattle.pie_trace.specs.{CoreView, apply_in, core_after, registers_of}
 unfoldable pub use Rattle.pie_trace.specs.{after_opening, answer_fields, before_fault, end_of, fault_of, first_fault, first_in_two, first_kind}
 unfoldable pub use Rattle.pie_trace.specs.{folded_row, history_events, history_fault, history_opening, history_rows, history_text, history_version}
 unfoldable pub use Rattle.pie_trace.specs.{later_in_two, line_of, lines_told, migrated, opening_of, progress_after, record_fault, refused_row}

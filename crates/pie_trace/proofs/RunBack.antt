@@ -24,7 +24,11 @@ use Rattle.pie_audit.specs.Finding.{event_in, events_of}
 use Rattle.pie_audit.specs.Text.{text_finding, IsFound, TellsPart, excerpt_lines, whole_finding, excerpt_fault, fault_after}
 use Rattle.pie_excerpt.specs.Beginning.{Beginning, BeginsWell, GoesOn, resumed_of, is_resumed}
 use Rattle.pie_audit.specs.Legal.{EventsAreLines}
-use Rattle.pie_trace.specs.Resumed.{going_by, progress_resumed, resumed_end, resumed_fault, resumed_text, resumed_within}
+use Rattle.pie_trace.specs.Resumed.{going_by, progress_resumed, resumed_end, resumed_fault, resumed_text, resumed_within, long_by, within_by, within_most}
+use Rattle.pie_excerpt.specs.Reading.{resume_of}
+use Rattle.pie_excerpt.specs.declared.resume.Resume.{Resume}
+use Rattle.pie_trace.proofs.Names.{and_then, ◌==◌}
+use Rattle.pie_record.specs.declared.fault.TraceFault.TheVariants as fault
 use Rattle.std.proofs.lemmas.List.{take-append-drop}
 use Rattle.pie_queue.specs.declared.packet.Waiting.{Waiting}
 use Rattle.pie_text.specs.Lost.{lost_row}
@@ -452,8 +456,21 @@ record Within (most : ℕ) (rows : List Row) (b : Beginning) : Type 0 where
   begun : resumed_of rows ≡ Ok b
   few : b.read ≤ most
 
+behind : (most : ℕ) (rows : List Row) (b : Beginning) → resumed_within most rows ≡ Ok b → and_then (resumed_of rows) (within_most most) ≡ Ok b
+behind most [] b e = e
+behind most (row ∷ rows) b e = by (most == 0) (long_by most (resume_of row)) e
+  where
+    by : (none : Bool) (long : Option Resume)
+        → (if none then Err fault.TooLong else within_by most long (row ∷ rows) rows) ≡ Ok b
+        → and_then (resumed_of (row ∷ rows)) (within_most most) ≡ Ok b
+    by true long e = cc
+    by false (Some r) e = cc
+    by false None e = e
+
 within : (most : ℕ) (rows : List Row) (b : Beginning) → resumed_within most rows ≡ Ok b → Within most rows b
-within most rows b e = record { begun = grind (arith, nat_tests, e); few = grind (arith, nat_tests, e) }
+within most rows b e =
+    let is = behind most rows b e in
+    record { begun = grind (arith, nat_tests, is); few = grind (arith, nat_tests, is) }
 
 -- ---- its text
 

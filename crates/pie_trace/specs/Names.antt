@@ -5,7 +5,8 @@ pub use Rattle.csv.specs.Records.{fields_of, partial_of}
 pub use Rattle.pie_audit.specs.Text.{text_finding}
 pub use Rattle.pie_audit.specs.declared.auditor.Finding.TheVariants.{Clean}
 pub use Rattle.pie_book.specs.Book.{BookView, Tells, last_events}
-pub use Rattle.pie_book.specs.Core.{Shows}
+pub use Rattle.pie_book.specs.Core.{CoreView, Shows, core_after, registers_of}
+pub use Rattle.pie_book.specs.Standing.{apply_in}
 unfoldable pub use Rattle.pie_book.specs.Registers.{registers_after}
 pub use Rattle.pie_book.specs.Run.{Progress, Step, fold_outcome, outcome, start}
 unfoldable pub use Rattle.pie_book.specs.Run.{progress_after}

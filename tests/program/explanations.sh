@@ -119,7 +119,6 @@ for form in '' --csv; do
 done
 words='event 11: packet 6, 500 bytes, Not-ECT: DROPPED early
   at 1.001003 ms (1001003 ns), by caller 2
-  the accumulated probability, with this one, is 90.3954 %% (903954174169)
   picked: its random word, 0.0000 %% (0), is below the probability, 90.3954 %% (903954174169)
   dropped: its endpoints do not understand a mark
   before it: 3 packets, 2548 bytes, a delay of 2.488281 ms (2488281 ns)

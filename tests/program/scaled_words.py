@@ -1,7 +1,7 @@
 #!/usr/bin/env python3
-"""Holds the words of `pie explain` to the records of `pie explain --csv` where sizes scale the probability: of each considered arrival of the worked
-rows of choices/ with `scaled`, whether they tell what the probability comes to, and that it is floor(probability x size / mean_pkt) for a packet
-below mean_pkt. Exit status 1 where something differs.
+"""Holds the words of `pie explain` to the records of `pie explain --csv` for each considered arrival of the worked rows of choices/. Where sizes scale
+the probability, the words tell what it comes to: floor(probability x size / mean_pkt) for a packet below mean_pkt. They tell what was accumulated,
+with this packet's part, only where something accumulates: never with `random`. Exit status 1 if something differs.
 
 usage: tests/program/scaled_words.py [PROGRAM]      PROGRAM: crates/pie/out/pie where none is given
 needs: program
@@ -15,6 +15,7 @@ from checks import NAME, ROOT, expect  # noqa: E402
 from explaining import pie, records  # noqa: E402
 
 TOLD = re.compile(r"  the probability, (.*), comes to (.*) for a packet of this size\n")
+SUM = re.compile(r"  the accumulated probability, with this one, is (.*?)(?:, below 85 %|, at least 850 %)?\n")
 COMPARED = re.compile(r"is (?:not )?below (the probability|what that comes to), (.*)\n")
 CONSIDERED = ("no_probability", "little_accumulated", "picked_by", "word_not_below")
 
@@ -24,14 +25,15 @@ def per_cent(part):
 
 
 def hold(name, history):
-    """How many packets the words told what the probability comes to."""
+    """Of how many packets the words told what the probability comes to, and of how many what was accumulated."""
     _, rows, _ = records(name, history)
     _, words, _ = pie(history, "--all")
     events = re.split(r"(?m)^event ", words)[1:]
     target_place, mean_place = -9, -4
-    mean = int(history.splitlines()[0].split(",")[mean_place])
+    opening = history.splitlines()[0].split(",")
+    mean, is_scaled, is_random = int(opening[mean_place]), opening[5] == "scaled", opening[3] == "random"
     changed = [line.split(",") for line in history.splitlines() if line.startswith("params,")]
-    told = 0
+    told = summed = 0
     for row, text in zip(rows, events, strict=True):
         if row["kind"] == "params":
             mean = int(changed.pop(0)[3 + mean_place - target_place])
@@ -40,19 +42,27 @@ def hold(name, history):
             expect(f"{name}: event {row['number']}", TOLD.findall(text), [])
             continue
         size = int(row["size"])
-        counted = prob * size // mean if size < mean else prob
+        counted = prob * size // mean if is_scaled and size < mean else prob
+        accumulated = int(row["accumulated_probability"])
+        by_sum = row["cause"] == "little_accumulated" or row["cause"].startswith("picked_by_sum")
+        sums = [per_cent(accumulated + counted)] if by_sum or ("word" in row["cause"] and accumulated) else []
+        expect(f"{name}: event {row['number']}: what was accumulated", SUM.findall(text), sums)
+        expect(f"{name}: event {row['number']}: nothing accumulates", is_random and bool(accumulated or sums), False)
         expect(f"{name}: event {row['number']}", TOLD.findall(text), [] if counted == prob else [(per_cent(prob), per_cent(counted))])
         compared = [("the probability" if counted == prob else "what that comes to", per_cent(counted))]
         expect(f"{name}: event {row['number']}: what the word is compared with", COMPARED.findall(text), compared if "word" in row["cause"] else [])
         told += counted != prob
-    return told
+        summed += len(sums)
+    return told, summed
 
 
 def main():
-    rows = sorted((ROOT / "tests/rows/choices").glob("*scaled*.out"))
-    told = sum(hold(path.stem, path.read_text()) for path in rows)
-    expect("histories", len(rows) > 0 and told > 0, True)
-    print(f"{NAME}: {len(rows)} histories: the words tell what the probability comes to, of {told} packets")
+    texts = {path.stem: path.read_text() for path in sorted((ROOT / "tests/rows/choices").glob("*.out"))}
+    rows = {name: text for name, text in texts.items() if text.startswith("open3,") and text.splitlines()[0].count(",") > 12}
+    counts = [hold(name, text) for name, text in rows.items()]
+    told, summed = sum(it[0] for it in counts), sum(it[1] for it in counts)
+    expect("histories", told > 0 and summed > 0 and any("random" in name for name in rows), True)
+    print(f"{NAME}: {len(rows)} histories: the words tell what the probability comes to, of {told} packets, and what was accumulated, of {summed}")
 
 
 main()

@@ -119,6 +119,11 @@ unfoldable pub sum_words : ℕ → ℕ → ℕ → List ℕ
 sum_words prob accu counted =
     joined (scaled_words prob counted ∷ codes "  the accumulated probability, with this one, is " ∷ per_cent (min (accu + counted) (2 ^ 64 - 1)) ∷ [])
 
+-- what was accumulated where the random word decides; where nothing was, as when packets are picked by the word alone, nothing is said of it
+unfoldable pub accumulated_words : ℕ → ℕ → ℕ → List ℕ
+accumulated_words prob accu counted =
+    if accu == 0 then scaled_words prob counted else joined (sum_words prob accu counted ∷ codes "\n" ∷ [])
+
 -- what the random word is compared with
 unfoldable pub counted_name : ℕ → ℕ → List ℕ
 counted_name prob counted = if counted == prob then codes "the probability" else codes "what that comes to"
@@ -126,7 +131,7 @@ counted_name prob counted = if counted == prob then codes "the probability" else
 -- how the random word compares with what the probability, by this name, counts as
 unfoldable pub compared_words : List ℕ → ℕ → ℕ → List ℕ → List ℕ → List ℕ
 compared_words name word counted outcome compares =
-    joined (codes "\n  " ∷ outcome ∷ codes ": its random word, " ∷ word_text word ∷ codes ", " ∷ compares ∷ codes " " ∷ name ∷ codes ", "
+    joined (codes "  " ∷ outcome ∷ codes ": its random word, " ∷ word_text word ∷ codes ", " ∷ compares ∷ codes " " ∷ name ∷ codes ", "
     ∷ per_cent counted ∷ codes "\n" ∷ [])
 
 -- where the probability counts as one above 0
@@ -134,10 +139,10 @@ unfoldable pub considered_words : ℕ → Cause → List ℕ
 considered_words prob (LittleAccumulated accu counted) = joined (sum_words prob accu counted ∷ codes ", below 85 %\n" ∷ [])
 considered_words prob (PickedBySum accu counted picked) = joined (sum_words prob accu counted ∷ codes ", at least 850 %\n" ∷ picked_words picked ∷ [])
 considered_words prob (PickedByWord accu counted word picked) = joined
-    (sum_words prob accu counted ∷ compared_words (counted_name prob counted) word counted (codes "picked") (codes "is below") ∷ picked_words picked
+    (accumulated_words prob accu counted ∷ compared_words (counted_name prob counted) word counted (codes "picked") (codes "is below") ∷ picked_words picked
     ∷ [])
 considered_words prob (WordNotBelow accu counted word) = joined
-    (sum_words prob accu counted ∷ compared_words (counted_name prob counted) word counted (codes "not picked") (codes "is not below") ∷ [])
+    (accumulated_words prob accu counted ∷ compared_words (counted_name prob counted) word counted (codes "not picked") (codes "is not below") ∷ [])
 considered_words prob _ = codes ""
 
 -- where it counts as 0

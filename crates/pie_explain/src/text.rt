@@ -2,7 +2,7 @@
 ghost use Rattle.std.specs.Prelude.{◌≡◌, ◌++◌, ◌∷◌, [], OnOk, codes, string_bytes, true};
 ghost use Rattle.std.specs.Fmt.{decimal};
 ghost use Rattle.pie_event.specs.declared.command.Answer.TheVariants.{Updated};
-ghost use Rattle.pie_explain.specs.Words.{before_words, cause_words, compared_words, considered_words, counted_name, deed_words};
+ghost use Rattle.pie_explain.specs.Words.{accumulated_words, before_words, cause_words, compared_words, considered_words, counted_name, deed_words};
 ghost use Rattle.pie_explain.specs.Words.{ecn_name, joined, last_words, lasting_words, never_words, packet_words, picked_words, reason_words};
 ghost use Rattle.pie_explain.specs.Words.{scaled_words, setter_words, sum_words, turned_words, update_words, verdict_text, words_by};
 
@@ -163,6 +163,18 @@ fn push_sum(page: &mut String, prob: u64, accu: u64, counted: u64) -> Written
     )
 }
 
+/// Writes what was accumulated where the random word decides, if something was.
+#[tactic(auto, unfolding(crate::specs::Words::accumulated_words))]
+fn push_accumulated(page: &mut String, prob: u64, accu: u64, counted: u64) -> Written
+    ensures { OnOk result (string_bytes page.new ≡ string_bytes page.old ++ accumulated_words prob accu counted) }
+{
+    if accu == 0 {
+        return push_scaled(page, prob, counted);
+    }
+    push_sum(page, prob, accu, counted)?;
+    page.push_str("\n")
+}
+
 /// What the random word is compared with.
 #[tactic(auto, unfolding(crate::specs::Words::counted_name))]
 fn counted_name(prob: u64, counted: u64) -> &'static str
@@ -235,7 +247,7 @@ fn push_against(page: &mut String, shown: u64, accu: u64, prob: u64, against: &s
     page.push_str(against)
 }
 
-/// What was accumulated, and how the random word compares with what the probability counts as.
+/// What was accumulated, if something was, and how the random word compares with what the probability counts as.
 #[tactic(auto, unfolding(crate::specs::Words::compared_words))]
 fn push_compared(
     page: &mut String,
@@ -247,13 +259,13 @@ fn push_compared(
     compares: &str,
 ) -> Written
     ensures { OnOk result (string_bytes page.new ≡ string_bytes page.old
-        ++ joined (sum_words shown accu prob ∷ compared_words (counted_name shown prob) word prob outcome.now compares.now ∷ [])) }
+        ++ joined (accumulated_words shown accu prob ∷ compared_words (counted_name shown prob) word prob outcome.now compares.now ∷ [])) }
 {
-    push_sum(page, shown, accu, prob)?;
+    push_accumulated(page, shown, accu, prob)?;
     let (name, word, prob) = (counted_name(shown, prob), Word(word), PerCent(prob));
     write!(
         page,
-        "\n  {outcome}: its random word, {word}, {compares} {name}, {prob}\n"
+        "  {outcome}: its random word, {word}, {compares} {name}, {prob}\n"
     )
 }
 

@@ -4,4 +4,4 @@ use Rattle.pie_explain.proofs.text.push_compared.Goals as goal
 
 pub returns : goal.returns
 unfolding compared_words
-returns c = rw (← c.counted_name-name.ensures) (simp append_assoc at (rw c.in_ok-push_sum.ensures at c.write.ensures.bytes))
+returns c = rw (← c.counted_name-name.ensures) (simp append_assoc at (rw c.in_ok-push_accumulated.ensures at c.write.ensures.bytes))

@@ -4,7 +4,7 @@ them. What `pie run` writes of one is what tests/shared/reference_resumed.py dec
 --all` lists each event once, in order, with the numbers before and after it, the cause of each verdict and the last event that set the probability.
 A cut of it audits clean, is explained as the whole, and a run of its commands writes it again; segments follow each other. Sums are those of the
 events. Where one answer is changed, audit, explanation, cut and segments all end at this event. A preamble that is refused is refused by all of them
-with the same words; one whose statistics agree with each other is never refused.
+with the same words; one whose statistics agree with the other numbers is never refused.
 
 usage: tests/program/any_numbers.py [PROGRAM [FIRST_SEED [RUNS]]]      PROGRAM: crates/pie/out/pie where none is given
 needs: program
@@ -84,9 +84,14 @@ def preamble(chance, agrees):
     setter = chance.choice(("", some(chance, 0, count if agrees or chance.random() < 0.7 else WORDS)))
     opened = some(chance, 0, moment if agrees or chance.random() < 0.7 else LATEST)
     accumulated = chance.choice((0, some(chance, 0, 85 * 10**11 - 1), 85 * 10**11 - 1 - some(chance, 0, 10**11), 85 * 10**10 - some(chance, 0, 10**11)))
+    prob, average, waited = some(chance, 0, 10**12), some(chance, 0, LATEST), some(chance, 0, 2**40)
+    if agrees:
+        prob = prob if stats[9] else 0
+        accumulated = accumulated if elements[1] == "derandomized" else 0
+        average, cycle, waited = (average, cycle, 0) if elements[0] == "rate" else (0, (0, 0, 0), min(waited, stats[14]))
     row = ["resume", profile, *told(elements), chance.choice(("bounded", "rolling")), opened, *limits, *first, *now, count, setter,
-           len(waiting), sum(it[2] for it in waiting), moment, some(chance, 0, 10**12), old, accumulated,
-           chance.choice((0, 0, some(chance, 0, 10**12))), some(chance, 0, moment), some(chance, 0, LATEST), *cycle, some(chance, 0, 2**40),
+           len(waiting), sum(it[2] for it in waiting), moment, prob, old, accumulated,
+           chance.choice((0, 0, some(chance, 0, 10**12))), some(chance, 0, moment), average, *cycle, waited,
            1 if profile == 1 else chance.randrange(2), *stats]
     return [list(map(str, it)) for it in [row, *waiting]]
 

@@ -24,7 +24,7 @@ pub use Rattle.pie_cut.specs.{Origin, StandsAt, at_core, at_opening, count_after
 unfoldable pub use Rattle.pie_cut.specs.{chosen, difference_from, event_count, events_of, excerpt_lines, line_places, resume_row, rows_text}
 pub use Rattle.pie_audit.proofs.LegalFacts.{all-made, event_count-push, legal-clean, made-events, difference-push, difference_here, events_of-none}
 pub use Rattle.pie_audit.proofs.LegalFacts.{first_difference-push, legal-of-clean, line_places-push}
-pub use Rattle.pie_audit.proofs.AuditorFacts.{count-push, event_count-append, few-may, made-count, none_of, Audits-finding}
+pub use Rattle.pie_audit.proofs.AuditorFacts.{count-push, event_count-append, few-may, made-count, none_of, shown-count, told-within, Audits-finding}
 pub use Rattle.pie_audit.specs.Begun.{WholeBegun}
 pub use Rattle.pie_audit.specs.Finding.{agrees, event_in, finding_by}
 pub use Rattle.pie_audit.specs.Origin.{agrees_after}
@@ -48,4 +48,4 @@ pub use Rattle.pie_record.specs.Write.{line_rows, told_alone, without_notes}
 pub use Rattle.pie_record.specs.declared.version.Version.{Version}
 pub use Rattle.pie_record.specs.declared.version.Version.TheVariants.{Three}
 pub use Rattle.pie_audit.proofs.ToldFacts.{begun-faulted, begun-found, one-value, part-begun}
-pub use Rattle.pie_explain.proofs.ExplainFacts.{all-written, appends-more, appends-page, by-lines}
+pub use Rattle.pie_explain.proofs.ExplainFacts.{all-written, appends-more, appends-page, by-lines, moment-stands}

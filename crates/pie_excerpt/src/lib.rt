@@ -13,9 +13,9 @@ mod writing;
 mod written;
 
 pub use beginning::{Begun, begin_resumed, fault_within, is_resume};
-pub use reading::read_resume;
 pub use fits::{params_are_good, resume_fits};
 pub use law::{beginnings_are_written_again, beginnings_go_on, records_are_read_back};
+pub use reading::read_resume;
 pub use resume::Resume;
 pub use writing::{make_resume, put_queued};
 pub use written::{add_queue, add_resume, resume_of_excerpt, write_excerpt};

@@ -100,12 +100,17 @@ def main():
         rtlib = toolchain()
         crate = next(it for it in rtlib.crates_below(ROOT) if it.name == CRATE)
         proved, assembly = proved_at(crate.below()), f"{crate.folder}/out/{CRATE}.S"
-        if proved and os.path.isfile(assembly) and max(proved, newest(crate.folder)) < os.path.getmtime(assembly):
+        is_new = lambda: proved and os.path.isfile(assembly) and max(proved, newest(crate.folder)) < os.path.getmtime(assembly)
+        if is_new():
             with_memory()
             return
         os.makedirs(os.path.dirname(assembly), exist_ok=True)
         print(f"bindings/c/library.py: {CRATE}, over libraries that {'are proved' if proved else 'rt lib proves'}", flush=True)
         held = rtlib.lock([crate] if proved else [*crate.below(), crate])
+        if is_new():
+            # (another call built it meanwhile)
+            with_memory()
+            return
         if proved or not any(it.build_rlib([], anew=False) for it in crate.below()):
             if compile_with_assembly(rtlib, crate) == 0:
                 with_memory()

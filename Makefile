@@ -4,6 +4,7 @@
 #   make check           runs the worked rows and the examples over them; says what is not here to be run
 #   make install         installs all of it below PREFIX (/usr/local); install-library and install-program install a part
 #   make uninstall       removes the files that `make install` installs
+#   make crate           build/crate: the crate for Rust with the assembly, as `cargo package` takes it
 #   make archive         build/juniperbowls-VERSION.tar.gz: unpacks anywhere, for any Debian 12 or later
 #   make clean           removes build/
 #   make shared, make program, make libraries     build a part
@@ -160,8 +161,17 @@ archive: all
 		--numeric-owner -C $(BUILD)/archive juniperbowls-$(VERSION)
 	@echo $(BUILD)/juniperbowls-$(VERSION).tar.gz
 
+# The crate for Rust as a package contains it: with the assembly, for builds outside this repository.
+crate: | $(BUILD)
+	rm -rf $(BUILD)/crate
+	mkdir -p $(BUILD)/crate/assembly
+	cp -r $(filter-out bindings/rust/target,$(wildcard bindings/rust/*)) $(BUILD)/crate
+	cp $(PIE_C_S) $(BUILD)/crate/assembly/pie_c.S
+	cp $(PIE_LINK_C_S) $(BUILD)/crate/assembly/pie_link_c.S
+	cp dist/heap.c dist/runtime.h $(BUILD)/crate/assembly
+
 clean:
 	rm -rf $(BUILD)
 
-.PHONY: all libraries shared program check install install-program install-library uninstall described archive clean
+.PHONY: all libraries shared program check install install-program install-library uninstall described archive crate clean
 .DELETE_ON_ERROR:

@@ -1,7 +1,7 @@
 //! Links the proved library, `libpie_c.a`, and with the feature `link` `libpie_link.a`. If `PIE_C_PREFIX` is set, both are those that
 //! `make install PREFIX=..` installed there. Otherwise, in a repository in which `bindings/c/library.py` built them, those are linked. Otherwise, and
-//! if `PIE_C_PREFIX` is empty, they are built from the assembly of the proved code, `assembly/`, which is part of this crate: by `cc` and `ar`, or
-//! `$CC` and `$AR`.
+//! if `PIE_C_PREFIX` is empty, they are built from the assembly of the proved code by `cc` and `ar`, or `$CC` and `$AR`. A package contains that
+//! assembly in `assembly/` (`make crate`); in the repository it is in `dist/`.
 
 use std::env;
 use std::path::{Path, PathBuf};
@@ -24,7 +24,6 @@ fn main() {
     for name in ["PIE_C_PREFIX", "CC", "AR"] {
         println!("cargo:rerun-if-env-changed={name}");
     }
-    println!("cargo:rerun-if-changed=assembly");
     // (in the order in which they are linked: the link calls the other library)
     if env::var_os("CARGO_FEATURE_LINK").is_some() {
         link(&LINK);
@@ -48,6 +47,16 @@ fn file(name: &str) -> String {
 /// A folder that cargo names.
 fn folder(name: &str) -> PathBuf {
     PathBuf::from(env::var_os(name).unwrap_or_default())
+}
+
+/// A file of the assembly, or of what it calls: of the package, or else of the repository.
+fn source(name: &str) -> PathBuf {
+    let here = folder("CARGO_MANIFEST_DIR");
+    let places = ["assembly", "../../dist/x86_64", "../../dist"];
+    let found = places.iter().map(|place| here.join(place).join(name)).find(|path| path.exists());
+    let path = found.unwrap_or_else(|| panic!("{name} is neither in assembly/ of this crate nor in dist/ of its repository"));
+    println!("cargo:rerun-if-changed={}", path.display());
+    path
 }
 
 /// Runs the command that the environment names, or this one.
@@ -77,15 +86,15 @@ impl Library {
     fn build(&self) -> PathBuf {
         let target = env::var("TARGET").unwrap_or_default();
         assert!(target.starts_with("x86_64-") && target.contains("linux"), "the assembly is for Linux on x86_64, and not for {target}");
-        let (here, out) = (folder("CARGO_MANIFEST_DIR").join("assembly"), folder("OUT_DIR"));
+        let out = folder("OUT_DIR");
         let archive = out.join(file(self.name));
         let _ = std::fs::remove_file(&archive);
-        let assembly = here.join(format!("{}.S", self.crate_name));
+        let assembly = self::source(&format!("{}.S", self.crate_name));
         let mut objects = vec![out.join(format!("{}.o", self.crate_name))];
         run("CC", "cc", &["-x".as_ref(), "assembler".as_ref(), "-c".as_ref(), "-o".as_ref(), &objects[0], &assembly]);
-        for source in self.sources {
-            let object = out.join(source).with_extension("o");
-            run("CC", "cc", &["-O2".as_ref(), "-fPIC".as_ref(), "-c".as_ref(), "-o".as_ref(), &object, &here.join(source)]);
+        for name in self.sources {
+            let object = out.join(name).with_extension("o");
+            run("CC", "cc", &["-O2".as_ref(), "-fPIC".as_ref(), "-c".as_ref(), "-o".as_ref(), &object, &self::source(name)]);
             objects.push(object);
         }
         let mut words: Vec<&Path> = vec!["rcD".as_ref(), &archive];

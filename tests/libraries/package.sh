@@ -106,8 +106,8 @@ fi
 # a program in Rust that depends on the crate, over the installed library, and over what the crate itself contains; the package has the assembly
 if command -v cargo > /dev/null && [ "$(rustc --version | cut -d. -f2)" -ge 82 ]; then
     mkdir -p "$work/program/src"
-    cp -rL bindings/rust "$work/juniperbowls"
-    rm -rf "$work/juniperbowls/target"
+    make -s crate
+    mv "$work/build/crate" "$work/juniperbowls"
     printf '%s\n' '[package]' 'name = "program"' 'version = "0.1.0"' 'edition = "2021"' '[dependencies]' \
         'juniperbowls = { path = "../juniperbowls" }' > "$work/program/Cargo.toml"
     printf '%s\n' 'fn main() -> Result<(), Box<dyn std::error::Error>> {' \
@@ -123,7 +123,7 @@ if command -v cargo > /dev/null && [ "$(rustc --version | cut -d. -f2)" -ge 82 ]
         fail "a Rust program was built over a prefix without the library"
     fi
     grep -q "has no libpie_c.a" "$work/refused" || fail "cargo does not say that the library is missing: $(cat "$work/refused")"
-    cargo package --offline --allow-dirty --list --manifest-path bindings/rust/Cargo.toml > "$work/listed" 2> "$work/said"
+    cargo package --offline --allow-dirty --list --manifest-path "$work/juniperbowls/Cargo.toml" > "$work/listed" 2> "$work/said"
     for file in pie_c.S pie_link_c.S heap.c runtime.h; do
         grep -qx "assembly/$file" "$work/listed" || fail "the package for cargo has no assembly/$file"
     done

@@ -58,6 +58,15 @@ expect 'a difference is no better behind a fault' 1 "$work/changed: differs,10\n
 expect 'standard input, twice' 1 '-: clean,11\n' 'pie: -: standard input was read already\n' "$history" audit - -
 missing="$work/missing: No such file or directory (os error 2)"
 expect 'a missing file' 1 "$work/none: clean,0\n" "pie: $missing\n" '' audit "$work/missing" "$work/none"
+# A name of 240 bytes is a name as any other: its file is audited, and a fault of it is told.
+long=$work/$(printf 'n%.0s' $(seq 240))
+cp "$work/history" "$long"
+expect 'audits of which one has a long name' 0 "$long: clean,11\n$work/none: clean,0\n" '' '' audit "$long" "$work/none"
+expect 'a joined audit of a file with a long name' 0 "$long: clean,11\n" '' '' audit --joined "$long"
+cp "$work/faulty" "$long"
+expect 'a fault of a file with a long name' 1 "$work/none: clean,0\n" "pie: $long: record 3: unknown kind\n" '' audit "$long" "$work/none"
+rm "$long"
+expect 'no file of a long name' 1 "$work/none: clean,0\n" "pie: $long: No such file or directory (os error 2)\n" '' audit "$long" "$work/none"
 for name in run migrate 'explain --all'; do
     expect "$name of a missing file" 1 '' "pie: $missing\n" '' $name "$work/missing"
     expect "$name of a folder" 1 '' 'pie: cannot read the input\n' '' $name "$work"
@@ -113,6 +122,44 @@ expect 'a mistake that is found late, to a file' 1 '' 'pie: --from is after --to
     explain --all --from 2 --to 1 --force -o "$made"
 holds 'a mistake that is found late, to a file' older
 rm "$made"
+
+# While a run reads: the new file beside a private one is private from its making on, and a file that appears under the name of -o meanwhile stays as
+# it is, without --force.
+mkfifo "$work/slow"
+
+# slowly MODE ACT WORDS..: a run whose trace ends once the file beside the one of -o is there, has this mode, and ACT was done. Sets status.
+slowly() {
+    local mode=$1 act=$2
+    shift 2
+    "$program" run -o "$made" "$@" < "$work/slow" > "$work/output" 2> "$work/errors" &
+    local running=$!
+    exec 9> "$work/slow"
+    printf -- "$trace" >&9
+    until [ -e "$made.partial" ] || ! kill -0 $running; do sleep 0.01; done
+    [ -z "$mode" ] || [ "$(stat -c %a "$made.partial")" = "$mode" ] || fail "a run in place of a private file: beside it others may read"
+    eval "$act"
+    exec 9>&-
+    wait $running
+    status=$?
+}
+umask=$(umask)
+umask 022
+printf older > "$made"
+chmod 600 "$made"
+slowly 600 '' --force
+[ $status = 0 ] && [ "$(stat -c %a "$made")" = 600 ] || fail "a run in place of a private file: status $status, $(cat "$work/errors")"
+holds 'a run in place of a private file' "$history"
+rm "$made"
+umask "$umask"
+slowly '' 'printf appeared > "$made"'
+[ $status = 1 ] && printf "pie: $made: File exists (os error 17)\npie: $made.partial: $until\n" | cmp -s - "$work/errors" ||
+    fail "a file that appears: status $status, $(cat "$work/errors")"
+[ "$(cat "$made")" = appeared ] && printf -- "$history" | cmp - "$made.partial" || fail 'a file that appears: it was replaced'
+rm -f "$made" "$made.partial"
+slowly '' 'printf appeared > "$made"' --force
+[ $status = 0 ] || fail "a file that appears, by --force: status $status, $(cat "$work/errors")"
+holds 'a file that appears, by --force' "$history"
+rm "$made" "$work/slow"
 
 # What is read is never written, by whatever name: its own, another path, a hard link, a symbolic link, or as standard input.
 ln "$work/trace" "$work/hard"

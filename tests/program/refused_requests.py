@@ -120,7 +120,8 @@ def faults_before(library, met, history):
 
 
 def outputs_refused(library, met, name, words, given):
-    """Each request for the file of -o refused, where a file has its name and where none has."""
+    """Each request for the file of -o refused, where a private file has its name and where none has. Beside a private one no file is left that others
+    may read, not even at a refusal right after it was made."""
     want = run(words, given)[1]
     for older in (None, b"older\n"):
         forced = ["--force"] if older else []
@@ -133,8 +134,11 @@ def outputs_refused(library, met, name, words, given):
                     if older:
                         with open(made, "wb") as file:
                             file.write(older)
+                        os.chmod(made, 0o600)
                     got = run([*words, "-o", made, *forced], given, LD_PRELOAD=library, REFUSE_MET=met, REFUSE_FILE=str(place), **on)
                     left = {it.name: open(it, "rb").read() for it in os.scandir(folder)}
+                    open_to_all = [it.name for it in os.scandir(folder) if older and it.stat().st_mode & 0o077]
+                check(not open_to_all, name, "-o", forced, place, on, "others may read", open_to_all)
                 if not os.path.exists(met):
                     check(got == (0, b"", b"") and left == {"made": want}, name, "-o", place, "with nothing refused", got, list(left))
                     break

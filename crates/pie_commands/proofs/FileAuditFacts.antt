@@ -3,18 +3,38 @@ use Rattle.std.proofs.Common.{arith}
 use Rattle.std.proofs.lemmas.Bool.Decides.{nat_tests}
 use Rattle.pie_commands.proofs.Names.{◌≡◌, ◌∙◌, ◌+◌, ◌<◌, ℕ, List, [], ◌∷◌, ◌++◌, add-one, get_or, length, take, Bool, false, Option, Some}
 use Rattle.pie_commands.proofs.Names.{None, inl, inr, refl, ap, subst, ◌||◌, Appends, Appends-nil, Appends-trans, append-nil, map-append}
-use Rattle.pie_commands.proofs.Names.{flat_map, flat_map-append, list_any, Text, Joined, EndView, Fault, ReadsNamed, text_given, Stays, reads-given}
+use Rattle.pie_commands.proofs.Names.{flat_map, flat_map-append, list_any, Text, Joined, EndView, Fault, ReadsNamed, text_given, IfSome, Result, Ok, Err, FindsEither, JoinsText, records_of, sym, map, reads-given}
 use Rattle.pie_commands.proofs.Names.{AreTold, AuditsFiles, EndsFiles, TellsRead, TellsText, Told, is_broken, is_unfound, lines_of, told_lines, worst}
+use Rattle.pie_commands.proofs.FileFacts.{IsLeft, left-stays, opens-left}
+use Rattle.pie_commands.specs.Files.{CanOpen, opens_after}
+use Rattle.pie_commands.specs.declared.file_audits.Unaudited.{Unaudited}
+use Rattle.pie_commands.specs.declared.file_audits.Unaudited.TheVariants.{Unopened, Faulty}
+use Rattle.std.proofs.Common.{append_assoc, true}
 use Rattle.std.proofs.Math.Seq.{take-suc}
 use Rattle.std.proofs.lemmas.List.Folds.{list_any-append}
 use Rattle.pie_record.specs.declared.fault.TraceFault.TheVariants as trace_fault
 
 -- what is told of a file is told of its text
-pub tells-given : {R : Type 0} (joined : Bool) (remaining : R → Option (List ℕ)) (first : R) (input : Option R) (files : Text → Option (List ℕ))
-    (name : Text) (before : Option EndView) (told : Option Joined) (after : Option EndView) → Stays first input
-    → TellsRead joined (ReadsNamed remaining input files name) before told after
-    → TellsText joined (text_given (remaining first) files (Some name)) before told after
-tells-given joined remaining first input files name before told after stays tells = grind (arith, reads-given)
+pub tells-given : {R : Type 0} (works joined : Bool) (remaining : R → Option (List ℕ)) (first : R) (input : Option R)
+    (files : Text → Option (List ℕ)) (earlier : List Text) (name : Text) (before : Option EndView) (told : Result Joined Unaudited)
+    (after : Option EndView) → IsLeft first earlier input
+    → TellsRead joined ((works ≡ true) × CanOpen input (files name) name) (ReadsNamed remaining input files name) before told after
+    → TellsText joined ((works ≡ true) × (opens_after files earlier name ≡ true)) (text_given (remaining first) files (Some name)) before told after
+tells-given {R} works joined remaining first input files earlier name before told after left tells = by joined told tells
+  where
+    is : (known : Option (List ℕ)) → ReadsNamed remaining input files name known → known ≡ text_given (remaining first) files (Some name)
+    is known reads = reads-given remaining first input files name known (left-stays first earlier input left) reads
+
+    by : (joined : Bool) (told : Result Joined Unaudited)
+        → TellsRead joined ((works ≡ true) × CanOpen input (files name) name) (ReadsNamed remaining input files name) before told after
+        → TellsText joined ((works ≡ true) × (opens_after files earlier name ≡ true)) (text_given (remaining first) files (Some name)) before told after
+    by joined (Err Unopened) tells = (λ opens. tells.0 (opens.0, opens-left first files earlier input name left opens.1), tells.1)
+    by joined (Err (Faulty why)) tells =
+        (subst (λ (k : Option (List ℕ)). IfSome k (λ text. FindsEither (records_of text) (Err why))) (is tells.0 tells.1) tells.2.0, tells.2.1)
+    by true (Ok found) tells =
+        (tells.2.0, subst (λ (k : Option (List ℕ)). IfSome k (λ text. JoinsText (records_of text) before found after)) (is tells.0 tells.1) tells.2.1)
+    by false (Ok found) tells =
+        (tells.2.0, subst (λ (k : Option (List ℕ)). IfSome k (λ text. FindsEither (records_of text) (Ok found.finding))) (is tells.0 tells.1) tells.2.1)
 
 -- whether one of a list passes, with one more at its end
 any-more : {X : Type 0} (test : X → Bool) (xs : List X) (x : X) (before : Bool) → before ≡ list_any test xs
@@ -27,18 +47,29 @@ lines-more told one =
     flat_map-append told_lines told (one ∷ []) ∙ ap (λ (line : List ℕ). flat_map told_lines told ++ line) (append-nil (told_lines one))
 
 -- one file more at the end
-told-more : (joined : Bool) (input : Option (List ℕ)) (files : Text → Option (List ℕ)) (before : Option EndView) (told : List Told)
-    (between : Option EndView) (one : Told) (after : Option EndView) → AreTold joined input files before told between
-    → TellsText joined (text_given input files (Some one.0)) between one.1 after → AreTold joined input files before (told ++ one ∷ []) after
-told-more joined input files before [] between one after told is =
-    let here : TellsText joined (text_given input files (Some one.0)) before one.1 after =
-    subst (λ (e : Option EndView). TellsText joined (text_given input files (Some one.0)) e one.1 after) told is in (after, here, refl)
-told-more joined input files before (first ∷ more) between one after told is =
-    (told.0, told.1, told-more joined input files told.0 more between one after told.2 is)
+told-more : (works joined : Bool) (input : Option (List ℕ)) (files : Text → Option (List ℕ)) (earlier : List Text) (before : Option EndView)
+    (told : List Told) (between : Option EndView) (one : Told) (after : Option EndView) → AreTold works joined input files earlier before told between
+    → TellsText joined ((works ≡ true) × (opens_after files (earlier ++ map (λ t. t.0) told) one.0 ≡ true)) (text_given input files (Some one.0)) between
+    one.1 after
+    → AreTold works joined input files earlier before (told ++ one ∷ []) after
+told-more works joined input files earlier before [] between one after told is =
+    let first : TellsText joined ((works ≡ true) × (opens_after files earlier one.0 ≡ true)) (text_given input files (Some one.0)) between one.1 after =
+    subst (λ (e : List Text). TellsText joined ((works ≡ true) × (opens_after files e one.0 ≡ true)) (text_given input files (Some one.0)) between one.1
+    after) (append-nil earlier) is in
+    let here : TellsText joined ((works ≡ true) × (opens_after files earlier one.0 ≡ true)) (text_given input files (Some one.0)) before one.1 after =
+    subst (λ (e : Option EndView). TellsText joined ((works ≡ true) × (opens_after files earlier one.0 ≡ true)) (text_given input files (Some one.0)) e
+    one.1 after) told first in (after, here, refl)
+told-more works joined input files earlier before (first ∷ more) between one after told is = (
+  told.0,
+  told.1,
+  told-more works joined input files (earlier ++ first.0 ∷ []) told.0 more between one after told.2
+      (subst (λ (e : List Text). TellsText joined ((works ≡ true) × (opens_after files e one.0 ≡ true)) (text_given input files (Some one.0)) between one.1
+      after) (sym (append_assoc earlier (first.0 ∷ []) (map (λ t. t.0) more))) is),
+)
 
-pub audits-none : (joined : Bool) (input : Option (List ℕ)) (files : Text → Option (List ℕ)) (before : Option (List ℕ))
-    → AuditsFiles joined input files [] false false None before before
-audits-none joined input files before = record {
+pub audits-none : (works joined : Bool) (input : Option (List ℕ)) (files : Text → Option (List ℕ)) (before : Option (List ℕ))
+    → AuditsFiles works joined input files [] false false None before before
+audits-none works joined input files before = record {
   told = [];
   in_order = refl;
   are_told = refl;
@@ -47,15 +78,18 @@ audits-none joined input files before = record {
   any_broken = refl;
 }
 
-pub audits-more : (joined : Bool) (input : Option (List ℕ)) (files : Text → Option (List ℕ)) (names : List Text) (unfound broken : Bool)
-    (end after : Option EndView) (before mid now : Option (List ℕ)) (name : Text) (told : Option Joined)
-    → AuditsFiles joined input files names unfound broken end before mid
-    → TellsText joined (text_given input files (Some name)) end told after → Appends mid now (lines_of name told)
-    → AuditsFiles joined input files (names ++ name ∷ []) (unfound || is_unfound told) (broken || is_broken told) after before now
-audits-more joined input files names unfound broken end after before mid now name told audits tells written = record {
+pub audits-more : (works joined : Bool) (input : Option (List ℕ)) (files : Text → Option (List ℕ)) (names : List Text) (unfound broken : Bool)
+    (end after : Option EndView) (before mid now : Option (List ℕ)) (name : Text) (told : Result Joined Unaudited)
+    → AuditsFiles works joined input files names unfound broken end before mid
+    → TellsText joined ((works ≡ true) × (opens_after files names name ≡ true)) (text_given input files (Some name)) end told after
+    → Appends mid now (lines_of name told)
+    → AuditsFiles works joined input files (names ++ name ∷ []) (unfound || is_unfound told) (broken || is_broken told) after before now
+audits-more works joined input files names unfound broken end after before mid now name told audits tells written = record {
   told = audits.told ++ (name, told) ∷ [];
   in_order = map-append (λ (t : Told). t.0) audits.told ((name, told) ∷ []) ∙ ap (λ (all : List Text). all ++ name ∷ []) audits.in_order;
-  are_told = told-more joined input files None audits.told end (name, told) after audits.are_told tells;
+  are_told = told-more works joined input files [] None audits.told end (name, told) after audits.are_told
+      (subst (λ (e : List Text). TellsText joined ((works ≡ true) × (opens_after files e name ≡ true)) (text_given input files (Some name)) end told after)
+      (sym audits.in_order) tells);
   written = rw (lines-more audits.told (name, told)) (Appends-trans before mid now (flat_map told_lines audits.told) (lines_of name told)
       audits.written written);
   any_unfound = any-more (λ (t : Told). is_unfound t.1) audits.told (name, told) unfound audits.any_unfound;
@@ -63,21 +97,27 @@ audits-more joined input files names unfound broken end after before mid now nam
 }
 
 -- the names so far
-pub audits-taken : (joined : Bool) (input : Option (List ℕ)) (files : Text → Option (List ℕ)) (names : List Text) (place : ℕ) (name : Text)
+pub audits-taken : (works joined : Bool) (input : Option (List ℕ)) (files : Text → Option (List ℕ)) (names : List Text) (place : ℕ) (name : Text)
     (unfound broken : Bool) (end : Option EndView) (before now : Option (List ℕ)) → place < length names
-    → name ≡ get_or names place [] → AuditsFiles joined input files (take place names ++ name ∷ []) unfound broken end before now
-    → AuditsFiles joined input files (take (place + 1) names) unfound broken end before now
-audits-taken joined input files names place name unfound broken end before now within is audits =
-    rw (add-one place, take-suc names place [] within) (subst (λ (n : Text). AuditsFiles joined input files (take place names ++ n ∷ []) unfound broken
-    end before now) is audits)
+    → name ≡ get_or names place [] → AuditsFiles works joined input files (take place names ++ name ∷ []) unfound broken end before now
+    → AuditsFiles works joined input files (take (place + 1) names) unfound broken end before now
+audits-taken works joined input files names place name unfound broken end before now within is audits =
+    rw (add-one place, take-suc names place [] within) (subst (λ (n : Text). AuditsFiles works joined input files (take place names ++ n ∷ []) unfound
+    broken end before now) is audits)
+
+-- .. and what is left of the reader
+pub left-taken : {R : Type 0} (first : R) (names : List Text) (place : ℕ) (name : Text) (input : Option R) → place < length names
+    → name ≡ get_or names place [] → IsLeft first (take place names ++ name ∷ []) input → IsLeft first (take (place + 1) names) input
+left-taken {R} first names place name input within is left =
+    rw (add-one place, take-suc names place [] within) (subst (λ (n : Text). IsLeft first (take place names ++ n ∷ []) input) is left)
 
 -- ---- the end
 
-pub ends-audited : (joined : Bool) (input : Option (List ℕ)) (files : Text → Option (List ℕ)) (names : List Text) (unfound broken : Bool)
-    (end : Option EndView) (before now : Option (List ℕ)) → AuditsFiles joined input files names unfound broken end before now
-    → EndsFiles joined input files names (worst unfound broken) before now
-ends-audited joined input files names unfound broken end before now audits = inr (inr (unfound, broken, end, refl, audits))
+pub ends-audited : (works joined : Bool) (input : Option (List ℕ)) (files : Text → Option (List ℕ)) (names : List Text) (unfound broken : Bool)
+    (end : Option EndView) (before now : Option (List ℕ)) → AuditsFiles works joined input files names unfound broken end before now
+    → EndsFiles works joined input files names (worst unfound broken) before now
+ends-audited works joined input files names unfound broken end before now audits = inr (inr (unfound, broken, end, refl, audits))
 
-pub ends-unwritten : (joined : Bool) (input : Option (List ℕ)) (files : Text → Option (List ℕ)) (names : List Text) (before now : Option (List ℕ))
-    → EndsFiles joined input files names (Fault trace_fault.Write) before now
-ends-unwritten joined input files names before now = inl refl
+pub ends-unwritten : (works joined : Bool) (input : Option (List ℕ)) (files : Text → Option (List ℕ)) (names : List Text) (before now : Option (List ℕ))
+    → EndsFiles works joined input files names (Fault trace_fault.Write) before now
+ends-unwritten works joined input files names before now = inl refl

@@ -1,21 +1,51 @@
 -- What is read for a file that the words name.
-use Rattle.std.proofs.Common.{◌≡◌, ℕ, List, Bool, true, false, Option, Some, None, codes, refl, inl, inr, subst, sym}
-use Rattle.std.specs.Prelude.{◌⊎◌, IfSome, IsSome, if◌then◌else◌}
+use Rattle.std.proofs.Common.{◌≡◌, ◌∙◌, ℕ, List, [], ◌∷◌, ◌++◌, Bool, true, false, not, Option, Some, None, ap, codes, refl, inl, inr, subst, sym}
+use Rattle.std.specs.List.{list_any}
+use Rattle.std.proofs.lemmas.List.Folds.{list_any-append}
+use Rattle.std.specs.Prelude.{◌⊎◌, ◌||◌, IfSome, IsSome, is_some, if◌then◌else◌}
 use Rattle.std.specs.Str.{bytes_eq}
 use Rattle.either.specs.declared.Either.{Either}
 use Rattle.either.specs.Either.{either}
-use Rattle.pie_commands.specs.Files.{CanOpen, CanRead, Name, ReadsNamed, left_for, opens_by, reads_by, text_given}
+use Rattle.pie_commands.specs.Files.{CanOpen, CanRead, Name, ReadsNamed, is_dash, left_for, opens_after, opens_by, reads_by, text_given}
 
 -- the reader that was handed in is there, or was taken
 abbrev pub Stays : {R : Type 0} → R → Option R → Type 0
 Stays first input = (input ≡ Some first) ⊎ (input ≡ None)
 
-pub stays-on : {R : Type 0} (first : R) (name : Name) (old new : Option R) → Stays first old → new ≡ left_for name old → Stays first new
-stays-on {R} first name old new stays is = subst (λ (input : Option R). Stays first input) (sym is) (go (bytes_eq name (codes "-")))
+-- the reader that was handed in is there as long as no file was named `-`
+abbrev pub IsLeft : {R : Type 0} → R → List Name → Option R → Type 0
+IsLeft first earlier input = input ≡ (if list_any is_dash earlier then None else Some first)
+
+pub left-stays : {R : Type 0} (first : R) (earlier : List Name) (input : Option R) → IsLeft first earlier input → Stays first input
+left-stays {R} first earlier input is = subst (λ (i : Option R). Stays first i) (sym is) (go (list_any is_dash earlier))
   where
-    go : (dash : Bool) → Stays first (if dash then None else old)
+    go : (dash : Bool) → Stays first (if dash then None else Some first)
     go true = inr refl
-    go false = stays
+    go false = inl refl
+
+pub left-on : {R : Type 0} (first : R) (earlier : List Name) (name : Name) (old new : Option R) → IsLeft first earlier old → new ≡ left_for name old
+    → IsLeft first (earlier ++ name ∷ []) new
+left-on {R} first earlier name old new is taken =
+    taken ∙ ap (left_for name) is ∙ go (list_any is_dash earlier) (is_dash name)
+    ∙ sym (ap (λ (b : Bool). if b then None else Some first) (list_any-append is_dash earlier (name ∷ [])))
+  where
+    go : (before dash : Bool) → (if dash then None else (if before then None else Some first)) ≡ (if before || (dash || false) then None else Some first)
+    go true true = refl
+    go true false = refl
+    go false true = refl
+    go false false = refl
+
+-- what can be opened after files of these names
+pub opens-left : {R : Type 0} (first : R) (files : Name → Option (List ℕ)) (earlier : List Name) (input : Option R) (name : Name)
+    → IsLeft first earlier input → opens_after files earlier name ≡ true → CanOpen input (files name) name
+opens-left {R} first files earlier input name is opens = subst (λ (i : Option R). CanOpen i (files name) name) (sym is)
+    (go (is_dash name) (list_any is_dash earlier) (files name) opens)
+  where
+    go : (dash before : Bool) (held : Option (List ℕ)) → (if dash then not before else is_some held) ≡ true
+        → opens_by dash (if before then None else Some first) held
+    go true true held opens = cc
+    go true false held opens = refl
+    go false before held opens = opens
 
 -- ---- what can be opened
 

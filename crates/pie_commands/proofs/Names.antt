@@ -11,7 +11,7 @@ pub use Rattle.std.specs.Str.{bytes_eq}
 pub use Rattle.clap.proofs.WalkLemmas.{one_text-rows, raw_values-rows}
 pub use Rattle.clap.specs.Words.{App, HasMatchesOf, Text, app_of, found_of, kind_of, one_text, rows_of, subcommand_name_of, subcommand_rows_of, takes}
 pub use Rattle.pie_audit.specs.Text.{FindsEither}
-pub use Rattle.pie_commands.proofs.FileFacts.{Stays, reads-given, stays-on}
+pub use Rattle.pie_commands.proofs.FileFacts.{reads-given}
 pub use Rattle.pie_commands.proofs.WordFacts.{name-found, options-in, same-word}
 pub use Rattle.pie_commands.specs.Choice.{tale_of, told_by, units_of}
 unfoldable pub use Rattle.pie_commands.specs.Choice.{choice_of}

@@ -6,6 +6,11 @@ use Rattle.pie_commands.proofs.Names.{HasMatchesOf, Text, kind_of, subcommand_na
 use Rattle.pie_commands.proofs.Names.{files_in, is_forced, is_joined, options_in, pie_app, subcommand_in, name-found, options-in, same-word, Joined}
 use Rattle.pie_commands.proofs.Names.{EndView, text_given, Held, Keeps, AreTold, Told, TellsText, EndsEither, EndsFiles, Answers, EndsAs, EndsTask}
 use Rattle.pie_commands.proofs.Names.{EndsTo, Finds, may_differ, output_for}
+use Rattle.pie_commands.proofs.Names.{FindsEither, JoinsText, records_of, list_any, not, ◌++◌, ap, refl, false, None, if◌then◌else◌, ◌&&◌}
+use Rattle.std.specs.Prelude.{is_some}
+use Rattle.pie_commands.specs.Files.{is_dash, opens_after}
+use Rattle.pie_commands.specs.declared.file_audits.Unaudited.{Unaudited}
+use Rattle.pie_commands.specs.declared.file_audits.Unaudited.TheVariants.{Unopened, Faulty}
 use Rattle.clap.specs.Words.{Row}
 use Rattle.clap.specs.declared.error.Error.{Error}
 use Rattle.clap.specs.declared.error.kind.ErrorKind.TheVariants.{OutOfMemory}
@@ -22,13 +27,13 @@ pub EndsTask-unable : (task : Task) (options : List Row) (known before now : Opt
     → EndsTask task options known Unable before now
 EndsTask-unable task options known before now same = grind (arith, nat_tests)
 
-EndsAs-unable : (subcommand : Subcommand) (options : List Row) (input : Option (List ℕ)) (files : Held) (before now : Option (List ℕ)) → now ≡ before
-    → EndsAs subcommand options input files Unable before now
-EndsAs-unable subcommand options input files before now same = grind (arith, nat_tests)
+EndsAs-unable : (subcommand : Subcommand) (options : List Row) (works : Bool) (input : Option (List ℕ)) (files : Held) (before now : Option (List ℕ)) → now ≡ before
+    → EndsAs subcommand options works input files Unable before now
+EndsAs-unable subcommand options works input files before now same = grind (arith, nat_tests)
 
-EndsTo-unable : (subcommand : Subcommand) (options : List Row) (input fresh : Option (List ℕ)) (files : Held) (before now : Option (List ℕ))
-    → now ≡ before → EndsTo subcommand options input fresh files files Unable before now
-EndsTo-unable subcommand options input fresh files before now same = grind (arith, EndsAs-unable, keeps-same)
+EndsTo-unable : (subcommand : Subcommand) (options : List Row) (works : Bool) (input fresh : Option (List ℕ)) (files : Held) (before now : Option (List ℕ))
+    → now ≡ before → EndsTo subcommand options works input fresh files files Unable before now
+EndsTo-unable subcommand options works input fresh files before now same = grind (arith, EndsAs-unable, keeps-same)
 
 -- ---- what is said of files that may hold more than they did holds of what they held
 
@@ -36,53 +41,80 @@ given-kept : (input : Option (List ℕ)) (old new : Held) (file : Option Text) �
     → IsKept (text_given input old file) (text_given input new file)
 given-kept input old new file keeps = grind (arith, nat_tests)
 
-told-kept : (joined : Bool) (input : Option (List ℕ)) (old new : Held) → Keeps old new → (name : Text) (before : Option EndView)
-    (told : Option Joined) (after : Option EndView) → TellsText joined (text_given input new (Some name)) before told after
-    → TellsText joined (text_given input old (Some name)) before told after
-told-kept joined input old new keeps name before told after tells = grind (arith, nat_tests, known-kept, given-kept)
+-- what can be opened by what is known can be by more
+opens-kept : (old new : Held) (earlier : List Text) (name : Text) → Keeps old new → opens_after old earlier name ≡ true → opens_after new earlier name ≡ true
+opens-kept old new earlier name keeps opens = go (is_dash name) (old name) refl opens
+  where
+    go : (dash : Bool) (held : Option (List ℕ)) → old name ≡ held → (if dash then not (list_any is_dash earlier) else is_some (old name)) ≡ true
+        → (if dash then not (list_any is_dash earlier) else is_some (new name)) ≡ true
+    go true held is opens = opens
+    go false None is opens = let wrong : false ≡ true = rw is at opens in cc
+    go false (Some text) is opens = ap is_some (keeps name text is)
 
-all-kept : (joined : Bool) (input : Option (List ℕ)) (old new : Held) → Keeps old new → (before : Option EndView) (told : List Told)
-    (after : Option EndView) → AreTold joined input new before told after → AreTold joined input old before told after
-all-kept joined input old new keeps before [] after told = told
-all-kept joined input old new keeps before (one ∷ more) after told = (
-  told.0,
-  told-kept joined input old new keeps one.0 before one.1 told.0 told.1,
-  all-kept joined input old new keeps told.0 more after told.2,
+told-kept : (joined : Bool) (input : Option (List ℕ)) (old new : Held) → Keeps old new → (opens more : Type 0) → (opens → more) → (name : Text)
+    (before : Option EndView) (told : Result Joined Unaudited) (after : Option EndView)
+    → TellsText joined more (text_given input new (Some name)) before told after → TellsText joined opens (text_given input old (Some name)) before told after
+told-kept joined input old new keeps opens more first name before (Err Unopened) after tells = (λ o. tells.0 (first o), tells.1)
+told-kept joined input old new keeps opens more first name before (Err (Faulty why)) after tells = (
+  known-kept (text_given input old (Some name)) (text_given input new (Some name)) (λ text. FindsEither (records_of text) (Err why))
+      (given-kept input old new (Some name) keeps) tells.0,
+  tells.1,
+)
+told-kept true input old new keeps opens more first name before (Ok told) after tells = (
+  tells.0,
+  known-kept (text_given input old (Some name)) (text_given input new (Some name)) (λ text. JoinsText (records_of text) before told after)
+      (given-kept input old new (Some name) keeps) tells.1,
+)
+told-kept false input old new keeps opens more first name before (Ok told) after tells = (
+  tells.0,
+  known-kept (text_given input old (Some name)) (text_given input new (Some name)) (λ text. FindsEither (records_of text) (Ok told.finding))
+      (given-kept input old new (Some name) keeps) tells.1,
 )
 
-files-kept : (joined : Bool) (input : Option (List ℕ)) (old new : Held) (names : List Text) (end : End) (before now : Option (List ℕ))
-    → Keeps old new → EndsFiles joined input new names end before now → EndsFiles joined input old names end before now
-files-kept joined input old new names end before now keeps ended = grind (arith, all-kept)
+all-kept : (works joined : Bool) (input : Option (List ℕ)) (old new : Held) → Keeps old new → (earlier : List Text) (before : Option EndView)
+    (told : List Told) (after : Option EndView) → AreTold works joined input new earlier before told after
+    → AreTold works joined input old earlier before told after
+all-kept works joined input old new keeps earlier before [] after told = told
+all-kept works joined input old new keeps earlier before (one ∷ more) after told = (
+  told.0,
+  told-kept joined input old new keeps ((works ≡ true) × (opens_after old earlier one.0 ≡ true)) ((works ≡ true) × (opens_after new earlier one.0 ≡ true))
+      (λ opens. (opens.0, opens-kept old new earlier one.0 keeps opens.1)) one.0 before one.1 told.0 told.1,
+  all-kept works joined input old new keeps (earlier ++ one.0 ∷ []) told.0 more after told.2,
+)
 
-either-kept : (joined : Bool) (input : Option (List ℕ)) (old new : Held) (names : List Text) (end : End) (before now : Option (List ℕ))
-    → Keeps old new → EndsEither joined input new names end before now → EndsEither joined input old names end before now
-either-kept joined input old new [] end before now keeps ended = ended
-either-kept joined input old new (name ∷ names) end before now keeps ended =
-    files-kept joined input old new (name ∷ names) end before now keeps ended
+files-kept : (works joined : Bool) (input : Option (List ℕ)) (old new : Held) (names : List Text) (end : End) (before now : Option (List ℕ))
+    → Keeps old new → EndsFiles works joined input new names end before now → EndsFiles works joined input old names end before now
+files-kept works joined input old new names end before now keeps ended = grind (arith, all-kept)
+
+either-kept : (works joined : Bool) (input : Option (List ℕ)) (old new : Held) (names : List Text) (end : End) (before now : Option (List ℕ))
+    → Keeps old new → EndsEither works joined input new names end before now → EndsEither works joined input old names end before now
+either-kept works joined input old new [] end before now keeps ended = ended
+either-kept works joined input old new (name ∷ names) end before now keeps ended =
+    files-kept works joined input old new (name ∷ names) end before now keeps ended
 
 -- .. of a text alone, which is what any other subcommand reads
-text-kept : (subcommand : Subcommand) (options : List Row) (input : Option (List ℕ)) (old new : Held) (end : End) (before now : Option (List ℕ))
-    → (subcommand ≡ Audit → ⊥) → Keeps old new → EndsAs subcommand options input new end before now
-    → EndsAs subcommand options input old end before now
-text-kept subcommand options input old new end before now other keeps ended = grind (arith, by-kept, given-kept)
+text-kept : (subcommand : Subcommand) (options : List Row) (works : Bool) (input : Option (List ℕ)) (old new : Held) (end : End) (before now : Option (List ℕ))
+    → (subcommand ≡ Audit → ⊥) → Keeps old new → EndsAs subcommand options works input new end before now
+    → EndsAs subcommand options works input old end before now
+text-kept subcommand options works input old new end before now other keeps ended = grind (arith, by-kept, given-kept)
 
-pub EndsAs-kept : (subcommand : Subcommand) (options : List Row) (input : Option (List ℕ)) (old new : Held) (end : End)
-    (before now : Option (List ℕ)) → Keeps old new → EndsAs subcommand options input new end before now
-    → EndsAs subcommand options input old end before now
-EndsAs-kept Audit options input old new end before now keeps ended =
-    either-kept (is_joined options) input old new (files_in options) end before now keeps ended
-EndsAs-kept other options input old new end before now keeps ended =
-    text-kept other options input old new end before now (λ is. cc) keeps ended
+pub EndsAs-kept : (subcommand : Subcommand) (options : List Row) (works : Bool) (input : Option (List ℕ)) (old new : Held) (end : End)
+    (before now : Option (List ℕ)) → Keeps old new → EndsAs subcommand options works input new end before now
+    → EndsAs subcommand options works input old end before now
+EndsAs-kept Audit options works input old new end before now keeps ended =
+    either-kept works (is_joined options) input old new (files_in options) end before now keeps ended
+EndsAs-kept other options works input old new end before now keeps ended =
+    text-kept other options works input old new end before now (λ is. cc) keeps ended
 
 -- ---- an event can differ in three of them
 
-differs-as : (subcommand : Subcommand) (options : List Row) (input : Option (List ℕ)) (files : Held) (before now : Option (List ℕ))
-    → EndsAs subcommand options input files Differs before now → may_differ subcommand ≡ true
-differs-as subcommand options input files before now ended = grind (arith, nat_tests)
+differs-as : (subcommand : Subcommand) (options : List Row) (works : Bool) (input : Option (List ℕ)) (files : Held) (before now : Option (List ℕ))
+    → EndsAs subcommand options works input files Differs before now → may_differ subcommand ≡ true
+differs-as subcommand options works input files before now ended = grind (arith, nat_tests)
 
-differs-to : (subcommand : Subcommand) (options : List Row) (input fresh : Option (List ℕ)) (old new : Held) (before now : Option (List ℕ))
-    → EndsTo subcommand options input fresh old new Differs before now → may_differ subcommand ≡ true
-differs-to subcommand options input fresh old new before now ended = grind (arith, differs-as)
+differs-to : (subcommand : Subcommand) (options : List Row) (works : Bool) (input fresh : Option (List ℕ)) (old new : Held) (before now : Option (List ℕ))
+    → EndsTo subcommand options works input fresh old new Differs before now → may_differ subcommand ≡ true
+differs-to subcommand options works input fresh old new before now ended = grind (arith, differs-as)
 
 -- ---- the program over words
 
@@ -93,39 +125,39 @@ finds-so app words (Ok matches) is matched passes = subst (λ (a : App). HasMatc
 finds-so app words (Err why) is matched passes = subst (λ (a : App). takes a words ≡ true → kind_of why ≡ OutOfMemory) is passes
 
 -- the subcommand that it found was performed
-pub answers-performed : (words : List Text) (matches : ArgMatches) (subcommand : Subcommand) (rows : List Row) (input fresh : Option (List ℕ))
+pub answers-performed : (words : List Text) (matches : ArgMatches) (subcommand : Subcommand) (rows : List Row) (works : Bool) (input fresh : Option (List ℕ))
     (old new : Held) (end : End) (before now : Option (List ℕ)) → HasMatchesOf pie_app words matches
     → Some (word_of subcommand) ≡ subcommand_name_of matches
     → Some rows ≡ option_map (λ (given : Text × List Row). given.1) (subcommand_rows_of matches)
-    → EndsTo subcommand rows input fresh old new end before now → Answers words input fresh old new end before now
-answers-performed words matches subcommand rows input fresh old new end before now matched name given ended =
+    → EndsTo subcommand rows works input fresh old new end before now → Answers words works input fresh old new end before now
+answers-performed words matches subcommand rows works input fresh old new end before now matched name given ended =
     let found : subcommand_in words ≡ Some (word_of subcommand) = sym (name ∙ name-found words matches matched) in
     record {
-      keeps = λ one. ends-keep (output_for subcommand rows) (file_in rows) (is_forced rows) fresh old new (EndsAs subcommand rows input old) end before now
+      keeps = λ one. ends-keep (output_for subcommand rows) (file_in rows) (is_forced rows) fresh old new (EndsAs subcommand rows works input old) end before now
           one ended;
-      differs = λ is. (subcommand, differs-to subcommand rows input fresh old new before now (rw is at ended), found);
+      differs = λ is. (subcommand, differs-to subcommand rows works input fresh old new before now (rw is at ended), found);
       ends = λ other asks.
-          subst (λ (s : Subcommand). EndsTo s (options_in words) input fresh old new end before now)
+          subst (λ (s : Subcommand). EndsTo s (options_in words) works input fresh old new end before now)
           (same-word subcommand other (sym found ∙ asks.found))
-          (subst (λ (options : List Row). EndsTo subcommand options input fresh old new end before now)
+          (subst (λ (options : List Row). EndsTo subcommand options works input fresh old new end before now)
           (sym (options-in words matches rows matched given)) ended);
     }
 
 -- no subcommand began, for want of memory or since the words ask for none
-pub answers-unable : (words : List Text) (input fresh : Option (List ℕ)) (held : Held) (end : End) (before now : Option (List ℕ))
-    → (end ≡ Differs → ⊥) → (takes pie_app words ≡ true → (end ≡ Unable) × (now ≡ before)) → Answers words input fresh held held end before now
-answers-unable words input fresh held end before now same unable = record {
+pub answers-unable : (words : List Text) (works : Bool) (input fresh : Option (List ℕ)) (held : Held) (end : End) (before now : Option (List ℕ))
+    → (end ≡ Differs → ⊥) → (takes pie_app words ≡ true → (end ≡ Unable) × (now ≡ before)) → Answers words works input fresh held held end before now
+answers-unable words works input fresh held end before now same unable = record {
   keeps = λ one. keeps-same held;
   differs = λ is. absurd (same is);
   ends = λ subcommand asks.
       let is = unable asks.taken in
-      rw is.0 (EndsTo-unable subcommand (options_in words) input fresh held before now is.1);
+      rw is.0 (EndsTo-unable subcommand (options_in words) works input fresh held before now is.1);
 }
 
-pub answers-none : (words : List Text) (matches : ArgMatches) (input fresh : Option (List ℕ)) (held : Held) (before now : Option (List ℕ))
+pub answers-none : (words : List Text) (works : Bool) (matches : ArgMatches) (input fresh : Option (List ℕ)) (held : Held) (before now : Option (List ℕ))
     → HasMatchesOf pie_app words matches → ((subcommand : Subcommand) → subcommand_name_of matches ≡ Some (word_of subcommand) → ⊥)
-    → Answers words input fresh held held Failed before now
-answers-none words matches input fresh held before now matched none = record {
+    → Answers words works input fresh held held Failed before now
+answers-none words works matches input fresh held before now matched none = record {
   keeps = λ one. keeps-same held;
   differs = λ is. cc;
   ends = λ subcommand asks. absurd (none subcommand (name-found words matches matched ∙ asks.found));

@@ -1,5 +1,5 @@
 -- How an audit of files ends, of any or of those of one history, and what it writes.
-use Rattle.std.specs.Prelude.{ℕ, ◌≡◌, ◌⊎◌, ◌++◌, ◌||◌, List, [], ◌∷◌, Bool, true, false, Option, Some, None, Ok, IfSome, codes, map}
+use Rattle.std.specs.Prelude.{ℕ, ◌≡◌, ◌⊎◌, ◌++◌, ◌||◌, List, [], ◌∷◌, Bool, true, false, Option, Some, None, Result, Ok, Err, IfSome, codes, map}
 use Rattle.std.specs.List.{flat_map, list_any}
 use Rattle.std.specs.Fmt.{decimal}
 use Rattle.std.specs.Io.KnownBytes.{Appends}
@@ -13,7 +13,9 @@ use Rattle.pie_cut.specs.declared.joined.Joined.{Joined}
 use Rattle.pie_cut.specs.declared.joined.Joint.{Joint}
 use Rattle.pie_cut.specs.declared.joined.Joint.TheVariants.{Follows, Gap, Unlike}
 use Rattle.pie_cut.specs.Joined.{EndView, IsLeftBy, JoinsText}
-use Rattle.pie_commands.specs.Files.{text_given}
+use Rattle.pie_commands.specs.Files.{opens_after, text_given}
+use Rattle.pie_commands.specs.declared.file_audits.Unaudited.{Unaudited}
+use Rattle.pie_commands.specs.declared.file_audits.Unaudited.TheVariants.{Unopened, Faulty}
 use Rattle.pie_commands.specs.declared.end.End.{End}
 use Rattle.pie_commands.specs.declared.end.End.TheVariants.{Done, Differs, Fault, Unable, Failed}
 use Rattle.pie_commands.specs.Ends.{EndsAudit}
@@ -36,23 +38,23 @@ line_of_joint name None = []
 line_of_joint name (Some joint) = joint_line name joint
 
 -- the line of what was found of a file, and then that of its joint
-abbrev pub lines_of : Text → Option Joined → List ℕ
-lines_of name None = []
-lines_of name (Some joined) = named_line name joined.finding ++ line_of_joint name joined.joint
+abbrev pub lines_of : Text → Result Joined Unaudited → List ℕ
+lines_of name (Err why) = []
+lines_of name (Ok joined) = named_line name joined.finding ++ line_of_joint name joined.joint
 
--- a file's name, and what was found of it and its joint; or none, where it has a fault, or could not be opened or read
+-- a file's name, and what was found of it and its joint; or why it was not audited
 abbrev pub Told : Type 0
-Told = Text × Option Joined
+Told = Text × Result Joined Unaudited
 
 abbrev pub told_lines : Told → List ℕ
 told_lines told = lines_of told.0 told.1
 
 -- ---- the status
 
--- a file of which nothing was found
-abbrev pub is_unfound : Option Joined → Bool
-is_unfound None = true
-is_unfound (Some joined) = false
+-- a file that was not audited
+abbrev pub is_unfound : Result Joined Unaudited → Bool
+is_unfound (Err why) = true
+is_unfound (Ok joined) = false
 
 abbrev pub is_different : Finding → Bool
 is_different (finding.Differs event) = true
@@ -66,9 +68,9 @@ is_apart (Some (Gap last first)) = true
 is_apart (Some (Unlike last)) = true
 
 -- an event of a file differs, or the file does not go on where the one before it ended
-abbrev pub is_broken : Option Joined → Bool
-is_broken None = false
-is_broken (Some joined) = is_different joined.finding || is_apart joined.joint
+abbrev pub is_broken : Result Joined Unaudited → Bool
+is_broken (Err why) = false
+is_broken (Ok joined) = is_different joined.finding || is_apart joined.joint
 
 -- the worst of all: something could not be audited, and else an event differs
 abbrev pub worst : Bool → Bool → End
@@ -79,42 +81,47 @@ worst false false = Done
 -- ---- the files
 
 -- this is told of a text after such an end, and that end is left. Of one history it is what is found, and how the text joins that end; none is left
--- where it has a fault, or an event of it differs. Of any files it is what is found, and no joint
-abbrev pub TellsText : Bool → Option (List ℕ) → Option EndView → Option Joined → Option EndView → Type 0
-TellsText joined known before None after = joined ≡ true → after ≡ None
-TellsText true known before (Some told) after = IsLeftBy told.finding after × IfSome known (λ text. JoinsText (records_of text) before told after)
-TellsText false known before (Some told) after =
+-- where it has a fault, or an event of it differs. Of any files it is what is found, and no joint. Nothing is found of a file that could not be
+-- opened, nor of one whose first fault this is, or which could not be read, or for which there was no memory
+abbrev pub TellsText : Bool → Type 0 → Option (List ℕ) → Option EndView → Result Joined Unaudited → Option EndView → Type 0
+TellsText joined opens known before (Err Unopened) after = (opens → ⊥) × (joined ≡ true → after ≡ None)
+TellsText joined opens known before (Err (Faulty why)) after =
+    IfSome known (λ text. FindsEither (records_of text) (Err why)) × (joined ≡ true → after ≡ None)
+TellsText true opens known before (Ok told) after = IsLeftBy told.finding after × IfSome known (λ text. JoinsText (records_of text) before told after)
+TellsText false opens known before (Ok told) after =
     (told.joint ≡ None) × IfSome known (λ text. FindsEither (records_of text) (Ok told.finding))
 
--- .. of a text that was read so; or it could not be
-abbrev pub TellsRead : Bool → (Option (List ℕ) → Type 0) → Option EndView → Option Joined → Option EndView → Type 0
-TellsRead joined reads before None after = joined ≡ true → after ≡ None
-TellsRead joined reads before (Some told) after = (known : Option (List ℕ)) × reads known × TellsText joined known before (Some told) after
+-- .. of a text that was read so; or the file could not be opened
+abbrev pub TellsRead : Bool → Type 0 → (Option (List ℕ) → Type 0) → Option EndView → Result Joined Unaudited → Option EndView → Type 0
+TellsRead joined opens reads before (Err Unopened) after = (opens → ⊥) × (joined ≡ true → after ≡ None)
+TellsRead joined opens reads before told after = (known : Option (List ℕ)) × reads known × TellsText joined opens known before told after
 
--- .. of the text of one file after another
-abbrev pub AreTold : Bool → Option (List ℕ) → (Text → Option (List ℕ)) → Option EndView → List Told → Option EndView → Type 0
-AreTold joined input files before [] after = after ≡ before
-AreTold joined input files before (told ∷ more) after = (between : Option EndView)
-    × TellsText joined (text_given input files (Some told.0)) before told.1 between × AreTold joined input files between more after
+-- .. of the text of one file after another, after files of these names. Where files fail to be opened for no other reason, one can be whose text is
+-- known, and standard input once
+abbrev pub AreTold : Bool → Bool → Option (List ℕ) → (Text → Option (List ℕ)) → List Text → Option EndView → List Told → Option EndView → Type 0
+AreTold works joined input files earlier before [] after = after ≡ before
+AreTold works joined input files earlier before (told ∷ more) after = (between : Option EndView)
+    × TellsText joined ((works ≡ true) × (opens_after files earlier told.0 ≡ true)) (text_given input files (Some told.0)) before told.1 between
+    × AreTold works joined input files (earlier ++ told.0 ∷ []) between more after
 
 -- each of these files was looked at in turn, and the lines of each were written; no end stands before the first
-pub record AuditsFiles (joined : Bool) (input : Option (List ℕ)) (files : Text → Option (List ℕ)) (names : List Text) (unfound broken : Bool)
+pub record AuditsFiles (works joined : Bool) (input : Option (List ℕ)) (files : Text → Option (List ℕ)) (names : List Text) (unfound broken : Bool)
     (end : Option EndView) (before now : Option (List ℕ)) : Type 0 where
   pub told : List Told
   pub in_order : map (λ t. t.0) told ≡ names
-  pub are_told : AreTold joined input files None told end
+  pub are_told : AreTold works joined input files [] None told end
   pub written : Appends before now (flat_map told_lines told)
   pub any_unfound : unfound ≡ list_any (λ t. is_unfound t.1) told
   pub any_broken : broken ≡ list_any (λ t. is_broken t.1) told
 
 -- .. and the end is the worst of all; or a line could not be written; or memory was wanting, and nothing was written
-abbrev pub EndsFiles : Bool → Option (List ℕ) → (Text → Option (List ℕ)) → List Text → End → Option (List ℕ) → Option (List ℕ) → Type 0
-EndsFiles joined input files names end before now =
+abbrev pub EndsFiles : Bool → Bool → Option (List ℕ) → (Text → Option (List ℕ)) → List Text → End → Option (List ℕ) → Option (List ℕ) → Type 0
+EndsFiles works joined input files names end before now =
     (end ≡ Fault trace_fault.Write) ⊎ ((end ≡ Unable) × (now ≡ before))
     ⊎ ((unfound : Bool) × (broken : Bool) × (last : Option EndView) × (end ≡ worst unfound broken)
-    × AuditsFiles joined input files names unfound broken last before now)
+    × AuditsFiles works joined input files names unfound broken last before now)
 
 -- with no file it is the audit of the reader that is handed in, which has no joint
-abbrev pub EndsEither : Bool → Option (List ℕ) → (Text → Option (List ℕ)) → List Text → End → Option (List ℕ) → Option (List ℕ) → Type 0
-EndsEither joined input files [] = EndsAudit input
-EndsEither joined input files (name ∷ names) = EndsFiles joined input files (name ∷ names)
+abbrev pub EndsEither : Bool → Bool → Option (List ℕ) → (Text → Option (List ℕ)) → List Text → End → Option (List ℕ) → Option (List ℕ) → Type 0
+EndsEither works joined input files [] = EndsAudit input
+EndsEither works joined input files (name ∷ names) = EndsFiles works joined input files (name ∷ names)

@@ -1,5 +1,6 @@
 -- What is read of the files that the words name.
-use Rattle.std.specs.Prelude.{ℕ, ◌≡◌, List, Bool, true, false, Option, Some, None, IfSome, IsSome, codes, if◌then◌else◌}
+use Rattle.std.specs.Prelude.{ℕ, ◌≡◌, List, Bool, true, false, not, Option, Some, None, IfSome, IsSome, is_some, codes, if◌then◌else◌}
+use Rattle.std.specs.List.{list_any}
 use Rattle.std.specs.Str.{bytes_eq}
 
 -- the bytes of a name
@@ -10,6 +11,10 @@ Name = List ℕ
 abbrev pub file_of : Option Name → Option Name
 file_of None = None
 file_of (Some name) = if bytes_eq name (codes "-") then None else Some name
+
+-- the name of standard input
+abbrev pub is_dash : Name → Bool
+is_dash name = bytes_eq name (codes "-")
 
 -- what is left to be read of the reader that is handed in: reading the file of this name takes it where that is `-`
 abbrev pub left_for : {R : Type 0} → Name → Option R → Option R
@@ -22,6 +27,10 @@ opens_by false input held = IsSome held
 
 abbrev pub CanOpen : {R : Type 0} → Option R → Option (List ℕ) → Name → Type 0
 CanOpen input held name = opens_by (bytes_eq name (codes "-")) input held
+
+-- .. after files of these names: standard input if none of them named it, and else a file whose text is known
+abbrev pub opens_after : (Name → Option (List ℕ)) → List Name → Name → Bool
+opens_after files earlier name = if is_dash name then not (list_any is_dash earlier) else is_some (files name)
 
 -- .. where the reader is there
 abbrev pub CanRead : (Name → Option (List ℕ)) → Option Name → Type 0

@@ -35,15 +35,16 @@ abbrev pub CanDo : Task → Type 0
 CanDo (task.Cut pieces) = HasSome pieces
 CanDo _ = ⊤
 
--- a subcommand with these options, over a reader of which this is known and files of which that is known, by what it writes
-abbrev pub EndsAs : Subcommand → List Row → Option (List ℕ) → Held → End → Option (List ℕ) → Option (List ℕ) → Type 0
-EndsAs Run options input files = EndsRun (text_given input files (file_in options))
-EndsAs Audit options input files = EndsEither (is_joined options) input files (files_in options)
-EndsAs Explain options input files = EndsExplain options (text_given input files (file_in options))
-EndsAs Cut options input files = EndsCut options (file_in options) (text_given input files (file_in options))
-EndsAs Migrate options input files = EndsMigrate (text_given input files (file_in options))
-EndsAs Storm options input files = EndsStorm options
-EndsAs Params options input files = EndsParams options
+-- a subcommand with these options, over a reader of which this is known and files of which that is known, by what it writes; files fail to be opened
+-- for no other reason, or for some
+abbrev pub EndsAs : Subcommand → List Row → Bool → Option (List ℕ) → Held → End → Option (List ℕ) → Option (List ℕ) → Type 0
+EndsAs Run options works input files = EndsRun (text_given input files (file_in options))
+EndsAs Audit options works input files = EndsEither works (is_joined options) input files (files_in options)
+EndsAs Explain options works input files = EndsExplain options (text_given input files (file_in options))
+EndsAs Cut options works input files = EndsCut options (file_in options) (text_given input files (file_in options))
+EndsAs Migrate options works input files = EndsMigrate (text_given input files (file_in options))
+EndsAs Storm options works input files = EndsStorm options
+EndsAs Params options works input files = EndsParams options
 
 -- the file that a subcommand is to write in place of the writer that is handed in
 abbrev pub output_for : Subcommand → List Row → Option Text
@@ -53,9 +54,9 @@ output_for Params options = None
 output_for _ options = output_in options
 
 -- .. to the writer that is handed in, or to a new file that is for the name that the options give, with what becomes of files
-abbrev pub EndsTo : Subcommand → List Row → Option (List ℕ) → Option (List ℕ) → Held → Held → End → Option (List ℕ) → Option (List ℕ) → Type 0
-EndsTo subcommand options input fresh old new =
-    EndsIn (output_for subcommand options) (file_in options) (is_forced options) fresh old new (EndsAs subcommand options input old)
+abbrev pub EndsTo : Subcommand → List Row → Bool → Option (List ℕ) → Option (List ℕ) → Held → Held → End → Option (List ℕ) → Option (List ℕ) → Type 0
+EndsTo subcommand options works input fresh old new =
+    EndsIn (output_for subcommand options) (file_in options) (is_forced options) fresh old new (EndsAs subcommand options works input old)
 
 -- an event can differ in what three of them read
 abbrev pub may_differ : Subcommand → Bool
@@ -73,7 +74,7 @@ Finds words (Err why) = takes pie_app words ≡ true → kind_of why ≡ OutOfMe
 
 -- the program over words ends so: with the status 1 each file holds what it held; an event differs only in a subcommand in which one can; and the
 -- subcommand that the words ask for ends as it promises
-pub record Answers (words : List Text) (input fresh : Option (List ℕ)) (old new : Held) (end : End) (before now : Option (List ℕ)) : Type 0 where
+pub record Answers (words : List Text) (works : Bool) (input fresh : Option (List ℕ)) (old new : Held) (end : End) (before now : Option (List ℕ)) : Type 0 where
   pub keeps : status_of end ≡ 1 → Keeps old new
   pub differs : end ≡ Differs → (subcommand : Subcommand) × (may_differ subcommand ≡ true) × (subcommand_in words ≡ Some (word_of subcommand))
-  pub ends : (subcommand : Subcommand) → Asks (word_of subcommand) words → EndsTo subcommand (options_in words) input fresh old new end before now
+  pub ends : (subcommand : Subcommand) → Asks (word_of subcommand) words → EndsTo subcommand (options_in words) works input fresh old new end before now

@@ -55,7 +55,7 @@ fn audit_any<H: NamedFiles + Screen, R: Read + Drop, W: Write, E: Write>(
     output: &mut W,
     errors: &mut E,
 ) -> End
-    ensures { EndsEither (is_joined (rows_of (found_of options.now))) (R.remaining input) (H.holds rt.now) (map (λ name. name.now) names.now) result
+    ensures { EndsEither H.works (is_joined (rows_of (found_of options.now))) (R.remaining input) (H.holds rt.now) (map (λ name. name.now) names.now) result
         (W.contents output.old) (W.contents output.new) }
 {
     let is_shown = shows_progress(rt, options, false);
@@ -88,7 +88,7 @@ pub(crate) fn audit<H: NamedFiles + Screen, R: Read + Drop, W: Write, E: Write>(
     output: &mut W,
     errors: &mut E,
 ) -> End
-    ensures { EndsEither (is_joined (rows_of (found_of options.now))) (R.remaining input) (H.holds rt.now)
+    ensures { EndsEither H.works (is_joined (rows_of (found_of options.now))) (R.remaining input) (H.holds rt.now)
         (files_in (rows_of (found_of options.now))) result (W.contents output.old) (W.contents output.new) }
 {
     match options.get_strs("file") {

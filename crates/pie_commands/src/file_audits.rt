@@ -1,8 +1,10 @@
 //! `pie audit FILE..`: of files, each in turn; with `--joined` of those of one history, in its order.
-ghost use Rattle.std.specs.Prelude.{◌≡◌, ◌<◌, ◌||◌, [], IfOk, None, OnErr, OnOk, Some, get_or, length, map, true};
+ghost use Rattle.std.specs.Prelude.{◌≡◌, ◌<◌, ◌||◌, [], Err, IfErr, IfOk, IfSome, None, Ok, OnErr, OnOk, get_or, length, map, true, ⊤};
 ghost use Rattle.std.specs.Io.KnownBytes.{Appends};
 ghost use Rattle.pie_commands.specs.FileAudits.{EndsFiles, TellsRead, TellsText, is_broken, is_unfound, line_of_joint, lines_of, named_line, worst};
-ghost use Rattle.pie_commands.specs.Files.{ReadsNamed, left_for};
+ghost use Rattle.pie_audit.specs.Text.{FindsEither};
+ghost use Rattle.pie_record.specs.Text.{records_of};
+ghost use Rattle.pie_commands.specs.Files.{CanOpen, ReadsNamed, left_for};
 
 use crate::end::{End, faulted};
 use crate::faults::named_fault;
@@ -17,6 +19,15 @@ use std::io;
 use std::io::{Read, Write};
 use std::time::Clock;
 
+/// Why a file was not audited.
+#[derive(Clone, Copy)]
+pub enum Unaudited {
+    /// It could not be opened.
+    Unopened,
+    /// Its text has this fault, or the reader or memory failed.
+    Faulty(TraceFault),
+}
+
 /// What an audit finds of a text; and, where it is one of several of one history, how it joins one that ended so.
 fn found_in<R: Read + Drop>(
     alloc: Global,
@@ -24,7 +35,8 @@ fn found_in<R: Read + Drop>(
     reader: R,
     end: &mut Option<TextEnd>,
 ) -> Result<Joined, TraceFault>
-    ensures told { IfOk result (λ joined. TellsText are_joined (R.remaining reader) end.old (Some joined) end.new) }
+    ensures told { IfOk result (λ joined. TellsText are_joined ⊤ (R.remaining reader) end.old (Ok joined) end.new) }
+    ensures fault { IfSome (R.remaining reader) (λ text. IfErr result (λ why. FindsEither (records_of text) (Err why))) }
     ensures none { OnErr result (are_joined ≡ true → end.new ≡ None) }
 {
     if are_joined {
@@ -39,7 +51,7 @@ fn found_in<R: Read + Drop>(
     }
 }
 
-/// The same of the text of the file of this name; or none, with a line on `errors`, where it has a fault or can't be opened.
+/// Audits the file of this name. Returns why it was not audited, with a line on `errors`, if it can't be opened or read, or has a fault.
 fn told_named<H: NamedFiles + Clock, R: Read + Drop, E: Write>(
     rt: &H,
     alloc: Global,
@@ -49,20 +61,21 @@ fn told_named<H: NamedFiles + Clock, R: Read + Drop, E: Write>(
     input: &mut Option<R>,
     end: &mut Option<TextEnd>,
     errors: &mut E,
-) -> Option<Joined>
-    ensures told { TellsRead are_joined (ReadsNamed R.remaining input.old (H.holds rt.now) name.now) end.old result end.new }
+) -> Result<Joined, Unaudited>
+    ensures told { TellsRead are_joined ((H.works ≡ true) × CanOpen input.old (H.holds rt.now name.now) name.now)
+        (ReadsNamed R.remaining input.old (H.holds rt.now) name.now) end.old result end.new }
     ensures input { input.new ≡ left_for name.now input.old }
 {
     let Some(reader) = reader_named(rt, name, input, errors) else {
         *end = None;
-        return None;
+        return Err(Unaudited::Unopened);
     };
     let watched = Watched::new(reader, &mut *errors, rt, is_shown);
     match found_in(alloc, are_joined, watched, end) {
-        Ok(joined) => Some(joined),
+        Ok(joined) => Ok(joined),
         Err(why) => {
             named_fault(errors, name, why);
-            None
+            Err(Unaudited::Faulty(why))
         }
     }
 }
@@ -91,7 +104,7 @@ fn put_joint<W: Write>(name: &str, joint: Option<Joint>, output: &mut W) -> io::
 
 /// Writes the line of what was found of a file, and that of its joint, and flushes the writer.
 fn write_joined<W: Write>(name: &str, joined: Joined, output: &mut W) -> io::Result<()>
-    ensures { OnOk result (Appends (W.contents output.old) (W.contents output.new) (lines_of name.now (Some joined))) }
+    ensures { OnOk result (Appends (W.contents output.old) (W.contents output.new) (lines_of name.now (Ok joined))) }
 {
     put_finding(name, joined.finding, output)?;
     put_joint(name, joined.joint, output)?;
@@ -109,27 +122,28 @@ fn audit_named<H: NamedFiles + Clock, R: Read + Drop, W: Write, E: Write>(
     end: &mut Option<TextEnd>,
     output: &mut W,
     errors: &mut E,
-) -> io::Result<Option<Joined>>
-    ensures told { IfOk result (λ told. TellsRead are_joined (ReadsNamed R.remaining input.old (H.holds rt.now) name.now) end.old told end.new) }
+) -> io::Result<Result<Joined, Unaudited>>
+    ensures told { IfOk result (λ told. TellsRead are_joined ((H.works ≡ true) × CanOpen input.old (H.holds rt.now name.now) name.now)
+        (ReadsNamed R.remaining input.old (H.holds rt.now) name.now) end.old told end.new) }
     ensures written { IfOk result (λ told. Appends (W.contents output.old) (W.contents output.new) (lines_of name.now told)) }
     ensures input { input.new ≡ left_for name.now input.old }
 {
     match told_named(rt, alloc, is_shown, are_joined, name, input, end, errors) {
-        Some(joined) => {
+        Ok(joined) => {
             write_joined(name, joined, output)?;
-            Ok(Some(joined))
+            Ok(Ok(joined))
         }
-        None => Ok(None),
+        Err(why) => Ok(Err(why)),
     }
 }
 
 /// Whether an event of a file differs, or it does not go on where the one before it ended.
-fn is_broken(told: Option<Joined>) -> bool
+fn is_broken(told: Result<Joined, Unaudited>) -> bool
     ensures { result ≡ is_broken told }
 {
     match told {
-        None => false,
-        Some(joined) => match joined.finding {
+        Err(_) => false,
+        Ok(joined) => match joined.finding {
             Finding::Differs { .. } => true,
             Finding::Clean { .. } => match joined.joint {
                 None | Some(Joint::Follows) => false,
@@ -140,17 +154,17 @@ fn is_broken(told: Option<Joined>) -> bool
 }
 
 /// Whether that is so of one of the files before, or of this one.
-fn any_broken(before: bool, told: Option<Joined>) -> bool
+fn any_broken(before: bool, told: Result<Joined, Unaudited>) -> bool
     ensures { result ≡ (before || is_broken told) }
 {
     before || is_broken(told)
 }
 
-/// Whether nothing was found of one of the files before, or of this one.
-fn any_unfound(before: bool, told: Option<Joined>) -> bool
+/// Returns true if one of the files before was not audited, or this one.
+fn any_unfound(before: bool, told: Result<Joined, Unaudited>) -> bool
     ensures { result ≡ (before || is_unfound told) }
 {
-    before || told.is_none()
+    before || told.is_err()
 }
 
 /// The worst end, where these say whether a file could not be audited, and whether an event of one differs.
@@ -185,7 +199,7 @@ pub(crate) fn audit_files<H: NamedFiles + Clock, R: Read + Drop, W: Write, E: Wr
     output: &mut W,
     errors: &mut E,
 ) -> End
-    ensures { EndsFiles are_joined (R.remaining input) (H.holds rt.now) (map (λ name. name.now) names.now) result (W.contents output.old)
+    ensures { EndsFiles H.works are_joined (R.remaining input) (H.holds rt.now) (map (λ name. name.now) names.now) result (W.contents output.old)
         (W.contents output.new) }
 {
     let mut given = Some(input);

@@ -33,7 +33,7 @@ fn perform<H: Threads + Wait + Sync + NamedFiles + Screen, R: Read + Drop, W: Wr
     output: &mut W,
     errors: &mut E,
 ) -> End
-    ensures { EndsAs subcommand (rows_of (found_of options.now)) (R.remaining input) (H.holds rt.now) result (W.contents output.old)
+    ensures { EndsAs subcommand (rows_of (found_of options.now)) H.works (R.remaining input) (H.holds rt.now) result (W.contents output.old)
         (W.contents output.new) }
 {
     match subcommand {
@@ -58,7 +58,7 @@ fn perform_for<H: Threads + Wait + Sync + NamedFiles + Screen, R: Read + Drop, E
     errors: &mut E,
 ) -> End
     ensures { EndsAt (file_of (file_in (rows_of (found_of options.now)))) (is_forced (rows_of (found_of options.now))) name.now H.fresh
-        (H.holds rt.old) (H.holds rt.new) (EndsAs subcommand (rows_of (found_of options.now)) (R.remaining input) (H.holds rt.old)) result }
+        (H.holds rt.old) (H.holds rt.new) (EndsAs subcommand (rows_of (found_of options.now)) H.works (R.remaining input) (H.holds rt.old)) result }
 {
     let is_forced = flag(options, "force");
     let Some(mut made) = make_for(rt, name, file(options), is_forced, errors) else {
@@ -94,7 +94,7 @@ pub(crate) fn performed<
     output: &mut W,
     errors: &mut E,
 ) -> End
-    ensures { EndsTo subcommand (rows_of (found_of options.now)) (R.remaining input) H.fresh (H.holds rt.old) (H.holds rt.new) result
+    ensures { EndsTo subcommand (rows_of (found_of options.now)) H.works (R.remaining input) H.fresh (H.holds rt.old) (H.holds rt.new) result
         (W.contents output.old) (W.contents output.new) }
 {
     match output_for(subcommand, options) {

@@ -1,5 +1,5 @@
 //! The whole program over a list of words, a reader, files and two writers.
-ghost use Rattle.std.specs.Prelude.{◌≡◌, ◌≤◌, List, IfSome, None, Some, map, option_map, string_bytes, true};
+ghost use Rattle.std.specs.Prelude.{◌≡◌, ◌≤◌, ◌⊎◌, List, IfSome, None, Some, map, option_map, string_bytes, true};
 ghost use Rattle.clap.specs.Matches.{subcommand_name_of};
 ghost use Rattle.clap.specs.Words.{Row, Text, found_of, kind_of, rows_of, subcommand_rows_of};
 ghost use Rattle.clap.specs.declared.error.kind.ErrorKind.{ErrorKind};
@@ -48,6 +48,9 @@ use std::thread::Threads;
 /// finding, and is done where it is clean, and else ends so that an event differs; or the end says which of the reader, the writer and
 /// memory failed: where it isn't the writer, nothing was written.
 ///
+/// For the words `pie audit FILE..` each file is audited in turn, and the line of its finding is written. A file is passed over, and the end is `Failed`,
+/// only if it can't be opened or read, its text has a fault, or memory is short.
+///
 /// For the words `pie migrate` the history is written in version two up to its first fault, at which it ends; without a fault it is done; or
 /// the end says what failed, as of a run.
 ///
@@ -78,7 +81,7 @@ pub fn command<H: Threads + Wait + Sync + NamedFiles + Screen, R: Read + Drop, W
     ensures differs { result ≡ End.Differs → (subcommand : Subcommand) × (may_differ subcommand ≡ true)
         × (subcommand_in (map string_bytes words.now) ≡ Some (word_of subcommand)) }
     ensures performs { (subcommand : Subcommand) → Asks (word_of subcommand) (map string_bytes words.now)
-        → EndsTo subcommand (options_in (map string_bytes words.now)) (R.remaining input) H.fresh (H.holds rt.old) (H.holds rt.new) result
+        → EndsTo subcommand (options_in (map string_bytes words.now)) H.works (R.remaining input) H.fresh (H.holds rt.old) (H.holds rt.new) result
         (W.contents output.old) (W.contents output.new) }
 {
     let found = matches_of(alloc, words);
@@ -104,7 +107,7 @@ fn answer<H: Threads + Wait + Sync + NamedFiles + Screen, R: Read + Drop, W: Wri
     errors: &mut E,
 ) -> End
     ensures { (words : List Text) → Finds words found.now
-        → Answers words (R.remaining input) H.fresh (H.holds rt.old) (H.holds rt.new) result (W.contents output.old) (W.contents output.new) }
+        → Answers words H.works (R.remaining input) H.fresh (H.holds rt.old) (H.holds rt.new) result (W.contents output.old) (W.contents output.new) }
 {
     match found {
         Ok(matches) => match asked_of(matches) {
@@ -132,6 +135,10 @@ fn asked_of<'a, 'b>(matches: &'b ArgMatches<'a>) -> Option<(Subcommand, &'b ArgM
 fn mistake<W: Write, E: Write>(error: &Error, output: &mut W, errors: &mut E) -> End
     ensures same { result ≡ End.Differs → ⊥ }
     ensures memory { kind_of error.now ≡ ErrorKind.OutOfMemory → (result ≡ End.Unable) × (W.contents output.new ≡ W.contents output.old) }
+    ensures help { (kind_of error.now ≡ ErrorKind.DisplayHelp) ⊎ (kind_of error.now ≡ ErrorKind.DisplayVersion)
+        → (result ≡ End.Done) ⊎ (result ≡ End.Fault TraceFault.Write) }
+    ensures mistake { (kind_of error.now ≡ ErrorKind.OutOfMemory → ⊥) → (kind_of error.now ≡ ErrorKind.DisplayHelp → ⊥)
+        → (kind_of error.now ≡ ErrorKind.DisplayVersion → ⊥) → (result ≡ End.Failed) × (W.contents output.new ≡ W.contents output.old) }
 {
     if matches!(error.kind(), ErrorKind::OutOfMemory) {
         return unable(errors, "out of memory");

@@ -1,5 +1,6 @@
-use Rattle.pie_commands.proofs.Names.{◌<◌, ℕ, length, map, take, rules, subst, sym, length-map, stays-on}
-use Rattle.pie_commands.proofs.FileAuditFacts.{audits-more, audits-taken, tells-given}
+use Rattle.pie_commands.proofs.Names.{◌<◌, ℕ, length, map, take, rules, subst, sym, length-map}
+use Rattle.pie_commands.proofs.FileFacts.{left-on}
+use Rattle.pie_commands.proofs.FileAuditFacts.{audits-more, audits-taken, left-taken, tells-given}
 use Rattle.pie_commands.proofs.file_audits.audit_files.Goals as goal
 
 pub loop-place-preserved : goal.loop-place-preserved
@@ -15,13 +16,16 @@ loop-place-preserved g c =
     let within : c.loop-place.place < length c.args.names.now = search rules in
     let named : c.loop-place.place < length names = subst (λ (count : ℕ). c.loop-place.place < count)
     (sym (length-map c.args.names.now (λ name. name.now))) within in
-    let more = audits-more joined input files (take c.loop-place.place names) c.loop-place.unfound c.loop-place.broken c.loop-place.end end before
+    let works = g.H.NamedFiles.works in
+    let more = audits-more works joined input files (take c.loop-place.place names) c.loop-place.unfound c.loop-place.broken c.loop-place.end end before
     (g.W.Write.contents c.loop-place.output) now name c.in-Ok.told c.loop-place.invariant.audits
-    (tells-given joined g.R.Read.remaining c.args.input c.loop-place.given files name c.loop-place.end c.in-Ok.told end
-    c.loop-place.invariant.stays c.in-Ok.ensures.told)
+    (tells-given works joined g.R.Read.remaining c.args.input c.loop-place.given files (take c.loop-place.place names) name c.loop-place.end c.in-Ok.told
+    end c.loop-place.invariant.left c.in-Ok.ensures.told)
     c.in-Ok.ensures.written in
     record {
-      stays = stays-on c.args.input name c.loop-place.given c.audit_named.new.input c.loop-place.invariant.stays c.audit_named.ensures.input;
+      left = left-taken c.args.input names c.loop-place.place name c.audit_named.new.input named c.name_at-name.ensures
+          (left-on c.args.input (take c.loop-place.place names) name c.loop-place.given c.audit_named.new.input c.loop-place.invariant.left
+          c.audit_named.ensures.input);
       audits = rw (c.any_unfound-unfound.ensures, c.any_broken-broken.ensures)
-          (audits-taken joined input files names c.loop-place.place name _ _ end before now named c.name_at-name.ensures more);
+          (audits-taken works joined input files names c.loop-place.place name _ _ end before now named c.name_at-name.ensures more);
     }

@@ -1,9 +1,10 @@
-use Rattle.pie_commands.proofs.Names.{map, take, AuditsFiles, Stays}
+use Rattle.pie_commands.proofs.Names.{map, take, AuditsFiles}
+use Rattle.pie_commands.proofs.FileFacts.{IsLeft}
 use Rattle.pie_commands.proofs.file_audits.audit_files.Given as goal
 
 abbrev pub invariant-loop-place : goal.invariant-loop-place
 invariant-loop-place g l = record {
-  stays : Stays l.fn.input l.given;
-  audits : AuditsFiles l.are_joined (g.R.Read.remaining l.fn.input) (g.H.NamedFiles.holds l.fn.rt) (take l.place (map (λ name. name.now) l.names))
+  left : IsLeft l.fn.input (take l.place (map (λ name. name.now) l.names)) l.given;
+  audits : AuditsFiles g.H.NamedFiles.works l.are_joined (g.R.Read.remaining l.fn.input) (g.H.NamedFiles.holds l.fn.rt) (take l.place (map (λ name. name.now) l.names))
       l.unfound l.broken l.end (g.W.Write.contents l.fn.output) (g.W.Write.contents l.output);
 }

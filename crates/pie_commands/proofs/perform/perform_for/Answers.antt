@@ -13,11 +13,12 @@ returns g c =
     let input = g.R.Read.remaining c.args.input in
     let fresh = g.H.NamedFiles.fresh in
     let left = g.H.Made.Write.contents c.perform-end.new.output in
-    let ends = EndsAs c.args.subcommand options input old in
+    let works = g.H.NamedFiles.works in
+    let ends = EndsAs c.args.subcommand options works input old in
     let read = option_map (λ name. name.now) c.file.result in
-    let wrote = subst (λ (made : Option (List ℕ)). EndsAs c.args.subcommand options input mid c.perform-end.result made left) c.in-Some.ensures.fresh
+    let wrote = subst (λ (made : Option (List ℕ)). EndsAs c.args.subcommand options works input mid c.perform-end.result made left) c.in-Some.ensures.fresh
     c.perform-end.ensures in
-    let ended = EndsAs-kept c.args.subcommand options input old mid c.perform-end.result fresh left c.make_for.ensures.keeps wrote in
+    let ended = EndsAs-kept c.args.subcommand options works input old mid c.perform-end.result fresh left c.make_for.ensures.keeps wrote in
     let at : EndsAt (file_of read) c.flag-is_forced.result c.args.name.now fresh old new ends (settled c.perform-end.result c.settle-is_there.result) =
     ends-settled (file_of read) c.flag-is_forced.result c.args.name.now old mid new ends c.perform-end.result c.settle-is_there.result fresh left
     c.in-Some.ensures.empty c.make_for.ensures.keeps c.in-Some.ensures.other c.settle-is_there.ensures.settles

@@ -125,6 +125,7 @@ static struct outcome run(enum which which) {
     struct pie_opening opening;
     struct plain plain = {0, 0, {0, 0, plain_params.max_burst, 0}, {0, 0, 0, 0}};
     pie_default_opening(&opening, 0);
+    opening.choices = PIE_USUAL; /* by the departure rate, as rte_pie and the plain steps */
     opening.params.limit_bytes = LIMIT;
     pie_open(&state, &opening);
 #ifdef WITH_DPDK
@@ -300,6 +301,7 @@ static void calls(void) {
     struct pie_opening opening;
     struct pie_state state;
     pie_default_opening(&opening, 0);
+    opening.choices = PIE_USUAL; /* by the departure rate, as rte_pie and the plain steps */
     opening.params.limit_bytes = LIMIT;
     pie_open(&state, &opening);
     state.prob = 50000000000;

@@ -87,6 +87,7 @@ int main(int count, char **words) {
         return 1;
     struct pie_opening opening;
     pie_default_opening(&opening, 0);
+    opening.choices = PIE_USUAL; /* as the figures of docs/PERFORMANCE.md were measured */
     params = opening.params;
     pie_open(&state, &opening);
     state.prob = 50000000000;

@@ -88,6 +88,7 @@ static void open_queue(struct queue *queue, uint64_t events, uint64_t packets, i
     struct pie_opening *opening = &queue->opening;
     uint64_t i;
     pie_default_opening(opening, 0);
+    opening->choices = PIE_USUAL; /* as the figures of docs/PERFORMANCE.md were measured */
     opening->params.limit_bytes = PIE_MAX_BYTES;
     opening->params.mark_ecnth = 0;
     opening->packets = packets + 1;

@@ -1,6 +1,7 @@
 /* Events a second of one to four threads at one controller, in bursts: at a link (include/pie_link.h); at a spin lock around the recorded calls of
- * pie.h, each of whose events a flight recorder keeps; and at the same lock around the plain calls, whose events are put into the recorder in bulk,
- * as a data plane does. Each thread lets a burst of packets arrive, and as many depart, and between two bursts spends on each packet the time of
+ * pie.h, each of whose events a flight recorder keeps; at the same lock around the plain calls, whose events are put into the recorder in bulk,
+ * as a data plane does; and at that lock, and at a mutex, around recorded calls whose events, of 64 bytes, go into a ring with statistics, as a builder
+ * would keep them without this repository's recorders. Each thread lets a burst of packets arrive, and as many depart, and between two bursts spends on each packet the time of
  * making it; none is more than a burst ahead of another, so that they meet. A burst of one is the call for one event. An event is a packet that
  * arrived or departed. Each line is `kind threads burst events/s changes`, once a run, for bench/pie_link_c.sh: the last is how often a burst
  * follows on another thread's, of all bursts; at the link of those whose events its log still holds.
@@ -24,23 +25,27 @@
 #define SIZE 1000       /* bytes of a packet */
 #define MAKING 4        /* pauses between two turns, for each packet */
 
-enum kind { LINK, RECORDED, BULK, KINDS };
-static const char *const names[KINDS] = {"link", "recorded", "bulk"};
+enum kind { LINK, RECORDED, BULK, RING, MUTEX, KINDS };
+static const char *const names[KINDS] = {"link", "recorded", "bulk", "ring", "mutex"};
 
 struct packet {
     uint64_t tag, since;
     uint32_t size, ecn;
 };
 
-/* The controller behind a spin lock, with its queue and its recorder. */
+/* The controller behind a spin lock or a mutex, with its queue and its recorder, or a ring of events and statistics. */
 static struct {
     _Alignas(64) atomic_int lock;
+    _Alignas(64) pthread_mutex_t mutex;
     _Alignas(64) struct pie_state pie;
     struct pie_flight flight;
+    struct pie_event ring[EVENTS];
+    uint64_t kept;
+    struct pie_stats stats;
     struct packet queue[PACKETS];
     uint64_t came, left, bytes;
     int last; /* who had the turn before */
-} shared;
+} shared = {.mutex = PTHREAD_MUTEX_INITIALIZER};
 
 static struct pie_opening opening;
 static void *memory; /* of the recorder */
@@ -79,14 +84,19 @@ static inline void pause_a_little(void) {
 #endif
 }
 
-/* Takes the lock: it looks until it is free, and after a while gives the processor up, as whoever waits for a turn at a link. */
+/* Takes the lock: a spin lock's caller looks until it is free, and after a while gives the processor up, as a caller that waits for a turn at a
+ * link. */
 static inline void take(struct worker *worker) {
-    struct pie_link_patience waited = {0, 0};
+    uint32_t rounds = 0;
     for (;;) {
+        if (worker->kind == MUTEX) {
+            pthread_mutex_lock(&shared.mutex);
+            break;
+        }
         if (atomic_load_explicit(&shared.lock, memory_order_relaxed) == 0 && !atomic_exchange_explicit(&shared.lock, 1, memory_order_acquire))
             break;
-        if (waited.rounds < 16)
-            pie_link_wait(&waited);
+        if (rounds < 7)
+            pie_link_pause(rounds++);
         else
             sched_yield();
     }
@@ -95,8 +105,42 @@ static inline void take(struct worker *worker) {
     shared.last = worker->number;
 }
 
-static inline void give_back(void) {
-    atomic_store_explicit(&shared.lock, 0, memory_order_release);
+static inline void give_back(const struct worker *worker) {
+    if (worker->kind == MUTEX)
+        pthread_mutex_unlock(&shared.mutex);
+    else
+        atomic_store_explicit(&shared.lock, 0, memory_order_release);
+}
+
+/* Counts an event in the statistics that the recorder and the link keep too. */
+static inline void count(const struct pie_event *event, uint64_t waited) {
+    struct pie_stats *stats = &shared.stats;
+    if (event->kind == PIE_EVENT_ARRIVE) {
+        stats->arrivals++;
+        stats->enqueued += event->answer == PIE_ENQUEUE;
+        stats->marked += event->answer == PIE_MARK;
+        stats->early += event->answer == PIE_EARLY;
+        stats->over_bytes += event->answer == PIE_BYTES;
+        stats->over_packets += event->answer == PIE_PACKETS;
+    } else if (event->kind == PIE_EVENT_DEPART) {
+        stats->left++;
+        stats->left_bytes += event->size;
+        stats->waited += waited;
+    } else {
+        stats->updates++;
+        stats->largest_delay = event->delay > stats->largest_delay ? event->delay : stats->largest_delay;
+    }
+    stats->largest_queue = shared.bytes > stats->largest_queue ? shared.bytes : stats->largest_queue;
+}
+
+/* Keeps an event: in the flight recorder, or in the ring. */
+static inline void keep(enum kind kind, const struct pie_event *event, uint64_t waited) {
+    if (kind == RECORDED || kind == BULK) {
+        pie_flight_keep(&shared.flight, &shared.pie, event);
+        return;
+    }
+    shared.ring[shared.kept++ % EVENTS] = *event;
+    count(event, waited);
 }
 
 /* Waits until no other of these is more than a burst behind. */
@@ -132,9 +176,9 @@ static void arrive_recorded(struct worker *worker) {
     for (uint32_t i = 0; i < worker->burst; i++) {
         struct pie_event *event = &worker->burst_of[i];
         uint32_t verdict = pie_arrive_event(&shared.pie, shared.bytes, (uint32_t)(PACKETS - (shared.came - shared.left)), event);
-        pie_flight_keep(&shared.flight, &shared.pie, event);
         if (verdict <= PIE_MARK)
             queue_packet(event->tag, event->size, verdict == PIE_MARK ? PIE_CE : event->ecn);
+        keep(worker->kind, event, 0);
     }
 }
 
@@ -147,7 +191,7 @@ static uint32_t depart_recorded(struct worker *worker, uint64_t moment) {
                                     .ecn = (uint8_t)packet->ecn};
         shared.bytes -= packet->size;
         pie_depart_event(&shared.pie, shared.bytes, packet->since, event);
-        pie_flight_keep(&shared.flight, &shared.pie, event);
+        keep(worker->kind, event, shared.pie.moment - packet->since);
     }
     return made;
 }
@@ -210,8 +254,8 @@ static void update(struct worker *worker, uint64_t moment) {
     }
     take(worker);
     pie_update_event(&shared.pie, shared.bytes, &event);
-    pie_flight_keep(&shared.flight, &shared.pie, &event);
-    give_back();
+    keep(worker->kind, &event, 0);
+    give_back(worker);
 }
 
 /* A burst arrives, and as many packets depart: two turns. */
@@ -229,8 +273,8 @@ static void two_turns(struct worker *worker, int threads) {
             die("a burst of arrivals", code);
     } else {
         take(worker);
-        worker->kind == RECORDED ? arrive_recorded(worker) : arrive_bulk(worker);
-        give_back();
+        worker->kind == BULK ? arrive_bulk(worker) : arrive_recorded(worker);
+        give_back(worker);
     }
     moment = now();
     if (worker->kind == LINK) {
@@ -242,8 +286,8 @@ static void two_turns(struct worker *worker, int threads) {
             pie_link_depart_all(&worker->port, UINT64_MAX, worker->burst_of, worker->burst, &made);
     } else {
         take(worker);
-        made = worker->kind == RECORDED ? depart_recorded(worker, moment) : depart_bulk(worker, moment);
-        give_back();
+        made = worker->kind == BULK ? depart_bulk(worker, moment) : depart_recorded(worker, moment);
+        give_back(worker);
     }
     worker->events += worker->burst + made;
     atomic_fetch_add_explicit(&worker->bursts, 1, memory_order_relaxed);
@@ -266,7 +310,8 @@ static void open_lock(void) {
     if (pie_open(&shared.pie, &opening) != PIE_DONE ||
         !pie_flight_open_bulk(&shared.flight, memory, memory_bytes, EVENTS, MOST_BURST, &opening, &shared.pie))
         die("a controller", PIE_BAD_LIMITS);
-    shared.came = shared.left = shared.bytes = 0;
+    shared.came = shared.left = shared.bytes = shared.kept = 0;
+    shared.stats = (struct pie_stats){0};
     shared.last = 0;
 }
 
@@ -282,10 +327,10 @@ static void open_link(int threads) {
 static double changes_of_log(int threads, uint32_t burst) {
     struct pie_event events[PIE_LINK_MOST];
     struct pie_params params;
-    uint64_t count = 0, changes = 0;
+    uint64_t count = 0, changes = 0, last;
     size_t folded;
     int before = 0;
-    while (pie_link_fold(&workers[0].port, events, PIE_LINK_MOST, &folded, &params) == PIE_DONE)
+    while (pie_link_fold(&workers[0].port, events, PIE_LINK_MOST, &folded, &last, &params) == PIE_DONE)
         for (size_t i = 0; i < folded; i++, count++) {
             changes += events[i].caller != before;
             before = events[i].caller;
@@ -314,7 +359,7 @@ static void run(enum kind kind, int threads, uint32_t burst, uint64_t millisecon
             if (kind == LINK)
                 pie_link_arrive_all(&worker->port, worker->burst_of, burst);
             else
-                kind == RECORDED ? arrive_recorded(worker) : arrive_bulk(worker);
+                kind == BULK ? arrive_bulk(worker) : arrive_recorded(worker);
         }
         if (pthread_create(&worker->id, NULL, work, worker) != 0)
             die("a thread", PIE_NO_MEMORY);
@@ -335,6 +380,7 @@ int main(int count, char **words) {
     int runs = count == 3 ? atoi(words[1]) : 1;
     uint64_t milliseconds = count == 3 ? strtoull(words[2], NULL, 10) : 100;
     pie_default_opening(&opening, UINT64_C(10000000000));
+    opening.choices = PIE_USUAL; /* as the figures of docs/PERFORMANCE.md were measured */
     opening.packets = PACKETS;
     opening.tail = EVENTS;
     memory_bytes = pie_flight_bulk_bytes(EVENTS, PACKETS, MOST_BURST);

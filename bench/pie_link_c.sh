@@ -1,8 +1,9 @@
 #!/usr/bin/env bash
 # Events a second of one to four threads at one controller in C, in bursts of 1, 8 and 32 (bench/pie_link_c.c): at a link, beside a spin lock around
-# the recorded calls with the flight recorder, and beside the same lock around calls whose events are put in bulk; so many runs (9) of all in turn,
-# each of so many milliseconds (100). The first table has the medians and their ratios, the second how often a turn follows on another thread's: a
-# run of several threads in which fewer than one turn in four does is not counted.
+# the recorded calls with the flight recorder, beside the same lock around calls whose events are put in bulk, and beside this lock and a mutex around
+# the recorded calls with a ring of 64-byte events and statistics of a builder's own; so many runs (9) of all in turn, each of so many milliseconds
+# (100). The first table has the medians, the second their ratios, the third how often a turn follows on another thread's: a run of several threads in
+# which fewer than one turn in four does is not counted.
 # usage: bench/pie_link_c.sh [RUNS [MILLISECONDS]]    after bindings/c/library.py
 set -eu
 . "$(dirname "$0")/shared.sh"
@@ -17,7 +18,7 @@ python3 - "$work/lines" <<'PYTHON'
 import statistics
 import sys
 
-KINDS = ("link", "recorded", "bulk")
+KINDS = {"link": "link", "recorded": "lock, recorded", "bulk": "lock, in bulk", "ring": "lock, own ring", "mutex": "mutex, own ring"}
 LEAST = 0.25  # of the turns of several threads, that follow on another's
 runs = {}
 for line in open(sys.argv[1]):
@@ -39,14 +40,20 @@ def ratio(key, other):
     return f"{ours / theirs:.2f}" if ours and theirs else "-"
 
 
-print("| burst | threads | link, million events/s | lock, recorded | lock, in bulk | link / recorded | link / bulk |")
-print("|---|---|---|---|---|---|---|")
-for key in sorted(runs):
-    cells = [f"{median(key, kind) / 1e6:.2f}" if median(key, kind) else "-" for kind in KINDS]
-    print(f"| {key[0]} | {key[1]} | {' | '.join(cells)} | {ratio(key, 'recorded')} | {ratio(key, 'bulk')} |")
-print()
+def table(names, cells):
+    print(f"| burst | threads | {' | '.join(names)} |")
+    print("|---" * (len(names) + 2) + "|")
+    for key in sorted(runs):
+        print(f"| {key[0]} | {key[1]} | {' | '.join(cells(key))} |")
+    print()
+
+
+table([f"{name}, million events/s" for name in KINDS.values()],
+      lambda key: [f"{median(key, kind) / 1e6:.2f}" if median(key, kind) else "-" for kind in KINDS])
+others = [kind for kind in KINDS if kind != "link"]
+table([f"link / {KINDS[kind]}" for kind in others], lambda key: [ratio(key, kind) for kind in others])
 print("| burst | threads | " + " | ".join(f"changes, {kind}; runs counted" for kind in KINDS) + " |")
-print("|---|---|---|---|---|")
+print("|---" * (len(KINDS) + 2) + "|")
 for key in sorted(runs):
     if key[1] > 1:
         cells = [f"{statistics.median(it for _, it in runs[key][kind]):.2f}; {len(counted(key, kind))} of {len(runs[key][kind])}" for kind in KINDS]

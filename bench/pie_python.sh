@@ -11,7 +11,6 @@ python=python3
 "$python" -c 'import numpy, setuptools, wheel, pip' 2> /dev/null || python=/usr/bin/python3
 "$python" -m pip wheel --quiet --no-index --no-build-isolation --no-deps --wheel-dir "$work" bindings/python 2> /dev/null
 "$python" -m pip install --quiet --no-index --no-deps --root-user-action ignore --target "$work/installed" "$work"/*.whl
-bindings/python/library.sh "$work" > /dev/null
 "${CC:-cc}" -O2 -std=gnu11 -Iinclude -Ibindings/python/native -o "$work/pie_python" bench/pie_python.c "$work/installed/juniperbowls/libpie.so.0" \
     -Wl,-rpath,"$work/installed/juniperbowls"
 for _ in $(seq "${1:-9}"); do

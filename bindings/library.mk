@@ -1,11 +1,12 @@
-# What is shared by what make builds over the static library: where the library and what is made lie. `rt lib` in crates/pie_c builds the library.
+# For the Makefiles of programs that are linked with the static libraries: the libraries and the folder for what is built. A library is the one that
+# bindings/c/library.py built from proved crates, or otherwise the one that make at the top builds from dist/.
 TOP := ../..
-LIB := $(TOP)/crates/pie_c/out/libpie_c.a
+LIB := $(or $(wildcard $(TOP)/crates/pie_c/out/libpie_c.a),$(TOP)/build/libpie_c.a)
+LINK_LIB := $(or $(wildcard $(TOP)/crates/pie_link_c/out/libpie_link_c.a),$(TOP)/build/libpie_link.a)
 OUT := out
 
-$(LIB):
-	@echo "$@ is missing: (cd $(TOP)/crates/pie_c && rt lib) builds it" >&2
-	@false
+$(TOP)/build/%.a:
+	$(MAKE) -C $(TOP) build/$*.a
 
 $(OUT):
 	mkdir -p $@

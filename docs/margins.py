@@ -1,40 +1,48 @@
 #!/usr/bin/env python3
-"""Draws docs/margins.svg: phase and gain margin of the control loop with the default parameters, over the rate per flow, for some round-trip times.
-It is computed from a linear model, and not proved. TCP is the fluid model of Hollot, Misra, Towsley and Gong (INFOCOM 2001; RFC 8033 refers to the
-PIE paper, which uses it): N flows of Reno with a window W = R C / N at a rate C and a round-trip time R (with the target's delay in it) lose or
-mark a part p = 2 / W^2, and from that part to the queueing delay the loop has
-    (W / 2R) e^-Rs / ((s + 2 / RW) (s + 1 / R)).
-The controller is the update of RFC 8033, section 4.2, divided as auto-tuning does at p, and held from one update to the next:
-    ((alpha + beta) - beta e^-Ts) / Ts.
-So all depends on R and on the rate per flow, C / N.
+"""Draws docs/margins.svg: phase margin and gain margin of the control loop with the default parameters, over the rate per flow, for some
+round-trip times. The margins are computed from a linear model. They are not proved.
 
-With --check nothing is drawn: the stored picture has to be the one that this would draw, and margins are compared with what is found in other ways.
-An integrator with a delay has its margins in closed form. The frequency at which the loop's gain is 1 solves a cubic, where the controller is taken
-as alpha and beta without the sampling. And a simulation in steps of the fluid model itself, which isn't linear, with this project's rule in
-whole numbers, has to come to rest where the margins are positive, and to swing where they are negative.
+TCP is the fluid model of Hollot, Misra, Towsley and Gong (INFOCOM 2001); RFC 8033 refers to the PIE paper, which uses this model. N Reno flows with
+a window W = R C / N at a rate C and a round-trip time R (which includes the target delay) lose or mark a share s = 2 / W^2 of their packets. From the
+share to the queueing delay the loop has the transfer function
+    (W / 2R) e^-Rs / ((s + 2 / RW) (s + 1 / R)).
+The share is not the drop probability p: by default probabilities accumulate, and no packet is picked before their sum reaches 0.85. At one
+probability p a pick takes 0.85 / p + 1 / p packets on average, so the share is p / 1.85 (for small p).
+The controller is the update of RFC 8033, section 4.2, divided as auto-tuning does at p = 1.85 s, and held from one update to the next:
+    ((alpha + beta) - beta e^-Ts) / Ts.
+So the margins depend on R and on the rate per flow, C / N.
+
+With --check nothing is drawn. The stored picture has to equal the one that this script draws, and margins are compared with results of other
+methods. An integrator with a delay has its margins in closed form. The frequency at which the loop's gain is 1 solves a cubic, if the controller
+is taken as alpha and beta without the sampling. The mean number of packets to a pick is summed exactly. A simulation in steps of the fluid model,
+which is not linear, with this project's rule in whole numbers, has to settle where the margins are positive, and to oscillate where they are
+negative. The numbers on docs/GUARANTEES.md have to be the computed ones.
 
 usage: docs/margins.py [--check]
 """
 import cmath
 import math
 import sys
+from pathlib import Path
 from curves import COLOURS, Panel, keep, picture
 
 ALPHA, BETA, UPDATE, TARGET, PACKET = 0.125, 1.25, 0.015, 0.015, 12000  # per second, seconds, and bits
+NEVER, ALWAYS = 0.85, 8.5  # the sum of probabilities below which no packet is picked, and from which each is (RFC 8033, section 5.4)
+PER_PICK = 1 + NEVER  # probability that adds up from pick to pick, on average
 TUNING = ((1e-6, 2048), (1e-5, 512), (1e-4, 128), (1e-3, 32), (1e-2, 8), (1e-1, 2))
 TRIPS = (0.01, 0.02, 0.05, 0.1, 0.2)
 RATES = [10 ** (place / 40) for place in range(-35, 81)]  # Mbit/s for each flow
 
 
-def divisor(part):
-    return next((by for below, by in TUNING if part < below), 1)
+def divisor(prob):
+    return next((by for below, by in TUNING if prob < below), 1)
 
 
 class Loop:
-    """The open loop at a round-trip time, the target's delay in it, and a part of packets that are lost or marked."""
+    """The open loop at a round-trip time, which includes the target delay, and a share of packets that are lost or marked."""
 
-    def __init__(self, trip, part):
-        self.trip, self.window, self.tuned = trip, math.sqrt(2 / part), 1 / divisor(part)
+    def __init__(self, trip, share):
+        self.trip, self.window, self.tuned = trip, math.sqrt(2 / share), 1 / divisor(PER_PICK * share) / PER_PICK
 
     def gain(self, w):
         controller = self.tuned * abs(ALPHA + BETA - BETA * cmath.exp(-1j * w * UPDATE)) / (w * UPDATE)
@@ -73,17 +81,17 @@ def margins(loop):
     return phase, -20 * math.log10(loop.gain(crossing(lambda w: loop.phase(w) + math.pi)))
 
 
-def part_at(rate, trip):
-    """The part of packets that flows of so many Mbit/s lose at a round-trip time, the target's delay in it."""
+def share_at(rate, trip):
+    """Returns the share of packets that flows of `rate` Mbit/s lose at a round-trip time, which includes the target delay."""
     return 2 / (trip * rate * 1e6 / PACKET) ** 2
 
 
-def curve(trip):
-    """The rates at which the model's window is at least two packets, each with its margins."""
-    for rate in RATES:
-        part = part_at(rate, trip + TARGET)
-        if part <= 0.5:
-            yield rate, margins(Loop(trip + TARGET, part))
+def curve(trip, rates=RATES):
+    """Yields the rates at which the model's window is at least two packets, each with its margins."""
+    for rate in rates:
+        share = share_at(rate, trip + TARGET)
+        if share <= 0.5:
+            yield rate, margins(Loop(trip + TARGET, share))
 
 
 def drawn():
@@ -119,34 +127,63 @@ def cubic_crossing(loop):
     return math.sqrt(x)
 
 
-def next_part(part, delay, old):
-    """The rule in whole numbers: parts in 10^-12, delays in nanoseconds."""
-    by = next((by for below, by in TUNING if part < round(below * 1e12)), 1)
+def next_prob(prob, delay, old):
+    """The rule in whole numbers: probabilities in 10^-12, delays in nanoseconds."""
+    by = next((by for below, by in TUNING if prob < round(below * 1e12)), 1)
     raw = 125 * (delay - 15_000_000) + 1250 * (delay - old)
     step = raw // by if raw >= 0 else -(-raw // by)
-    step = min(step, 20_000_000_000) if part >= 10**11 else step
-    total = part + step
+    step = min(step, 20_000_000_000) if prob >= 10**11 else step
+    total = prob + step
     total = total * 98 // 100 if delay == 0 and old == 0 else total
     return max(0, min(10**12, total))
 
 
-def swings(trip, part, seconds=40, step=0.0005):
-    """How far the delay swings, in milliseconds, in the third and in the last of ten parts of a simulation that begins a twentieth above rest."""
+def swings(trip, share, seconds=40, step=0.0005):
+    """Returns how far the delay swings, in milliseconds, in the third and in the last tenth of a simulation that begins a twentieth above rest."""
     rest = trip + TARGET
-    window, delay, prob, old = math.sqrt(2 / part), TARGET * 1.05, round(part * 1e12), round(TARGET * 1e9)
-    rate, past, delays, due = window / rest, [(window, rest, part)], [], UPDATE
+    window, delay, prob, old = math.sqrt(2 / share), TARGET * 1.05, round(PER_PICK * share * 1e12), round(TARGET * 1e9)
+    rate, past, delays, due = window / rest, [(window, rest, share)], [], UPDATE
     for count in range(1, round(seconds / step) + 1):
         now = trip + delay
-        was, was_trip, was_part = past[max(0, len(past) - 1 - round(now / step))]
-        window = max(1.0, window + step * (1 / now - window * was * was_part / (2 * was_trip)))
+        was, was_trip, was_share = past[max(0, len(past) - 1 - round(now / step))]
+        window = max(1.0, window + step * (1 / now - window * was * was_share / (2 * was_trip)))
         delay = max(0.0, delay + step * (window / now / rate - 1))
-        past.append((window, trip + delay, prob / 1e12))
+        past.append((window, trip + delay, prob / PER_PICK / 1e12))
         if count * step >= due - 1e-9:
             due += UPDATE
-            prob, old = next_part(prob, round(delay * 1e9), old), round(delay * 1e9)
+            prob, old = next_prob(prob, round(delay * 1e9), old), round(delay * 1e9)
         delays.append(delay * 1000)
     tenth = len(delays) // 10
     return [max(it) - min(it) for it in (delays[2 * tenth:3 * tenth], delays[9 * tenth:])]
+
+
+def packets_to_a_pick(prob):
+    """Returns the mean number of considered packets from one pick to the next, at one probability."""
+    mean, unpicked, count = 0.0, 1.0, 0
+    while unpicked > 0:
+        count += 1
+        mean += unpicked
+        total = count * prob
+        unpicked *= 1 if total < NEVER else 0 if total >= ALWAYS else 1 - prob
+    return mean
+
+
+def least_margins(trip):
+    """Returns the least phase margin and the least gain margin of all rates that are drawn."""
+    found = [both for _, both in curve(trip)]
+    return min(phase for phase, _ in found), min(gain for _, gain in found)
+
+
+def stable_up_to(trip):
+    """Returns the rate per flow, in Mbit/s, from which on the loop is not stable."""
+    return next(rate for rate, (phase, gain) in curve(trip, [10 ** (place / 4000) for place in range(-3500, 8001)]) if phase < 0 or gain < 0)
+
+
+def stated():
+    """Returns the sentences of docs/GUARANTEES.md that contain computed numbers."""
+    phase, gain = least_margins(0.05)
+    return (f"(at least {gain:.1f} dB and {phase:.1f} degrees at 50 ms)", f"stable up to {stable_up_to(0.1):.2f} Mbit/s per flow at 100 ms",
+            f"up to {stable_up_to(0.2):.2f} Mbit/s at 200 ms")
 
 
 def checks():
@@ -155,17 +192,23 @@ def checks():
         check("phase margin of an integrator", phase, 90 - math.degrees(k * delay), 1e-6)
         check("gain margin of an integrator", gain, 20 * math.log10(math.pi / (2 * k * delay)), 1e-6)
     for trip in TRIPS:
-        for part in (1e-5, 1e-3, 0.02, 0.2):
-            loop = Loop(trip + TARGET, part)
+        for share in (1e-5, 1e-3, 0.02, 0.2):
+            loop = Loop(trip + TARGET, share)
             found = crossing(lambda w: loop.gain(w) - 1)
-            # sampling makes less than a fiftieth of it as long as the frequency is below a fifth of the updates' own
+            # sampling changes it by less than a fiftieth if the frequency is below a fifth of the updates' own
             if found * UPDATE < 0.5:
-                check(f"crossing at {trip} s and {part}", found / cubic_crossing(loop), 1, 0.02)
-    for trip, part in ((0.01, 0.003), (0.01, 0.03), (0.05, 0.003), (0.1, 0.003), (0.1, 0.02), (0.2, 0.003)):
-        phase, gain = margins(Loop(trip + TARGET, part))
-        early, late = swings(trip, part)
+                check(f"crossing at {trip} s and {share}", found / cubic_crossing(loop), 1, 0.02)
+    for prob in (1e-4, 1e-3, 0.01, 0.02):
+        check(f"packets to a pick at {prob}", packets_to_a_pick(prob) * prob / PER_PICK, 1, 0.01)
+    for trip, share in ((0.01, 0.003), (0.01, 0.03), (0.05, 0.003), (0.1, 0.001), (0.1, 0.02), (0.2, 0.003)):
+        phase, gain = margins(Loop(trip + TARGET, share))
+        early, late = swings(trip, share)
         if (phase > 0) != (gain > 0) or (phase > 0) != (late < 0.01) or (phase < 0) != (late > early / 2 and late > 1):
-            sys.exit(f"docs/margins.py: at {trip} s and {part}: margins {phase}, {gain}, and swings of {early}, {late} ms")
+            sys.exit(f"docs/margins.py: at {trip} s and {share}: margins {phase}, {gain}, and swings of {early}, {late} ms")
+    page = " ".join((Path(__file__).parent / "GUARANTEES.md").read_text().split())
+    for sentence in stated():
+        if sentence not in page:
+            sys.exit(f"docs/margins.py: docs/GUARANTEES.md does not contain: {sentence}")
 
 
 def main():
@@ -173,7 +216,7 @@ def main():
     keep("margins.svg", drawn(), is_check)
     if is_check:
         checks()
-        print("docs/margins.py: the picture is as it would be drawn; other ways find the same margins, and simulations rest and swing by them")
+        print("docs/margins.py: the stored picture is the one that this script draws; other methods find the same margins, and simulations agree")
 
 
 if __name__ == "__main__":

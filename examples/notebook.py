@@ -9,7 +9,7 @@ random, history, period = np.random.default_rng(1), "notebook.history", "20ms"
 time = np.cumsum(random.exponential(np.repeat([1.0e6, 0.615e6, 1.0e6], [1000, 6500, 4000]))).astype("u8")
 arrivals = {"moments": time, "sizes": 1000, "ecn": random.choice([0, 1], len(time)), "words": random.integers(2**64, size=len(time), dtype="u8")}
 opening = jb.Opening.for_rate("10mbit", choices=jb.Choices.DELAY_STAMP | jb.Choices.DECAY_HALF)
-with jb.Queue(opening, history) as queue:
+with jb.Queue(opening, history, force=True) as queue:  # (a cell may run again)
     events = queue.offer(**arrivals, rate="10mbit", until="12s")
 print(jb.audit(history), jb.frame(events).groupby("answer").size().to_dict())
 

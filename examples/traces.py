@@ -52,6 +52,15 @@ def marks():
     return written(opening, arrivals, steady(2, 750, 2), steady(15, 750, 15), ecns=("ect0", "not"))
 
 
+def ignored_marks():
+    """5 Mbit/s; 1.25 times as much comes for 1.2 seconds, ECN-capable, from a sender that ignores marks. Marks are given up to a probability of 100 per
+    cent; at 0.6 seconds the operator sets the default of 10 per cent. The gains are four times the default, so that a second shows it."""
+    nine = "15000000,15000000,50000000,500,5000,1024,75000,{},16384".format
+    opening = "open3,1,stamp,derandomized,capped,unscaled,rolling,0,1000,1000,1000000," + nine(10**12)
+    change = (600 * MS, f"params,4,{600 * MS}," + nine(10**11))
+    return written(opening, steady(0, 1200, 1.6), steady(2, 1200, 2), steady(15, 1200, 15), [change], ecns=("ect0",))
+
+
 def off_and_on():
     """10 Mbit/s, a limit of 60 kilobytes, profile two: 16 packets, 20 kilobytes, turn the controller on, and quiet turns it off."""
     nine = "15000000,15000000,150000000,125,1250,1024,60000,100000000000,4096"
@@ -67,7 +76,7 @@ def reset():
 
 def main():
     folder = Path(sys.argv[1]) if len(sys.argv) > 1 else Path(__file__).resolve().parent
-    for trace in (burst, overload, marks, off_and_on, reset):
+    for trace in (burst, overload, marks, ignored_marks, off_and_on, reset):
         (folder / f"{trace.__name__}.trace").write_text(trace(), encoding="ascii")
 
 

@@ -20,6 +20,9 @@
  * for a packet is some thirty to eighty instructions, an update some 270; none waits for anybody or takes memory, so a call may
  * stand under a spin lock.
  *
+ * A call uses at most 512 bytes of stack, pie_write_* at most 2560, pie_link_* at most 4096, pie_link_open_port at most 12288. This includes all
+ * functions that it calls except those of the C library (memcpy, memmove, memset; calls that open or close a link also call malloc and free).
+ *
  * What is easily got wrong, and what to do:
  *
  * - The clock. Take one that never goes back, as CLOCK_MONOTONIC in nanoseconds. Nanoseconds since 1970 are above 2^60 - 1
@@ -56,7 +59,7 @@
  *
  * - alpha and beta at 0 keep the probability at 0: tail drop alone, for a comparison by the same program.
  *
- * - dq_threshold. The departure rate is measured only while so many bytes wait, and until the first measure the delay counts
+ * - dq_threshold, without PIE_DELAY_STAMP. The departure rate is measured only while so many bytes wait, and until the first measure the delay counts
  *   as 0. The default of 16384 bytes is 15 ms at 8.7 Mbit/s, and 131 ms at 1 Mbit/s. On a slower link PIE acts sooner with the
  *   greatest power of two below rate x target, 1024 at the least.
  *
@@ -73,7 +76,8 @@
 extern "C" {
 #endif
 
-/* The version of this header and of the library. */
+/* The version of this header and of the library. A program that was linked with libpie.so.0 runs with each later libpie.so.0: functions, structs, fields,
+ * offsets and constants of this header and of pie_link.h stay, and others may be added (dist/abi.txt lists them all). */
 #define PIE_VERSION "0.1.0"
 
 #define PIE_MAX_MOMENT UINT64_C(1152921504606846975) /* the latest moment, 2^60 - 1 ns */
@@ -118,10 +122,12 @@ enum { PIE_NOT_ECT = 0, PIE_ECT1 = 1, PIE_ECT0 = 2, PIE_CE = 3 };
  * it does is this project's own). */
 enum { PIE_ALWAYS_ON = 1, PIE_ON_AND_OFF = 2 };
 
-/* RFC 8033's optional elements that are chosen otherwise than usual: flags, OR-ed into `choices` of an opening. */
+/* Flags for `choices` of an opening, OR-ed: each selects one of RFC 8033's optional elements. pie_default_opening sets PIE_DELAY_STAMP alone, as
+ * Linux does. Without it the delay comes from the departure rate: pie_depart then needs no time of arrival, but the estimate is a burst
+ * old and is only measured while dq_threshold bytes are queued (docs/RESULTS.md compares both). */
 enum {
-    PIE_USUAL = 0,         /* delays by the departure rate, de-randomized picking, capped steps, all packets picked alike, decay at 0 */
-    PIE_DELAY_STAMP = 1,   /* a delay is what the packet that departed last had waited (section 4.3), as Linux has it by default */
+    PIE_USUAL = 0,         /* no flag: delays by the departure rate, de-randomized picking, capped steps, all packets picked alike, decay at 0 */
+    PIE_DELAY_STAMP = 1,   /* the delay is the time that the packet that departed last had waited (section 4.3) */
     PIE_PICK_RANDOM = 2,   /* packets are picked by the random word alone, not de-randomized (section 5.4) */
     PIE_STEP_UNCAPPED = 4, /* an update raises the probability as far as the control law says (section 5.5) */
     PIE_SIZE_SCALED = 8,   /* a packet below mean_pkt is picked less often, in proportion to its size (Linux's bytemode) */
@@ -153,7 +159,7 @@ struct pie_opening {
     struct pie_params params; /* the parameters */
     uint64_t moment;          /* of the opening, at most 2^60 - 1 ns (0) */
     uint64_t profile;         /* PIE_ALWAYS_ON or PIE_ON_AND_OFF (1) */
-    uint64_t choices;         /* the flags of the optional elements, at most 31 (0) */
+    uint64_t choices;         /* the flags of the optional elements, at most 31 (1) */
     uint64_t mode;            /* PIE_BOUNDED or PIE_ROLLING (1) */
     uint64_t packets;         /* that the queue holds at most, 1 to 2^20 (2^20) */
     uint64_t tail;            /* events that the log holds, 1 to 2^20 (1024) */
@@ -271,8 +277,8 @@ struct pie_period {
     uint64_t wall;              /* 1 where records end with a time of day, and else 0 */
     uint64_t begun;             /* periods that have begun, those without events left out: the number of the record, counted from 1 */
     uint64_t number;            /* the number of the period under way: that which begins at moment 0 is 0 */
-    uint64_t start;             /* the moment at which it began */
-    uint64_t end;               /* the moment at which it ends; 0 before the first event */
+    uint64_t start;             /* the moment at which it begins, `number` times `every`; 0 before the first event */
+    uint64_t end;               /* the moment at which it ends, `every` ns later; 0 before the first event */
     uint64_t told;              /* 1 where a time of day was told, and else 0 */
     uint64_t clock_moment;      /* the moment at which it was */
     uint64_t clock_unix;        /* this time of day, in ns since 1970 */
@@ -339,7 +345,7 @@ uint32_t pie_arrive(struct pie_state *state, uint64_t queued, uint32_t size, uin
                     uint64_t moment);
 
 /* Takes in that a packet of this size left the queue, with `left` bytes after it (section 5.2). Call it for packets that
- * left, and pie_empty for a poll that found none. With PIE_DELAY_STAMP call pie_depart_waited.
+ * left, and pie_empty for a poll that found none. With PIE_DELAY_STAMP, the default, call pie_depart_waited.
  * Refused, in this order: PIE_BAD_MOMENT, PIE_BAD_SIZE, PIE_BAD_QUEUE, PIE_NOT_WAITED. */
 uint32_t pie_depart(struct pie_state *state, uint32_t size, uint64_t left, uint64_t moment);
 
@@ -401,16 +407,22 @@ uint32_t pie_period_clock(struct pie_period *period, uint64_t moment, uint64_t u
 /* The calls for periods: each does what the call that ends in _event does, and adds its event to the period; a refused one adds none. `arrived` of
  * pie_depart_summed is when the packet arrived, as for pie_depart_waited, also without PIE_DELAY_STAMP: it tells how long the packet had waited.
  *
- * A period ends when an event's moment reaches period.end: the call then begins another, and forgets the numbers of the last one. So before each call
+ * A period ends at the first event whose moment is period.end or later. The call for that event begins the next period and overwrites the numbers
+ * of the one before. A call that is refused changes nothing, and the period goes on. So make the record before each call that may end the period, and
+ * write it only if the call has begun a period:
  *
- *     if (moment >= period.end && period.begun != written) {
- *         fwrite(out, 1, pie_write_period(&period, out, sizeof out), file);
- *         written = period.begun;
- *     }
+ *     uint64_t begun = period.begun;
+ *     size_t size = event.moment >= period.end ? pie_write_period(&period, out, sizeof out) : 0;
+ *     uint32_t verdict = pie_arrive_summed(&pie, queued, room, &event, &period);
+ *     if (period.begun != begun)
+ *         fwrite(out, 1, size, file);
  *
- * and at the end the last one too. The records are those of `pie explain --every 1s --csv` of the history of these calls, to the byte, without that
- * history. A period without events has none. period.begun is the number of the record, from 1 on: it grows by one from record to record, or one
- * was lost. */
+ * After the last event write the last period:
+ *
+ *     fwrite(out, 1, pie_write_period(&period, out, sizeof out), file);
+ *
+ * The records are those of `pie explain --every 1s --csv` of the history of these calls, to the byte, without that history. A period without events
+ * has none. period.begun is the number of the record, from 1 on: it grows by one from record to record, or one was lost. */
 uint32_t pie_arrive_summed(struct pie_state *state, uint64_t queued, uint32_t room, struct pie_event *event, struct pie_period *period);
 uint32_t pie_depart_summed(struct pie_state *state, uint64_t left, uint64_t arrived, struct pie_event *event, struct pie_period *period);
 uint32_t pie_empty_summed(struct pie_state *state, struct pie_event *event, struct pie_period *period);
@@ -419,7 +431,7 @@ uint32_t pie_reset_summed(struct pie_state *state, struct pie_event *event, stru
 uint32_t pie_set_params_summed(struct pie_state *state, const struct pie_params *params, struct pie_event *event, struct pie_period *period);
 
 /* Write the record of the period under way, or the header row, with its line feed, as the calls below write theirs. PIE_RESUME_ROOM bytes are
- * enough. */
+ * enough. Before the first event there is no record: pie_write_period answers 0 and leaves `out` as it was. */
 size_t pie_write_period(const struct pie_period *period, unsigned char *out, size_t room);
 size_t pie_write_period_header(const struct pie_period *period, unsigned char *out, size_t room);
 

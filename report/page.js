@@ -40,16 +40,28 @@ function rate(bytes, ns) {
     return `${mbit.toFixed(mbit >= 100 ? 1 : mbit >= 1 ? 2 : 4)} Mbit/s`;
 }
 
+// Units of time, the greatest first: its nanoseconds, its name, and the number of units from which on it is used.
+const UNITS = [[86400e9, "d", 2], [3600e9, "h", 2], [1e9, "s", 1], [1e6, "ms", 1], [1e3, "us", 1], [1, "ns", 0]];
+const unitOf = (ns) => UNITS.find(([length, , least]) => ns >= least * length);
+
 function duration(ns) {
-    return ns >= 1e9 ? `${+(ns / 1e9).toPrecision(6)} s` : ns >= 1e6 ? `${+(ns / 1e6).toPrecision(6)} ms` : `${+(ns / 1e3).toPrecision(6)} us`;
+    const [length, name] = unitOf(ns);
+    return `${+(ns / length).toPrecision(6)} ${name}`;
 }
 
-// The time of the clock on the wall, where the history has a record of it.
+// Returns the time of day at a moment, in ns since 1970, if the history has a record of it.
+function unix(exact) {
+    if (DATA.clock.length !== 2) return null;
+    const time = BigInt(DATA.clock[1]) + exact - BigInt(DATA.clock[0]);
+    return time < 0n ? 0n : time;
+}
+
+// Returns a time of day as YYYY-MM-DDTHH:MM:SS.mmmZ.
+const iso = (time) => new Date(Number(time / 1000000n)).toISOString();
+
 function wall(exact) {
-    if (DATA.clock.length !== 2) return "";
-    const unix = BigInt(DATA.clock[1]) + exact - BigInt(DATA.clock[0]);
-    const date = new Date(Number(unix / 1000000n));
-    return Number.isNaN(date.getTime()) ? "" : ` (${date.toISOString().replace("T", " ").replace("Z", " UTC")})`;
+    const time = unix(exact);
+    return time === null ? "" : ` (${iso(time).replace("T", " ").replace("Z", " UTC")})`;
 }
 
 // ----- Elements
@@ -234,7 +246,7 @@ const ROWS = DATA.periods.map((row) => {
     const index = Number(BigInt(row[column.get("first_moment")]) / BigInt(PERIOD) - FIRST / BigInt(PERIOD));
     return { row, index, at: index * PERIOD - PHASE };
 });
-const WHOLE = [0, Math.max(LENGTH, 1)];
+const WHOLE = [0, LENGTH > 0 ? LENGTH : 1e7]; // (one event, or none: ten milliseconds)
 let view = [...WHOLE];
 let reading = null; // the time of the reading line
 let chosen = null; // the packet whose words are shown
@@ -341,24 +353,67 @@ function axes(chart, greatest, least) {
     const each = Math.max(least, step(greatest / Math.max(2, height / 45)));
     for (let value = 0; value <= greatest * (1 + 1e-9); value += each) {
         draw(svg, "line", { class: "grid", x1: MARGIN.left, x2: width - MARGIN.right, y1: up(value), y2: up(value) });
-        draw(svg, "text", { x: MARGIN.left - 6, y: up(value) + 4, "text-anchor": "end" }, String(+value.toPrecision(6)));
+        const text = value < 1e6 ? String(+value.toPrecision(6)) : value.toExponential().replace("+", "");
+        draw(svg, "text", { x: MARGIN.left - 6, y: up(value) + 4, "text-anchor": "end" }, text);
     }
     timeAxis(svg, bottom);
     return up;
 }
 
-// Moments along the bottom: as they are, or, where they are long, what has passed since the first.
+// Draws a place along the bottom, and its text.
+function timeMark(svg, bottom, time, text) {
+    const x = across(time);
+    draw(svg, "line", { class: "grid", x1: x, x2: x, y1: MARGIN.top, y2: bottom });
+    if (x < width - 45 - 3 * text.length) draw(svg, "text", { class: "time", x, y: bottom + 14, "text-anchor": "middle" }, text);
+}
+
+// The times along the bottom: of day, if the history tells them; else moments, or, if these are long, what has passed since the first.
 function timeAxis(svg, bottom) {
+    const least = (view[1] - view[0]) / Math.max(3, width / 130);
+    const unit = unix(FIRST) === null ? momentAxis(svg, bottom, least) : dayAxis(svg, bottom, least);
+    draw(svg, "text", { x: width - MARGIN.right, y: bottom + 14, "text-anchor": "end" }, unit);
+}
+
+function momentAxis(svg, bottom, least) {
     const late = FIRST > BigInt(Math.max(1, LENGTH)) * 1000n;
-    const unit = view[1] - view[0] < 2e9 ? [1e6, "ms"] : [1e9, "s"];
-    const each = step((view[1] - view[0]) / Math.max(3, width / 130));
+    const [unit, name] = unitOf((view[1] - view[0]) / 2);
+    const each = step(least / unit) * unit;
     const zero = late ? 0 : Number(FIRST);
     for (let at = Math.ceil((view[0] + zero) / each) * each; at <= view[1] + zero; at += each) {
-        const x = across(at - zero);
-        draw(svg, "line", { class: "grid", x1: x, x2: x, y1: MARGIN.top, y2: bottom });
-        if (x < width - 45) draw(svg, "text", { x, y: bottom + 14, "text-anchor": "middle" }, `${late ? "+" : ""}${+(at / unit[0]).toPrecision(9)}`);
+        timeMark(svg, bottom, at - zero, `${late ? "+" : ""}${+(at / unit).toPrecision(9)}`);
     }
-    draw(svg, "text", { x: width - MARGIN.right, y: bottom + 14, "text-anchor": "end" }, unit[1]);
+    return name;
+}
+
+// Lengths between two times of day from a second to a day, in seconds.
+const SECONDS = [1, 2, 5, 10, 15, 30, 60, 120, 300, 600, 900, 1800, 3600, 7200, 10800, 21600, 43200, 86400];
+
+// Returns the length between two times of day, in whole ns: at least this one, and so that the times are round.
+function between(least) {
+    if (least <= 5e8) return Math.max(1, Math.round(step(least)));
+    const day = SECONDS.at(-1);
+    return 1e9 * (SECONDS.find((it) => it * 1e9 >= least) ?? day * Math.round(step(least / 1e9 / day)));
+}
+
+function dayAxis(svg, bottom, least) {
+    const each = between(least);
+    const first = unix(FIRST);
+    const begin = (BigInt(Math.floor(view[0])) + first) / BigInt(each);
+    for (let at = begin * BigInt(each); at <= first + BigInt(Math.ceil(view[1])); at += BigInt(each)) {
+        const time = Number(at - first);
+        if (time >= view[0]) timeMark(svg, bottom, time, dayText(at, each));
+    }
+    return "UTC";
+}
+
+// A time of day with as many digits as the length between two of them needs.
+function dayText(time, each) {
+    const [day, hours] = iso(time).replace("Z", "").split("T");
+    if (each >= 86400e9) return day;
+    const finer = String(time % 1000000n).padStart(6, "0");
+    let digits = 0;
+    while (each % 10 ** (9 - digits) !== 0) digits++;
+    return each >= 60e9 ? hours.slice(0, 5) : (hours + finer).slice(0, 8 + (digits > 0 ? 1 + digits : 0));
 }
 
 function drawLines(chart) {

@@ -1,14 +1,14 @@
 #!/usr/bin/env python3
-"""Shows that the laws of pie_guarantees say something that isn't the rules again: each wrong rule of crates/pie_guarantees/wrong_rules/ is put in
-the place of the right definition, and the lemma that a law rests on has to be refused; with the right definition in the same place it is
-accepted. Lines of such a file: `law:` the function, `lemma:` what has to be refused, `spec:` the files of definitions that are copied, and `file:`,
-`old:` and `new:`, texts of one line.
+"""Shows that the laws of pie_guarantees are not the rules again. Each wrong rule of crates/pie_guarantees/wrong_rules/ replaces the right definition,
+and then a lemma on which the law rests has to be rejected, which is accepted with the right definition in the same place. Lines of such a file: `law:`
+a function, once or more often, `file:`, `old:` and `new:`, texts of one line, and `spec:` files of definitions that are copied beside these and the
+steps of a command.
 
-All rules are tried by one check, of a crate that has for each rule, and for each right one, its own copy of these definitions, of the lemma's
-file, and of what that uses of pie_guarantees: so no other crate is checked again, and what all stand on is loaded once. For whoever changes a law:
-forty rules take some 160 processor seconds.
+One check tries all rules, of a crate that contains for each rule, and for each right one, a copy of these definitions, of the lemmas on which the law
+rests, and of what these use of pie_guarantees. So no other crate is checked again, and what all use is loaded once. This is for whoever changes a
+law: forty rules take some four minutes of a processor.
 
-usage: tests/wrong_rules.py [RULE ..]      as picks_from_a_half_on; all where none is named
+usage: tests/wrong_rules.py [RULE ..]      such as picks_from_a_half_on; all by default
 needs: rt, and what `rt check` kept of the crates below pie_guarantees
 """
 import re
@@ -21,13 +21,21 @@ from pathlib import Path
 ROOT = Path(__file__).resolve().parent.parent
 LAWS = ROOT / "crates/pie_guarantees"
 RULES = LAWS / "wrong_rules"
+# the definitions that say what a command does, which are copied for each rule
+STEPS = [ROOT / "crates" / path for path in ("pie_aqm/specs/Steps.antt", "pie_aqm/specs/Calls.antt", "pie_book/specs/Decision.antt", "pie_book/specs/Core.antt")]
 OWN = re.compile(r"Rattle\.pie_guarantees\.(specs|proofs)\.(\w+)")
-REFUSED = re.compile(r"^\./proofs/([A-Z]\d+)\w+\.antt:\d+:\d+: error: `([^`]+)`", re.M)
+REFUSED = re.compile(r"^\./proofs/([A-Z]\d+)Guarantees(\w+)\.antt:\d+:\d+: error: `([^`]+)`", re.M)
+DEFINED = re.compile(r"^(?:abbrev |unfoldable )?pub (?:record |data )?(\S+)", re.M)
+PASSED_ON = re.compile(r"^(?:unfoldable )?pub use .*\{(.*)\}", re.M)
+GLOB = re.compile(r"^(.*)\buse Rattle\.pie_guarantees\.specs\.\{(.*)\}", re.M)
+DATA = re.compile(r"^pub data (\w+) : Type 0 where\n((?:  .*\n)+)", re.M)
+NOT_COPIED = ("pie_audit", "pie_record", "pie_link", "pie_lock", "atomic_table")
+LEMMA = re.compile(r"^ *(?:abbrev )?(?:pub )?([^\s(){}]+) : ", re.M)
 
 
 def read(rule):
-    """The law, the lemma, the copied files, and the replacements of a rule."""
-    found = {"law": [], "lemma": [], "spec": [], "file": [], "old": [], "new": []}
+    """Returns the laws, the copied files and the replacements of a rule."""
+    found = {"law": [], "spec": [], "file": [], "old": [], "new": []}
     for line in rule.read_text().splitlines():
         word, _, text = line.partition(": ")
         found[word].append(text)
@@ -35,13 +43,13 @@ def read(rule):
 
 
 def below(lines):
-    """The lines of crates.txt of pie_guarantees and what its laws stand on: not the audits, of which one law alone speaks (`clean`)."""
+    """Returns the lines of crates.txt of pie_guarantees and of the crates that its laws use, without audits and links, which one law each names."""
     found = {}
     for line in lines:
         head, colon, rest = line.partition(":")
         if colon and not line.startswith("#"):
             found[head.split()[0]] = rest.partition("#")[0].split()
-    found["pie_guarantees"] = [name for name in found["pie_guarantees"] if name not in ("pie_audit", "pie_record")]
+    found["pie_guarantees"] = [name for name in found["pie_guarantees"] if name not in NOT_COPIED]
     names, todo = [], ["pie_guarantees"]
     while todo:
         name = todo.pop()
@@ -51,16 +59,8 @@ def below(lines):
     return {name: found[name] for name in found if name in names}
 
 
-def file_of(lemma):
-    """The file of pie_guarantees that has a lemma."""
-    found = [path for path in (LAWS / "proofs").glob("*.antt") if re.search(rf"^ *(?:pub )?{re.escape(lemma)} :", path.read_text(), re.M)]
-    if len(found) != 1:
-        sys.exit(f"tests/wrong_rules.py: {len(found)} files have a lemma {lemma}")
-    return found[0]
-
-
 def used(path):
-    """This file of pie_guarantees, and those that it uses."""
+    """Returns the files of pie_guarantees that this one uses, and itself."""
     found, todo = [], [path]
     while todo:
         path = todo.pop()
@@ -68,6 +68,42 @@ def used(path):
             found.append(path)
             todo += [LAWS / kind / f"{name}.antt" for kind, name in OWN.findall(path.read_text())]
     return found
+
+
+def answers_of(law):
+    """Returns the file that proves a law."""
+    found = list((LAWS / "proofs").glob(f"*/{law}/Answers.antt"))
+    if len(found) != 1:
+        sys.exit(f"tests/wrong_rules.py: {len(found)} files prove {law}")
+    return found[0]
+
+
+def rests_on(law):
+    """Returns the lemmas on which a law rests, by the words of their proofs: each with its file."""
+    texts = {}
+    for path in used(answers_of(law)):
+        starts = [*LEMMA.finditer(path.read_text())]
+        for found, after in zip(starts, [*starts[1:], None]):
+            texts.setdefault(found[1], []).append((path.stem, path.read_text()[found.end():after.start() if after else None]))
+    names, todo = set(), [answers_of(law).read_text()]
+    while todo:
+        new = {word for word in re.findall(r"[^\s(){},;.]+", todo.pop()) if word in texts} - names
+        names |= new
+        todo += [text for name in new for _, text in texts[name]]
+    return {(file, name) for name in names for file, _ in texts[name]}
+
+
+def split(found, own, places):
+    """Returns a `use` of definitions of the crate as `use`s of the copies of the files that have them."""
+    wanted = found[2].split(", ")
+    by_file = {path: [name for name in wanted if name in names] for path, names in own.items()}
+    return "\n".join(f"{found[1]}use Rattle.pie_guarantees.specs.{places[path][1]}.{{{', '.join(names)}}}" for path, names in by_file.items() if names)
+
+
+def shared(original, found):
+    """Returns a `use` of a type and its cases in place of their definition."""
+    cases = [line.split()[0] for line in found[2].splitlines() if " : " in line]
+    return f"pub use {original}.{{{', '.join([found[1], *cases])}}}\n"
 
 
 class Crate:
@@ -88,13 +124,19 @@ class Crate:
 
     def put(self, mark, rule, is_wrong):
         """The copies for a rule, changed or not, under names that begin with this mark."""
-        texts = {ROOT / spec: (ROOT / spec).read_text() for spec in rule["spec"]}
+        texts = {path: path.read_text() for path in {*STEPS, *(ROOT / name for name in rule["spec"] + rule["file"])}}
         for path, old, new in zip(rule["file"], rule["old"], rule["new"]):
             if texts[ROOT / path].count(old) != 1:
                 sys.exit(f"tests/wrong_rules.py: {path}: {texts[ROOT / path].count(old)} times: {old}")
             if is_wrong:
                 texts[ROOT / path] = texts[ROOT / path].replace(old, new)
-        texts |= {path: path.read_text() for path in used(file_of(rule["lemma"][0]))}
+        texts |= {path: path.read_text() for law in rule["law"] for path in used(answers_of(law)) if path.name != "Answers.antt"}
+        own = {}
+        for path in sorted((LAWS / "specs").glob("*.antt")):
+            if path.stem != "Lib":
+                texts[path] = path.read_text()
+                passed_on = {name for names in PASSED_ON.findall(texts[path]) for name in names.split(", ")}
+                own[path] = {name for name in DEFINED.findall(texts[path]) if name != "use"} | passed_on
         places = {}
         for path in texts:
             crate, kind, name = path.parts[-3], path.parts[-2], path.stem
@@ -103,10 +145,14 @@ class Crate:
             for other, (kind, name) in places.items():
                 old = f"Rattle.{other.parts[-3]}.{other.parts[-2]}.{other.stem}"
                 text = re.sub(rf"\buse {re.escape(old)}(?=[. ])", f"use Rattle.pie_guarantees.{kind}.{name}", text)
+            text = GLOB.sub(lambda found: split(found, own, places), text)
             # (pie_event and pie_aqm do not export the declarations of these types to other crates; pie_book does)
             text = text.replace("use Rattle.pie_event.specs.Types.", "use Rattle.pie_book.specs.Types.")
             text = re.sub(r"^(use Rattle\.pie_aqm\.specs\.Types\.\{.*), ArrivingPacket\b(.*)$",
                           r"\1\2\nuse Rattle.pie_aqm.specs.declared.verdict.ArrivingPacket.{ArrivingPacket}", text, flags=re.M)
+            # the copies share the types by cases with what is not copied
+            original = f"Rattle.{path.parts[-3]}.{path.parts[-2]}.{path.stem}"
+            text = DATA.sub(lambda found: shared(original, found), text)
             kind, name = places[path]
             self.modules[kind].append(name)
             (self.folder / kind / f"{name}.antt").write_text(text)
@@ -118,8 +164,8 @@ class Crate:
         done = subprocess.run(["rt", "check", "--allow-holes"], cwd=self.folder, capture_output=True, text=True, check=False)
         said = done.stdout + done.stderr
         found = {}
-        for mark, lemma in REFUSED.findall(said):
-            found.setdefault(mark, set()).add(lemma)
+        for mark, file, lemma in REFUSED.findall(said):
+            found.setdefault(mark, set()).add((file, lemma))
         return found, said
 
 
@@ -130,22 +176,21 @@ def main():
         crate, right = Crate(Path(folder)), {}
         for number, rule in enumerate(rules):
             crate.put(f"W{number}", rule, True)
-            place = (*rule["spec"], file_of(rule["lemma"][0]))
+            place = (*rule["spec"], *rule["file"], *rule["law"])
             if place not in right:
                 right[place] = f"R{number}"
                 crate.put(right[place], rule, False)
         refused, said = crate.refused()
     bad = 0
     for number, (name, rule) in enumerate(zip(names, rules)):
-        lemma, other = rule["lemma"][0], refused.get(right[(*rule["spec"], file_of(rule["lemma"][0]))], set())
-        wrong = refused.get(f"W{number}", set())
-        held = lemma in wrong and lemma not in other
-        bad += not held
-        print(f"{name}: {rule['law'][0]}: " + (f"`{lemma}` is refused, as it must be" if held else
-              f"`{lemma}` is not: refused {sorted(wrong)}, with the right rule {sorted(other)}"), flush=True)
+        new = refused.get(f"W{number}", set()) - refused.get(right[(*rule["spec"], *rule["file"], *rule["law"])], set())
+        for law in rule["law"]:
+            lemmas = sorted(new & rests_on(law))
+            bad += not lemmas
+            print(f"{name}: {law}: " + (f"`{lemmas[0][1]}` is rejected, as it must be" if lemmas else f"nothing is rejected: {sorted(new)}"), flush=True)
     if bad:
         print(said[-3000:])
-    print(f"{len(names) - bad} refused, {bad} not")
+    print(f"{bad} of {sum(len(rule['law']) for rule in rules)} are not rejected")
     sys.exit(bool(bad))
 
 

@@ -141,10 +141,14 @@ static int fold(void) {
     struct pie_event events[PIE_LINK_MOST];
     struct pie_params params;
     unsigned char bytes[PIE_LINK_MOST * PIE_RECORD_ROOM];
+    static uint64_t numbered;
     size_t folded = 0, count;
+    uint64_t last;
     uint32_t code = PIE_DONE;
-    for (; folded < opening.tail && (code = pie_link_fold(&workers[0].port, events, PIE_LINK_MOST, &count, &params)) == PIE_DONE; folded += count) {
+    for (; folded < opening.tail && (code = pie_link_fold(&workers[0].port, events, PIE_LINK_MOST, &count, &last, &params)) == PIE_DONE; folded += count) {
         size_t written = 0, i;
+        CHECK(last == numbered + count); /* none is missing */
+        numbered = last;
         for (i = 0; i < count; i++)
             written += events[i].kind == PIE_EVENT_PARAMS ? pie_write_params(&events[i], &params, bytes + written, sizeof bytes - written)
                                                           : pie_write_event(&events[i], bytes + written, sizeof bytes - written);
@@ -202,7 +206,7 @@ static void run(int threads, double seconds, const char *sums) {
         }
         /* (the others go on after the one that was cancelled, however long they wait for a processor) */
         is_over = is_cancelled && now() > 2 * half && taken == EXCERPTS && have_gone_on(before, threads);
-        CHECK(now() < 2 * half + UINT64_C(120000000000));
+        CHECK(now() < 2 * half + UINT64_C(1200000000000));
         if (is_empty)
             sched_yield();
     }

@@ -19,7 +19,7 @@ enum { SENDER = 1, LINK = 2, TIMER = 3 };
 #define UNIX_TIME UINT64_C(1795550400000000000) /* nanoseconds since 1970 at the moment 0: it is 2026-11-24, 20:00:00 UTC */
 
 struct packet {
-    uint64_t tag;
+    uint64_t tag, arrived; /* the controller's moment right after its arrival */
     uint32_t size, ecn;
 };
 
@@ -76,6 +76,7 @@ static void arrive(struct link *link, struct packet packet, uint64_t now) {
     event.word = random_word();
     uint32_t verdict = pie_arrive_event(&link->pie, link->bytes, RING - link->packets, &event);
     print_event(&event, 7);
+    packet.arrived = link->pie.moment;
     if (verdict == PIE_MARK)
         packet.ecn = PIE_CE;
     if (verdict == PIE_ENQUEUE || verdict == PIE_MARK) {
@@ -99,7 +100,7 @@ static uint32_t depart(struct link *link, uint64_t now) {
     event.tag = packet.tag;
     event.size = packet.size;
     event.ecn = (uint8_t)packet.ecn;
-    pie_depart_event(&link->pie, link->bytes, 0, &event);
+    pie_depart_event(&link->pie, link->bytes, packet.arrived, &event);
     print_event(&event, 3);
     return packet.size;
 }
@@ -150,7 +151,7 @@ int main(int count, char **words) {
     while (next_update < END) {
         if (next_packet <= next_free && next_packet <= next_update) {
             /* of four packets three understand a mark */
-            struct packet packet = {sent++, 64, PIE_NOT_ECT};
+            struct packet packet = {sent++, 0, 64, PIE_NOT_ECT};
             packet.size += (uint32_t)(random_word() % 1437);
             packet.ecn = (uint32_t)(random_word() % 4);
             /* the sender's clock runs behind the others': the effective moment is the greatest so far */

@@ -1,8 +1,11 @@
 #!/usr/bin/env python3
 """Builds the static libraries, crates/pie_c/out/libpie_c.a and crates/pie_link_c/out/libpie_link_c.a, or that of the crate that is named. `rt lib`
-does that too, and proves again what it has no kept work of: in a fresh clone all crates below. Where the gate has just proved these (`rt ci` leaves each
-library in out/rlib, with no stamp), and none is older than its sources, the crate alone is proved and compiled, over them; and where the library is
-newer than all of these, it stays.
+does that too, and proves again what it has no kept work of: in a fresh clone all crates below. Where these are proved, by the gate (`rt ci` leaves each
+library in out/rlib, with no stamp) or otherwise, and none is older than its sources, the crate alone is proved and compiled, over them; and where its
+assembly is newer than all of these, all stays.
+
+The assembly of a library's code is written beside it, crates/CRATE/out/CRATE.S, from the same module and with the same options: dist/ is a copy of it.
+If CRATE is the program, pie, its assembly alone is written.
 
 usage: bindings/c/library.py [CRATE]"""
 import importlib.machinery
@@ -28,10 +31,47 @@ def toolchain():
     return module
 
 
+# The toolchain's clang in front of which it stands: the call as it is, and then the same module as assembly. GNU's assembler has no .addrsig.
+CLANG = """#!/bin/sh
+"{clang}" "$@" || exit
+for word do
+    shift
+    case $word in
+        -c) word=-S ;;
+        module.o) word="{assembly}" ;;
+    esac
+    set -- "$@" "$word"
+done
+exec "{clang}" "$@" -fno-addrsig -fno-verbose-asm
+"""
+
+
+def compile_with_assembly(rtlib, crate):
+    """Proves the crate and compiles it, a library into its archive, by a toolchain whose clang writes the assembly too. Returns the status."""
+    real, assembly = f"{rtlib.KIT}/toolchain", f"{os.path.abspath(crate.folder)}/out/{crate.name}.S"
+    with tempfile.TemporaryDirectory() as work:
+        os.mkdir(f"{work}/bin")
+        os.symlink(f"{real}/lib", f"{work}/lib")
+        for name in os.listdir(f"{real}/bin"):
+            os.symlink(f"{real}/bin/{name}", f"{work}/bin/{name}")
+        os.remove(f"{work}/bin/clang")
+        with open(f"{work}/bin/clang", "w", encoding="utf-8") as it:
+            it.write(CLANG.format(clang=f"{real}/bin/clang", assembly=f"{work}/module.S"))
+        os.chmod(f"{work}/bin/clang", 0o755)
+        call = crate.call
+        crate.call = lambda *words: call(*[work if it == real else it for it in words])
+        # (by one process: two take a fifth more of the processors, which other scripts wait for)
+        status = crate.compile(["--jobs", "1"], f"{work}/module.o" if crate.is_program else f"out/lib{crate.name}.a")
+        if status == 0:
+            # (the assembly last: where it is there, the library is whole)
+            shutil.move(f"{work}/module.S", assembly)
+        return status
+
+
 def with_memory():
     """What the link asks memory by, which `rt lib` leaves to whoever links: the toolchain's few lines of C over malloc, realloc and free."""
     archive = f"crates/{CRATE}/out/lib{CRATE}.a"
-    if CRATE == "pie_c" or b"heap.pic.o" in subprocess.run(["ar", "t", archive], capture_output=True, check=True).stdout:
+    if CRATE != "pie_link_c" or b"heap.pic.o" in subprocess.run(["ar", "t", archive], capture_output=True, check=True).stdout:
         return
     with tempfile.TemporaryDirectory() as work:
         subprocess.run(["ar", "x", f"{toolchain().KIT}/c/liblibc_c.a", "heap.pic.o"], cwd=work, check=True)
@@ -44,13 +84,14 @@ def newest(folder):
     return max(map(os.path.getmtime, files))
 
 
-def left_by_the_gate(crates):
-    """When `rt ci` left the last of the libraries of these, or nothing where one is not there, or its crate changed since."""
-    made, stamped = [f"{it.folder}/out/rlib/{it.name}.rlib" for it in crates], [f"{it.folder}/out/rlib/stamp" for it in crates]
-    if not all(map(os.path.isdir, made)) or any(map(os.path.exists, stamped)):
-        return None
-    times = [os.path.getmtime(it) for it in made]
-    return max(times) if all(newest(it.folder) < at for it, at in zip(crates, times)) else None
+def proved_at(crates):
+    """When the last of these libraries was proved, by `rt ci`, which writes no stamp, or by another command; or nothing if one is not there, or its crate
+    has changed since."""
+    for it in crates:
+        is_stamped = os.path.exists(f"{it.folder}/out/rlib/stamp")
+        if not os.path.isdir(it.rlib) or not (it.is_built() if is_stamped else newest(it.folder) < os.path.getmtime(it.rlib)):
+            return None
+    return max(os.path.getmtime(it.rlib) for it in crates)
 
 
 def main():
@@ -58,17 +99,19 @@ def main():
     try:
         rtlib = toolchain()
         crate = next(it for it in rtlib.crates_below(ROOT) if it.name == CRATE)
-        left = left_by_the_gate(crate.below())
-        if left:
-            library = f"{crate.folder}/out/lib{CRATE}.a"
-            if os.path.isfile(library) and max(left, newest(crate.folder)) < os.path.getmtime(library):
+        proved, assembly = proved_at(crate.below()), f"{crate.folder}/out/{CRATE}.S"
+        if proved and os.path.isfile(assembly) and max(proved, newest(crate.folder)) < os.path.getmtime(assembly):
+            with_memory()
+            return
+        os.makedirs(os.path.dirname(assembly), exist_ok=True)
+        print(f"bindings/c/library.py: {CRATE}, over libraries that {'are proved' if proved else 'rt lib proves'}", flush=True)
+        held = rtlib.lock([crate] if proved else [*crate.below(), crate])
+        if proved or not any(it.build_rlib([], anew=False) for it in crate.below()):
+            if compile_with_assembly(rtlib, crate) == 0:
                 with_memory()
                 return
-            print("bindings/c/library.py: over the libraries that rt ci has proved", flush=True)
-            # (by one process: two take a fifth more of the processors, which other scripts wait for)
-            if crate.build_static(["--jobs", "1"]) == 0:
-                with_memory()
-                return
+        for it in held:
+            os.close(it)
     except (AttributeError, OSError, StopIteration, TypeError) as why:
         # (another toolchain may be arranged otherwise)
         print(f"bindings/c/library.py: {type(why).__name__}: {why}", flush=True)

@@ -30,7 +30,8 @@ static struct pie_event event_at(uint64_t moment, uint64_t tag) {
 /* The oldest event alone. */
 static uint32_t fold_one(struct pie_port *port, struct pie_event *event, struct pie_params *params) {
     size_t folded;
-    return pie_link_fold(port, event, 1, &folded, params);
+    uint64_t last;
+    return pie_link_fold(port, event, 1, &folded, &last, params);
 }
 
 /* The log of calls(): an arrival, a departure, one that found none, an update, a reset, parameters, an arrival. */
@@ -38,25 +39,28 @@ static void folds(struct pie_port *port, uint64_t dq_threshold) {
     struct pie_event events[PIE_LINK_MOST + 1], before;
     struct pie_params params;
     size_t folded = 9;
+    uint64_t last = 9;
     memset(events, 1, sizeof events);
     memset(&params, 0, sizeof params);
     before = events[0];
     /* no room, then room for two: the others stay */
-    CHECK(pie_link_fold(port, events, 0, &folded, &params) == PIE_TOO_MANY && folded == 0);
-    CHECK(pie_link_fold(port, events, 2, &folded, &params) == PIE_DONE && folded == 2 && params.target == 0);
+    CHECK(pie_link_fold(port, events, 0, &folded, &last, &params) == PIE_TOO_MANY && folded == 0 && last == 0);
+    CHECK(pie_link_fold(port, events, 2, &folded, &last, &params) == PIE_DONE && folded == 2 && last == 2 && params.target == 0);
     CHECK(events[0].kind == PIE_EVENT_ARRIVE && events[0].caller == 2 && events[0].tag == 7 && events[0].reserved == 0);
     CHECK(events[0].word == UINT64_C(0x9e3779b97f4a7c15) * 8 && events[0].ecn == PIE_ECT0 && events[0].prob == 0);
     CHECK(events[1].kind == PIE_EVENT_DEPART && events[1].caller == 0 && events[1].tag == 7 && events[1].moment == 30);
     CHECK(memcmp(&events[2], &before, sizeof before) == 0);
     /* no further than what sets parameters */
-    CHECK(pie_link_fold(port, events, PIE_LINK_MOST + 1, &folded, &params) == PIE_DONE && folded == 4);
+    CHECK(pie_link_fold(port, events, PIE_LINK_MOST + 1, &folded, &last, &params) == PIE_DONE && folded == 4 && last == 6);
     CHECK(events[0].kind == PIE_EVENT_DEPART && events[0].answer == PIE_NONE && events[0].moment == 30);
     CHECK(events[1].kind == PIE_EVENT_UPDATE && events[1].burst == 150000000 && events[2].kind == PIE_EVENT_RESET);
     CHECK(events[3].kind == PIE_EVENT_PARAMS && params.target == 5000000 && params.dq_threshold == dq_threshold);
     CHECK(memcmp(&events[4], &before, sizeof before) == 0);
     params.target = 7;
-    CHECK(pie_link_fold(port, events, PIE_LINK_MOST, &folded, &params) == PIE_DONE && folded == 1 && events[0].tag == 10 && params.target == 7);
-    CHECK(pie_link_fold(port, events, PIE_LINK_MOST, &folded, &params) == PIE_TOO_MANY && folded == 0 && events[0].tag == 10);
+    CHECK(pie_link_fold(port, events, PIE_LINK_MOST, &folded, &last, &params) == PIE_DONE && folded == 1 && last == 7 && events[0].tag == 10);
+    CHECK(params.target == 7);
+    last = 0;
+    CHECK(pie_link_fold(port, events, PIE_LINK_MOST, &folded, &last, &params) == PIE_TOO_MANY && folded == 0 && last == 7 && events[0].tag == 10);
 }
 
 /* What calls() left behind: 7 events, of which a packet waits that arrived at 15000002. */
@@ -84,6 +88,7 @@ static void calls(void) {
     struct pie_registers registers;
     struct pie_totals totals;
     size_t folded = 9;
+    uint64_t last = 9;
     registers.count = totals.count = 9;
     pie_default_opening(&opening, 100000000);
     opening.mode = PIE_BOUNDED;
@@ -93,7 +98,8 @@ static void calls(void) {
     CHECK(pie_link_close(&port) == PIE_CLOSED && pie_link_share(&port, &other) == PIE_CLOSED && pie_link_gather(&port, &other) == PIE_CLOSED);
     CHECK(pie_link_registers(&port, &registers) == PIE_CLOSED && registers.count == 9);
     CHECK(pie_link_stats(&port, &totals) == PIE_CLOSED && totals.count == 9);
-    CHECK(pie_link_fold(&port, &event, 1, &folded, &params) == PIE_CLOSED && folded == 0 && memcmp(&event, &before, sizeof event) == 0);
+    CHECK(pie_link_fold(&port, &event, 1, &folded, &last, &params) == PIE_CLOSED && folded == 0 && last == 9);
+    CHECK(memcmp(&event, &before, sizeof event) == 0);
     /* opening */
     CHECK(pie_link_open(&opening, 0, &port) == PIE_NO_CALLERS);
     opening.profile = 3;
@@ -236,7 +242,7 @@ static void *send_bursts(void *of) {
         while ((code = pie_link_try_arrive_all(port, events, BURST)) == PIE_BUSY)
             CHECK(memcmp(events, before, sizeof events) == 0);
         CHECK(code == PIE_DONE);
-        pie_link_tell(&hint, events, BURST, 15000000);
+        pie_link_tell(&hint, events, BURST);
         for (i = 0; i < BURST; i++)
             CHECK(events[i].kind == PIE_EVENT_ARRIVE && events[i].answer < 100);
     }
@@ -269,7 +275,7 @@ static void bursts_of_several(void) {
         CHECK(code == PIE_DONE ? made > 0 && made <= 2 + (events[made - 1].answer == PIE_NONE) : code == PIE_BUSY && made == 0);
         CHECK(memcmp(events + made, before + made, (BURST - made) * sizeof *events) == 0);
         left += code == PIE_DONE;
-        pie_link_tell(&hint, events, made, 15000000);
+        pie_link_tell(&hint, events, made);
     }
     for (i = 0; i < SENDERS; i++)
         CHECK(pthread_join(ids[i], NULL) == 0);
@@ -277,7 +283,9 @@ static void bursts_of_several(void) {
     event = event_at(20000000, 0);
     event.kind = PIE_EVENT_UPDATE;
     CHECK(pie_link_update(&ports[0], &event) == PIE_DONE);
-    pie_link_tell(&hint, &event, 1, 15000000);
+    pie_link_tell(&hint, &event, 1);
+    CHECK(pie_link_registers(&ports[0], &registers) == PIE_DONE && registers.due == 35000000);
+    pie_link_tell_due(&hint, registers.due);
     CHECK(registers.packets == pie_link_waiting(&hint) && pie_link_due(&hint) >= 35000000 && pie_link_due(&hint) < 35000000 + (1 << 18));
     /* each sender's packets once and in its order, with nothing of another within a burst */
     while ((code = fold_one(&ports[0], &event, &params)) == PIE_DONE) {
@@ -291,6 +299,132 @@ static void bursts_of_several(void) {
     for (i = 1; i <= SENDERS; i++)
         CHECK(next[i] == BURSTS * BURST && pie_link_close(&ports[i]) == PIE_DONE);
     CHECK(pie_link_close(&ports[0]) == PIE_DONE);
+}
+
+/* The hint alone: one that is told of departures before their arrivals, and moments up to the greatest. */
+static void hints(void) {
+    static struct pie_link_hint told;
+    struct pie_event event = event_at(0, 1);
+    CHECK(pie_link_waiting(&told) == 0 && pie_link_due(&told) == 0);
+    event.kind = PIE_EVENT_DEPART;
+    event.answer = PIE_DONE;
+    pie_link_tell(&told, &event, 1);
+    CHECK(pie_link_waiting(&told) == 0 && pie_link_due(&told) == 0);
+    pie_link_tell_due(&told, 15000000);
+    CHECK(pie_link_waiting(&told) == 0 && pie_link_due(&told) >= 15000000 && pie_link_due(&told) < 15000000 + (1 << 18));
+    pie_link_tell_due(&told, 14000000); /* told late: an earlier moment does not replace a later one */
+    CHECK(pie_link_due(&told) >= 15000000);
+    event.kind = PIE_EVENT_ARRIVE;
+    event.answer = PIE_MARK;
+    pie_link_tell(&told, &event, 1);
+    pie_link_tell(&told, &event, 1);
+    CHECK(pie_link_waiting(&told) == 1 && pie_link_due(&told) >= 15000000 && pie_link_due(&told) < 15000000 + (1 << 18));
+    pie_link_tell_due(&told, UINT64_C(1) << 59);
+    CHECK(pie_link_waiting(&told) == 1 && pie_link_due(&told) == UINT64_C(1) << 59);
+    pie_link_tell_due(&told, PIE_MAX_MOMENT + 15000000); /* no moment is so late */
+    CHECK(pie_link_waiting(&told) == 1 && pie_link_due(&told) == UINT64_MAX);
+    pie_link_tell_due(&told, UINT64_MAX);
+    CHECK(pie_link_waiting(&told) == 1 && pie_link_due(&told) == UINT64_MAX);
+}
+
+/* A link that lets its oldest event go: its folds' numbers show how many are missing. */
+static void gaps(void) {
+    struct pie_port port = PIE_PORT_CLOSED;
+    struct pie_opening opening;
+    struct pie_event events[PIE_LINK_MOST], event;
+    struct pie_params params;
+    unsigned char line[PIE_RECORD_ROOM];
+    uint64_t moment, written = 0, last = 0;
+    size_t folded;
+    uint32_t code;
+    int folds = 0;
+    pie_default_opening(&opening, 100000000);
+    opening.tail = 100;
+    CHECK(opening.mode == PIE_ROLLING && pie_link_open(&opening, 1, &port) == PIE_DONE);
+    for (moment = 0; moment < 1076; moment++) {
+        event = event_at(moment, moment);
+        CHECK(pie_link_reset(&port, &event) == PIE_DONE);
+        if (moment == 9) {
+            CHECK(pie_link_fold(&port, events, PIE_LINK_MOST, &folded, &last, &params) == PIE_DONE && folded == 10 && last == 10);
+            written = last;
+        }
+    }
+    while ((code = pie_link_fold(&port, events, PIE_LINK_MOST, &folded, &last, &params)) == PIE_DONE) {
+        uint64_t missing = last - folded - written;
+        CHECK(missing == (folds++ == 0 ? 966 : 0) && events[0].moment == last - folded && events[folded - 1].moment == last - 1);
+        CHECK(pie_write_lost(missing, line, sizeof line) == (missing == 0 ? 0 : sizeof "lost,966"));
+        CHECK(missing == 0 || memcmp(line, "lost,966\n", 9) == 0);
+        written = last;
+    }
+    CHECK(code == PIE_TOO_MANY && folds == 2 && last == 1076 && pie_link_close(&port) == PIE_DONE);
+}
+
+enum { CALLERS = 1000, LARGE = 700 };
+
+/* Many callers, and large bursts of one that is not the first; then all numbers are gathered again. */
+static void many_callers(void) {
+    static struct pie_port ports[CALLERS];
+    static struct pie_event events[LARGE];
+    struct pie_opening opening;
+    struct pie_event event;
+    size_t made;
+    int i;
+    pie_default_opening(&opening, UINT64_C(10000000000));
+    opening.packets = 1000;
+    CHECK(pie_link_open(&opening, CALLERS, &ports[0]) == PIE_DONE);
+    for (i = CALLERS - 1; i > 0; i--)
+        CHECK(pie_link_share(&ports[0], &ports[i]) == PIE_DONE);
+    CHECK(pie_link_share(&ports[0], &ports[0]) == PIE_OPEN);
+    for (i = 0; i < CALLERS; i++) {
+        event = event_at((uint64_t)i, 0);
+        CHECK(pie_link_try_reset(&ports[i], &event) == PIE_DONE && event.caller == i);
+    }
+    for (i = 0; i < LARGE; i++)
+        events[i] = event_at(CALLERS, (uint64_t)i);
+    CHECK(pie_link_try_arrive_all(&ports[300], events, LARGE) == PIE_DONE);
+    for (i = 0; i < LARGE; i++)
+        CHECK(events[i].caller == 300 && events[i].answer == PIE_ENQUEUE);
+    CHECK(pie_link_try_depart_all(&ports[999], UINT64_MAX, events, LARGE, &made) == PIE_DONE && made == LARGE);
+    for (i = 0; i < LARGE; i++)
+        CHECK(events[i].caller == 999 && events[i].answer == PIE_DONE && events[i].tag == (uint64_t)i);
+    for (i = 1; i < CALLERS; i++)
+        CHECK(pie_link_gather(&ports[0], &ports[i]) == PIE_DONE && ports[i].at == NULL && ports[i].shared == NULL);
+    CHECK(pie_link_close(&ports[0]) == PIE_DONE && ports[0].shared == NULL);
+}
+
+/* Two links: their ports are not gathered, and calls at one wake no thread at the other. */
+static void two_links(void) {
+    struct pie_port a = PIE_PORT_CLOSED, b = PIE_PORT_CLOSED, second = PIE_PORT_CLOSED, other = PIE_PORT_CLOSED;
+    struct pie_link_patience waited = {PIE_LINK_ROUNDS + 1, 1};
+    struct pie_opening opening;
+    struct pie_event event = event_at(1, 1);
+    pie_link_default_opening(&opening, 100000000);
+    CHECK(opening.packets == 9765);
+    pie_link_default_opening(&opening, 0);
+    CHECK(opening.packets == 1024);
+    pie_link_default_opening(&opening, UINT64_C(1000000000000));
+    CHECK(opening.packets == 1 << 20);
+    opening.packets = 1000;
+    CHECK(pie_link_open(&opening, 2, &a) == PIE_DONE && pie_link_open(&opening, 2, &b) == PIE_DONE && pie_link_share(&b, &other) == PIE_DONE);
+    /* the numbers of `other` follow on those of `a`, but at another link */
+    CHECK(pie_link_share(&a, &second) == PIE_DONE && pie_link_gather(&a, &other) == PIE_APART && other.at != NULL);
+    CHECK(pie_link_gather(&b, &b) == PIE_APART && pie_link_gather(&a, &second) == PIE_DONE);
+    CHECK(a.shared != b.shared && other.shared == b.shared);
+    PIE_LINK_ADD(a.shared->sleepers, 1); /* as of a thread that sleeps at link a */
+    CHECK(pie_link_arrive(&b, &event) == PIE_ENQUEUE && pie_link_depart(&other, &event) == PIE_DONE && PIE_LINK_LOAD(a.shared->turns) == 0);
+    CHECK(PIE_LINK_LOAD(b.shared->turns) == 0);
+    event = event_at(1, 1);
+    CHECK(pie_link_try_arrive(&a, &event) == PIE_ENQUEUE && PIE_LINK_LOAD(a.shared->turns) == 0);
+    pie_link_wake(&a);
+    CHECK(PIE_LINK_LOAD(a.shared->turns) == 1);
+    errno = 77;
+    CHECK(pie_link_depart(&a, &event) == PIE_DONE && PIE_LINK_LOAD(a.shared->turns) == 2);
+    pie_link_wait(&a, &waited); /* (it does not sleep: `turns` is not 1) */
+    CHECK(waited.seen == 2 && errno == 77);
+    PIE_LINK_ADD(a.shared->sleepers, UINT32_MAX);
+    CHECK(pie_link_close(&a) == PIE_DONE && pie_link_close(&b) == PIE_DONE && pie_link_gather(&other, &b) == PIE_CLOSED);
+    event = event_at(1, 2);
+    CHECK(pie_link_arrive(&other, &event) == PIE_ENQUEUE && pie_link_close(&other) == PIE_DONE && pie_link_close(&other) == PIE_CLOSED);
 }
 
 /* Whether the next record of an excerpt is this text. */
@@ -404,7 +538,7 @@ static void threads(void) {
     struct pie_opening opening;
     struct pie_event events[PIE_LINK_MOST];
     struct pie_params params;
-    uint64_t found[THREADS] = {0}, next[THREADS] = {0};
+    uint64_t found[THREADS] = {0}, next[THREADS] = {0}, written = 0, last;
     uint32_t code;
     size_t folded, place;
     int i;
@@ -420,8 +554,9 @@ static void threads(void) {
     for (i = 0; i < THREADS; i++)
         CHECK(pthread_join(ids[i], NULL) == 0);
     /* by rooms of 1 to the most: the same history as one by one */
-    for (i = 1; (code = pie_link_fold(&ports[0], events, (size_t)i, &folded, &params)) == PIE_DONE; i = i % PIE_LINK_MOST + 1) {
-        CHECK(folded <= (size_t)i);
+    for (i = 1; (code = pie_link_fold(&ports[0], events, (size_t)i, &folded, &last, &params)) == PIE_DONE; i = i % PIE_LINK_MOST + 1) {
+        CHECK(folded <= (size_t)i && last == written + folded); /* none is missing: the log had room for all */
+        written = last;
         for (place = 0; place < folded; place++) {
             const struct pie_event *event = &events[place];
             found[event->caller]++;
@@ -470,6 +605,7 @@ static void memory(void) {
     unsigned char record[PIE_RESUME_ROOM];
     uint32_t code;
     size_t folded;
+    uint64_t last;
     long number, requests = 0;
     int was_refused;
     pie_default_opening(&opening, 100000000);
@@ -488,7 +624,7 @@ static void memory(void) {
     CHECK(REFUSING(0, (uint32_t)pie_link_write_excerpt(&excerpt, record, sizeof record)) > 0 && !was_refused);
     CHECK(REFUSING(0, pie_link_close_excerpt(&excerpt)) == PIE_DONE && !was_refused);
     CHECK(REFUSING(0, pie_link_depart(&port, &event)) == PIE_DONE && !was_refused);
-    CHECK(REFUSING(0, pie_link_fold(&port, &event, 1, &folded, &params)) == PIE_DONE && !was_refused && folded == 1);
+    CHECK(REFUSING(0, pie_link_fold(&port, &event, 1, &folded, &last, &params)) == PIE_DONE && !was_refused && folded == 1 && last == 1);
     CHECK(event.kind == PIE_EVENT_ARRIVE && requests > 4);
     CHECK(pie_link_close(&port) == PIE_DONE && pie_link_close(&other) == PIE_DONE);
 }
@@ -497,6 +633,10 @@ int main(void) {
     calls();
     bursts();
     bursts_of_several();
+    hints();
+    gaps();
+    many_callers();
+    two_links();
     excerpts();
     threads();
     memory();

@@ -49,6 +49,7 @@ static void calls() {
     pie_registers registers;
     pie_totals totals;
     size_t folded;
+    uint64_t last;
     CHECK(!port.is_open() && port.close() == PIE_CLOSED && port.arrive(event) == PIE_CLOSED && port.try_update(event) == PIE_CLOSED);
     CHECK(port.share(port) == PIE_CLOSED && port.gather(port) == PIE_CLOSED);
     CHECK(port.open(opening, 0) == PIE_NO_CALLERS && port.open(opening, 2) == PIE_DONE && port.open(opening, 2) == PIE_OPEN);
@@ -70,14 +71,15 @@ static void calls() {
     port = std::move(moved);
     CHECK(port.is_open() && !moved.is_open());
     other = std::move(port); // (closes the port that `other` was)
-    CHECK(other.fold(&event, 1, folded, params) == PIE_DONE && folded == 1 && event.kind == PIE_EVENT_ARRIVE && event.caller == 1);
-    CHECK(other.try_fold(&event, 1, folded, params) == PIE_DONE && event.kind == PIE_EVENT_DEPART);
+    CHECK(other.fold(&event, 1, folded, last, params) == PIE_DONE && folded == 1 && last == 1 && event.kind == PIE_EVENT_ARRIVE && event.caller == 1);
+    CHECK(other.try_fold(&event, 1, folded, last, params) == PIE_DONE && last == 2 && event.kind == PIE_EVENT_DEPART);
     CHECK(other.stats(totals) == PIE_DONE && totals.stats.arrivals == 1 && other.registers(registers) == PIE_DONE && registers.packets == 0);
     events[0] = events[1] = event_at(20000000, 8);
     CHECK(other.arrive_all(events, 2) == PIE_DONE && events[1].answer == PIE_ENQUEUE);
     CHECK(other.depart_all(UINT64_MAX, events, 2, folded) == PIE_DONE && folded == 1 && events[0].answer == PIE_FULL);
     CHECK(other.try_depart_all(1, events, 0, folded) == PIE_DONE && folded == 0);
     CHECK(other.try_arrive_all(events, 0) == PIE_DONE && other.try_stats(totals) == PIE_DONE && other.try_registers(registers) == PIE_DONE);
+    other.wake();
     CHECK(other.close() == PIE_DONE && !other.is_open());
 }
 
@@ -122,8 +124,9 @@ static void threads() {
         pie_event events[PIE_LINK_MOST];
         pie_params params;
         size_t count;
-        uint32_t code = ports[0].fold(events, PIE_LINK_MOST, count, params);
-        CHECK(code == PIE_DONE || code == PIE_TOO_MANY);
+        uint64_t last;
+        uint32_t code = ports[0].fold(events, PIE_LINK_MOST, count, last, params);
+        CHECK((code == PIE_DONE || code == PIE_TOO_MANY) && last == folded + count);
         for (size_t i = 0; i < count; i++)
             CHECK(events[i].kind == PIE_EVENT_ARRIVE && events[i].tag == next[events[i].caller]++);
         folded += count;

@@ -32,11 +32,12 @@ static uint32_t open_usual(struct pie_state *state, const struct pie_params *par
     return open_with(state, params, moment, PIE_ALWAYS_ON, PIE_USUAL);
 }
 
-/* A controller with the defaults, opened at 0. */
+/* A controller with the default parameters and delays by the departure rate, opened at 0. */
 static struct pie_state opened(void) {
     struct pie_opening opening;
     struct pie_state state;
     pie_default_opening(&opening, 0);
+    opening.choices = PIE_USUAL;
     pie_open(&state, &opening);
     return state;
 }

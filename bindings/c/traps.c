@@ -13,12 +13,13 @@
         }                                                                      \
     } while (0)
 
-/* Opens with these; the rest of the opening is the default. */
+/* Opens with these parameters at this moment, with delays by the departure rate; the rest of the opening is the default. */
 static uint32_t open_with(struct pie_state *state, const struct pie_params *params, uint64_t moment) {
     struct pie_opening opening;
     pie_default_opening(&opening, 0);
     opening.params = *params;
     opening.moment = moment;
+    opening.choices = PIE_USUAL;
     return pie_open(state, &opening);
 }
 
@@ -129,7 +130,7 @@ static int limits_by_rate(void) {
         memset(&opening, 255, sizeof opening);
         pie_default_opening(&opening, table[k].rate);
         CHECK(memcmp(&params, &opening.params, sizeof params) == 0 && pie_open(&pie, &opening) == PIE_DONE);
-        CHECK(opening.moment == 0 && opening.profile == PIE_ALWAYS_ON && opening.choices == PIE_USUAL && opening.mode == PIE_ROLLING);
+        CHECK(opening.moment == 0 && opening.profile == PIE_ALWAYS_ON && opening.choices == PIE_DELAY_STAMP && opening.mode == PIE_ROLLING);
         CHECK(opening.packets == 1 << 20 && opening.tail == 1024 && opening.events == (uint64_t)1 << 47);
         params.limit_bytes = defaults.limit_bytes;
         CHECK(memcmp(&params, &defaults, sizeof params) == 0);

@@ -65,11 +65,11 @@ step build flock . make -s -j2 all out/stage_measure
 step build-address make -s -j2 SANITIZE=address out/address/stage_test out/address/pie-fwd
 step build-thread make -s SANITIZE=thread out/thread/stage_test
 mkdir "$work/plain" "$work/address" "$work/thread"
-step test timeout 120 out/stage_test "${eal[@]}" --lcores "0@$cpus" -- "$work/plain"
-step test-address timeout 120 out/address/stage_test "${eal[@]}" --lcores "0@$cpus" -- "$work/address"
-step test-thread timeout 120 out/thread/stage_test "${eal[@]}" --lcores "0@$cpus" -- "$work/thread" threads
-step slow timeout 120 out/stage_measure "${eal[@]}" --lcores "0@$cpus" -- slow "$work/plain"
-step null timeout 60 out/stage_measure "${eal[@]}" --lcores "(0-1)@$cpus" --vdev=net_null0 --vdev=net_null1 -- rate 0.2 1 "$work/plain/null.history"
+step test timeout 1200 out/stage_test "${eal[@]}" --lcores "0@$cpus" -- "$work/plain"
+step test-address timeout 1200 out/address/stage_test "${eal[@]}" --lcores "0@$cpus" -- "$work/address"
+step test-thread timeout 1200 out/thread/stage_test "${eal[@]}" --lcores "0@$cpus" -- "$work/thread" threads
+step slow timeout 1200 out/stage_measure "${eal[@]}" --lcores "0@$cpus" -- slow "$work/plain"
+step null timeout 1200 out/stage_measure "${eal[@]}" --lcores "(0-1)@$cpus" --vdev=net_null0 --vdev=net_null1 -- rate 0.2 1 "$work/plain/null.history"
 for history in "$work"/*/*.history; do
     step audit audited "$history"
 done
@@ -79,9 +79,9 @@ for records in "$work"/*/*.records; do
 done
 [ $count -ge 11 ] || { echo "bindings/dpdk/check.sh: records of $count stages alone"; exit 1; }
 [ "$(grep -L '^lost,' "$work"/plain/*.history | wc -l)" -ge 100 ] || { echo "bindings/dpdk/check.sh: gaps in histories that have none"; exit 1; }
-step address timeout 60 out/address/pie-fwd "${eal[@]}" --vdev=net_null0 --vdev=net_ring0 --lcores "(0-2)@$cpus" -- \
+step address timeout 1200 out/address/pie-fwd "${eal[@]}" --vdev=net_null0 --vdev=net_ring0 --lcores "(0-2)@$cpus" -- \
     --total-num-mbufs=8192 --rate 50mbit --for 1s --history /dev/null
-step pie-fwd timeout 120 ./fwd_test.py out/pie-fwd "$pie"
+step pie-fwd timeout 1200 ./fwd_test.py out/pie-fwd "$pie"
 grep '^NOT RUN' "$work/pie-fwd.log"
 echo "bindings/dpdk: $(grep -c '^stage_test: ' "$work/test.log") groups of tests, also with sanitizers; no mbuf is lost;" \
     "$(paste -s -d ';' "$work/slow.log"); $(grep -v '^NOT RUN' "$work/pie-fwd.log")"

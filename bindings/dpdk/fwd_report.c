@@ -92,9 +92,10 @@ static bool write_stage_metrics(const struct fwd_options *options, const char *p
     return options->metrics == NULL || write_metrics(options->metrics, queues, options->queues);
 }
 
-/* alpha and beta are in sixteenths, times in microseconds, and limit in packets, as tc has them. */
+/* alpha and beta are in sixteenths, times in microseconds, and limit in packets, as tc has them. `dropped` includes `overlimit`, as Linux's does. */
 static void write_json(FILE *file, const struct fwd_options *options, const char *port, const struct pie_stage_stats *stats) {
     const struct pie_opening *pie = &options->stage.opening;
+    uint64_t overlimit = stats->bytes + stats->full;
     fprintf(file, "{\"kind\":\"pie\",\"dev\":\"%s\",\"root\":true,\"options\":{\"limit\":%" PRIu64, port, pie->packets);
     fprintf(file, ",\"target\":%" PRIu64 ",\"tupdate\":%" PRIu64, stats->target / 1000, pie->params.t_update / 1000);
     fprintf(file, ",\"alpha\":%g,\"beta\":%g", (double)pie->params.alpha * 0.016, (double)pie->params.beta * 0.016);
@@ -105,7 +106,7 @@ static void write_json(FILE *file, const struct fwd_options *options, const char
     fprintf(file, ",\"backlog\":%" PRIu64 ",\"qlen\":%" PRIu64 ",\"prob\":%.12g,\"delay\":%" PRIu64, stats->waiting_bytes, stats->waiting,
             (double)stats->prob / 1e12, stats->delay / 1000);
     fprintf(file, ",\"pkts_in\":%" PRIu64 ",\"overlimit\":%" PRIu64 ",\"dropped\":%" PRIu64 ",\"maxq\":%" PRIu64 ",\"ecn_mark\":%" PRIu64 "}",
-            stats->queued, stats->bytes + stats->full, stats->early, stats->most, stats->marked);
+            stats->queued, overlimit, stats->early + overlimit, stats->most, stats->marked);
 }
 
 /* Writes the file beside it and renames that, so that a reader finds the old text or the new one. */

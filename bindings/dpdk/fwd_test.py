@@ -1,8 +1,8 @@
 #!/usr/bin/env python3
 """Runs pie-fwd between a null port and a ring, several at once: what it refuses, its end by an interrupt, its files, its telemetry, by which
 parameters are set, its history, at full speed and by a device that is full, in segments, and of the last events alone, its records of periods beside
-that history, and flows of a capture; no mbuf is lost. With --real-time it runs nothing else than one that holds its target in real time, at raised
-priority, for which a processor has to be free.
+that history, and flows of a capture; no mbuf is lost. How fast the machine is plays no part: what takes its time is waited for. With --real-time it
+runs nothing else than one that holds its target in real time, at raised priority, for which a processor has to be free.
 
 usage: bindings/dpdk/fwd_test.py PIE_FWD PIE [--real-time]"""
 import contextlib
@@ -18,6 +18,7 @@ import subprocess
 import sys
 import tempfile
 import threading
+import time
 from concurrent.futures import ThreadPoolExecutor
 from datetime import datetime, timezone
 from pathlib import Path
@@ -29,6 +30,7 @@ RING = ["--vdev=net_null0", "--vdev=net_ring0"]
 PACED = ["--vdev=net_null0,size=1000", "--vdev=net_ring0"]
 NEWLINE = b"\n"
 FIRST = 1 << 20  # bytes of a long history that are audited
+PATIENCE = 1000  # seconds after which what does not come about is a failure, on however slow a machine
 LINE = re.compile(r"([\d.]+) Mbit/s, (\d+) packets/s, wait ([\d.]+) ms, probability [\d.]+, \d+ dropped, \d+ marked, \d+ waiting")
 
 
@@ -37,8 +39,33 @@ def command(ports, *words):
 
 
 def run(ports, *words, **settings):
-    done = subprocess.run(command(ports, *words), capture_output=True, text=True, check=False, timeout=60, **settings)
+    done = subprocess.run(command(ports, *words), capture_output=True, text=True, check=False, timeout=PATIENCE, **settings)
     return done.returncode, done.stdout, done.stderr
+
+
+def until(holds, process):
+    """Waits until this holds, while a process runs."""
+    end = time.monotonic() + PATIENCE
+    while not holds():
+        assert process.poll() is None and time.monotonic() < end, "it does not come about"
+        time.sleep(0.02)
+
+
+@contextlib.contextmanager
+def running(ports, *words):
+    """pie-fwd until it is ended by an interrupt, in any case when this ends."""
+    with subprocess.Popen(command(ports, *words), stdout=subprocess.PIPE, stderr=subprocess.PIPE, text=True) as process:
+        try:
+            yield process
+        finally:
+            process.kill()
+
+
+def interrupted(process):
+    """Ends it, and answers its status, and what it printed since."""
+    process.send_signal(signal.SIGINT)
+    printed, errors = process.communicate(timeout=PATIENCE)
+    return process.returncode, printed, errors
 
 
 def told(printed):
@@ -76,14 +103,14 @@ def refused():
 def interrupt():
     """Its files while it runs, and its end, after which that of the metrics is gone."""
     with tempfile.TemporaryDirectory() as work:
-        words = ["--total-num-mbufs", "8192", "--rate=100mbit", "--metrics", f"{work}/pie.prom", "--json", f"{work}/json"]
+        words = ["--total-num-mbufs", "8192", "--rate=100mbit", "--limit", "100p", "--metrics", f"{work}/pie.prom", "--json", f"{work}/json"]
         process = subprocess.Popen(command(RING, *words), stdout=subprocess.PIPE, text=True)
         lines = [process.stdout.readline(), process.stdout.readline()]
         while not files(Path(work, "pie.prom").read_text(), json.loads(Path(work, "json").read_text())):
-            lines.append(process.stdout.readline())  # (one of them was of the second before)
-            assert len(lines) < 20, "the files never agree"
+            lines.append(process.stdout.readline())  # (one of them was of the second before, or no packet has left)
+            assert lines[-1] and len(lines) < PATIENCE, "the files never agree"
         process.send_signal(signal.SIGINT)
-        rest = process.communicate(timeout=30)[0]
+        rest = process.communicate(timeout=PATIENCE)[0]
         assert process.returncode == 0 and all(LINE.match(line) for line in lines), (process.returncode, lines, rest)
         told(rest)
         assert os.listdir(work) == ["json"]
@@ -91,7 +118,7 @@ def interrupt():
 
 
 def files(metrics, queues):
-    """Checks both; False where they are not of the same moment."""
+    """Checks both; False if they are not of the same moment, or nothing was dropped at the limit yet."""
     family, kinds, numbers = "", {}, {}
     for line in metrics.splitlines():  # each number stands under its family, whose type and help are told
         if line.startswith("# "):
@@ -114,12 +141,12 @@ def files(metrics, queues):
     assert of["arrived_packets_total"] == of["enqueued_packets_total"] + of["marked_packets_total"] + early + over_bytes + over_packets
     lint(metrics)
     (queue,) = queues
-    if queue["packets"] != of["departed_packets_total"]:
+    if queue["packets"] != of["departed_packets_total"] or queue["packets"] == 0 or queue["overlimit"] == 0:
         return False
     assert queue["kind"] == "pie" and queue["options"]["target"] == 15000 and queue["options"]["alpha"] == 2
-    assert queue["packets"] > 0
     assert queue["backlog"] == of["queue_bytes"] and queue["prob"] == of["probability_ratio"]
     drops = sum(count for name, count in of.items() if name.endswith("_drops_total"))
+    assert queue["overlimit"] == over_bytes + over_packets and queue["dropped"] == early + queue["overlimit"]  # (as in sch_pie.c)
     assert queue["drops"] == drops and queue["pkts_in"] - queue["packets"] == queue["qlen"] == of["queue_packets"]
     return True
 
@@ -162,7 +189,7 @@ def holds_records(records, history, every):
     done = subprocess.run([PIE, "explain", "--every", every, "--csv", "--wall", history], stdout=subprocess.PIPE, text=True, check=True)
     wanted = iter(done.stdout.splitlines())
     found = Path(records).read_text().splitlines()
-    assert len(found) > 3, found
+    assert len(found) > 1, found
     for line in found:
         if line.startswith("lost,"):
             assert all(next(wanted, None) for _ in range(int(line[5:])))
@@ -211,7 +238,10 @@ def telemetry():
             assert ask(one, "/pie/list") == ["pie-fwd"]
             before = ask(one, "/pie/params,0")
             stats = ask(one, "/pie/stats,0")
-            assert stats["name"] == "pie-fwd" and sum(stats["waits"]) == stats["departed"] > 0 and sum(stats["probs"]) == stats["updates"] > 0
+            while stats["departed"] == 0 or stats["updates"] == 0:
+                assert LINE.match(process.stdout.readline())
+                stats = ask(one, "/pie/stats,0")
+            assert stats["name"] == "pie-fwd" and sum(stats["waits"]) == stats["departed"] and sum(stats["probs"]) == stats["updates"]
             wanted = before | {"target": 3000000, "t_update": 5000000, "limit_bytes": 50 << 10, "alpha": 250}
             assert before["target"] == 15000000 and ask(one, "/pie/set,0,target=3ms,t_update=5ms,limit_bytes=50k,alpha=250") == wanted
             for wrong in ("/pie/set,0,target=1ms,beta=1000001", "/pie/set,0,target=1", "/pie/set,0,colour=1", "/pie/set,0,target=", "/pie/set,0",
@@ -219,17 +249,24 @@ def telemetry():
                           "/pie/stats,18446744073709551616"):
                 assert not ask(one, wrong), wrong
             assert ask(one, "/pie/params,0") == wanted
-            assert LINE.match(process.stdout.readline()) and LINE.match(process.stdout.readline())
+            while not is_updated_within(path, 15000000):
+                assert LINE.match(process.stdout.readline())
             after = ask(one, "/pie/stats,0")
-            assert (after["changes"], after["target"]) == (1, 3000000) and after["updates"] - stats["updates"] > 200, (stats, after)
+            assert (after["changes"], after["target"]) == (1, 3000000) and after["updates"] > stats["updates"], (stats, after)
             process.send_signal(signal.SIGHUP)
-            printed = process.communicate(timeout=30)[0]
+            printed = process.communicate(timeout=PATIENCE)[0]
         assert process.returncode == 0 and told(printed)["changes of parameters"] == 1, printed
         text = Path(path).read_text()
         assert re.findall(r"^params,.*$", text, re.M)[0].split(",")[3:] == [*map(str, wanted.values()), "done"]
         assert audited(path)[1] == events_of(told(printed))
         holds_records(f"{work}/records", path, "100ms")
     return "telemetry"
+
+
+def is_updated_within(path, time_between):
+    """Whether two updates behind new parameters were made in less time than this."""
+    moments = [int(moment) for moment in re.findall(r"^update,\d+,(\d+),", Path(path).read_text().partition("\nparams,")[2], re.M)]
+    return any(other - one < time_between for one, other in zip(moments, moments[1:]))
 
 
 def full_speed():
@@ -248,7 +285,7 @@ def full_speed():
                     found = re.findall(rb"^lost,(\d+)$", chunk, re.M)
                     gaps += len(found)
                     lost += sum(map(int, found))
-        printed = forward.communicate(timeout=60)[0]
+        printed = forward.communicate(timeout=PATIENCE)[0]
         numbers = told(printed)
         events = events_of(numbers)
         assert forward.returncode == 0 and numbers["events lost to the history"] == lost, printed
@@ -286,8 +323,11 @@ def queues():
                 assert line, said
                 said += [line] if line.startswith("pie-fwd: --flight") else []
             metrics, two = Path(work, "pie.prom").read_text(), json.loads(Path(work, "json").read_text())
+            while not re.search(r'^pie_departed_packets_total{link="net_ring0",queue="0"} [1-9]', metrics, re.M) or two[0]["packets"] == 0:
+                assert process.stdout.readline()
+                metrics, two = Path(work, "pie.prom").read_text(), json.loads(Path(work, "json").read_text())
             process.send_signal(signal.SIGTERM)
-            printed = process.communicate(timeout=30)[0]
+            printed = process.communicate(timeout=PATIENCE)[0]
         assert process.returncode == 0 and said == [f"pie-fwd: --flight {work}/flight{it}: written\n" for it in ("", "-1")], (printed, said)
         assert [line.partition(": ")[0] for line in lines] == ["queue 1", "queue 0", "queue 1", "queue 0"], lines
         assert all(LINE.match(line.partition(": ")[2]) for line in lines)
@@ -330,21 +370,27 @@ def flows():
         packets = b"".join(struct.pack("<IIII", 0, 0, size, size) + frame(size) for size in sizes)
         Path(work, "capture").write_bytes(struct.pack("<IHHiIII", 0xA1B2C3D4, 2, 4, 0, 0, 65535, 1) + packets)
         ports = [f"--vdev=net_pcap0,rx_pcap={work}/capture,infinite_rx=1", "--vdev=net_ring0"]
-        words = ["--rate", "20mbit", "--receive", "30mbit", "--for", "2s", "--history", f"{work}/history", "--flows", f"{work}/flows"]
+        words = ["--rate", "20mbit", "--receive", "30mbit", "--history", f"{work}/history", "--flows", f"{work}/flows"]
         words += ["--limit", "90p", "--rotate", "64kb", "--flight", f"{work}/flight", "--flight-wait", "5ms", "--ecn"]
-        status, printed, errors = run(ports, *words)
+        with running(ports, *words) as process:
+            until(lambda: Path(work, "history.4").exists() and Path(work, "flight").exists(), process)
+            status, printed, errors = interrupted(process)
         assert status == 0, (status, printed, errors)
         events_of(told(printed))
         header, *rows = [line.split(",") for line in Path(work, "flows").read_text().splitlines()]
         assert header[0] == "flow" and len(rows) == len(FLOWS), rows
         numbers = {tuple(row[1:]): int(row[0], 16) for row in rows}
         parts = sorted(Path(work).glob("history.*"), key=lambda it: int(it.suffix[1:]))
-        assert len(parts) > 2, parts
+        assert len(parts) > 3, parts
+        packets = 0
         for path in [*parts, Path(work, "flight")]:
             audited(str(path))
             found = re.findall(r"^(?:arrive,\d+,\d+|depart,\d+,\d+,left|queued),(\d+),(\d+),", path.read_text(), re.M)
-            assert len(found) > 100 and all(int(tag) >> 32 == numbers[tuple(map(str, FLOWS[int(size)]))] for tag, size in found), path
-        done = subprocess.run([PIE, "explain", "--summary", "--flows", "10", "--csv", parts[1]], stdout=subprocess.PIPE, text=True, check=True)
+            assert all(int(tag) >> 32 == numbers[tuple(map(str, FLOWS[int(size)]))] for tag, size in found), path
+            packets += len(found)
+        longest = max(parts, key=lambda it: it.stat().st_size)  # (64 KB: more than a thousand records)
+        assert packets > 1000 and longest.stat().st_size >= 64 << 10, (packets, parts)
+        done = subprocess.run([PIE, "explain", "--summary", "--flows", "10", "--csv", longest], stdout=subprocess.PIPE, text=True, check=True)
         first = dict(zip(*(line.split(",") for line in done.stdout.splitlines()[:2])))
         assert int(first["flow"], 16) == numbers[tuple(map(str, FLOOD))], done.stdout
     return "flows"
@@ -359,7 +405,7 @@ def device_full():
     assert status == 1 and errors.count("--records /dev/full: No space left on device") == 1, (status, errors)
     process = subprocess.Popen(command(PACED, "--total-num-mbufs=2048", "--receive", "20mbit"), stdout=subprocess.PIPE, text=True)
     process.stdout.close()
-    assert process.wait(timeout=30) == 0
+    assert process.wait(timeout=PATIENCE) == 0
     return "a device that is full"
 
 
@@ -384,7 +430,7 @@ def flight():
                                    stdout=subprocess.PIPE, stderr=subprocess.PIPE, text=True)
         texts = []
         assert "are under rate x target" in process.stderr.readline()
-        for _ in range(30):
+        while len(texts) < 3:
             assert LINE.match(process.stdout.readline())
             process.send_signal(signal.SIGUSR1)
             said = process.stderr.readline()
@@ -392,20 +438,20 @@ def flight():
                 continue
             assert said == f"pie-fwd: --flight {path}: written\n", said
             texts.append(audited(path))
-            if len(texts) == 3:
-                break
         process.send_signal(signal.SIGINT)
-        printed = process.communicate(timeout=60)[0]
+        printed = process.communicate(timeout=PATIENCE)[0]
         told(printed)
         assert process.returncode == 0 and len(texts) == 3 and all(last > before > 0 for before, last in texts), (printed, texts)
         assert texts[0][1] <= texts[1][1] <= texts[2][1] and audited(f"{path}.before") == texts[1], texts
-        words = ["--rate", "20mbit", "--receive", "40mbit", "--flight-wait", "30ms", "--for", "1s", "--flight", path, "--limit", "400p"]
+        words = ["--rate", "20mbit", "--receive", "40mbit", "--flight-wait", "30ms", "--flight", path, "--limit", "400p"]
         since = now()
-        status, printed, errors = run(PACED, *words)
-        assert status == 0 and errors.startswith(f"pie-fwd: --flight {path}: written\n"), (printed, errors)
+        with running(PACED, *words) as process:
+            said = process.stderr.readline()
+            status, printed, errors = interrupted(process)
+        assert status == 0 and said == f"pie-fwd: --flight {path}: written\n", (printed, said, errors)
         audited(path)
         tells_time(path, since)
-        status, printed, errors = run(PACED, *words, "--flight-events", "0")
+        status, printed, errors = run(PACED, *words, "--for", "1s", "--flight-events", "0")
         assert status == 0 and errors == "", (printed, errors)
         return f"the last {min(last - before for before, last in texts)} events or more at full speed"
 
@@ -414,8 +460,10 @@ def segments():
     """A history in segments, of which the last ones are kept: each stands alone, and begins where the one before ends."""
     with tempfile.TemporaryDirectory() as work:
         path, since = Path(work, "history"), now()
-        status, printed, errors = run(PACED, "--rate", "100mbit", "--receive", "120mbit", "--for", "1s", "--history", str(path), "--rotate", "64kb",
-                                      "--segments", "3")
+        words = ["--rate", "100mbit", "--receive", "120mbit", "--history", str(path), "--rotate", "64kb", "--segments", "3"]
+        with running(PACED, *words) as process:
+            until(path.with_name("history.5").exists, process)
+            status, printed, errors = interrupted(process)
         events = events_of(told(printed))
         names = sorted(os.listdir(work), key=lambda name: int(name.rpartition(".")[2]))
         assert status == 0 and len(names) == 3 and names[0] != "history.1", (names, printed, errors)

@@ -176,6 +176,7 @@ static int measure_slow(const char *folder) {
     struct pie_stage_params params;
     struct pie_stage_stats stats;
     pie_stage_default_params(&params, 20000000);
+    params.opening.choices = PIE_USUAL; /* by the departure rate, as rte_pie */
     params.opening.packets = ROOM;
     params.events = EVENTS;
     if (!peer_open(&peer, (uint32_t)(params.opening.params.limit_bytes / 782)))
@@ -308,6 +309,7 @@ static double run_rate(enum which which, double seconds, FILE *nowhere, const ch
     struct pie_stage_params params;
     uint64_t hz = rte_get_tsc_hz();
     pie_stage_default_params(&params, UINT64_C(10000000000));
+    params.opening.choices = PIE_USUAL; /* by the departure rate, as rte_pie */
     params.opening.packets = ROOM;
     params.ecn = which != DROPPING;
     params.flight = which == LAST ? PIE_STAGE_FLIGHT : 0;

@@ -79,6 +79,7 @@ static void sum_up(const char *kind, uint64_t every, uint64_t profile, uint32_t 
     snprintf(name, sizeof name, "records-%" PRIu64 "-%s", every, kind);
     unrecorded(&params);
     params.opening.profile = profile;
+    params.opening.choices = PIE_USUAL; // (by the departure rate the delay is 0 soon enough for the controller to turn off)
     params.opening.packets = 200;
     params.opening.params.limit_bytes = 100000;
     params.opening.params.target = params.opening.params.t_update = 2000000;

@@ -132,7 +132,7 @@ RecordedPieQueueDisc::GetTypeId()
                           MakeBooleanChecker())
             .AddAttribute("UseDequeueRateEstimator",
                           "Whether delays come from the departure rate (section 5.2), and else from time stamps (section 4.3)",
-                          BooleanValue(true),
+                          BooleanValue(false),
                           MakeBooleanAccessor(&RecordedPieQueueDisc::m_useRate),
                           MakeBooleanChecker())
             .AddAttribute("UseDerandomization",

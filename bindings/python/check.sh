@@ -31,6 +31,8 @@ if [ -z "$python" ] || ! command -v "${CC:-cc}" > /dev/null; then
     exit 0
 fi
 bindings/c/library.py > /dev/null
+# (the code that was just proved, and not dist/, which may be older)
+export PIE_C_S=$PWD/crates/pie_c/out/pie_c.S PIE_LINK_C_S=$PWD/crates/pie_link_c/out/pie_link_c.S
 export PIE=$PWD/crates/pie/out/pie PIP_DISABLE_PIP_VERSION_CHECK=1 PIP_NO_INDEX=1 PIP_ROOT_USER_ACTION=ignore MPLBACKEND=Agg
 "$python" -m pip wheel --quiet --no-build-isolation --no-deps --wheel-dir "$work/wheel" bindings/python > "$work/said" 2>&1 || {
     cat "$work/said"
@@ -45,6 +47,16 @@ esac
 for file in libpie.so.0 py.typed LICENSE-MIT; do
     [ -e "$work/installed/juniperbowls/$file" ] || { echo "bindings/python/check.sh: the wheel has no $file" && exit 1; }
 done
+# a source distribution, with nothing of the repository in reach, makes the same library
+mkdir -p "$work/source"
+(cd bindings/python && "$python" setup.py -q sdist --dist-dir "$work/source") > "$work/said" 2>&1 || {
+    cat "$work/said"
+    exit 1
+}
+(cd "$work/source" && env -u PIE_C_S -u PIE_LINK_C_S "$python" -m pip wheel --quiet --no-build-isolation --no-deps --wheel-dir . ./juniperbowls-*.tar.gz) > "$work/said" 2>&1 || {
+    cat "$work/said"
+    exit 1
+}
 export PYTHONPATH=$work/installed PYTHONDONTWRITEBYTECODE=1
 words=(-q -p no:cacheprovider)
 if ! has "$python" matplotlib; then
@@ -59,12 +71,10 @@ has "$python" pyarrow || not_run "no pyarrow here, so no frame was written as Pa
 sed -n 's/^[0-9]* passed/bindings\/python: &/p' "$work/said"
 # without the library in the wheel the system's is taken
 mkdir "$work/system"
-bindings/python/library.sh "$work/system" > /dev/null
-rm "$work/installed/juniperbowls/libpie.so.0"
+mv "$work/installed/juniperbowls/libpie.so.0" "$work/system"
 if "$python" -c 'import juniperbowls' 2> /dev/null; then
     not_run "a libpie.so.0 is installed here, so none that is missing was looked for"
 fi
-ln -s "$(basename "$work"/system/*)" "$work/system/libpie.so.0"
 LD_LIBRARY_PATH=$work/system "$python" -c 'import juniperbowls; juniperbowls.Controller(juniperbowls.Opening.for_rate("1mbit"))'
 if has "$python" mypy; then
     (cd bindings/python/src && "$python" -m mypy --config-file ../pyproject.toml --cache-dir "$work/mypy" juniperbowls > "$work/said") || {

@@ -3,7 +3,7 @@
 # install.sh installs what Debian has of it.
 # usage: bindings/python/missing.sh
 missing=0
-for program in cc python3; do
+for program in cc make python3; do
     command -v "$program" > /dev/null || { echo "missing: $program"; missing=1; }
 done
 for module in numpy pandas matplotlib pip setuptools wheel; do

@@ -1,5 +1,6 @@
-"""Makes libpie.so for the wheel, by library.sh; the rest stands in pyproject.toml. The wheel is for this processor and this system's C library, and
-for any Python 3: the module reaches the library by ctypes."""
+"""Makes libpie.so for the wheel, from the assembly of the proved code, by the Makefile at the top of the repository: it takes make and a C compiler.
+An sdist contains what that takes, in library/. The wheel is for this processor and this system's C library, and for any Python 3: the module reaches
+the library by ctypes. The rest stands in pyproject.toml."""
 import shutil
 import subprocess
 import tempfile
@@ -7,10 +8,15 @@ from pathlib import Path
 
 from setuptools import Distribution, setup
 from setuptools.command.build_py import build_py
+from setuptools.command.sdist import sdist
 from wheel.bdist_wheel import bdist_wheel
 
 HERE = Path(__file__).resolve().parent
 MADE = HERE / "out"
+TOP = HERE / "library" if (HERE / "library").is_dir() else HERE.parent.parent
+# what the Makefile makes the library from
+SOURCES = ["Makefile", "LICENSE-MIT", "LICENSE-APACHE", "include/pie.h", "include/pie_link.h", "bindings/python/native/pie_arrays.c",
+           "bindings/python/native/pie_arrays.h", "dist/abi.txt", "dist/heap.c", "dist/runtime.h", "dist/x86_64/pie_c.S", "dist/x86_64/pie_link_c.S"]
 
 
 class WithLibrary(build_py):
@@ -18,12 +24,20 @@ class WithLibrary(build_py):
         super().run()
         package = Path(self.build_lib) / "juniperbowls"
         with tempfile.TemporaryDirectory() as folder:
-            if subprocess.run([HERE / "library.sh", folder], stdout=subprocess.DEVNULL).returncode:
+            if subprocess.run(["make", "-s", "-C", TOP, f"BUILD={folder}", "shared"]).returncode:
                 raise SystemExit("setup.py: libpie.so was not made")
-            (made,) = Path(folder).iterdir()
-            self.copy_file(str(made), str(package / "libpie.so.0"))
-        for licence in HERE.parent.parent.glob("LICENSE-*"):
+            self.copy_file(str(Path(folder, "libpie.so").resolve()), str(package / "libpie.so.0"))
+        for licence in TOP.glob("LICENSE-*"):
             self.copy_file(str(licence), str(package / licence.name))
+
+
+class WithSources(sdist):
+    def make_release_tree(self, base_dir, files):
+        super().make_release_tree(base_dir, files)
+        for name in SOURCES:
+            place = Path(base_dir, "library", name)
+            place.parent.mkdir(parents=True, exist_ok=True)
+            shutil.copyfile(TOP / name, place)
 
 
 class OfThisProcessor(Distribution):
@@ -41,6 +55,6 @@ shutil.rmtree(MADE / "build", ignore_errors=True)
 MADE.mkdir(exist_ok=True)
 setup(
     distclass=OfThisProcessor,
-    cmdclass={"build_py": WithLibrary, "bdist_wheel": ForAnyPython},
+    cmdclass={"build_py": WithLibrary, "bdist_wheel": ForAnyPython, "sdist": WithSources},
     options={"build": {"build_base": "out/build"}, "egg_info": {"egg_base": "out"}},
 )

@@ -1,6 +1,7 @@
-//! Links `libpie_c.a`, and with the feature `link` `libpie_link.a`. They are looked for in `$PIE_C_PREFIX/lib`, if that is set (`install.sh PREFIX`
-//! puts them there); in the repository that this crate lies in, where `rt lib` in `crates/pie_c` and `bindings/c/library.py` build them; and
-//! where `pkg-config` knows them.
+//! Links the proved library, `libpie_c.a`, and with the feature `link` `libpie_link.a`. If `PIE_C_PREFIX` is set, both are those that
+//! `make install PREFIX=..` installed there. Otherwise, in a repository in which `bindings/c/library.py` built them, those are linked. Otherwise, and
+//! if `PIE_C_PREFIX` is empty, they are built from the assembly of the proved code, `assembly/`, which is part of this crate: by `cc` and `ar`, or
+//! `$CC` and `$AR`.
 
 use std::env;
 use std::path::{Path, PathBuf};
@@ -8,21 +9,23 @@ use std::process::Command;
 
 /// A static library.
 struct Library {
-    /// Its name below a prefix, and to `pkg-config`.
+    /// Its name below a prefix.
     name: &'static str,
     /// Its crate in the repository, after which it is named there.
-    built_in: &'static str,
-    /// What builds it there.
-    build: &'static str,
+    crate_name: &'static str,
+    /// What it is built from, beside the assembly of that crate.
+    sources: &'static [&'static str],
 }
 
-const LINK: Library = Library { name: "pie_link", built_in: "pie_link_c", build: "`bindings/c/library.py`" };
-const CALLS: Library = Library { name: "pie_c", built_in: "pie_c", build: "`rt lib` in crates/pie_c" };
+const LINK: Library = Library { name: "pie_link", crate_name: "pie_link_c", sources: &["heap.c"] };
+const CALLS: Library = Library { name: "pie_c", crate_name: "pie_c", sources: &[] };
 
 fn main() {
-    println!("cargo:rerun-if-env-changed=PIE_C_PREFIX");
-    println!("cargo:rerun-if-env-changed=PKG_CONFIG_PATH");
-    // (in the order in which they are linked: the link stands over the other)
+    for name in ["PIE_C_PREFIX", "CC", "AR"] {
+        println!("cargo:rerun-if-env-changed={name}");
+    }
+    println!("cargo:rerun-if-changed=assembly");
+    // (in the order in which they are linked: the link calls the other library)
     if env::var_os("CARGO_FEATURE_LINK").is_some() {
         link(&LINK);
     }
@@ -31,7 +34,9 @@ fn main() {
 
 fn link(library: &Library) {
     let (folder, name) = library.find();
-    println!("cargo:rerun-if-changed={}", folder.join(file(name)).display());
+    if folder != self::folder("OUT_DIR") {
+        println!("cargo:rerun-if-changed={}", folder.join(file(name)).display());
+    }
     println!("cargo:rustc-link-search=native={}", folder.display());
     println!("cargo:rustc-link-lib=static={name}");
 }
@@ -40,35 +45,52 @@ fn file(name: &str) -> String {
     format!("lib{name}.a")
 }
 
+/// A folder that cargo names.
+fn folder(name: &str) -> PathBuf {
+    PathBuf::from(env::var_os(name).unwrap_or_default())
+}
+
+/// Runs the command that the environment names, or this one.
+fn run(name: &str, default: &str, arguments: &[&Path]) {
+    let command = env::var(name).unwrap_or_else(|_| default.to_owned());
+    let mut words = command.split_whitespace();
+    let done = Command::new(words.next().unwrap_or(default)).args(words).args(arguments).status();
+    assert!(done.is_ok_and(|it| it.success()), "{command} failed; {name} names another command");
+}
+
 impl Library {
     /// The folder that has the library, and its name there.
     fn find(&self) -> (PathBuf, &'static str) {
-        let name = file(self.name);
-        if let Some(prefix) = env::var_os("PIE_C_PREFIX") {
+        if let Some(prefix) = env::var_os("PIE_C_PREFIX").filter(|it| !it.is_empty()) {
             let folder = Path::new(&prefix).join("lib");
-            assert!(folder.join(&name).exists(), "PIE_C_PREFIX is set, and {} has no {name}", folder.display());
+            assert!(folder.join(file(self.name)).exists(), "PIE_C_PREFIX is set, and {} has no {}", folder.display(), file(self.name));
             return (folder, self.name);
         }
-        let here = PathBuf::from(env::var_os("CARGO_MANIFEST_DIR").unwrap_or_default());
-        let built = here.join("../../crates").join(self.built_in).join("out");
-        if built.join(file(self.built_in)).exists() {
-            return (built, self.built_in);
+        let built = folder("CARGO_MANIFEST_DIR").join("../../crates").join(self.crate_name).join("out");
+        if env::var_os("PIE_C_PREFIX").is_none() && built.join(file(self.crate_name)).exists() {
+            return (built, self.crate_name);
         }
-        let known = self.known_to_pkg_config().unwrap_or_else(|| {
-            panic!(
-                "{name} isn't here: build it by {}, or install it by `install.sh PREFIX` and set PIE_C_PREFIX=PREFIX, or \
-                 PKG_CONFIG_PATH=PREFIX/lib/pkgconfig",
-                self.build
-            )
-        });
-        (known, self.name)
+        (self.build(), self.name)
     }
 
-    /// Where `pkg-config` says that the library of this version is installed.
-    fn known_to_pkg_config(&self) -> Option<PathBuf> {
-        let wanted = format!("{} = {}", self.name, env::var("CARGO_PKG_VERSION").ok()?);
-        let found = Command::new("pkg-config").args(["--variable=libdir", &wanted]).output().ok()?;
-        let folder = PathBuf::from(String::from_utf8(found.stdout).ok()?.trim());
-        folder.join(file(self.name)).exists().then_some(folder)
+    /// Builds it from the assembly, and gives the folder that it is in.
+    fn build(&self) -> PathBuf {
+        let target = env::var("TARGET").unwrap_or_default();
+        assert!(target.starts_with("x86_64-") && target.contains("linux"), "the assembly is for Linux on x86_64, and not for {target}");
+        let (here, out) = (folder("CARGO_MANIFEST_DIR").join("assembly"), folder("OUT_DIR"));
+        let archive = out.join(file(self.name));
+        let _ = std::fs::remove_file(&archive);
+        let assembly = here.join(format!("{}.S", self.crate_name));
+        let mut objects = vec![out.join(format!("{}.o", self.crate_name))];
+        run("CC", "cc", &["-x".as_ref(), "assembler".as_ref(), "-c".as_ref(), "-o".as_ref(), &objects[0], &assembly]);
+        for source in self.sources {
+            let object = out.join(source).with_extension("o");
+            run("CC", "cc", &["-O2".as_ref(), "-fPIC".as_ref(), "-c".as_ref(), "-o".as_ref(), &object, &here.join(source)]);
+            objects.push(object);
+        }
+        let mut words: Vec<&Path> = vec!["rcD".as_ref(), &archive];
+        words.extend(objects.iter().map(PathBuf::as_path));
+        run("AR", "ar", &words);
+        out
     }
 }

@@ -61,10 +61,10 @@ clean() {
     esac
 }
 
-# is_there FILE: waits for it, half a minute at most
+# is_there FILE: waits for it, ten minutes at most
 is_there() {
     local tries
-    for tries in {1..300}; do
+    for tries in {1..6000}; do
         [ ! -e "$1" ] || return 0
         sleep 0.1
     done

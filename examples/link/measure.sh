@@ -38,10 +38,10 @@ within() {
 before_others='nice -n -15'
 chrt --fifo 50 true 2> /dev/null && before_others='chrt --fifo 50'
 
-# wait_for COMMAND..: until it succeeds, at most ten seconds
+# wait_for COMMAND..: until it succeeds, at most ten minutes
 wait_for() {
     local try
-    for try in $(seq 100); do
+    for try in $(seq 6000); do
         "$@" > /dev/null 2>&1 && return 0
         sleep 0.1
     done
@@ -112,7 +112,7 @@ send() {
 kill_in_the_middle() {
     local folder=$1 seconds=$2 flows=$3 process
     shift 3
-    bound=$((seconds + 30))
+    bound=$((seconds + 600))
     begin "$folder" --flight "$folder/flight" "$@" || return 1
     send "$folder" "$seconds" "$flows"
     sleep "$((seconds / 2))"
@@ -129,7 +129,7 @@ kill_in_the_middle() {
 measure() {
     local folder=$1 seconds=$2 flows=$3 process
     shift 3
-    bound=$((seconds + 30))
+    bound=$((seconds + 600))
     begin "$folder" --history "$folder/history" "$@" || return 1
     (within "${names[0]}" ping -n -i 0.05 -w "$seconds" "$far") > "$folder/ping" 2>&1 &
     started+=($!)

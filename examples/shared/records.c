@@ -5,7 +5,7 @@
 bool open_records(struct records *records, const char *name, uint64_t every, uint64_t moment, const uint64_t *unix_time) {
     unsigned char line[PIE_RESUME_ROOM];
     records->file = NULL;
-    records->written = 0;
+    records->begun = 0;
     if (name == NULL)
         return true;
     if (pie_open_period(&records->period, every, unix_time != NULL) != PIE_DONE)
@@ -19,18 +19,21 @@ bool open_records(struct records *records, const char *name, uint64_t every, uin
     return fwrite(line, 1, count, records->file) == count && fflush(records->file) == 0;
 }
 
+void make_record(struct records *records) {
+    records->size = pie_write_period(&records->period, records->line, sizeof records->line);
+}
+
 void write_record(struct records *records) {
-    unsigned char line[PIE_RESUME_ROOM];
-    fwrite(line, 1, pie_write_period(&records->period, line, sizeof line), records->file);
+    fwrite(records->line, 1, records->size, records->file);
     fflush(records->file);
-    records->written = records->period.begun;
+    records->begun = records->period.begun;
 }
 
 bool close_records(struct records *records) {
     if (records->file == NULL)
         return true;
-    if (records->period.begun != records->written)
-        write_record(records);
+    make_record(records);
+    write_record(records);
     bool is_written = !ferror(records->file);
     if (records->file != stdout)
         is_written = fclose(records->file) == 0 && is_written;

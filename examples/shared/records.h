@@ -12,42 +12,56 @@ extern "C" {
 #endif
 
 struct records {
-    FILE *file; /* NULL where none are written */
+    FILE *file; /* NULL if none are written */
     struct pie_period period;
-    uint64_t written; /* the number of the last record, 0 with none */
+    uint64_t begun;                      /* periods that had begun before the event at hand */
+    size_t size;                         /* bytes of `line` */
+    unsigned char line[PIE_RESUME_ROOM]; /* the record of the period that the event at hand may end */
 };
 
 /* Opens the file (NULL: none, "-": standard output) for periods of `every` ns, and writes the header row; it was `unix_time` (nanoseconds since 1970)
  * at this moment, or NULL where no times of day are told. False where that cannot be done. */
 bool open_records(struct records *records, const char *name, uint64_t every, uint64_t moment, const uint64_t *unix_time);
 
-/* Writes the record of the period under way, and lets readers see it. */
+/* Makes the record of the period under way. */
+void make_record(struct records *records);
+
+/* Writes the record that was made, and lets readers see it. */
 void write_record(struct records *records);
 
 /* Writes the last record, and closes the file; false where anything could not be written. */
 bool close_records(struct records *records);
 
-/* Before an event: whether it is summed up; a period that has ended then is written. */
+/* Before an event: returns true if it is summed up, and makes the record of a period that it may end. */
 static inline bool are_summed(struct records *records, const struct pie_event *event) {
     if (records->file == NULL)
         return false;
-    if (event->moment >= records->period.end && records->period.begun != records->written)
-        write_record(records);
+    if (event->moment >= records->period.end)
+        make_record(records);
     return true;
 }
 
-/* The calls that record, which sum up too where records are written. */
+/* After an event that is summed up: writes the record of the period that it ended. A call that was refused ended none. Returns the answer. */
+static inline uint32_t summed(struct records *records, uint32_t answer) {
+    if (records->period.begun != records->begun)
+        write_record(records);
+    return answer;
+}
+
+/* The calls that record, which sum up too if records are written. */
 static inline uint32_t decide_arrival(struct records *records, struct pie_state *pie, uint64_t queued, uint32_t room, struct pie_event *event) {
-    return are_summed(records, event) ? pie_arrive_summed(pie, queued, room, event, &records->period) : pie_arrive_event(pie, queued, room, event);
+    return are_summed(records, event) ? summed(records, pie_arrive_summed(pie, queued, room, event, &records->period))
+                                      : pie_arrive_event(pie, queued, room, event);
 }
 
 static inline uint32_t take_departure(struct records *records, struct pie_state *pie, uint64_t left, uint64_t arrived, struct pie_event *event) {
-    return are_summed(records, event) ? pie_depart_summed(pie, left, arrived, event, &records->period)
+    return are_summed(records, event) ? summed(records, pie_depart_summed(pie, left, arrived, event, &records->period))
                                       : pie_depart_event(pie, left, arrived, event);
 }
 
 static inline uint32_t make_update(struct records *records, struct pie_state *pie, uint64_t queued, struct pie_event *event) {
-    return are_summed(records, event) ? pie_update_summed(pie, queued, event, &records->period) : pie_update_event(pie, queued, event);
+    return are_summed(records, event) ? summed(records, pie_update_summed(pie, queued, event, &records->period))
+                                      : pie_update_event(pie, queued, event);
 }
 
 #ifdef __cplusplus

@@ -12,7 +12,7 @@ stand-ins for `rt` and the gate, which are tried by the gate anyway: `rt try` an
 something is, are told as NOT RUN.
 
 usage: tests/documents/pages.py [--rt] [PAGE..]
-needs: program, pie_why, library
+needs: program, library
 """
 import os
 import re
@@ -25,7 +25,7 @@ from pathlib import Path
 sys.path.insert(0, f"{os.path.dirname(os.path.abspath(__file__))}/../shared")
 from checks import NAME, ROOT, check, finish  # noqa: E402
 
-BUILT = ["crates/pie/out/pie", "crates/pie_why/out/pie_why", "crates/pie_c/out/libpie_c.a", "crates/pie_link_c/out/libpie_link_c.a"]
+BUILT = ["crates/pie/out/pie", "crates/pie_c/out/libpie_c.a", "crates/pie_link_c/out/libpie_link_c.a"]
 # folders in which make takes long: once here, for their check.sh (by the same lock) and for the copies
 MADE = ["bindings/dpdk", "bindings/ns3"]
 RUN = ["README.md", "bindings/**/*.md", "examples/**/*.md"]

@@ -293,7 +293,9 @@ def compare_link(root):
     for handle in ("PiePort", "PieExcerpt"):
         if not re.search(rf"pub struct {handle} \{{\s*at: \*mut u8,\s*alloc: Global,\s*///.*?\s*pub ghost", source.text):
             yield f"crates/pie_port/src: a {names[handle]} is not a pointer alone"
-        yield from same(f"include/pie_link.h: a {names[handle]}", header.structs.get(names[handle]), [("&mut void", "at")], "here")
+    # (behind the library's pointer a port has the header's own)
+    yield from same("include/pie_link.h: a pie_port", header.structs.get("pie_port"), [("&mut void", "at"), ("&mut pie_link_shared", "shared")], "here")
+    yield from same("include/pie_link.h: a pie_excerpt", header.structs.get("pie_excerpt"), [("&mut void", "at")], "here")
     for name in ("pie_registers", "pie_totals"):
         yield from same(f"include/pie_link.h: struct {name}", header.structs.get(name), source.structs.get(name), "in crates/pie_port/src")
     most = re.findall(r"const MOST: usize = (\d+);", source.text)
@@ -303,7 +305,7 @@ def compare_link(root):
     words = re.findall(r"case (PIE_\w+): return", header.text)
     yield from same("include/pie_link.h: the codes that have words", sorted(words), sorted(found), "in crates/pie_port/src")
     tries = {name[13:] for name in calls if name.startswith("pie_link_try_")}
-    waits = set(re.findall(r"static inline uint32_t pie_link_(\w+)\(struct pie_port", header.text))
+    waits = set(re.findall(r"static inline uint32_t pie_link_(\w+)\(struct pie_port", header.text)) - {"share", "gather", "close"}
     yield from same("include/pie_link.h: the calls that wait", sorted(waits), sorted(tries), "of those that don't")
     yield from compare_classes(header.text, calls, waits)
     yield from compare_rust_link(root, header)
@@ -317,11 +319,11 @@ def compare_classes(text, calls, waits):
     for body in re.findall(r"^class pie_\w+ : public .*?\{(.*?)\n\};", text, re.M | re.S):
         found += re.findall(r"(?:uint32_t|size_t) (\w+)\([^)]*\) noexcept \{\s*return (?:this [^?]*\? )?pie_link_(\w+)\(", body)
         found += [(it, it) for name in re.findall(r"PIE_LINK_BOTH\((\w+), \(", body) for it in ("try_" + name, name) if both]
-    found += [("close", name) for name in re.findall(r" : public pie_link_owned<pie_\w+, pie_link_(close\w*)>", text)]
+    found += [("close", name) for name in re.findall(r"pie_link_close_any\(pie_\w+ \*\w+\) noexcept \{ return pie_link_(close\w*)\(", text)]
     wrong = [it for it in found if it[0] not in (it[1], it[1].removesuffix("_excerpt"))]
     yield from same("include/pie_link.h: what the members of its classes call", wrong, [], "here")
     yield from same("include/pie_link.h: the members of its classes", sorted(it[1] for it in found),
-                    sorted([name[9:] for name in calls] + [*waits]), "of the calls")
+                    sorted([re.sub("_ports?$", "", name[9:]) for name in calls] + [*waits]), "of the calls")
 
 
 def compare_rust_link(root, header):
@@ -335,7 +337,7 @@ def compare_rust_link(root, header):
     codes = {**Header((root / "include/pie.h").read_text()).constants, **header.constants}
     yield from same("bindings/rust: refusals of a link", found, {it: codes.get(it) for it in LINK_REFUSALS.values()}, "in include/pie_link.h")
     orders = {}
-    for comment, name in re.findall(r"/\*((?:(?!\*/).)*?)\*/\nuint32_t pie_link_(\w+)\(", header.text, re.S):
+    for comment, name in re.findall(r"/\*((?:(?!\*/).)*?)\*/\n(?:static inline )?uint32_t pie_link_(\w+)\(", header.text, re.S):
         listed = re.search(r"Refused, in this order: ([^.]*)\.", one_line(comment.replace("\n *", "\n")))
         # (a closed port, and an ECN field out of its range, can't be said in Rust)
         if listed:
@@ -468,7 +470,9 @@ int main(void) {
     struct pie_opening o;
     pie_default_params(&p);
     pie_default_opening(&o, 0);
-    CHECK(pie_open(&pie, &o) == PIE_DONE);
+    struct pie_opening by_rate = o;
+    by_rate.choices = PIE_USUAL;
+    CHECK(pie_open(&pie, &by_rate) == PIE_DONE);
 %s
     return failed;
 }

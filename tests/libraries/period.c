@@ -1,8 +1,10 @@
-/* Makes the events of a history anew by the calls that sum up, and writes the records of their periods: what `pie explain --every --csv` writes of
- * the history. Each answer has to be the history's, a record may not be lost, and one that doesn't fit is not written.
+/* Makes the events of a history anew by the calls that sum up, and writes the records of their periods by the loop of include/pie.h: what
+ * `pie explain --every --csv` writes of the history. Each answer is the history's, no record is lost, and one that doesn't fit is not written.
+ * Between the events calls are refused that would end the period.
  *
  * usage: period EVERY WALL [WRONG] < HISTORY     EVERY: the length of a period in ns; WALL: 1 with times of day, 0 without;
- *                                                WRONG: `late` writes a period's record after the next one's first event */
+ *                                                WRONG: `late` makes a period's record after the next one's first event; `early` writes it before
+ *                                                the call that may end the period, also if that is refused */
 #include "pie.h"
 
 #include <inttypes.h>
@@ -28,11 +30,13 @@ struct packet {
 };
 
 static struct packet ring[RING];
-static uint64_t first, packets, room, bytes, records, written;
+static uint64_t first, packets, room, bytes, records, written, begun;
+static unsigned char record[PIE_RESUME_ROOM];
+static size_t size;
 static struct pie_state state;
 static struct pie_period period;
 static char *fields[FIELDS];
-static int count, is_late;
+static int count, is_late, is_early;
 
 static int is(int place, const char *word) {
     return place < count && strcmp(fields[place], word) == 0;
@@ -63,6 +67,7 @@ static void read_params(struct pie_params *params, int place) {
 static void open_by_record(void) {
     struct pie_opening opening;
     pie_default_opening(&opening, 0);
+    opening.choices = PIE_USUAL;
     int at = 0; /* the place of the mode */
     if (is(0, "open2") || is(0, "open3"))
         opening.profile = number(1), at = 2;
@@ -79,18 +84,44 @@ static void open_by_record(void) {
     CHECK(pie_open(&state, &opening) == PIE_DONE);
 }
 
-/* Writes the record of the period under way: into a byte too little room nothing, and the bytes behind it stay. */
-static void write_period(void) {
+/* Makes the record of the period under way: none before the first event; into a byte too little room nothing, and the bytes behind it stay. */
+static void make_record(void) {
+    memset(record, '#', sizeof record);
+    size = pie_write_period(&period, record, sizeof record);
+    if (period.begun == 0) {
+        CHECK(size == 0 && record[0] == '#');
+        return;
+    }
+    CHECK(size > 90 && record[size - 1] == '\n' && record[size] == '#');
     unsigned char out[PIE_RESUME_ROOM];
     memset(out, '#', sizeof out);
-    size_t size = pie_write_period(&period, out, sizeof out);
-    CHECK(size > 90 && out[size - 1] == '\n' && out[size] == '#');
-    fwrite(out, 1, size, stdout);
-    memset(out, '#', sizeof out);
     CHECK(pie_write_period(&period, out, size - 1) == 0 && out[0] == '#');
-    CHECK(pie_write_period(&period, out, size) == size && out[size - 1] == '\n' && out[size] == '#');
-    CHECK(period.begun <= 1 || period.begun == written + 1);
-    written = period.begun;
+    CHECK(pie_write_period(&period, out, size) == size && memcmp(out, record, size) == 0 && out[size] == '#');
+}
+
+/* Writes the record that was made of the period with this number. */
+static void write_record(uint64_t number) {
+    CHECK(number == written + 1);
+    fwrite(record, 1, size, stdout);
+    written = number;
+}
+
+/* Before a call: the record of a period that it may end. */
+static void before(uint64_t moment) {
+    begun = period.begun;
+    if (moment >= period.end && !is_late)
+        make_record();
+    if (is_early && moment >= period.end && begun != written)
+        write_record(begun);
+}
+
+/* After it: the record is written if another period has begun. */
+static void after(void) {
+    if (period.begun == begun || begun == 0 || is_early)
+        return;
+    if (is_late)
+        make_record();
+    write_record(begun);
 }
 
 static void arrive(struct pie_event *event) {
@@ -128,9 +159,10 @@ static void set_params(struct pie_event *event) {
     CHECK(pie_set_params_summed(&state, &params, event, &period) == PIE_DONE);
 }
 
-/* What is refused changes neither the state nor the period. */
+/* What is refused changes neither the state nor the period; its moment would end the period. */
 static void refuse(struct pie_event event) {
-    struct pie_state before = state;
+    before(PIE_MAX_MOMENT + 1);
+    struct pie_state was = state;
     static struct pie_period kept;
     kept = period;
     struct pie_params params = state.params;
@@ -143,16 +175,15 @@ static void refuse(struct pie_event event) {
     CHECK(pie_reset_summed(&state, &event, &period) == PIE_BAD_MOMENT);
     CHECK(pie_set_params_summed(&state, &params, &event, &period) == PIE_BAD_MOMENT);
     CHECK(pie_period_clock(&period, PIE_MAX_MOMENT + 1, 7) == PIE_BAD_MOMENT);
-    CHECK(memcmp(&before, &state, sizeof state) == 0 && memcmp(&kept, &period, sizeof period) == 0);
+    CHECK(memcmp(&was, &state, sizeof state) == 0 && memcmp(&kept, &period, sizeof period) == 0);
+    after();
 }
 
 static void make(void) {
     struct pie_event event;
     memset(&event, 0xAA, sizeof event);
     event.caller = (uint16_t)number(1), event.moment = number(2), event.tag = 0, event.size = 0, event.ecn = 0, event.word = 0;
-    uint64_t was = period.begun;
-    if (!is_late && event.moment >= period.end && period.begun != written)
-        write_period();
+    before(event.moment);
     if (is(0, "arrive"))
         arrive(&event);
     else if (is(0, "depart"))
@@ -163,21 +194,21 @@ static void make(void) {
         CHECK(pie_reset_summed(&state, &event, &period) == PIE_DONE);
     else
         set_params(&event);
-    CHECK(period.begun && period.start <= state.moment && state.moment < period.end);
-    if (is_late && was && period.begun != was)
-        write_period();
+    CHECK(period.begun && period.start == state.moment / period.every * period.every && period.end == period.start + period.every);
+    CHECK(period.number == state.moment / period.every);
+    after();
 }
 
 int main(int words, char **word) {
     CHECK(words >= 3);
     uint64_t every = strtoull(word[1], NULL, 10);
-    is_late = words > 3;
+    is_late = words > 3 && strcmp(word[3], "late") == 0;
+    is_early = words > 3 && strcmp(word[3], "early") == 0;
     CHECK(pie_open_period(&period, 0, 0) == PIE_BAD_EVERY && pie_open_period(&period, PIE_MAX_MOMENT + 1, 0) == PIE_BAD_EVERY);
     CHECK(period.every == 0 && pie_open_period(&period, every, word[2][0] == '1') == PIE_DONE);
-    unsigned char out[PIE_RESUME_ROOM];
-    size_t size = pie_write_period_header(&period, out, sizeof out);
-    CHECK(size > 0 && pie_write_period_header(&period, out, size - 1) == 0);
-    fwrite(out, 1, size, stdout);
+    size = pie_write_period_header(&period, record, sizeof record);
+    CHECK(size > 0 && pie_write_period_header(&period, record, size - 1) == 0);
+    fwrite(record, 1, size, stdout);
     char line[4096];
     while (fgets(line, sizeof line, stdin) != NULL) {
         split(line);
@@ -194,6 +225,8 @@ int main(int words, char **word) {
             refuse(event);
         }
     }
-    write_period();
+    make_record();
+    if (period.begun != 0 && period.begun != written)
+        write_record(period.begun);
     return 0;
 }

@@ -1,7 +1,7 @@
 #!/usr/bin/env bash
 # The records of periods that the library for C writes while it decides, beside those of `pie explain --every --csv` of the same history, byte for
-# byte: of the worked rows, the examples, and random events (bindings/c/events.c), by periods of 1 ns to all of time, with times of day and without.
-# A caller that writes a record one event too late has to be found.
+# byte: of the worked rows, the examples, random events (bindings/c/events.c) and a history without events, by periods of 1 ns to all of time, with
+# times of day and without. A caller that makes a record one event too late has to be found, and one that writes it before a call that is refused.
 #
 # usage: tests/libraries/period.sh [PIE]      PIE: crates/pie/out/pie where none is given
 # needs: library, program
@@ -30,7 +30,9 @@ for seed in 1 2 3 4 5 6 7 8 9 10 11 12 13 14 15 16; do
     "$work/events" $seed 3000 > "$work/random$seed" || exit 1
     histories+=("$work/random$seed")
 done
-rows=0 found=0
+head -n 1 examples/overload.history > "$work/empty"
+histories+=("$work/empty")
+rows=0 late=0 early=0
 for history in "${histories[@]}"; do
     for every in 1 1000 777777 15000000 100000000 1000000000 1152921504606846975; do
         for wall in 0 1; do
@@ -45,10 +47,13 @@ for history in "${histories[@]}"; do
             rows=$((rows + $(wc -l < "$work/wanted") - 1))
         done
     done
-    "$work/period" 15000000 0 late < "$history" > "$work/late" 2> /dev/null
-    "$program" explain --every 15ms --csv < "$history" 2> /dev/null | cmp -s - "$work/late" || found=$((found + 1))
+    for wrong in late early; do
+        "$work/period" 15000000 0 $wrong < "$history" > "$work/$wrong" 2> /dev/null
+        "$program" explain --every 15ms --csv < "$history" 2> /dev/null | cmp -s - "$work/$wrong" || ((++$wrong))
+    done
 done
 [ $rows -gt 20000 ] || fail "only $rows records were compared"
-[ $found -gt 10 ] || fail "a caller that writes late was found in $found histories only"
-[ $failed = 0 ] && echo "$script: $rows records of periods of ${#histories[@]} histories are those of pie explain; a late caller was found in $found"
+[ $late -gt 10 ] || fail "a caller that makes records late was found in $late histories only"
+[ $early -gt 10 ] || fail "a caller that writes before a refusal was found in $early histories only"
+[ $failed = 0 ] && echo "$script: $rows records of periods of ${#histories[@]} histories are those of pie explain; a late caller was found in $late, an early one in $early"
 exit $failed

@@ -44,7 +44,7 @@ def is_want(name, told):
 
 
 def run(**environment):
-    done = subprocess.run([PROGRAM, "calls"], capture_output=True, text=True, env={**os.environ, **environment}, timeout=60)
+    done = subprocess.run([PROGRAM, "calls"], capture_output=True, text=True, env={**os.environ, **environment}, timeout=600)
     return done.returncode, done.stdout, done.stderr
 
 

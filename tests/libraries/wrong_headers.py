@@ -122,7 +122,7 @@ def refused_by(folder, prefix):
 
 def run(command, environment=None):
     """Runs a command; one that hangs, as threads whose fellow has failed may, has failed after two minutes."""
-    return subprocess.run(["timeout", "120", *(str(it) for it in command)], env=environment, capture_output=True, text=True)
+    return subprocess.run(["timeout", "1200", *(str(it) for it in command)], env=environment, capture_output=True, text=True)
 
 
 def tried(prefix, file, *pairs):

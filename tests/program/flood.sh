@@ -1,26 +1,27 @@
 #!/usr/bin/env bash
-# A flood of UDP beside four TCP flows through the link in user space (examples/link): within a second of its first packet the link names it by its
-# addresses and ports, while it runs, and afterwards one line of `pie explain --flows` does, with the file that tells flows; the history is clean,
-# and has no flow that the file doesn't tell. Without root or /dev/net/tun all of it runs in a Linux in a process, bench/uml. Where this machine lacks
+# A flood of UDP beside four TCP flows through the link in user space (examples/link): while it runs the link names it by its addresses and ports, and
+# afterwards one line of `pie explain --flows` does, with the file that tells flows. Whatever the link named had the most bytes of its half second, by
+# the history; that is clean, and has no flow that the file doesn't tell. Without root or /dev/net/tun all of it runs in a Linux in a process, bench/uml. Where this machine lacks
 # something that it takes, a line that begins with NOT RUN says so.
 # usage: tests/program/flood.sh [PROGRAM]      PROGRAM: crates/pie/out/pie where none is given
 # needs: program, library, root, quiet
 . "$(dirname "$0")/../shared/script.sh"
 . "$top/tests/shared/through_link.sh" python3
 
-# 3000 datagrams of 1000 bytes from port 40000 to port 9: some 16 Mbit/s for a second and a half
+# datagrams of 1000 bytes from port 40000 to port 9, some 16 Mbit/s, until it is ended
 flood='import socket, sys, time
 end = socket.socket(socket.AF_INET, socket.SOCK_DGRAM)
 end.bind((sys.argv[1], 40000))
-for burst in range(300):
+while True:
     for packet in range(10):
         end.sendto(bytes(1000), (sys.argv[2], 9))
     time.sleep(0.005)'
 
-bound=40
+bound=600
 begin "$work" --rate 10mbit --rtt 20ms --history "$work/history" --flows "$work/flows" || exit 1
 send "$work" 8 4
-sleep 3
+has_flows() { [ "$(wc -l < "$work/flows")" -ge 6 ]; } # (a header row, iperf3's own connection, and four more)
+wait_for has_flows || { cat "$work/flows" "$work/tcp"; exit 1; }
 (within "${names[0]}" python3 -c "$flood" "$near" "$far") > "$work/flood" 2>&1 &
 started+=($!)
 flow="udp $near:40000 > $far:9"
@@ -35,19 +36,34 @@ kill -TERM "$process"
 wait "$process"
 clean_up
 
-# within a second: by the link's clock, from the flood's first packet to the end of the period that names it
-read -r at number < <(sed -n "s/^link: at \([0-9.]*\) s most came of flow \(0x[0-9a-f]*\), $flow:.*/\1 \2/p" "$work/link" | head -n 1)
-first=$("$program" explain --all --csv "$work/history" | python3 -c 'import csv, sys
-print(next(row["moment"] for row in csv.DictReader(sys.stdin) if row["kind"] == "arrive" and int(row["tag"]) >> 32 == int(sys.argv[1], 16)))' "$number")
-if ! awk -v at="$at" -v first="$first" 'BEGIN { exit !(at - first / 1e9 <= 1 && at > first / 1e9) }'; then
-    echo "$script: the flood began at $first ns, and was named at $at s"
+# whatever is named at the end of a half second had the most of its bytes
+"$program" explain --csv --every 500ms --flows 1 "$work/history" > "$work/tops"
+python3 - "$work/link" "$work/tops" > "$work/wrong" <<'END'
+import csv, re, sys
+tops, totals = {}, {}
+for row in csv.DictReader(open(sys.argv[2])):
+    period, size = int(row["first_moment"]) // 500_000_000, int(row["arrived_bytes"])
+    totals[period] = totals.get(period, 0) + size
+    if row["flow"] != "others":
+        tops[period] = row["flow"], size
+for at, flow, part, total in re.findall(r"^link: at ([\d.]+) s most came of flow (0x\w+), [^:].*: ([\d.]+) % of (\d+) bytes$", open(sys.argv[1]).read(), re.M):
+    period = round(2 * float(at)) - 1
+    top, size = tops.get(period, ("none", 0))
+    if total != str(totals.get(period)) or flow != top and part != f"{100 * size / int(total):.1f}":
+        print(f"at {at} s {flow} with {part} % of {total} bytes, where the history has {top} with {size} of {totals.get(period)}")
+END
+if [ -s "$work/wrong" ]; then
+    echo "$script: the link named another flow than the one with the most bytes:"
+    cat "$work/wrong"
     exit 1
 fi
-# afterwards: one line
-line=$("$program" explain --flows 1 --from "${first}ns" --to "$((first + 1000000000))ns" "$work/history" | sed -n 3p)
+# afterwards: one line, of the half second that named it first
+read -r at number < <(sed -n "s/^link: at \([0-9.]*\) s most came of flow \(0x[0-9a-f]*\), $flow:.*/\1 \2/p" "$work/link" | head -n 1)
+end=$(awk -v at="$at" 'BEGIN { printf "%.0f", at * 1e9 }')
+line=$("$program" explain --flows 1 --from "$((end - 500000000))ns" --to "$((end - 1))ns" "$work/history" | sed -n 3p)
 row=$(grep "^$number," "$work/flows")
 if [[ $line != "  flow $number: "* || $row != "$number,udp,$near,40000,$far,9" ]]; then
-    echo "$script: the flood's second says $line; the file tells $row"
+    echo "$script: the flood's half second says $line; the file tells $row"
     exit 1
 fi
 events=$(grep -c -E '^(arrive|depart|update),' "$work/history")
@@ -58,4 +74,4 @@ if [ "$found" != "clean,$events" ] || [ "$told" != "$there" ] || [ "$(wc -l <<< 
     echo "$script: $found of $events events; flows of the history: $there; of the file: $told"
     exit 1
 fi
-echo "$script: named after $(awk -v at="$at" -v first="$first" 'BEGIN { printf "%.1f", at - first / 1e9 }') s:$line"
+echo "$script: named at $at s:$line"

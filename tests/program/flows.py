@@ -102,9 +102,9 @@ HEADER = ",".join(["first_moment", "last_moment", "flow", *NAMES]) + "\n"
 
 
 def by_period(rows, every):
-    """The records of each period that has some; of nothing where there is none."""
+    """The records of each period that has some."""
     periods = [int(row["effective_moment"]) // every for row in rows]
-    starts = [0] + [place for place in range(1, len(rows)) if periods[place] != periods[place - 1]]
+    starts = [place for place in range(len(rows)) if place == 0 or periods[place] != periods[place - 1]]
     return [rows[start:end] for start, end in zip(starts, [*starts[1:], len(rows)])]
 
 
@@ -140,6 +140,30 @@ def by_wall():
     expect("--wall in words", words, "  by the time of day from 2026-11-24T20:00:00.000500000Z to 2026-11-24T20:00:00.000500000Z")
 
 
+def many():
+    """More than 2^16 flows in one period: none is left out, and there is memory for each."""
+    count = (1 << 16) + 1000
+    arrivals = "".join(f"arrive,1,5,{flow << 32},{1 + flow % 9},not,0,{'packets' if flow else 'enqueue'}\n" for flow in range(count))
+    status, text, errors = pie(f"open,0,1,16,1000000\n{arrivals}", "--csv", "--flows", "1", "--every", "1s")
+    first, others = text.splitlines()[1:]
+    size = sum(1 + flow % 9 for flow in range(count))
+    expect("many flows", (status, errors, first.split(",")[:5], others.split(",")[2:5]),
+           (0, "", ["5", "5", "0x00000008", "1", "9"], ["others", str(count - 1), str(size - 9)]))
+    words = pie(f"open,0,1,16,1000000\n{arrivals}", "--flows", "1")[1].splitlines()
+    expect("many flows, in words", words[1], f"  {count} flows: {count} arrivals, {size} bytes")
+
+
+def long_waits():
+    """Waits whose sum is above 2^64 ns: the mean is that of the summary."""
+    last = (1 << 60) - 1
+    history = "open,0,64,1024,1000\n" + "".join(f"arrive,1,0,{7 << 32 | tag},1000,not,0,enqueue\n" for tag in range(40))
+    history += "".join(f"depart,2,{last},left,{7 << 32 | tag},1000,not\n" for tag in range(40))
+    fields, row = (line.split(",") for line in pie(history, "--csv", "--flows", "1")[1].splitlines())
+    expect("long waits", (row[2], dict(zip(fields, row))["mean_wait"]), ("0x00000007", str(last)))
+    names, numbers_told = (line.split(",") for line in pie(history, "--csv", "--summary")[1].splitlines())
+    expect("long waits, of all", dict(zip(names, numbers_told))["mean_wait"], str(last))
+
+
 def refusals():
     history = "open,0,4,16,100\nreset,1,1500000,done\n"
     expect("--flows --digest", pie(history, "--flows=2", "--digest"), (1, "", "pie: --flows and --digest: explain takes one of them\n"))
@@ -150,6 +174,8 @@ def refusals():
 def main():
     refusals()
     by_wall()
+    many()
+    long_waits()
     hold_each(hold, "their flows are summed up as they have to be")
 
 

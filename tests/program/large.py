@@ -124,7 +124,7 @@ def compare(work, name, words, given, wanted):
     with open(f"{work}/given", "w", encoding="ascii") as file:
         file.writelines(given)
     with open(f"{work}/given", "rb") as file, open(f"{work}/output", "wb") as output:
-        done = subprocess.run([PROGRAM, *words], stdin=file, stdout=output, stderr=subprocess.PIPE, preexec_fn=limit, timeout=300)
+        done = subprocess.run([PROGRAM, *words], stdin=file, stdout=output, stderr=subprocess.PIPE, preexec_fn=limit, timeout=3000)
     with open(f"{work}/output", encoding="latin-1") as file:
         text = file.read()
     want = "".join(wanted)

@@ -15,7 +15,7 @@ import time
 
 sys.path.insert(0, f"{os.path.dirname(os.path.abspath(__file__))}/../shared")
 from checks import check, finish  # noqa: E402
-from running import PROGRAM, READ, READERS, TRACE, WRITE, hold_readers, run, shell  # noqa: E402
+from running import PATIENCE, PROGRAM, READ, READERS, TRACE, WRITE, hold_readers, run, shell  # noqa: E402
 
 
 def streams():
@@ -60,7 +60,7 @@ def unread(words, given):
     """The status and the error stream of the program, whose standard output is a pipe that nobody reads."""
     reader, writer = os.pipe()
     os.close(reader)
-    done = subprocess.run([PROGRAM, *words], input=given, stdout=writer, stderr=subprocess.PIPE, timeout=60, check=False)
+    done = subprocess.run([PROGRAM, *words], input=given, stdout=writer, stderr=subprocess.PIPE, timeout=PATIENCE, check=False)
     os.close(writer)
     return done.returncode, done.stderr
 
@@ -79,7 +79,7 @@ def at_terminal(words, path, is_output_terminal):
             written += piece
     except OSError:
         pass
-    process.wait(timeout=60)
+    process.wait(timeout=PATIENCE)
     os.close(errors)
     os.close(output)
     return written
@@ -110,12 +110,11 @@ def interrupted():
                                    preexec_fn=lambda: signal.signal(signal.SIGINT, signal.SIG_DFL))
         process.stdin.write(opening + b"".join(b"depart,1,%d\n" % moment for moment in moments))
         process.stdin.flush()
-        for _ in range(3000):
-            if os.path.exists(f"{made}.partial") and os.path.getsize(f"{made}.partial"):
-                break
+        end = time.monotonic() + PATIENCE
+        while not (os.path.exists(f"{made}.partial") and os.path.getsize(f"{made}.partial")) and time.monotonic() < end:
             time.sleep(0.01)
         process.send_signal(signal.SIGINT)
-        process.wait(timeout=60)
+        process.wait(timeout=PATIENCE)
         left = {it.name: open(it, "rb").read() for it in os.scandir(work)}
     check(process.returncode == -signal.SIGINT and left.pop("made") == b"older\n", "an interrupt", process.returncode, list(left))
     whole = opening + b"".join(b"depart,1,%d,empty\n" % moment for moment in moments)

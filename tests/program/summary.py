@@ -133,20 +133,21 @@ def in_words(n):
 
 
 def in_csv(summaries):
-    lines = [summaries[0].keys()] + [(str(value) for value in n.values()) for n in summaries]
+    lines = [numbers([]).keys()] + [(str(value) for value in n.values()) for n in summaries]
     return "".join(",".join(line) + "\n" for line in lines)
 
 
 def by_period(rows, every):
-    """The numbers of each period that has a record; of one summary of nothing where there is no record."""
+    """The numbers of each period that has a record."""
     periods = [int(row["effective_moment"]) // every for row in rows]
-    return [numbers([row for row, period in zip(rows, periods) if period == wanted]) for wanted in sorted(set(periods))] or [numbers([])]
+    return [numbers([row for row, period in zip(rows, periods) if period == wanted]) for wanted in sorted(set(periods))]
 
 
 def digest(rows, every, told, packets):
     """The summaries of periods of these records, each before the words for the first packet of the next period."""
     periods = [int(row["effective_moment"]) // every for row in rows]
-    starts, lines = [0] + [place for place in range(1, len(rows)) if periods[place] != periods[place - 1]], []
+    starts = [place for place in range(len(rows)) if place == 0 or periods[place] != periods[place - 1]]
+    lines = []
     for start, end in zip(starts, [*starts[1:], len(rows)]):
         lines += [packets[row["number"]] for row in rows[start:end] if row["number"] in packets]
         lines.append(told([numbers(rows[start:end])]))
@@ -167,7 +168,8 @@ def hold_digest(name, history, words, options, rows, every):
     expect(f"{name}: --digest --csv {period} {options}", got, (0, header([numbers([])]) + digest(rows, every, record, packets), ""))
     marked = [row for row in rows if row["verdict"] == "mark"]
     got = pie(history, "--marked", "--csv", "--digest", *options)
-    expect(f"{name}: --digest --marked {options}", got, (0, header([numbers([])]) + digest(marked, 2**64, record, packets), ""))
+    summary = digest(marked, 2**64, record, packets) or record([numbers([])])
+    expect(f"{name}: --digest --marked {options}", got, (0, header([numbers([])]) + summary, ""))
 
 
 def hold(name, history, words):
@@ -197,7 +199,18 @@ def lengths():
     expect("--every soon", pie(history, "--summary", "--every", "soon"), (1, "", form))
 
 
+def of_nothing():
+    """A history without events, and choices of none: --summary writes one of zeros, --every none."""
+    for history in ("open,0,4,16,100\n", "open,0,4,16,100\nreset,1,1500000,done\n"):
+        for which in ([] if "reset" not in history else ["--lost"], ["--lost", "--from", "1ms"]):
+            expect(f"--summary {which} of nothing", pie(history, "--summary", "--csv", *which), (0, in_csv([numbers([])]), ""))
+            for words in (["--every", "1s"], ["--every=1s", "--digest"], ["--summary", "--every", "1"]):
+                expect(f"{words} {which} of nothing", pie(history, "--csv", *words, *which), (0, in_csv([]), ""))
+                expect(f"{words} {which} of nothing, in words", pie(history, *words, *which), (0, "", ""))
+
+
 def main():
+    of_nothing()
     lengths()
     hold_each(hold, "they are summed up as they have to be")
 

@@ -1,7 +1,8 @@
 #!/usr/bin/env python3
 """Metrics (report/pie-metrics, examples/shared/metrics.c). The counters of pie-metrics are those of `pie explain --summary`, to the number: of the
 records of examples/, of records that a writer goes on with, that begin anew, or that are written again, and of what a flight recorder wrote. With
---state none falls and no period is lost; the file goes when its writer ended or fell silent. Then the link of examples/link, by an overload of UDP
+--state none falls and no period is lost, and a recorder that was opened anew is told from the old one; the file goes when its writer ended or fell
+silent, and at whatever FILE or options hold. Then the link of examples/link, by an overload of UDP
 in a namespace of its own: its metrics, its history and its flight recorder's memory tell the same numbers, its file goes at each signal, and what
 it writes has the names of pie-metrics. promtool, where it is, says nothing of any of it.
 
@@ -35,6 +36,7 @@ COUNTERS = {"arrived_packets": "arrivals", "arrived_bytes": "arrived_bytes", "en
 GAUGES = {"probability_ratio": ("last_probability", 1e12), "delay_seconds": ("last_delay", 1e9), "target_seconds": ("last_target", 1e9),
           "burst_allowance_seconds": ("last_burst_allowance", 1e9), "period_wait_99_seconds": ("wait_99", 1e9)}
 HOSTS = ("10.99.0.1", "10.99.0.2")
+PATIENCE = 600  # seconds after which what does not come about is a failure, on however slow a machine
 linted = []
 
 
@@ -191,13 +193,19 @@ def ends(folder):
     watched.look("".join([head, *rows]))
     old = time.time() - 100
     os.utime(watched.records, (old, old))
-    is_gone("silent", watched, 3, "nothing was written for 100 s")
-    check(metrics(watched.records, "--stale", "120", "-o", watched.output)[0] == 0 and watched.output.exists(), "--stale: told as silent")
+    is_gone("silent", watched, 3, "nothing was written for 1")  # (100 s, and what this took)
+    check(metrics(watched.records, "--stale", "100000", "-o", watched.output)[0] == 0 and watched.output.exists(), "--stale: told as silent")
     for what, text, status, said in (("no record", head, 3, "no period is over yet"), ("nothing", "", 3, "nothing is there"),
                                      ("nonsense", head + "1,2,3\n", 1, "no record of a period"), ("no records", "nonsense\n", 1, "neither"),
-                                     ("a hostile record", head + rows[0].replace(",", ',"', 1), 1, "no record of a period")):
+                                     ("a hostile record", head + rows[0].replace(",", ',"', 1), 1, "no record of a period"),
+                                     ("no column", "".join(map(without("left"), [head, *rows])), 1, "their header has no left"),
+                                     ("no mean wait", "".join(map(without("mean_wait"), [head, *rows])), 1, "their header has no mean_wait"),
+                                     ("a record without its header", rows[0], 1, "neither"), ("bytes that are no text", "\udcff\udc80", 1, "neither"),
+                                     ("a header alone with one name", "events,\n1,2\n", 1, "their header has no arrivals"),
+                                     ("a record of bytes", head + "\udcff\n", 1, "no record of a period"),
+                                     ("a text that resumes from nothing", "resume\n", 1, ""), ("numbers too long", head + "9" * 5000 + "\n", 1, "")):
         watched.output.write_text("old")
-        watched.records.write_text(text)
+        watched.records.write_bytes(text.encode(errors="surrogateescape"))
         is_gone(what, watched, status, said)
     watched.records.unlink()
     watched.output.write_text("old")
@@ -206,6 +214,10 @@ def ends(folder):
     for state in ("{", "[]", '{"base": {}, "known": {"records": {}}}', '{"base": 5, "known": {}}'):
         watched.state.write_text(state)
         is_gone(f"a state {state}", watched, 1, "no state of this program", "--state", watched.state)
+    for option in ("--again=-1", "--again=0", "--again=nan", "--again=inf", "--again=soon", "--again=", "--stale=nan", "--stale=-1", "--stale=long"):
+        watched.output.write_text("old")
+        is_gone(option, watched, 1, f"{option.replace('=', ' ', 1)}: out of its range", option)
+    check(metrics(watched.records, "--stale", "inf")[0] == 0, "--stale inf: refused")
     for number in (signal.SIGTERM, signal.SIGINT, signal.SIGHUP):
         words = [METRICS, "--again", "0.1", "-o", watched.output, watched.records]
         with ended(subprocess.Popen(words, stderr=subprocess.PIPE, text=True)) as process:
@@ -215,12 +227,31 @@ def ends(folder):
             Path(f"{watched.records}.away").rename(watched.records)
             wait_for(watched.output.exists)
             process.send_signal(number)
-            errors = process.communicate(timeout=10)[1]
+            errors = process.communicate(timeout=PATIENCE)[1]
         check(process.returncode == 0 and errors.count("\n") == 1, f"--again: {process.returncode}, {errors}")
         check(not watched.output.exists() and not Path(f"{watched.output}.new").exists(), f"--again: its file is left at {number.name}")
     hostile = 'a"b\\c\nd'
     text = metrics(watched.records, "--link", hostile, "--queue", hostile)[1]
     check(text.count('{link="a\\"b\\\\c\\nd",queue="a\\"b\\\\c\\nd"') == len(read(text)), "hostile labels")
+    for words in (("--link", b"caf\xe9", "-o", watched.output), ("--queue", b"\xff", "-o", watched.output)):
+        status, _, errors = metrics(watched.records, *words)
+        check((status, errors) == (0, "") and "\ufffd" in watched.output.read_text("utf-8"), f"{words}: {status}, {errors}")
+        read(watched.output.read_text("utf-8"))
+    odd = Path(os.fsdecode(os.fsencode(folder) + b"/caf\xe9.csv"))
+    shutil.copy(watched.records, odd)
+    status, text, errors = metrics(odd)
+    check((status, errors) == (0, "") and '{link="caf\ufffd",' in text, f"a name that is no text: {status}, {errors}")
+
+
+def without(name):
+    """What leaves a column out of records, whose header it sees first."""
+    at = []
+
+    def line_without(line):
+        fields = line.rstrip("\n").split(",")
+        at.extend([fields.index(name)] if not at else [])
+        return ",".join(fields[: at[0]] + fields[at[0] + 1 :]) + "\n"
+    return line_without
 
 
 @contextlib.contextmanager
@@ -234,8 +265,8 @@ def ended(process):
                 process.kill()
 
 
-def wait_for(holds, seconds=20):
-    end = time.monotonic() + seconds
+def wait_for(holds):
+    end = time.monotonic() + PATIENCE
     while not holds():
         if time.monotonic() > end:
             raise TimeoutError("it does not come about")
@@ -246,10 +277,17 @@ def of_flights(folder):
     """Texts that resume: the statistics are those of the whole history, and histograms have the events of the texts, each once."""
     history = ROOT / "examples/overload.history"
     fields = [name for name in COUNTERS if name != "arrived_bytes"]
+    delays = [line.split(",")[3] if line.startswith("update,") else None for line in history.read_text().splitlines()[1:]]
     rows = list(csv.DictReader(io.StringIO(explain(history, "--all"))))
     numbers = range(1, len(rows) + 1)
     state, seen, unseen, before = Path(folder, "flight.state"), set(), 0, 0
-    for first, last in ((200, 500), (300, 500), (450, 700), (800, len(rows)), (800, len(rows))):
+
+    def delay_of(last):
+        return next(it for it in reversed(delays[:last]) if it is not None)
+
+    # (the last event before this one at which the delay is not that of the last update)
+    ends = {end: max(it for it in range(100, end + 1) if delay_of(it) != rows[it - 1]["delay_after"]) for end in (500, 700)}
+    for first, last in ((200, ends[500]), (300, ends[500]), (450, ends[700]), (800, len(rows)), (800, len(rows))):
         text, part = Path(folder, "flight.text"), Path(folder, "flight.history")
         part.write_text("".join(history.read_text().splitlines(keepends=True)[: last + 1]))
         text.write_text(cut(part, "--event", str((first + last) // 2), "--around", str((last - first + 1) // 2)))
@@ -271,8 +309,8 @@ def of_flights(folder):
         updates = [int(row["probability_after"]) for row in of if row["kind"] == "update"]
         hold_histogram(what, samples, "updated_probability_ratio", len(updates))
         check(samples["updated_probability_ratio_bucket 0.05"] == sum(it <= 5 * 10**10 for it in updates), f"{what}: probabilities up to 5 %")
-        end = rows[last - 1]
-        for name, field, parts in (("queue_packets", "packets_after", 1), ("queue_bytes", "bytes_after", 1), ("delay_seconds", "delay_after", 1e9),
+        end = rows[last - 1] | {"last delay": delay_of(last)}
+        for name, field, parts in (("queue_packets", "packets_after", 1), ("queue_bytes", "bytes_after", 1), ("delay_seconds", "last delay", 1e9),
                                    ("probability_ratio", "probability_after", 1e12), ("burst_allowance_seconds", "burst_allowance_after", 1e9)):
             check(abs(samples[name] - int(end[field]) / parts) < 1e-12, f"{what}: {name}: {samples[name]}, not {end[field]}")
         check(samples["target_seconds"] == 0.015, f"{what}: the target")
@@ -280,6 +318,7 @@ def of_flights(folder):
     other.write_text(cut(ROOT / "examples/marks.history", "--last", "100"))
     samples = read(metrics(other, "--state", state)[1])
     hold_counters("another recorder", samples, sums(summary(history), summary(ROOT / "examples/marks.history")), fields)
+    of_opened_anew(folder)
     stale = Path(folder, "stale.text")
     stale.write_text("open3,1,rate,derandomized,capped,unscaled,bounded,0,8,32,100\nclock,0,1764000000000000000\n"
                      "arrive,1,0,1,1024,not,0\ndepart,1,5\n")
@@ -290,27 +329,69 @@ def of_flights(folder):
     check(status == 3 and "nothing was written for" in errors and not printed, f"a recorder that fell silent: {status}, {errors}")
 
 
+def recorded(folder, name, opening, packets, last, size=500):
+    """What a flight recorder keeps of a history of so many packets, each of which leaves 1 ms after it came: its last events, and the history."""
+    trace, path, text = (Path(folder, f"{name}.{ending}") for ending in ("trace", "history", "text"))
+    lines = [f"arrive,1,{at * 2000000},{at},{size},not,0\ndepart,2,{at * 2000000 + 1000000}\n" for at in range(1, packets + 1)]
+    trace.write_text("".join([f"open3,1,rate,derandomized,capped,unscaled,rolling,{opening},64,32,100000\n", *lines]))
+    subprocess.run([PROGRAM, "run", "-o", path, trace], check=True)
+    text.write_text(cut(path, "--last", str(last)))
+    return text, path
+
+
+def of_opened_anew(folder):
+    """A recorder that was opened anew and went on longer than the old one, whose last event is overwritten: it is told from the old one by its opening,
+    its moment or any statistic that is less. And what a text tells has each bound of a histogram from the beginning on."""
+    fields = [name for name in COUNTERS if name != "arrived_bytes"]
+    for name, old, new in (("another moment", (0, 100, 40, 500), (5, 300, 40, 500)), ("fewer bytes", (0, 100, 40, 1000), (0, 150, 40, 500)),
+                           ("a smaller queue", (0, 100, 40, 501), (0, 300, 40, 500)), ("other events", (0, 100, 40, 500), (0, 101, 202, 501))):
+        state = Path(folder, f"{name}.state")
+        one, first = recorded(folder, f"{name} one", *old)
+        other, second = recorded(folder, f"{name} other", *new)
+        before = read(metrics(one, "--state", state)[1])
+        hold_counters(f"{name}: before", before, summary(first), fields)
+        hold_counters(f"a recorder that was opened anew: {name}", read(metrics(other, "--state", state)[1]), sums(summary(first), summary(second)), fields)
+        again = read(metrics(other, "--state", state)[1])
+        hold_counters(f"{name}: again", again, sums(summary(first), summary(second)), fields)
+    text, _ = recorded(folder, "one event", 0, 1, 1)
+    lines = text.read_text().splitlines(keepends=True)
+    text.write_text("".join([*lines[:-1], "update,3,15000000,0,0,150000000\n"]))
+    status, printed, errors = metrics(text)
+    samples = read(printed)
+    check(status == 0 and samples["departed_packets_total"] == 0, f"one event: {status}, {errors}")
+    check([sum(name.startswith(f"{it}_bucket ") for name in samples) for it in ("wait_seconds", "updated_probability_ratio")] == [13, 13],
+          f"the bounds of a text without departures: {samples}")
+
+
 # ----- The link
 
 def overload_link(folder):
-    """In a namespace of its own: 3 s of UDP through the link at twice its rate, whose metrics are read when the queue is empty again."""
+    """In a namespace of its own: UDP through the link at twice its rate, until packets were dropped early; its metrics are read when the queue is
+    empty again."""
     files = {name: Path(folder, f"link.{name}") for name in ("history", "flight", "prom")}
     for file in Path(folder).glob("link.*"):
         file.unlink()
-    words = ["--from", "north", "--to", "south", "--rate", "4mbit", "--for", "60s", "--rtt", "1ms", "--limit", "60p", "--history", files["history"],
+    words = ["--from", "north", "--to", "south", "--rate", "4mbit", "--for", "3600s", "--rtt", "1ms", "--limit", "60p", "--history", files["history"],
              "--flight", files["flight"], "--metrics", files["prom"]]
     process = subprocess.Popen([LINK / "out/link", *words], stdout=subprocess.PIPE, stderr=subprocess.PIPE, text=True)
     wait_for(lambda: Path("/sys/class/net/south").exists() and files["prom"].exists())
     for line in ("link set north up", "link set south up", f"addr add {HOSTS[0]} peer {HOSTS[1]} dev north"):
         subprocess.run(["ip", *line.split()], check=True)
     with socket.socket(socket.AF_INET, socket.SOCK_DGRAM) as sender:
-        end, sent = time.monotonic() + 3, 0
-        while time.monotonic() < end:
-            sender.sendto(b"x" * (500 + sent % 700), (HOSTS[1], 9))
-            sent += 1
+        begun, sent, looked = time.monotonic(), 0, 0
+        while looked < 3 or read(files["prom"].read_text())["early_drops_total"] == 0:
+            # (850 bytes each 0.8 ms in the mean, however late this process is)
+            for _ in range(min(int((time.monotonic() - begun) / 0.0008) - sent, 100)):
+                sender.sendto(b"x" * (500 + sent % 700), (HOSTS[1], 9))
+                sent += 1
+            looked = time.monotonic() - begun
+            check(looked < PATIENCE, "the link drops no packet early")
+            if looked > PATIENCE:
+                break
             time.sleep(0.0007)
     wait_for(lambda: queue_of(files["prom"].read_text()) == 0)
-    return process, files, sent
+    # (what came while the link had no processor, and more than the device holds)
+    return process, files, sent - int(Path("/sys/class/net/north/statistics/tx_dropped").read_text())
 
 
 def queue_of(text):
@@ -323,7 +404,7 @@ def of_link(folder):
     flight = metrics(files["flight"], "--link", "south")
     check(flight[0] == 0, f"the flight recorder's memory: {flight}")
     process.send_signal(signal.SIGTERM)
-    printed, errors = process.communicate(timeout=20)
+    printed, errors = process.communicate(timeout=PATIENCE)
     check(process.returncode == 0, f"the link: {process.returncode}, {errors}")
     check(not files["prom"].exists() and not Path(f"{files['prom']}.new").exists(), "the link: its file is left")
     whole, samples, other = summary(files["history"]), read(text), read(flight[1])
@@ -360,16 +441,20 @@ def of_signals(folder):
     with ended(subprocess.Popen(words, stdout=subprocess.DEVNULL, stderr=subprocess.PIPE, text=True)) as process:
         wait_for(prom.exists)
         subprocess.run(["ip", "link", "del", "north"], check=True)
-        errors = process.communicate(timeout=20)[1]
+        errors = process.communicate(timeout=PATIENCE)[1]
     check(process.returncode == 1 and "link: read" in errors and not prom.exists(), f"the link without its device: {process.returncode}, {errors}")
     prom = Path(folder, "full.prom")
-    words = ["--from", "north", "--to", "south", "--for", "2s", "--history", "/dev/full", "--metrics", prom]
+    words = ["--from", "north", "--to", "south", "--for", "3600s", "--history", "/dev/full", "--metrics", prom]
     with ended(subprocess.Popen([LINK / "out/link", *words], stdout=subprocess.DEVNULL, stderr=subprocess.DEVNULL)) as process:
-        wait_for(prom.exists)
+        process.wait(timeout=PATIENCE)  # (it ends when the history's buffer is full)
     check(process.returncode == 1 and not prom.exists(), "the link: its file is left where it ended by a fault")
-    words = ["--from", "north", "--to", "south", "--for", "2100ms", "--metrics", "/nowhere/link.prom"]
-    done = subprocess.run([LINK / "out/link", *words], capture_output=True, text=True, check=False)
-    check(done.returncode == 0 and done.stderr.count("--metrics /nowhere/link.prom: No such file") == 1, f"a file that can't be: {done.stderr}")
+    words = [LINK / "out/link", "--from", "north", "--to", "south", "--for", "3600s", "--metrics", "/nowhere/link.prom"]
+    with ended(subprocess.Popen(words, stdout=subprocess.DEVNULL, stderr=subprocess.PIPE, text=True)) as process:
+        errors = process.stderr.readline()
+        time.sleep(1.2)  # (it would say so again after each second)
+        process.send_signal(signal.SIGTERM)
+        errors += process.communicate(timeout=PATIENCE)[1]
+    check(process.returncode == 0 and errors.count("--metrics /nowhere/link.prom: No such file") == 1, f"a file that can't be: {errors}")
 
 
 def missing():

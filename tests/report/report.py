@@ -4,7 +4,8 @@ style; by --flows whose packets they were is what `pie explain --flows` says; of
 stay text; and FILE is written as `pie -o` writes it.
 
 Then Debian's Chromium opens pages of examples/, of a part of one, and of damaged ones: nothing on its console, the numbers that are seen are those of
-`pie explain --summary`, a zoom, a click, a search and keys do what they say, no picture is blank, and narrow windows hold it.
+`pie explain --summary`, a zoom, a click, a search and keys do what they say, no picture is blank, and windows of any width hold it, the greatest numbers
+too. The axes tell times of day if the history does, and else moments in a unit that fits, of nothing and of 36 years.
 
 usage: tests/report/report.py [PROGRAM [PICTURES]]      PROGRAM: crates/pie/out/pie where none is named; PICTURES: a folder for the pictures
 needs: program
@@ -98,6 +99,22 @@ def broken(folder):
         yield name, path, status, told
 
 
+def unusual(folder):
+    """Histories with times of day, with the greatest numbers and over the longest time, and with one event."""
+    beginning = "open3,1,rate,derandomized,capped,unscaled,rolling,0,1,32,100000\n"
+    last, tag = 2**60 - 1, 2**64 - 1
+    texts = {
+        "clock": "clock,0,1795550400000000000\n" + "".join(f"arrive,1,{at},1,1250,not,0\ndepart,2,{at + 1}\n" for at in range(0, 3 * 10**9, 10**7)),
+        "large": "".join(f"arrive,65535,{at},{tag - at % 7},65535,ect1,{tag}\n" * 4 for at in (0, last - 1)) + f"depart,2,{last}\n",
+        "one event": "arrive,1,0,1,1250,not,0\n",
+    }
+    for name, text in texts.items():
+        path, trace = Path(folder, f"{name}.history"), Path(folder, f"{name}.trace")
+        trace.write_text(beginning + text)
+        subprocess.run([PROGRAM, "run", "-o", path, trace], check=True)
+        yield name, path, 0, "", ()
+
+
 def pages(folder):
     """Makes the pages, and holds what stands in them: name, history, page, status, words."""
     examples = [(path.stem, path, 0, "", ()) for path in sorted((ROOT / "examples").glob("*.history"))]
@@ -106,7 +123,7 @@ def pages(folder):
     damaged = [(*it, ()) for it in broken(folder)]
     hostile = Path(folder, f"a 'quoted' {HOSTILE.replace('/', '-')}.history")
     shutil.copy(ROOT / "examples/marks.history", hostile)
-    for name, path, status, told, words in [*examples, part, *cut, *damaged, ("a hostile name", hostile, 0, "", ())]:
+    for name, path, status, told, words in [*examples, part, *cut, *damaged, *unusual(folder), ("a hostile name", hostile, 0, "", ())]:
         got, page, errors = report(path, *words)
         check(got == status and told in errors, f"{name}: status {got}, {errors}")
         if page:
@@ -414,6 +431,43 @@ def hold_use(driver, place, path):
     page.quiet()
 
 
+def hold_axes(driver, pages_of):
+    """The times along the bottom, and how long all of it took."""
+    labels = "return [...new Set([...document.querySelectorAll('svg text.time')].map((it) => it.textContent))]"
+    unit = "return [...document.querySelectorAll('svg text')].map((it) => it.textContent).filter((it) => /^(UTC|[a-z]+)$/.test(it))"
+    for name, wanted, each, took in (("no events", "ms", r"\d", "0 ns"), ("one event", "ms", r"\d", "0 ns"),
+                                     ("large", "d", r"\d{1,5}", "13344 d"), ("clock", "UTC", r"20:00:0\d(\.\d)?", "2.99 s"),
+                                     ("overload", "ms", r"\d{1,3}", "898 ms")):
+        page = Page(driver, f"axes of {name}", pages_of[name])
+        found = page.run(labels)
+        page.says(len(found) > 2 and all(re.fullmatch(each, it) for it in found), f"times {found}")
+        page.says(set(page.run(unit)) == {wanted}, f"unit {page.run(unit)}")
+        page.says(re.search(rf" events in ({took}),", page.text("#span")), f"its time: {page.text('#span')}")
+    page = Page(driver, "axes of clock", pages_of["clock"])
+    for view, each in (((0, 2e6), r"20:00:00\.00[0-2]\d*"), ((1e9, 1e9 + 2000), r"20:00:01\.00000\d*")):
+        page.run("view = arguments[0]; redraw()", list(view))
+        found = page.run(labels)
+        page.says(len(found) > 2 and all(re.fullmatch(each, it) for it in found), f"times of {view}: {found}")
+    # a time of day stands where its moment is
+    places = page.run("view = [...WHOLE]; redraw(); return [...document.querySelectorAll('svg text.time')].map((it) =>"
+                      " [it.textContent, Math.round(timeAt(Number(it.getAttribute('x'))) / 1e6)])")
+    page.says(all(abs(round(1000 * float(text[6:])) - at) <= 1 for text, at in places), f"places {places}")
+
+
+def hold_widths(driver, place):
+    """Windows of any width: nothing is beyond its card, and no number of the list is cut."""
+    for width in (1700, 1500, 1366, 1300, 1200, 1100, 1000, 800, 600, 390):
+        page = Page(driver, f"{place.stem} {width}", place, width)
+        page.says(page.run("return document.documentElement.scrollWidth <= innerWidth"), "it is wider than the window")
+        over = page.run("return [...document.querySelectorAll('.card, .card *')].filter((it) => it.getBoundingClientRect().right >"
+                        " it.closest('.card').getBoundingClientRect().right || it.scrollWidth > it.clientWidth + 1).map((it) => it.textContent)")
+        page.says(not over, f"numbers beyond their card: {over}")
+        page.says(page.run("const it = document.querySelector('#scroll'); return it.scrollWidth <= it.clientWidth"), "the list is cut")
+    tag = driver.find_element("css selector", "#tag")
+    tag.send_keys(str(2**64 - 1))
+    page.says(page.run("const it = document.querySelector('#tag'); return it.scrollWidth <= it.clientWidth"), "a tag of 20 digits is cut in its field")
+
+
 def hold_looks(driver, place):
     """Light and dark, wide and narrow, and on paper."""
     grounds = set()
@@ -422,10 +476,6 @@ def hold_looks(driver, place):
         for width in (1500, 390):
             page = Page(driver, f"{scheme} {width}", place, width)
             grounds.add(page.run("return getComputedStyle(document.body).backgroundColor"))
-            page.says(page.run("return document.documentElement.scrollWidth <= innerWidth"), "it is wider than the window")
-            over = page.run("return [...document.querySelectorAll('.card dd')].filter((it) => it.getBoundingClientRect().right >"
-                            " it.closest('.card').getBoundingClientRect().right).map((it) => it.textContent)")
-            page.says(not over, f"numbers beyond their card: {over}")
             page.picture("looks")
     check(len(grounds) == 2, f"light and dark: {grounds}")
     driver.execute_cdp_cmd("Emulation.setEmulatedMedia", {"media": "print", "features": [{"name": "prefers-color-scheme", "value": "dark"}]})
@@ -448,6 +498,10 @@ def main():
                 hold_zoom(driver, overload[2])
                 hold_use(driver, overload[2], overload[1])
                 hold_looks(driver, overload[2])
+                pages_of = {it[0]: it[2] for it in made}
+                for name in ("overload", "large", "clock"):
+                    hold_widths(driver, pages_of[name])
+                hold_axes(driver, pages_of)
                 hold_flows(driver, *by_flow)
                 Page(driver, "hostile words of a program", lies).quiet()
             finally:

@@ -60,11 +60,11 @@ static int is_memory_refused(size_t size) {
     return is_refused(0, "REFUSE_MEMORY");
 }
 
-/* Says so where another thread than this one is running a second from now. One that was joined may be listed for a moment longer. */
+/* Says so if another thread than this one is still running a minute from now. One that was joined may be listed for a moment longer. */
 static void look_for_threads(void) {
     static const char found[] = "refuse.c: a thread is still running\n";
     struct stat tasks;
-    for (int turn = 0; turn < 1000; turn++) {
+    for (int turn = 0; turn < 60000; turn++) {
         if (stat("/proc/self/task", &tasks) || tasks.st_nlink <= 3)
             return;
         usleep(1000);

@@ -8,6 +8,7 @@ import subprocess
 from checks import check, program
 
 PROGRAM = program()
+PATIENCE = 600  # seconds after which a program hangs, on however slow a machine
 # The commands that read a history, each with words by which it reads all of one. A command that is not here and by its help reads one is a failure.
 READERS = {"audit": ["audit"], "explain": ["explain", "--all"], "summary": ["explain", "--summary", "--every", "100us"], "cut": ["cut", "--from", "0"],
            "migrate": ["migrate"]}
@@ -60,7 +61,7 @@ def run(words, text, program=PROGRAM, **environment):
         places = [(os.POSIX_SPAWN_DUP2, file, number) for number, file in enumerate(files)]
         child = os.posix_spawn(program, [program, *words], {**os.environ, **environment}, file_actions=places)
         ended = os.pidfd_open(child)
-        if not select.select([ended], [], [], 60)[0]:
+        if not select.select([ended], [], [], PATIENCE)[0]:
             os.kill(child, signal.SIGKILL)
         os.close(ended)
         status = os.waitstatus_to_exitcode(os.waitpid(child, 0)[1])
@@ -71,5 +72,5 @@ def run(words, text, program=PROGRAM, **environment):
 
 
 def shell(line):
-    done = subprocess.run(["bash", "-c", line, "bash", PROGRAM], capture_output=True, timeout=60)
+    done = subprocess.run(["bash", "-c", line, "bash", PROGRAM], capture_output=True, timeout=PATIENCE)
     return done.returncode, done.stdout, done.stderr

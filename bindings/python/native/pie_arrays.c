@@ -54,15 +54,27 @@ static uint32_t decide(struct pie_state *state, struct pie_array_queue *queue, s
     return answer;
 }
 
-/* Why the next event can't be decided, or PIE_ARRAY_ALL. */
-static uint64_t hindered(const struct pie_array_queue *queue, uint8_t kind) {
-    if (kind < PIE_EVENT_ARRIVE || kind > PIE_EVENT_RESET) {
+/* Returns true if the controller refuses the event. Only copies change. */
+static int is_refused(const struct pie_state *state, const struct pie_array_queue *queue, const struct pie_event *event) {
+    struct pie_state trial = *state;
+    struct pie_array_queue other = *queue;
+    struct pie_event asked = *event;
+    if (asked.kind == PIE_EVENT_ARRIVE) { /* (decide would write the packet to the ring) */
+        return pie_arrive_event(&trial, queue->bytes, queue->most_packets - queue->packets, &asked) > 100;
+    }
+    return decide(&trial, &other, &asked) > 100;
+}
+
+/* Returns why the next event cannot be decided, or PIE_ARRAY_ALL. The end of the events is the last of the reasons to refuse one: an event that the
+ * controller refuses is left to it. */
+static uint64_t hindered(const struct pie_state *state, const struct pie_array_queue *queue, const struct pie_event *event) {
+    if (event->kind < PIE_EVENT_ARRIVE || event->kind > PIE_EVENT_RESET) {
         return PIE_ARRAY_KIND;
     }
     if (queue->events >= queue->most_events) {
-        return PIE_ARRAY_EVENTS;
+        return is_refused(state, queue, event) ? PIE_ARRAY_ALL : PIE_ARRAY_EVENTS;
     }
-    if (kind == PIE_EVENT_ARRIVE && queue->packets == queue->slots && queue->slots < queue->most_packets) {
+    if (event->kind == PIE_EVENT_ARRIVE && queue->packets == queue->slots && queue->slots < queue->most_packets) {
         return PIE_ARRAY_GROW;
     }
     return PIE_ARRAY_ALL;
@@ -70,7 +82,7 @@ static uint64_t hindered(const struct pie_array_queue *queue, uint8_t kind) {
 
 size_t pie_array_decide(struct pie_state *state, struct pie_array_queue *queue, struct pie_event *events, size_t count, uint32_t keeps_refused) {
     for (size_t k = 0; k < count; k++) {
-        queue->why = hindered(queue, events[k].kind);
+        queue->why = hindered(state, queue, &events[k]);
         if (queue->why != PIE_ARRAY_ALL) {
             return k;
         }
@@ -90,8 +102,12 @@ static void send(struct pie_array_queue *queue, uint64_t moment, uint32_t size) 
     queue->rest = time % queue->rate;
 }
 
-/* What comes next: the arrival, or a departure or an update of its moment. Of kind 0 where nothing comes until then. */
+/* Returns what comes next: the arrival, or a departure or an update of its moment; of kind 0 if nothing comes until then. An arrival at a moment that
+ * no history has comes at once, and is refused. */
 static struct pie_event next(const struct pie_state *state, const struct pie_array_queue *queue, const struct pie_event *arrival, uint64_t until) {
+    if (arrival && arrival->moment > PIE_MAX_MOMENT) {
+        return *arrival;
+    }
     struct pie_event event = {.caller = LINK, .kind = PIE_EVENT_DEPART, .moment = UINT64_MAX};
     uint64_t due = pie_due(state), end = arrival ? arrival->moment : until;
     if (queue->packets != 0) {
@@ -117,7 +133,7 @@ size_t pie_array_offer(struct pie_state *state, struct pie_array_queue *queue, c
     queue->taken = 0;
     for (size_t k = 0; k < room; k++) {
         out[k] = next(state, queue, queue->taken < count ? &arrivals[queue->taken] : NULL, until);
-        queue->why = out[k].kind == 0 ? PIE_ARRAY_ALL : hindered(queue, out[k].kind);
+        queue->why = out[k].kind == 0 ? PIE_ARRAY_ALL : hindered(state, queue, &out[k]);
         if (out[k].kind == 0 || queue->why != PIE_ARRAY_ALL) {
             return k;
         }

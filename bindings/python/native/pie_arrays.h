@@ -15,7 +15,7 @@ enum {
     PIE_ARRAY_ALL = 0,     /* all was done */
     PIE_ARRAY_REFUSED = 1, /* a call was refused: the event that comes next says why, and nothing changed by it */
     PIE_ARRAY_GROW = 2,    /* the ring's memory is full, and more packets may wait: call again with more of it */
-    PIE_ARRAY_EVENTS = 3,  /* there were as many events as the opening allows */
+    PIE_ARRAY_EVENTS = 3,  /* there were as many events as the opening allows, and nothing else refuses the next one */
     PIE_ARRAY_KIND = 4,    /* the event that comes next is of no kind that the loop decides, or writes */
     PIE_ARRAY_OUT = 5      /* there is no room for one more event */
 };

@@ -57,7 +57,7 @@ def test_openings_that_are_refused():
 
 
 def test_the_documentation_of_the_header():
-    pie = Controller(Opening.for_rate("100mbit", choices=Choices.DELAY_STAMP))
+    pie = Controller(Opening.for_rate("100mbit"))
     assert pie.arrive(3000, 1500, 7, Ecn.ECT0, 0x9E3779B97F4A7C15, 10) is Verdict.ENQUEUE
     assert pie.depart(1500, 3000, 10, 25) is None and pie.state.waited == 15
     assert pie.update(3000, pie.due) == jb.Updated(30_000_000, 15, 0, 150_000_000)
@@ -85,9 +85,8 @@ def test_calls_that_are_refused():
     assert "(alpha)" in str(refused(Refusal.BAD_PARAMS, pie.set_params, Params.default().replace(alpha=2**40), 0))
     refused(Refusal.BAD_MOMENT, pie.set_params, Params.default(), LATEST + 1)
     assert pie.state == before
-    stamped = controller(choices=Choices.DELAY_STAMP)
-    refused(Refusal.BAD_ARRIVED, stamped.depart, 1500, 0, 1, 5)
-    assert stamped.state.moment == 0
+    refused(Refusal.BAD_ARRIVED, pie.depart, 1500, 0, 1, 5)
+    assert pie.state.moment == 0 and controller(choices=Choices.USUAL).depart(1500, 0, 1, 5) is None
 
 
 @pytest.mark.parametrize("name, value", [("queued", 2**64), ("size", 2**32), ("room", 2**32), ("ecn", 256), ("word", 2**64), ("moment", 2**64),
@@ -102,7 +101,7 @@ def test_numbers_that_c_would_cut(name, value):
 
 
 def test_what_a_recorder_writes():
-    out, opening = io.BytesIO(), Opening.for_rate(0, mode=jb.Mode.BOUNDED, packets=64, events=100)
+    out, opening = io.BytesIO(), Opening.for_rate(0, mode=jb.Mode.BOUNDED, choices=Choices.USUAL, packets=64, events=100)
     history = jb.Recorder(out, opening)
     pie = Controller(opening, history)
     assert pie.arrive(0, 65_535, 1, Ecn.ECT1, 2**64 - 1, 7, tag=2**64 - 1, caller=65_535) is Verdict.ENQUEUE

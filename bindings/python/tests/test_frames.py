@@ -23,7 +23,7 @@ def same(frame, rows):
     assert list(frame.columns) == list(rows[0]) and len(frame) == len(rows)
     for name in frame:
         assert ["" if pd.isna(it) else str(it) for it in frame[name]] == [row[name] for row in rows], name
-        assert name in ("kind", "verdict", "cause", "ecn") or frame[name].dtype in ("uint64", "UInt64"), name
+        assert name in ("kind", "verdict", "cause", "ecn", "flow") or frame[name].dtype in ("uint64", "UInt64"), name
 
 
 @pytest.mark.parametrize("options", [["--all"], ["--lost"], ["--summary"], ["--every", "100ms"], ["--tag", "20"]], ids=" ".join)
@@ -107,10 +107,17 @@ def test_faults_and_differences(tmp_path):
     assert why.value.status == 2
     with pytest.raises(ValueError, match="1 records"):
         jb.read_events(tmp_path / "fields")
-    for beginning in ("", "arrive,1\n", "open,1\n", "open3,1,rate\n", "open2,1,other,0,1,1,1\n"):
+    for beginning in ("", "arrive,1\n", "open,1\n", "open3,1,rate\n", "open2,1,other,0,1,1,1\n", "A letter.\nTo somebody.\n"):
         (tmp_path / "none").write_text(beginning)
-        with pytest.raises(ValueError, match="no opening"):
-            jb.read_opening(tmp_path / "none")
+        for call in (jb.read_opening, jb.read_history, jb.read_events):
+            with pytest.raises(ValueError, match="no opening"):
+                call(tmp_path / "none")
+    for line in ("nothing,1", "lost,3", "arrive", "arrive,1,2,3,4,none,5,enqueue", "arrive,1,2,3,4,not,5,other", "depart,1,x,empty"):
+        (tmp_path / "none").write_text(text + line + "\n")
+        with pytest.raises(ValueError):
+            jb.read_history(tmp_path / "none")
+    (tmp_path / "lines").write_text("\ufeff" + text.replace("\n", "\r\n"))
+    pd.testing.assert_frame_equal(jb.read_history(tmp_path / "lines"), jb.read_history(OVERLOAD))
     with pytest.raises(FileNotFoundError):
         jb.audit(tmp_path / "missing", PIE)
 
@@ -120,6 +127,38 @@ def test_parquet(tmp_path):
     for name, frame in (("told", jb.explain(OVERLOAD, pie=PIE)), ("events", jb.read_history(OVERLOAD))):
         frame.to_parquet(tmp_path / name)
         pd.testing.assert_frame_equal(pd.read_parquet(tmp_path / name), frame)
+
+
+@pytest.mark.parametrize("options", [["--flows", "2"], ["--flows=2", "--every=100ms"]], ids=" ".join)
+def test_flows(options, tmp_path):
+    place = tmp_path / "history"
+    with jb.Queue(jb.Opening.for_rate("10mbit"), place, seed=1) as queue:
+        tags = (np.arange(3000, dtype=np.uint64) % 5 + 1 << 32) + np.arange(3000, dtype=np.uint64)
+        queue.offer(np.arange(3000) * 10**6, 1500, "10mbit", tags=tags)
+    rows, told = printed(place, *options), jb.explain(place, *options, pie=PIE)
+    same(told, rows)
+    assert told.flow.dtype == "category" and {"0x00000001", "0x00000002", "others"} == set(told.flow)
+    parts = list(jb.explain_parts(place, *options, rows=2, pie=PIE))
+    assert [it for part in parts for it in part.flow] == list(told.flow)
+
+
+def test_times_of_day_past_pandas_own(tmp_path):
+    """pandas's nanoseconds end on 2262-04-11. Later times of day are texts."""
+    last = 2**63 - 1
+    for name, times in (("all", [last - 9, last]), ("none", [last - 9, last + 1]), ("late", [2**64 - 10**9, 2**64 - 2])):
+        place = tmp_path / name
+        with jb.Queue(jb.Opening.for_rate("10mbit"), place) as queue:
+            queue.arrive(0, 1500)
+            queue.clock(0, times[0])
+            queue.decide(jb.events(4, [0, times[1] - times[0]]))
+        rows = printed(place, "--all", "--wall")
+        told = jb.explain(place, "--all", "--wall", pie=PIE)
+        parts = pd.concat(list(jb.explain_parts(place, "--all", "--wall", rows=1, pie=PIE)))
+        assert told.wall.isna().tolist() == parts.wall.isna().tolist() == [True, False, False]
+        if name == "all":
+            assert [it.value for it in told.wall[1:]] == times
+        else:
+            assert told.wall[1:].tolist() == [row["wall"] for row in rows[1:]] and str(told.wall.dtype) == "string"
 
 
 def test_many_rows_stay_in_order(tmp_path):

@@ -1,5 +1,8 @@
 """A queue with its own packets: arrays are what single calls are; what a link does; refusals in arrays; what Python made is clean by `pie audit`."""
+import copy
 import io
+import multiprocessing
+import pickle
 import time
 from collections import deque
 
@@ -45,7 +48,7 @@ def by_single_calls(opening, moments, sizes, ecn, words, rate, until, history):
             return pie
 
 
-@pytest.mark.parametrize("changes", [{}, {"choices": 31}, {"profile": 2, "limit_bytes": "60kb"}, {"packets": 40}, {"limit_bytes": 20_000}], ids=str)
+@pytest.mark.parametrize("changes", [{}, {"choices": 0}, {"choices": 31}, {"profile": 2, "limit_bytes": "60kb"}, {"packets": 40}, {"limit_bytes": 20_000}], ids=str)
 def test_a_link_is_what_its_single_calls_are(changes, tmp_path):
     rate, (moments, sizes, ecn) = 7_777_777, overload(4000, 7_777_777, load=1.4)
     words = np.random.default_rng(1).integers(1 << 64, size=len(moments), dtype=np.uint64)
@@ -117,6 +120,203 @@ def test_a_seed_begins_the_random_words():
     assert len(texts) == 2
 
 
+def words_of(queue, count, at):
+    """The random words of the next arrivals at one moment."""
+    return [int(it) for it in queue.decide(jb.events(1, [at] * count, size=1, word=queue._draw(count)))["word"]]
+
+
+def test_a_refusal_uses_no_random_word():
+    opening, wanted = Opening.for_rate("10mbit"), words_of(Queue(Opening.for_rate("10mbit"), seed=8), 8, 1)
+    queue = Queue(opening, seed=8)
+    for at, size in ((2**60, 1), (1, 0), (1, 65_536)):
+        with pytest.raises(jb.Refused):
+            queue.arrive(at, size)
+    with pytest.raises(TypeError):
+        queue.arrive(1, None)
+    out = io.BytesIO()
+    one = Queue(opening, jb.Recorder(out, opening), seed=8)
+    one.arrive(1, 1)
+    with pytest.raises(jb.Refused, match="arrival 2") as why:
+        one.offer([1, 1, 1, 1, 1], [1, 1, 0, 1, 1], "1kbit")
+    assert list(why.value.events["word"][why.value.events["kind"] == 1]) == wanted[1:3]
+    with pytest.raises(ValueError, match="size"):
+        one.offer([1], [2**32], "1kbit")
+    one.arrive(1, 1)
+    told = one.offer([1, 1], 1, "1kbit")
+    one.arrive(1, 1)
+    assert list(told["word"][told["kind"] == 1]) == wanted[4:6] and list(queue._draw(2)) == wanted[:2]
+    assert [int(it.split(",")[6]) for it in out.getvalue().decode().splitlines() if it.startswith("arrive")] == wanted[:7]
+
+
+def test_a_refused_call_has_the_events_before_it():
+    opening, random = Opening.for_rate("10mbit"), np.random.default_rng(2)
+    moments, sizes, ecn = overload(3000, 10**7)
+    words = random.integers(1 << 64, size=3000, dtype=np.uint64)
+    whole = Queue(opening).offer(moments, sizes, "10mbit", ecn=ecn, words=words)
+    queue, wrong = Queue(opening), sizes.copy()
+    wrong[2000] = 0
+    with pytest.raises(jb.Refused, match="arrival 2000") as why:
+        queue.offer(moments, wrong, "10mbit", ecn=ecn, words=words)
+    before, at = why.value.events, why.value.index
+    rest = queue.offer(moments[at:], sizes[at:], "10mbit", ecn=ecn[at:], words=words[at:])
+    assert at == 2000 and np.array_equal(np.concatenate([before, rest]), whole)
+    limited = Queue(opening.replace(events=1000))
+    with pytest.raises(jb.Exhausted) as ended:
+        limited.offer(moments, sizes, "10mbit", ecn=ecn, words=words)
+    assert np.array_equal(ended.value.events, whole[:1000])
+    again = Queue(opening)
+    asked = whole.copy()
+    asked["size"][700], asked["kind"][700] = 0, Kind.ARRIVE
+    with pytest.raises(jb.Refused, match="event 700") as why:
+        again.decide(asked)
+    assert np.array_equal(why.value.events, whole[:700])
+    with pytest.raises(jb.Exhausted) as ended:
+        Queue(opening.replace(events=1000)).decide(whole)
+    assert np.array_equal(ended.value.events, whole[:1000])
+
+
+def test_the_end_of_the_events_is_refused_last(tmp_path):
+    """The order of refusals in docs/FORMATS.md: parameters, the moment, the size, an update too soon, and only then too many events."""
+    place, opening = tmp_path / "history", Opening.for_rate("10mbit", events=2, mode=0, packets=9, tail=9)
+    with Queue(opening, place) as queue:
+        queue.arrive(5, 100)
+        queue.arrive(6, 100)
+        before = queue.state, queue.packets, queue.bytes, queue.waiting.tolist()
+        bad = opening.params.replace(target=1)
+        for refusal, call in ((Refusal.BAD_MOMENT, lambda: queue.arrive(2**60, 0)), (Refusal.BAD_SIZE, lambda: queue.arrive(7, 0)),
+                              (Refusal.BAD_MOMENT, lambda: queue.depart(2**60)), (Refusal.BAD_MOMENT, lambda: queue.reset(2**60)),
+                              (Refusal.TOO_SOON, lambda: queue.update(7)), (Refusal.BAD_PARAMS, lambda: queue.set_params(bad, 2**60)),
+                              (Refusal.BAD_MOMENT, lambda: queue.set_params(opening.params, 2**60)),
+                              (Refusal.BAD_SIZE, lambda: queue.decide(jb.events(1, [7], size=0))),
+                              (Refusal.BAD_MOMENT, lambda: queue.offer([2**60], 100, "1kbit"))):
+            with pytest.raises(jb.Refused) as why:
+                call()
+            assert why.value.refusal is refusal
+        for call in (lambda: queue.arrive(7, 1), lambda: queue.depart(7), queue.update, lambda: queue.reset(7),
+                     lambda: queue.set_params(opening.params, 7), lambda: queue.decide(jb.events(2, [7])), lambda: queue.offer([7], 1, "1kbit")):
+            with pytest.raises(jb.Exhausted):
+                call()
+        assert (queue.state, queue.packets, queue.bytes, queue.waiting.tolist()) == before
+        kept = jb.events([1, 3], [7, 8], size=0)
+        assert list(queue.decide(kept, keeps_refused=True)["answer"]) == [102, 103]
+    assert [it.split(",")[2] for it in place.read_text().splitlines() if it.startswith("refused")] == [*"121137121", *"23"]
+    assert jb.audit(place, PIE) == jb.Finding("clean", 2)
+
+
+def test_far_moments_end_at_once():
+    queue = Queue(Opening.for_rate("10mbit"), seed=1)
+    before = queue.state
+    with pytest.raises(jb.Refused, match="arrival 0") as why:
+        queue.offer([time.time_ns()], 1500, "10mbit")
+    assert why.value.refusal is Refusal.BAD_MOMENT and len(why.value.events) == 0
+    for moments, until in (([2**60 - 1], 0), ([10, 10**18, 2**60], 0), ([], time.time_ns()), ([1], 2**60 - 1)):
+        with pytest.raises(ValueError, match="updates come due"):
+            queue.offer(moments, 1500, "10mbit", until=until)
+    assert queue.state == before and queue.packets == 0
+    # one that is opened there goes on
+    late = Queue(Opening.for_rate("10mbit", moment=2**60 - 2))
+    assert list(late.offer([2**60 - 1], 1500, "10mbit")["moment"]) == [2**60 - 1]
+    with pytest.raises(jb.Refused, match="arrival 1"):
+        queue.offer([7, 2**60], 1500, "10mbit")
+    assert queue.state.moment == 7
+
+
+@pytest.mark.parametrize("copied", [copy.copy, copy.deepcopy, lambda it: pickle.loads(pickle.dumps(it))], ids=["copy", "deepcopy", "pickle"])
+def test_a_copy_goes_on_by_itself(copied):
+    moments, sizes, ecn = overload(4000, 10**7)
+    queue = Queue(Opening.for_rate("10mbit"), seed=4)
+    queue.offer(moments[:1500], sizes[:1500], "10mbit", ecn=ecn[:1500])
+    other = copied(queue)
+    before = other.state, other.packets, other.bytes, other.waiting.tolist()
+    assert before == (queue.state, queue.packets, queue.bytes, queue.waiting.tolist())
+    events = queue.offer(moments[1500:], sizes[1500:], "10mbit", ecn=ecn[1500:], until="9s")
+    queue.offer(np.arange(3000, dtype="u8") + 10**10, 1, "1kbit")  # (its ring grows)
+    assert before == (other.state, other.packets, other.bytes, other.waiting.tolist())
+    del queue
+    assert np.array_equal(other.offer(moments[1500:], sizes[1500:], "10mbit", ecn=ecn[1500:], until="9s"), events)
+    pie = jb.Controller(Opening.for_rate("10mbit"))
+    second = copied(pie)
+    pie.arrive(0, 1, 1, 0, 0, 9)
+    assert (pie.state.moment, second.state.moment) == (9, 0)
+
+
+def test_what_records_a_history_has_no_copy(tmp_path):
+    opening = Opening.for_rate("10mbit")
+    with Queue(opening, tmp_path / "one") as queue, jb.Recorder(tmp_path / "two", opening) as history:
+        for it in (queue, jb.Controller(opening, history)):
+            for copied in (copy.copy, copy.deepcopy, pickle.dumps):
+                with pytest.raises(TypeError, match="records a history"):
+                    copied(it)
+
+
+def refused_in_a_process(at):
+    return Queue(Opening.for_rate("10mbit")).offer([1, 2, at], 100, "10mbit")
+
+
+def test_exceptions_reach_another_process():
+    with pytest.raises(jb.Refused) as why:
+        jb.Controller(Opening.for_rate(0, target=1))
+    again = pickle.loads(pickle.dumps(why.value))
+    assert (str(again), again.refusal, again.index, again.events) == (str(why.value), Refusal.BAD_PARAMS, None, None)
+    fault = pickle.loads(pickle.dumps(jb.Fault("a text", 2)))
+    assert (str(fault), fault.status) == ("a text", 2)
+    limited = pickle.loads(pickle.dumps(Queue(Opening.for_rate(0))._exhausted()))
+    assert isinstance(limited, jb.Exhausted) and limited.events is None
+    with multiprocessing.get_context("spawn").Pool(1) as pool:
+        with pytest.raises(jb.Refused, match="arrival 2") as why:
+            pool.map_async(refused_in_a_process, [2**60]).get(timeout=600)
+    assert why.value.index == 2 and len(why.value.events) == 3
+
+
+def test_a_file_that_exists_is_left(tmp_path):
+    place, opening = tmp_path / "history", Opening.for_rate("10mbit")
+    place.write_text("kept")
+    for make in (lambda: Queue(opening, place), lambda: jb.Recorder(place, opening), lambda: Queue(opening, str(place))):
+        with pytest.raises(FileExistsError):
+            make()
+    assert place.read_text() == "kept"
+    for make in (lambda: Queue(opening, place, force=True), lambda: jb.Recorder(place, opening, force=True)):
+        make().close()
+        assert jb.audit(place, PIE) == jb.Finding("clean", 0)
+
+
+def test_what_is_printed_of_them(tmp_path):
+    opening = Opening.for_rate("10mbit")
+    queue = Queue(opening, tmp_path / "history")
+    queue.arrive(7, 1500)
+    assert repr(queue) == "Queue(moment=7, prob=0, due=15000000, packets=1, bytes=1500, events=1)"
+    assert repr(queue._history) == f"Recorder('{tmp_path}/history', records=2, untold=0)"
+    assert repr(jb.Recorder(io.BytesIO(), opening)) == "Recorder(a file, records=1, untold=0)"
+    assert repr(jb.Controller(opening)) == "Controller(moment=0, prob=0, due=15000000)"
+    shown = [queue, queue.state, queue._history, opening, jb.Controller(opening), queue.depart(8), jb.Refused(101), jb.Finding("clean", 1)]
+    assert not any("0x" in repr(it) for it in shown)
+    queue.close()
+
+
+def test_whole_numbers_in_any_form():
+    large = [2**63, 5, 2**64 - 1, 0]
+    made = jb.events(1, [1, 2, 3, 4], size=1, word=large, tag=tuple(reversed(large)))
+    assert list(made["word"]) == large and list(made["tag"]) == large[::-1]
+    assert list(jb.events(1, [2**64 - 1, 1])["moment"]) == [2**64 - 1, 1]
+    assert list(jb.events(1, [1, 2], word=[np.uint64(2**64 - 1), 3])["word"]) == [2**64 - 1, 3]
+    for values, kind in (([2**64, 1], ValueError), ([-1, 2**63], ValueError), ([1.0, 2**63], TypeError), ([None, 2**63], TypeError),
+                         ([True, False], TypeError), (["1", 2**63], TypeError), (np.array([1.5, 2]), TypeError)):
+        with pytest.raises(kind, match="word"):
+            jb.events(1, [1, 2], word=values)
+
+
+def test_columns_of_a_frame_come_back():
+    moments, sizes, ecn = overload(300, 10**7)
+    events = Queue(Opening.for_rate("10mbit"), seed=1).offer(moments, sizes, "10mbit", ecn=ecn)
+    rows = jb.frame(events)
+    came = rows[rows.kind == "arrive"]
+    assert str(came.word.dtype) == "UInt64" and int(came.word.max()) > 2**63
+    again = Queue(Opening.for_rate("10mbit")).offer(came.moment, came["size"], "10mbit", ecn=ecn, words=came.word, tags=came.tag)
+    assert np.array_equal(again, events)
+    with pytest.raises(TypeError, match="word: .* missing"):
+        jb.events(1, rows.moment, word=rows.word)
+
+
 def test_refusals_in_arrays(tmp_path):
     place, opening = tmp_path / "history", Opening.for_rate("10mbit")
     asked = jb.events([1, 3, 1, 2, 2, 4], [10, 20, 30, 2**60, 40, 50], size=[100, 0, 0, 0, 0, 0], caller=9)
@@ -139,6 +339,8 @@ def test_refusals_in_arrays(tmp_path):
     events = sum(it.startswith(("arrive", "depart", "update", "reset")) for it in place.read_text().splitlines())
     assert jb.audit(place, PIE) == jb.Finding("clean", events)
     limited = Queue(opening.replace(events=3))
+    with pytest.raises(ValueError, match="event 1"):
+        limited.decide(jb.events([1, 0], [1, 2], size=9))
     limited.decide(jb.events([1, 2], [1, 2], size=9))
     with pytest.raises(jb.Exhausted):
         limited.decide(jb.events([1, 2], [1, 2], size=9))
@@ -181,11 +383,8 @@ def test_a_wrong_event_is_not_written(tmp_path):
 
 def test_a_million_arrivals():
     moments, sizes, ecn = overload(MILLION, 10**8)
-    queue = Queue(Opening.for_rate("100mbit", choices=Choices.DELAY_STAMP), seed=1)
-    begun = time.process_time()
+    queue = Queue(Opening.for_rate("100mbit"), seed=1)
     events = queue.offer(moments, sizes, "100mbit", ecn=ecn)
-    took = time.process_time() - begun
-    print(f"\n{len(events)} events of a million arrivals in {took:.2f} s of the processor, {took / len(events) * 1e9:.0f} ns each")
     arrivals = events[events["kind"] == Kind.ARRIVE]
     assert np.array_equal(arrivals["tag"], np.arange(MILLION)) and len(events) > 1.8 * MILLION
-    assert 0.05 < np.isin(arrivals["answer"], (2, 3, 4)).mean() < 0.3 and took < 10
+    assert 0.05 < np.isin(arrivals["answer"], (2, 3, 4)).mean() < 0.3

@@ -22,7 +22,7 @@ def test_a_worked_trace(trace, history, by_arrays):
 
 
 def test_there_are_rows():
-    assert len(ROWS) > 50 and len(HISTORIES) == 5
+    assert len(ROWS) > 50 and len(HISTORIES) == 6
 
 
 @pytest.mark.parametrize("history", HISTORIES, ids=lambda it: it.stem)

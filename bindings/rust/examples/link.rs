@@ -46,7 +46,7 @@ fn transmit(mut port: Port, senders: &AtomicU32, start: Instant) {
 }
 
 fn main() -> Result<(), Box<dyn Error>> {
-    let opening = Opening { mode: Mode::Bounded, ..Opening::for_rate(100_000_000) }; // (no event goes but by a fold)
+    let opening = Opening { mode: Mode::Bounded, ..Opening::for_link(100_000_000) }; // (no event goes but by a fold)
     let [link, first, second, mut writer] = Link::ports(&opening)?;
     let mut history = Recorder::open(io::stdout().lock(), &opening)?;
     let (senders, workers) = (AtomicU32::new(2), AtomicU32::new(3));

@@ -22,10 +22,10 @@ fn main() -> Result<(), Refusal> {
     let (mut ring, mut queued, mut free_at, mut word) = (VecDeque::new(), 0_u64, 0, 1);
     let (mut sent, mut dropped, mut updates) = (0, 0, 0);
     for now in (0..10_000_000_000_u64).step_by(800_000) {
-        while let Some(size) = ring.front().copied().filter(|_| free_at <= now) {
+        while let Some((size, arrived)) = ring.front().copied().filter(|_| free_at <= now) {
             ring.pop_front();
             queued -= u64::from(size);
-            pie.depart(size, queued, free_at)?;
+            pie.depart_waited(size, queued, arrived, free_at)?;
             free_at += u64::from(size) * BYTE;
             sent += 1;
         }
@@ -44,7 +44,7 @@ fn main() -> Result<(), Refusal> {
             if ring.is_empty() {
                 free_at = now + 1000 * BYTE;
             }
-            ring.push_back(1000_u32);
+            ring.push_back((1000_u32, pie.moment));
             queued += 1000;
         }
     }

@@ -13,8 +13,9 @@
 //! // 1500 bytes arrive at 10 ns while 3000 wait, and the ring has room for 7 packets
 //! let verdict = pie.arrive(3000, 1500, 7, Ecn::Ect0, 0x9e37_79b9_7f4a_7c15, 10)?;
 //! assert_eq!(verdict, Verdict::Enqueue);
-//! // 1500 bytes left the queue, and 3000 wait
-//! pie.depart(1500, 3000, 25)?;
+//! let arrived = pie.moment; // kept beside the packet
+//! // that packet leaves at 25 ns, and 3000 bytes are still queued
+//! pie.depart_waited(1500, 3000, arrived, 25)?;
 //! // a timer is armed for `due`
 //! let updated = pie.update(3000, pie.due())?;
 //! assert_eq!(updated.due, 30_000_000);

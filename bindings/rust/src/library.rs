@@ -42,7 +42,7 @@ pub(crate) struct RawOpening {
     pub(crate) moment: u64,
     /// The number of the profile.
     pub(crate) profile: u64,
-    /// The flags of the optional elements, at most 31 (0).
+    /// The flags of the optional elements, at most 31 (1).
     pub(crate) choices: u64,
     /// The number of the mode.
     pub(crate) mode: u64,

@@ -7,9 +7,9 @@ use std::vec::Vec;
 
 use crate::library::RawEvent;
 use crate::link_library::{
-    RawPort, pie_link_close, pie_link_gather, pie_link_open, pie_link_share, pie_link_try_arrive, pie_link_try_arrive_all, pie_link_try_depart,
-    pie_link_try_depart_all, pie_link_try_fold, pie_link_try_registers, pie_link_try_reset, pie_link_try_set_params, pie_link_try_stats,
-    pie_link_try_update,
+    RawPort, pie_link_close_port, pie_link_gather_ports, pie_link_open_port, pie_link_share_port, pie_link_try_arrive, pie_link_try_arrive_all,
+    pie_link_try_depart, pie_link_try_depart_all, pie_link_try_fold, pie_link_try_registers, pie_link_try_reset, pie_link_try_set_params,
+    pie_link_try_stats, pie_link_try_update,
 };
 use crate::link_readings::{Registers, Totals};
 use crate::link_refusal::{link_done, link_done_with, link_refusal};
@@ -33,15 +33,16 @@ static LINKS: AtomicU64 = AtomicU64::new(0);
 /// there, its `tag`: the link has the order in which packets leave, and the caller has the packets.
 ///
 /// What is proved of the library `libpie_link.a`, for all interleavings of any number of threads: whenever nobody has the turn, there is one
-/// history of one thread behind all ports. It has each port's calls once and in its order, every answer is RFC 8033's at its place, and no event
-/// is lost. Not proved: this crate, which hands each call on; the calls that wait, which are loops over those that don't; and that a call
-/// that waits is ever served. That the calls of several ports may run at once is trusted, as docs/PROMISES.md says.
+/// history of one thread behind all ports. It has each port's calls once and in its order, and every answer is RFC 8033's at its place. A bounded
+/// link ([`Mode::Bounded`](crate::Mode::Bounded)) loses no event. A rolling link, the default, lets its oldest event go when its log is full:
+/// [`Folds::first_number`] shows the gap. Not proved: this crate, which hands each call on; the calls that wait, which are loops over those that
+/// don't; and that a call that waits is ever served. That the calls of several ports may run at once is trusted, as docs/PROMISES.md says.
 ///
 /// ```
 /// use juniperbowls::{Ecn, Link, Opening, Packet, Verdict};
 ///
 /// # fn main() -> Result<(), Box<dyn std::error::Error>> {
-/// let [mut sender, mut link] = Link::ports(&Opening::for_rate(100_000_000))?;
+/// let [mut sender, mut link] = Link::ports(&Opening::for_link(100_000_000))?;
 /// let sends = std::thread::spawn(move || {
 ///     let packet = Packet { tag: 7, size: 1500, ecn: Ecn::Ect0 };
 ///     sender.arrive(packet, 0x9e37_79b9_7f4a_7c15, 10)
@@ -80,7 +81,7 @@ unsafe impl Send for Port {}
 impl Drop for Port {
     fn drop(&mut self) {
         // SAFETY: as `link_library` says. A port that was gathered is closed already, which is then answered.
-        unsafe { pie_link_close(&mut self.raw) };
+        unsafe { pie_link_close_port(&mut self.raw) };
     }
 }
 
@@ -132,7 +133,41 @@ pub struct Folds {
     events: [RawEvent; MOST],
     at: usize,
     count: usize,
+    last: u64,
     params: Params,
+}
+
+/// The numbers of the events, where the first event of the history has 1.
+///
+/// ```
+/// use juniperbowls::{Link, Opening};
+///
+/// # fn main() -> Result<(), Box<dyn std::error::Error>> {
+/// let opening = Opening { tail: 2, ..Opening::for_link(100_000_000) };
+/// let mut port = Link::open(&opening, 1)?;
+/// for moment in 0..5 {
+///     port.reset(moment)?;
+/// }
+/// let written = 0; // the number of the last event that this thread has written
+/// let folds = port.fold()?;
+/// assert_eq!((folds.first_number(), folds.last_number()), (4, 5));
+/// assert_eq!(folds.first_number() - 1 - written, 3); // events that no fold handed out
+/// # Ok(())
+/// # }
+/// ```
+impl Folds {
+    /// Returns the number of the first event that the fold handed out. If it is not one more than the last number of the fold before, events are
+    /// missing between the two: a rolling link let them go, or another port folded them.
+    #[must_use]
+    pub fn first_number(&self) -> u64 {
+        self.last - self.count as u64 + 1
+    }
+
+    /// Returns the number of the last event that the fold handed out.
+    #[must_use]
+    pub fn last_number(&self) -> u64 {
+        self.last
+    }
 }
 
 impl Iterator for Folds {
@@ -194,6 +229,17 @@ fn packet_of(code: u32, event: &RawEvent) -> Result<Option<Packet>, LinkRefusal>
     }
 }
 
+impl Opening {
+    /// Returns the opening of a link of this rate, in bits a second: that of [`Opening::for_rate`], but with fewer `packets`, since memory and the
+    /// longest turn grow with them. The queue has room for four times the packets of mean size that `limit_bytes` holds, from 1024 to 2^20.
+    #[must_use]
+    pub fn for_link(rate: u64) -> Opening {
+        let usual = Opening::for_rate(rate);
+        let packets = 4 * usual.params.limit_bytes / usual.params.mean_pkt;
+        Opening { packets: packets.min(usual.packets), ..usual }
+    }
+}
+
 impl Link {
     /// Opens a link with an empty queue, and the port with all its numbers, 0 to `callers` - 1.
     ///
@@ -203,7 +249,7 @@ impl Link {
         let mut port = Port { raw: RawPort::CLOSED, link: LINKS.fetch_add(1, Ordering::Relaxed) };
         let raw = opening.raw();
         // SAFETY: as `link_library` says.
-        link_done_with(unsafe { pie_link_open(&raw, callers, &mut port.raw) }, &opening.params)?;
+        link_done_with(unsafe { pie_link_open_port(&raw, callers, &mut port.raw) }, &opening.params)?;
         Ok(port)
     }
 
@@ -234,7 +280,7 @@ impl Port {
     pub fn share(&mut self) -> Result<Port, LinkRefusal> {
         let mut added = Port { raw: RawPort::CLOSED, link: self.link };
         // SAFETY: as `link_library` says.
-        link_done(unsafe { pie_link_share(&mut self.raw, &mut added.raw) })?;
+        link_done(unsafe { pie_link_share_port(&mut self.raw, &mut added.raw) })?;
         Ok(added)
     }
 
@@ -244,7 +290,7 @@ impl Port {
     /// The other port, of another link, or where neither's numbers follow on the other's.
     pub fn gather(&mut self, mut other: Port) -> Result<(), Port> {
         // SAFETY: as `link_library` says. The library is handed two ports of one link, as it has to be.
-        if self.link == other.link && unsafe { pie_link_gather(&mut self.raw, &mut other.raw) } == 0 { Ok(()) } else { Err(other) }
+        if self.link == other.link && unsafe { pie_link_gather_ports(&mut self.raw, &mut other.raw) } == 0 { Ok(()) } else { Err(other) }
     }
 
     /// A packet arrives; `word` is random, each number as likely as any other. The packet is queued by [`Verdict::Enqueue`] and
@@ -331,10 +377,10 @@ impl Port {
     /// # Errors
     /// In this order: `Busy`, `NoEvent`.
     pub fn try_fold(&mut self) -> Result<Folds, LinkRefusal> {
-        let mut folds = Folds { events: [RawEvent::default(); MOST], at: 0, count: 0, params: Params::UNSET };
-        let Folds { events, count, params, .. } = &mut folds;
+        let mut folds = Folds { events: [RawEvent::default(); MOST], at: 0, count: 0, last: 0, params: Params::UNSET };
+        let Folds { events, count, last, params, .. } = &mut folds;
         // SAFETY: as `link_library` says.
-        link_done(unsafe { pie_link_try_fold(&mut self.raw, events.as_mut_ptr(), MOST, count, params) })?;
+        link_done(unsafe { pie_link_try_fold(&mut self.raw, events.as_mut_ptr(), MOST, count, last, params) })?;
         Ok(folds)
     }
 

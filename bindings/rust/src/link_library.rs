@@ -36,10 +36,10 @@ impl RawExcerpt {
 // none overlaps another. A port or an excerpt is handed in by a reference that nobody else has, and memory is ordered where it goes to another thread, as safe
 // Rust has it.
 unsafe extern "C" {
-    pub(crate) fn pie_link_open(opening: &RawOpening, callers: u16, port: &mut RawPort) -> u32;
-    pub(crate) fn pie_link_share(port: &mut RawPort, added: &mut RawPort) -> u32;
-    pub(crate) fn pie_link_gather(port: &mut RawPort, other: &mut RawPort) -> u32;
-    pub(crate) fn pie_link_close(port: &mut RawPort) -> u32;
+    pub(crate) fn pie_link_open_port(opening: &RawOpening, callers: u16, port: &mut RawPort) -> u32;
+    pub(crate) fn pie_link_share_port(port: &mut RawPort, added: &mut RawPort) -> u32;
+    pub(crate) fn pie_link_gather_ports(port: &mut RawPort, other: &mut RawPort) -> u32;
+    pub(crate) fn pie_link_close_port(port: &mut RawPort) -> u32;
     pub(crate) fn pie_link_try_arrive(port: &mut RawPort, event: &mut RawEvent) -> u32;
     pub(crate) fn pie_link_try_depart(port: &mut RawPort, event: &mut RawEvent) -> u32;
     pub(crate) fn pie_link_try_update(port: &mut RawPort, event: &mut RawEvent) -> u32;
@@ -47,7 +47,14 @@ unsafe extern "C" {
     pub(crate) fn pie_link_try_set_params(port: &mut RawPort, params: &Params, event: &mut RawEvent) -> u32;
     pub(crate) fn pie_link_try_arrive_all(port: &mut RawPort, events: *mut RawEvent, count: usize) -> u32;
     pub(crate) fn pie_link_try_depart_all(port: &mut RawPort, bytes: u64, events: *mut RawEvent, count: usize, made: &mut usize) -> u32;
-    pub(crate) fn pie_link_try_fold(port: &mut RawPort, events: *mut RawEvent, count: usize, folded: &mut usize, params: &mut Params) -> u32;
+    pub(crate) fn pie_link_try_fold(
+        port: &mut RawPort,
+        events: *mut RawEvent,
+        count: usize,
+        folded: &mut usize,
+        last: &mut u64,
+        params: &mut Params,
+    ) -> u32;
     pub(crate) fn pie_link_try_registers(port: &mut RawPort, registers: &mut Registers) -> u32;
     pub(crate) fn pie_link_try_stats(port: &mut RawPort, totals: &mut Totals) -> u32;
     pub(crate) fn pie_link_open_excerpt(opening: &RawOpening, excerpt: &mut RawExcerpt) -> u32;

@@ -19,7 +19,7 @@ pub enum Mode {
 /// use juniperbowls::{Choices, Opening, Profile, State};
 ///
 /// # fn main() -> Result<(), juniperbowls::Refusal> {
-/// let choices = Choices { delay_stamp: true, ..Choices::default() };
+/// let choices = Choices { decay_half: true, ..Choices::default() };
 /// let pie = State::open(&Opening { profile: Profile::Two, choices, ..Opening::for_rate(100_000_000) })?;
 /// assert_eq!((pie.params.limit_bytes, pie.active), (2_500_000, 0));
 /// # Ok(())
@@ -33,7 +33,7 @@ pub struct Opening {
     pub moment: u64,
     /// The controller's profile (One).
     pub profile: Profile,
-    /// The optional elements (the usual ones).
+    /// The optional elements (`delay_stamp` alone).
     pub choices: Choices,
     /// What the event log does when it is full (Rolling).
     pub mode: Mode,

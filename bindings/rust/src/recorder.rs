@@ -50,7 +50,7 @@ impl Text {
 /// assert_eq!(event.to_string(), "arrive,1,10,7,1500,ect0,11400714819323198485,enqueue");
 ///
 /// let text = String::from_utf8(history.into_inner())?;
-/// assert!(text.starts_with("open3,1,rate,derandomized,capped,unscaled,rolling,0,1000,1024,140737488355328,15000000,"));
+/// assert!(text.starts_with("open3,1,stamp,derandomized,capped,unscaled,rolling,0,1000,1024,140737488355328,15000000,"));
 /// assert_eq!(text.lines().count(), 2);
 /// # Ok(())
 /// # }

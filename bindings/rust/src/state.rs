@@ -43,10 +43,11 @@ pub struct State {
     pub waited: u64,
 }
 
-/// RFC 8033's optional elements that are chosen otherwise than usual; the default is none.
-#[derive(Clone, Copy, Debug, Default, PartialEq, Eq, Hash)]
+/// RFC 8033's optional elements. The default is `delay_stamp` alone, as Linux has it; [`Choices::NONE`] has none.
+#[derive(Clone, Copy, Debug, PartialEq, Eq, Hash)]
 pub struct Choices {
-    /// A delay is what the packet that departed last had waited (section 4.3): departures then go through [`State::depart_waited`].
+    /// The delay is the time that the packet that departed last had waited (section 4.3): departures then go through [`State::depart_waited`].
+    /// Without it the delay comes from the departure rate (section 5.2).
     pub delay_stamp: bool,
     /// Packets are picked by the random word alone, not de-randomized (section 5.4).
     pub pick_random: bool,
@@ -58,7 +59,16 @@ pub struct Choices {
     pub decay_half: bool,
 }
 
+impl Default for Choices {
+    fn default() -> Choices {
+        Choices { delay_stamp: true, ..Choices::NONE }
+    }
+}
+
 impl Choices {
+    /// No optional element: delays by the departure rate, de-randomized picking, capped steps, all packets picked alike, decay at 0.
+    pub const NONE: Choices = Choices { delay_stamp: false, pick_random: false, step_uncapped: false, size_scaled: false, decay_half: false };
+
     /// As the library has them.
     pub(crate) fn flags(self) -> u64 {
         let flags = [self.delay_stamp, self.pick_random, self.step_uncapped, self.size_scaled, self.decay_half];
@@ -196,7 +206,8 @@ impl State {
         Verdict::of(unsafe { pie_arrive(self, queued, size, room, ecn as u32, word, moment) })
     }
 
-    /// Takes in that a packet of this size left the queue, with `left` bytes after it (section 5.2).
+    /// Takes in that a packet of this size left the queue, with `left` bytes after it (section 5.2), where delays come from the departure rate. With
+    /// the default choices call [`State::depart_waited`].
     ///
     /// # Errors
     /// In this order: `Moment`, `Size`, `Queue`, `NotWaited`.
@@ -205,8 +216,8 @@ impl State {
         done(unsafe { pie_depart(self, size, left, moment) })
     }
 
-    /// The same with when the packet arrived: `moment` of this state as it was right after its `arrive`. Where delays come from time
-    /// stamps, the next update takes what it waited (section 4.3); elsewhere this is [`State::depart`].
+    /// Takes in that a packet of this size left the queue, with `left` bytes after it. `arrived` is the `moment` of this state right after the
+    /// packet's `arrive`. With time stamps the next update takes the packet's wait as the delay (section 4.3); else this is [`State::depart`].
     ///
     /// # Errors
     /// In this order: `Moment`, `Size`, `Queue`, `Arrived`.

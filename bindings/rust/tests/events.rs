@@ -7,7 +7,7 @@ use juniperbowls::{Choices, Ecn, MAX_MOMENT, Mode, Opening, Packet, Params, Prof
 const PACKET: Packet = Packet { tag: u64::MAX, size: 65_535, ecn: Ecn::Ect1 };
 
 fn opening() -> Opening {
-    Opening { mode: Mode::Bounded, packets: 64, events: 100, ..Opening::for_rate(0) }
+    Opening { mode: Mode::Bounded, choices: Choices::NONE, packets: 64, events: 100, ..Opening::for_rate(0) }
 }
 
 fn opened() -> (State, Params) {

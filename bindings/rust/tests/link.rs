@@ -79,7 +79,9 @@ fn each_call_answers() {
     assert_eq!((registers.count, registers.packets, registers.due, registers.params.target), (8, 0, 30_000_000, 5));
     let totals = second.stats().unwrap();
     assert_eq!((totals.count, totals.stats.arrivals, totals.stats.empty, totals.stats.changes), (8, 2, 1, 1));
-    let folds = first.fold().unwrap().collect::<Vec<_>>();
+    let folds = first.fold().unwrap();
+    assert_eq!((folds.first_number(), folds.last_number()), (1, 6)); // (a fold ends with new parameters)
+    let folds = folds.collect::<Vec<_>>();
     assert!(matches!(folds[0], Folded::Event(event) if event.to_string() == "arrive,0,10,7,1000,ect0,9,enqueue"));
     let records = folds[1..].iter().map(Folded::to_string).chain(folded(&mut second)).collect::<Vec<_>>();
     let events = [
@@ -94,6 +96,21 @@ fn each_call_answers() {
     assert_eq!(records, events);
     drop(first);
     assert_eq!(second.arrive(PACKET, 9, 15_000_006), Ok(Verdict::Enqueue));
+}
+
+/// A link that lets its oldest event go: the numbers of a fold show the events that no fold handed out.
+#[test]
+fn gaps() {
+    let opening = Opening { tail: 2, packets: 8, ..Opening::for_rate(100_000_000) };
+    let mut port = Link::open(&opening, 1).unwrap();
+    let mut written = 0;
+    for (events, missing, last) in [(2, 0, 2), (5, 3, 7), (1, 0, 8)] {
+        (0..events).for_each(|_| port.reset(1).unwrap());
+        let folds = port.fold().unwrap();
+        assert_eq!((folds.first_number() - 1 - written, folds.last_number()), (missing, last));
+        written = folds.last_number();
+    }
+    assert_eq!(port.fold().unwrap_err(), LinkRefusal::NoEvent);
 }
 
 /// Bursts: each event answers as a call of its own, an update rides, and departures end by a budget of bytes or where no packet waits.

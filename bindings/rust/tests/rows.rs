@@ -13,7 +13,7 @@ fn open_with(params: &Params, moment: u64, profile: Profile, choices: Choices) -
 }
 
 fn open(params: &Params, moment: u64) -> Result<State, Refusal> {
-    open_with(params, moment, Profile::One, Choices::default())
+    open_with(params, moment, Profile::One, Choices::NONE)
 }
 
 fn opened() -> State {
@@ -39,7 +39,7 @@ fn parameters() {
     let both = Params { target: 1, ..odd };
     assert_eq!(both.first_bad(), Some(Parameter::Target));
     assert_eq!(open(&both, LATEST + 1), Err(Refusal::Params(Parameter::Target)));
-    assert_eq!(open_with(&odd, LATEST + 1, Profile::Two, Choices::default()), Err(Refusal::Params(Parameter::DqThreshold)));
+    assert_eq!(open_with(&odd, LATEST + 1, Profile::Two, Choices::NONE), Err(Refusal::Params(Parameter::DqThreshold)));
     assert_eq!(open(&defaults, LATEST + 1), Err(Refusal::Moment));
     assert_eq!(open(&defaults, LATEST).map(|state| state.burst), Ok(150_000_000));
 }
@@ -213,7 +213,7 @@ fn two_more(state: &mut State, queued: u64, moment: u64) {
 #[test]
 fn profile_two_turns_on_and_off() {
     for (profile, first, update) in [(Profile::Two, 0, (1000, 414_208, 4)), (Profile::One, 1, (16, 5810, 4))] {
-        let mut state = open_with(&SMALL, 0, profile, Choices::default()).unwrap();
+        let mut state = open_with(&SMALL, 0, profile, Choices::NONE).unwrap();
         assert_eq!((state.profile, state.active), (profile as u64, first));
         two_more(&mut state, 0, 0);
         state.depart(1024, 1024, 1).unwrap();
@@ -236,7 +236,7 @@ fn profile_two_turns_on_and_off() {
 
 #[test]
 fn a_tail_drop_turns_on() {
-    let mut state = open_with(&SMALL, 0, Profile::Two, Choices::default()).unwrap();
+    let mut state = open_with(&SMALL, 0, Profile::Two, Choices::NONE).unwrap();
     two_more(&mut state, 0, 0);
     assert_eq!((state.arrive(2048, 1024, 6, Ecn::NotEct, 0, 0), state.active), (Ok(Verdict::Enqueue), 1));
     let made = state.update(3072, 1).unwrap();
@@ -363,7 +363,7 @@ fn what_stays() {
     for (profile, number, active) in [(Profile::One, 1, 1), (Profile::Two, 2, 0)] {
         let cleared = State { moment: 7, last: 7, prob: 0, old_delay: 0, accu: 0, burst: 150_000_002, ..expected };
         let opening = State { profile: number, active, ..cleared };
-        assert_eq!(open_with(&params, 7, profile, Choices::default()), Ok(opening));
+        assert_eq!(open_with(&params, 7, profile, Choices::NONE), Ok(opening));
     }
 }
 
@@ -383,6 +383,7 @@ fn limits_by_rate() {
         assert_eq!(Params::for_rate(rate).first_bad(), None);
         let opening = Opening::for_rate(rate);
         assert_eq!((opening.params, opening.moment, opening.mode), (Params::for_rate(rate), 0, Mode::Rolling));
+        assert_eq!(opening.choices, Choices { delay_stamp: true, ..Choices::NONE });
         assert_eq!((opening.packets, opening.tail, opening.events), (1 << 20, 1024, 1 << 47));
         assert!(State::open(&opening).is_ok());
         for bad in [Opening { packets: 0, ..opening }, Opening { tail: (1 << 20) + 1, ..opening }, Opening { events: u64::MAX, ..opening }] {
@@ -395,7 +396,7 @@ fn limits_by_rate() {
 /// Where delays come from time stamps, a departure says when its packet arrived, and an update takes what it waited.
 #[test]
 fn delays_by_time_stamps() {
-    let choices = Choices { delay_stamp: true, ..Choices::default() };
+    let choices = Choices { delay_stamp: true, ..Choices::NONE };
     let mut state = open_with(&Params::default(), 0, Profile::One, choices).unwrap();
     assert_eq!(state.choices, 1);
     let before = state;
@@ -411,6 +412,6 @@ fn delays_by_time_stamps() {
     let mut rate = open(&Params::default(), 0).unwrap();
     rate.depart_waited(1500, 40_000, MAX_MOMENT, 1).unwrap();
     assert_eq!((rate.measuring, rate.waited), (1, 0));
-    let choices = Choices { pick_random: true, step_uncapped: true, size_scaled: true, ..Choices::default() };
+    let choices = Choices { pick_random: true, step_uncapped: true, size_scaled: true, ..Choices::NONE };
     assert_eq!(open_with(&Params::default(), 0, Profile::Two, choices).unwrap().choices, 14);
 }

@@ -25,14 +25,15 @@ use Rattle.pie_book.specs.{IsNotContinued, Profile, Two, Elements}
 use Rattle.pie_params.specs.declared.elements.Delay.{Delay}
 use Rattle.pie_params.specs.declared.elements.Delay.TheVariants.{Rate, Stamp}
 use Rattle.pie_book.specs.declared.book.ContinueRefusal.TheVariants as continue
-use Rattle.pie_book.specs.{happened_in, has_room, most_kept, apply_in, cause_in, core_along, no_stats, step_in}
+use Rattle.pie_book.specs.{happened_in, has_room, most_kept, apply_in, cause_in, core_along, no_stats, step_in, are_balanced, Held}
+use Rattle.pie_params.specs.declared.elements.Picking.TheVariants.{Random}
 use Rattle.pie_aqm.specs.Steps.{cause}
 use Rattle.pie_event.specs.declared.cause.Cause.TheVariants as causes
 
 -- all that a theorem on a worked history computes with
 unfoldable pub worked : Type 0
 unfolding worked_calls admitted effective_moment waiting_after departed_count held_after shown registers_after stats_after largest_queue largest_delay
-    waited progress_after answers_from calls_of after_calls are_reached core_along cause
+    waited progress_after answers_from calls_of after_calls are_reached are_balanced core_along cause
 worked = ⊤
 
 abbrev packet : ℕ → ℕ → Packet
@@ -172,6 +173,31 @@ resumes : (map (λ events. resume_refusal (record opening.limits { events = even
     ≡ Some resume.Bytes ∷ Some (resume.Unsound Accu) ∷ Some resume.Statistics ∷ None ∷ [])
 unfolding worked
 resumes = (refl, refl)
+
+-- statistics that agree with the other numbers, and each relation one off
+agreeing : let s : Stats = numbers.stats in
+    (map (λ stats. are_balanced (record numbers { stats = stats })) (s ∷ record s { empty = 1 } ∷ record s { arrivals = 8; updates = 2 }
+    ∷ record s { enqueued = 6; early = 0 } ∷ record s { largest_queue = 3048 } ∷ record s { largest_queue = 3047 }
+    ∷ record s { waited = 2002010 } ∷ record s { waited = 2002011 } ∷ [])
+    ≡ true ∷ false ∷ false ∷ false ∷ true ∷ false ∷ true ∷ false ∷ [])
+    × (are_balanced (record numbers { packets = 3 }) ≡ false)
+unfolding worked
+agreeing = (refl, refl)
+
+-- .. and each register that a statistic or an element bounds
+holding : let h : Held = numbers.controller in
+    (map (λ held. are_balanced (record numbers { controller = held })) (record h { waited = 1 }
+    ∷ record h { control = record h.control { old_delay = 2000000 } } ∷ record h { control = record h.control { old_delay = 2000001 } }
+    ∷ record h { elements = record usual { delay = Stamp }; waited = 1002000 } ∷ record h { elements = record usual { delay = Stamp }; waited = 1002001 }
+    ∷ record h { elements = record usual { delay = Stamp }; rate = record h.rate { average = 1 } }
+    ∷ record h { accu = 1 } ∷ record h { elements = record usual { picking = Random }; accu = 1 } ∷ record h { elements = record usual { picking = Random } } ∷ [])
+    ≡ false ∷ true ∷ false ∷ true ∷ false ∷ false ∷ true ∷ false ∷ true ∷ [])
+    × (map (λ prob. are_balanced (record numbers {
+      stats = record numbers.stats { updates = 0; empty = 3 };
+      controller = record h { control = record h.control { prob = prob } };
+    })) (0 ∷ 1 ∷ []) ≡ true ∷ false ∷ [])
+unfolding worked
+holding = (refl, refl)
 
 -- a core may have had an opening with its limits of packets and events, its profile and its elements, whose moment is not after its own
 abbrev opened_at : Profile → Delay → ℕ → Opening

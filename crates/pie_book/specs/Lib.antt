@@ -10,6 +10,7 @@ pub mod Book
 pub mod Run
 pub mod Recorded
 pub mod Beside
+pub mod Balanced
 pub mod Standing
 pub mod Excerpt
 unfoldable pub use Types.*
@@ -24,5 +25,6 @@ unfoldable pub use Book.*
 unfoldable pub use Run.*
 unfoldable pub use Recorded.*
 unfoldable pub use Beside.*
+unfoldable pub use Balanced.*
 unfoldable pub use Standing.*
 unfoldable pub use Excerpt.*

@@ -6,7 +6,7 @@ ghost use Rattle.pie_book.specs.{handed_in, arrival_deed, IsSize, bytes_of, HasT
 ghost use Rattle.pie_book.specs.{call_in, arrival_of, departure_call, waiting_next, answer_of, step_in, core_after, IsNext};
 ghost use Rattle.pie_event.specs.Verdict.{is_queued};
 
-use crate::deciding_core::Core;
+use crate::deciding_core::{Core, RawCore};
 use crate::recorded::{Happened, Recorded};
 use crate::{Answer, Command, Refusal};
 use pie_aqm::{ArrivingPacket, Verdict};
@@ -45,6 +45,39 @@ impl Core {
         ensures moment { IfOk result (λ moment. moment ≡ handed_in command.now) }
         ensures room { IfOk result (λ _. self.now.count < self.now.events) }
     {
+        self.raw.taken(command)
+    }
+
+    /// Decides a command that is not refused and hands in this moment, and counts it: the event that it then is.
+    #[inline(always)]
+    #[tactic(auto, using(crate::proofs::CoreFacts::next_decided))]
+    pub(crate) fn advance(&mut self, caller: u16, moment: Nanos, command: Command) -> Recorded
+        requires taken { refusal_of self.old command ≡ None }
+        requires room { self.old.count < self.old.events }
+        requires moment { moment ≡ handed_in command }
+        ensures event { result ≡ event_of caller command result.answer }
+        ensures answer { result.answer ≡ answer_in self.old command }
+        ensures next { IsNext self.old result }
+        ensures after { self.new ≡ core_after self.old command }
+        ensures decides { (opening : Opening) (history : List Event) → Shows opening self.old history
+            → result.answer ≡ decision opening history command }
+        ensures shows { (opening : Opening) (history : List Event) → Shows opening self.old history
+            → Shows opening self.new (history ++ event_of caller command result.answer ∷ []) }
+    {
+        let recorded = self.raw.decide(caller, moment, command);
+        self.raw.close();
+        recorded
+    }
+}
+
+impl RawCore {
+    /// The same, of the parts.
+    fn taken(&self, command: &Command) -> Result<Nanos, Refusal>
+        ensures refused { IfErr result (λ why. refusal_of self.now command.now ≡ Some why) }
+        ensures taken { IfOk result (λ _. refusal_of self.now command.now ≡ None) }
+        ensures moment { IfOk result (λ moment. moment ≡ handed_in command.now) }
+        ensures room { IfOk result (λ _. self.now.count < self.now.events) }
+    {
         let Some(moment) = Nanos::from_units(command.moment()) else {
             return Err(Refusal::Moment);
         };
@@ -69,28 +102,7 @@ impl Core {
         Ok(moment)
     }
 
-    /// Decides a command that is not refused and hands in this moment, and counts it: the event that it then is.
-    #[inline(always)]
-    #[tactic(auto, using(crate::proofs::CoreFacts::next_decided))]
-    pub(crate) fn advance(&mut self, caller: u16, moment: Nanos, command: Command) -> Recorded
-        requires taken { refusal_of self.old command ≡ None }
-        requires room { self.old.count < self.old.events }
-        requires moment { moment ≡ handed_in command }
-        ensures event { result ≡ event_of caller command result.answer }
-        ensures answer { result.answer ≡ answer_in self.old command }
-        ensures next { IsNext self.old result }
-        ensures after { self.new ≡ core_after self.old command }
-        ensures decides { (opening : Opening) (history : List Event) → Shows opening self.old history
-            → result.answer ≡ decision opening history command }
-        ensures shows { (opening : Opening) (history : List Event) → Shows opening self.old history
-            → Shows opening self.new (history ++ event_of caller command result.answer ∷ []) }
-    {
-        let recorded = self.decide(caller, moment, command);
-        self.close();
-        recorded
-    }
-
-    /// The same, but for the largest queue.
+    /// The event of a command that is not refused. The largest queue is not yet counted.
     #[inline(always)]
     fn decide(&mut self, caller: u16, moment: Nanos, command: Command) -> Recorded
         requires taken { refusal_of self.old command ≡ None }

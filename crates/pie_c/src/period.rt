@@ -1,7 +1,7 @@
 //! A period that is summed up as it goes: its opening, the time of day, and its record.
 ghost use Rattle.std.specs.Prelude.{◌≡◌, ◌==◌, [], List, if◌then◌else◌};
 ghost use Rattle.pie_c.specs.{moment_refusal, after_writing, count_written, every_refusal, Explained, LivePeriod, Holds, form_in, length_of};
-ghost use Rattle.pie_summary.specs.Period.{last_events};
+ghost use Rattle.pie_summary.specs.Period.{at_last};
 ghost use Rattle.pie_summary.specs.Summary.{header, said_of};
 
 use pie_abi::code::{BAD_MOMENT, DONE};
@@ -48,13 +48,14 @@ pub extern "C" fn pie_period_clock(period: &mut LivePeriod, moment: u64, unix: u
     DONE
 }
 
-/// Writes the record of the period under way, as `pie explain --every --csv` writes it, with `--wall` where that was asked for.
+/// Writes the record of the period under way, as `pie explain --every --csv` writes it, with `--wall` if that was asked for. Before the first event
+/// there is none: returns 0, and `out` is unchanged.
 #[unsafe(no_mangle)]
 pub extern "C" fn pie_write_period(period: &LivePeriod, out: &mut [u8]) -> usize
     ensures count { (all : List Explained) → Holds period.now all
-        → result ≡ count_written (said_of (form_in period.now) (last_events (length_of period.now) all)) out.old }
+        → result ≡ count_written (at_last (length_of period.now) (said_of (form_in period.now)) all) out.old }
     ensures bytes { (all : List Explained) → Holds period.now all
-        → out.new ≡ after_writing (said_of (form_in period.now) (last_events (length_of period.now) all)) out.old }
+        → out.new ≡ after_writing (at_last (length_of period.now) (said_of (form_in period.now)) all) out.old }
 {
     let mut line = LongRow::new();
     period.put_record(&mut line);

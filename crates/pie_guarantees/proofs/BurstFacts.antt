@@ -4,6 +4,7 @@ use Rattle.pie_guarantees.proofs.Names.{append_assoc, deed, is_update, after_cal
 use Rattle.pie_guarantees.proofs.Names.{Update, Answer, Event, Opening, call_of, is_too_soon, held_after}
 use Rattle.pie_guarantees.proofs.Names.{params_after, parts_after, effective_moment, waiting_after, AllAllow, Allows, IsAllowed, KeepsParams}
 use Rattle.pie_guarantees.proofs.Names.{SetsAllow, nat_tests, burst_left, updates_in, IsLawful, IsEarly, get_or}
+use Rattle.pie_guarantees.proofs.Names.{◌<◌, bytes_of, refl, Reset}
 use Rattle.pie_aqm.specs.Steps as Steps
 use Rattle.pie_guarantees.proofs.LawfulFacts.{IsStep, all_along, along, counted-cons, first-held, sound_at, step_at}
 use Rattle.pie_guarantees.proofs.EarlyFacts.{early_at}
@@ -14,11 +15,11 @@ one-more : (n k : ℕ) → (n + 1) * k ≡ n * k + k
 one-more n k = grind arith
 
 -- how many updates there are after a command
-abbrev counted_with : Command → ℕ → ℕ
+abbrev pub counted_with : Command → ℕ → ℕ
 counted_with (Update moment) n = n + 1
 counted_with _ n = n
 
-counted-with : (command : Command) (answer : Answer) (n : ℕ) → n + cond (is_update (deed command answer)) 1 0 ≡ counted_with command n
+pub counted-with : (command : Command) (answer : Answer) (n : ℕ) → n + cond (is_update (deed command answer)) 1 0 ≡ counted_with command n
 counted-with command answer n = grind (arith, nat_tests)
 
 module _ (burst least most start last : ℕ) where
@@ -181,7 +182,17 @@ allowed_where_kept opening before later lawful keep =
 
 -- ---- where the allowance is whole
 
+pub reset-whole : (h : Held) (waiting : List Waiting) (packets moment : ℕ)
+    → (after_call h (call_of waiting packets (Reset moment))).control.burst ≡ (after_call h (call_of waiting packets (Reset moment))).params.max_burst
+reset-whole h waiting packets moment = refl
+
 pub wakes-whole : (h : Held) (waiting : List Waiting) (packets : ℕ) (command : Command) → h.active ≡ false
     → (after_call h (call_of waiting packets command)).active ≡ true
     → (after_call h (call_of waiting packets command)).control.burst ≡ (after_call h (call_of waiting packets command)).params.max_burst
 wakes-whole h waiting packets command off on = grind (arith, nat_tests)
+
+pub calm-whole : (h : Held) (waiting : List Waiting) (packets : ℕ) (command : Command) (answer : Answer) → is_update (deed command answer) ≡ true
+    → h.active ≡ true → 2 * Steps.delay_in h (bytes_of waiting) < h.params.target → 2 * h.control.old_delay < h.params.target
+    → (after_call h (call_of waiting packets command)).control.prob ≡ 0
+    → (after_call h (call_of waiting packets command)).control.burst ≡ (after_call h (call_of waiting packets command)).params.max_burst
+calm-whole h waiting packets command answer is on delay old none = grind (arith, nat_tests)

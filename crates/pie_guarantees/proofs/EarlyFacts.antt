@@ -3,6 +3,7 @@ use Rattle.pie_guarantees.proofs.Names.{◌≡◌, ◌≤◌, ◌<◌, ◌+◌, 
 use Rattle.pie_guarantees.proofs.Names.{is_capable, bytes_of, counted, is_considered, is_picked, picked_choice, Held, chosen, offered, verdict}
 use Rattle.pie_guarantees.proofs.Names.{answer_of, Packet, Waiting, ArrivingPacket, Arrive, Answer, DroppedEarly, Marked, Command}
 use Rattle.pie_guarantees.proofs.Names.{Event, Opening, arrival_of, answer_by, held_after, waiting_after, IsLawful, IsArrivalOf, is_early, RawParams}
+use Rattle.pie_guarantees.proofs.Names.{AtEachEvent, bytes_after, params_after, effective_moment, deed, waiting_next, sum_by_push, Verdict, Empty, []}
 use Rattle.pie_queue.specs.declared.ecn.Ecn.{Ecn}
 use Rattle.pie_guarantees.proofs.LawfulFacts.{IsStep, step_at}
 
@@ -73,6 +74,32 @@ module _ (opening : Opening) (before : List Event) (event : Event) (later : List
   pub at_low_delay : 2 * (held_after opening before).control.old_delay < (held_after opening before).params.target
       → (held_after opening before).control.prob < 200_000_000_000 → is_early event.answer ≡ false
   at_low_delay low small = unless event.answer (λ e. let high = (picked e).high in grind arith)
+
+-- ---- what still waits
+
+still-wait : (waiting : List Waiting) (now : ℕ) (command : Command) (answer : Answer) → is_early answer ≡ true
+    → bytes_of waiting ≤ bytes_of (waiting_next waiting now (deed command answer))
+still-wait waiting now command answer e = grind (arith, nat_tests, sum_by_push)
+
+pub leaves_two : AtEachEvent (λ opening before event. is_early event.answer ≡ true
+    → 2 * (params_after opening before).mean_pkt < bytes_after opening (before ++ event ∷ []))
+leaves_two opening before event later lawful e =
+    let step = step_at opening before event later lawful in
+    let still = still-wait (waiting_after opening before) (effective_moment opening (before ++ event ∷ [])) event.command event.answer e in
+    let long = (early_at opening before event step e).long in
+    rw step.waiting (omega (arith, long, still))
+
+finds-none : (v : Verdict) → answer_of v ≡ Empty → ⊥
+finds-none v e = grind (arith, nat_tests)
+
+empty-queue : (h : Held) (waiting : List Waiting) (packets : ℕ) (command : Command) → answer_by h waiting packets command ≡ Empty → waiting ≡ []
+empty-queue h waiting packets (Arrive moment packet word) e = absurd (finds-none (verdict h (arrival_of waiting packets packet word)) e)
+empty-queue h waiting packets _ e = grind (arith, nat_tests)
+
+pub empty_if_none : AtEachEvent (λ opening before event. event.answer ≡ Empty → waiting_after opening before ≡ [])
+empty_if_none opening before event later lawful e =
+    empty-queue (held_after opening before) (waiting_after opening before) opening.limits.packets event.command
+    (sym (step_at opening before event later lawful).here.answered ∙ e)
 
 -- ---- marks and drops of a packet
 

@@ -10,7 +10,7 @@ use Rattle.pie_guarantees.proofs.Names.{decision, Answer, answer_by, Sound_call,
 use Rattle.pie_guarantees.proofs.Names.{drop-append_seam, take-append_seam}
 use Rattle.std.proofs.lemmas.List.Elements.{All-drop, All-take}
 use Rattle.pie_book.specs.Core.{CoreView, Shows, closed}
-use Rattle.pie_book.proofs.CoreFacts.{effective_moment-push, waiting_after-push}
+use Rattle.pie_guarantees.proofs.Names.{effective_moment-push, waiting_after-push}
 use Rattle.pie_event.specs.Opening as Opens
 
 -- ---- which commands are taken

@@ -9,3 +9,6 @@ pub mod ProbabilityFacts
 pub mod SpacingFacts
 pub mod TextFacts
 pub mod RateFacts
+pub mod ClockFacts
+pub mod RecoveryFacts
+pub mod DeadlineFacts

@@ -21,6 +21,7 @@ pub use Rattle.pie_aqm.specs.Places.{Place, places}
 pub use Rattle.pie_aqm.specs.Steps.{anew, bytes_with, choice, chosen, is_calm, judged, now_at, offered}
 unfoldable pub use Rattle.pie_aqm.specs.Steps.{verdict}
 pub use Rattle.pie_book.proofs.CoreFacts.{answer_fits, at_place, departed-of-legal, first_shows, held-is, next-core, next-legal}
+pub use Rattle.pie_book.proofs.CoreFacts.{effective_moment-push, waiting_after-push}
 unfoldable pub use Rattle.pie_book.proofs.Examples.{worked}
 pub use Rattle.pie_book.specs.Decision.{arrival_of, call_of, departure_call}
 pub use Rattle.pie_book.specs.Decision.{IsLegal, IsLegalAt, answer_by, answer_to_departure, decision, has_bad_size, is_too_soon, refusal_by_rule}
@@ -33,6 +34,7 @@ pub use Rattle.pie_guarantees.specs.{SetsInRange, IsActiveUpdate}
 pub use Rattle.pie_guarantees.specs.{IsSteady, least_rise, old_delay_after, probability_after, untuned_fall, untuned_rise, updates_from}
 pub use Rattle.pie_guarantees.specs.{updates_to_a_tenth, IsArrivalOf, IsEarly, MarksOnlyCapable, OnlyMarks, SparesCapable, is_early, RawParams}
 pub use Rattle.pie_guarantees.specs.{burst_begins, burst_goes_on, burst_opening, first_drop, lowered, lowered_opening, IsBetween, samples_after}
+pub use Rattle.pie_guarantees.specs.{flows_in_turn, flows_opening, half_is_reached, last_update}
 pub use Rattle.pie_book.specs.Estimates.{average_after, due_after}
 unfoldable pub use Rattle.pie_book.specs.Estimates.{held_after}
 pub use Rattle.pie_book.specs.Statistics.{is_dropped_early, is_marked, is_queued}
@@ -41,6 +43,7 @@ pub use Rattle.pie_book.specs.Types.{ArrivingPacket, DroppedBytes, DroppedPacket
 pub use Rattle.pie_book.specs.Types.{Refusal, Reset, Verdict}
 pub use Rattle.pie_control.proofs.Bounds.{bounded_of-below, decay-below, int_div-below}
 pub use Rattle.pie_control.specs.Next.{decays}
+unfoldable pub use Rattle.pie_control.specs.Delay.{delay_of}
 unfoldable pub use Rattle.pie_control.specs.Next.{decayed, next, raw_step, tuned_step, tuning_divisor}
 pub use Rattle.pie_early.specs.Decision.{counted, counted_as, joined, picked_choice}
 unfoldable pub use Rattle.pie_early.specs.Decision.{is_considered, is_picked}

@@ -6,7 +6,7 @@ use Rattle.pie_guarantees.proofs.Names.{tuning_divisor}
 use Rattle.pie_params.specs.declared.raw.RawParams.{RawParams}
 use Rattle.pie_params.specs.declared.elements.Decay.{Decay}
 
-div-mono : (a b d : ℕ) → 0 < d → a ≤ b → a / d ≤ b / d
+pub div-mono : (a b d : ℕ) → 0 < d → a ≤ b → a / d ≤ b / d
 div-mono a b d some le = le-div (a / d) b d some (omega (arith, div-mul-le_self a d, le))
 
 mul-mono : (g : ℕ) (x y : ℤ) → x ≤ℤ y → (pos g *ℤ x) ≤ℤ (pos g *ℤ y)
@@ -79,6 +79,16 @@ unfolding next decayed
 next_up elements params prob delay old within some above risen =
     let t = tuned-up elements.step prob params delay old above risen in
     rw (none_decays elements.decay params delay old some above) (grind (arith, ints, clamps))
+
+-- a delay at the target or above it, which is not below another such delay and has not fallen, gives no lower probability than that one, unchanged
+pub next_above : (elements : Elements) (params : RawParams) (prob least delay old : ℕ) → 0 < params.target → params.target ≤ least → least ≤ delay
+    → old ≤ delay → next elements params prob least least ≤ next elements params prob delay old
+unfolding next decayed
+next_above elements params prob least delay old some above le risen =
+    let t = tuned-mono elements.step prob (raw_step params least least) (raw_step params delay old)
+    (raw-mono params least old least delay le (omega (arith, ints))) in
+    rw (none_decays elements.decay params least least some above, none_decays elements.decay params delay old some (omega (arith, above, le)))
+    (grind (arith, ints, clamps))
 
 pub next_down : (elements : Elements) (params : RawParams) (prob delay old : ℕ) → delay ≤ params.target → delay ≤ old
     → next elements params prob delay old ≤ prob

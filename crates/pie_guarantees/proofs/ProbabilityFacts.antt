@@ -143,5 +143,7 @@ pub exactly : (after_updates 162 usual default_profile 30_000_000 0 ≡ 100_178_
     × (after_updates 161 usual default_profile 30_000_000 0 ≡ 99_241_333_003)
     × (after_updates 87 usual default_profile 0 1_000_000_000_000 ≡ 96_421_179_148)
     × (after_updates 86 usual default_profile 0 1_000_000_000_000 ≡ 100_263_958_315)
+    × (after_updates 157 usual default_profile 30_000_000 (next usual default_profile 0 30_000_000 0) ≡ 100_185_241_696)
+    × (after_updates 156 usual default_profile 30_000_000 (next usual default_profile 0 30_000_000 0) ≡ 99_247_741_696)
 unfolding after_updates next raw_step tuned_step tuning_divisor decayed
-exactly = (refl, refl, refl, refl)
+exactly = (refl, refl, refl, refl, refl, refl)

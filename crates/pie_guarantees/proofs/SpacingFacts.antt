@@ -1,18 +1,19 @@
--- How the accumulated probability grows, and where it starts anew.
-use Rattle.pie_guarantees.proofs.Names.{◌≡◌, ◌≤◌, ◌<◌, ◌+◌, ◌*◌, ◌&&◌, ℕ, List, [], ◌∷◌, ◌++◌, Bool, true, false, refl, sym, ap, ◌∙◌, if◌then◌else◌}
-use Rattle.pie_guarantees.proofs.Names.{AtEachEvent, BetweenAny, Packet}
-use Rattle.pie_guarantees.proofs.Names.{arith, subst, nat_tests, Elements, bytes_of, counted_as, is_considered}
+-- How the accumulated probability grows, where it starts anew, and how picks share the sum of all that was counted.
+use Rattle.pie_guarantees.proofs.Names.{◌≡◌, ◌≤◌, ◌<◌, ◌+◌, ◌*◌, ◌/◌, ◌^◌, ◌&&◌, ◌||◌, ◌==◌, not, ⊤, ℕ, List, [], ◌∷◌, ◌++◌, Bool, true}
+use Rattle.pie_guarantees.proofs.Names.{refl, sym, ap, ◌∙◌, if◌then◌else◌, AtEachEvent, BetweenAny, Packet, append_assoc, sum_by-cons, mul-le}
+use Rattle.pie_guarantees.proofs.Names.{arith, nat_tests, Elements, bytes_of, counted_as, is_considered, div-le_of_le-mul, RawParams}
 use Rattle.pie_guarantees.proofs.Names.{is_picked, deed, answer_of, after_call, Held, Waiting, ArrivingPacket, Command}
 use Rattle.pie_guarantees.proofs.Names.{Arrive, Answer, Event, Opening, arrival_of, call_of, answer_by, held_after, waiting_after}
 use Rattle.pie_guarantees.proofs.Names.{is_dropped_bytes, is_dropped_packets, is_reset, AllAlong, IsLawful, IsEarly, is_early, held_of}
-use Rattle.pie_params.specs.declared.elements.Picking.{Picking}
 use Rattle.pie_params.specs.declared.elements.Picking.TheVariants.{Derandomized}
-use Rattle.pie_guarantees.specs.{arriving_size, CountsAtLeast, CountsAtMost, GoesOn, considered_in, counted_at, had_room, was_considered}
+use Rattle.pie_params.specs.declared.elements.Size.{Size}
+use Rattle.pie_params.specs.declared.elements.Size.TheVariants.{Unscaled, Scaled}
+use Rattle.pie_guarantees.specs.{arriving_size, CountsAtLeast, CountsAtMost, GoesOn, considered_in, counted_at, counted_in, had_room, picks_in}
+use Rattle.pie_guarantees.specs.{restarts_in, starts_anew, sum_along, was_considered}
 use Rattle.pie_aqm.specs.Steps as Steps
 use Rattle.pie_book.specs.Estimates as Book
-use Rattle.pie_guarantees.proofs.LawfulFacts.{IsStep, along, at-step, sound_at, step_at}
+use Rattle.pie_guarantees.proofs.LawfulFacts.{IsStep, all_along, along, at-step, sound_at, step_at}
 use Rattle.pie_guarantees.proofs.ProbabilityFacts.{elements-is}
-use Rattle.pie_guarantees.proofs.EarlyFacts.{early_arrival}
 
 -- ---- one command
 
@@ -26,17 +27,40 @@ con-of h bytes = h.active && is_considered h.params h.control bytes
 abbrev considers : Held → ℕ → Command → Answer → Bool
 considers h bytes command answer = had_room (deed command answer) && con-of h bytes
 
-grows-verdict : (h : Held) (a : ArrivingPacket) (moment word : ℕ) (packet : Packet) → Steps.accu_left h a
-    ≤ h.accu + (if considers h a.queued (Arrive moment packet word) (answer_of (Steps.verdict h a)) then q-of h a.size else 0)
-unfolding Steps.verdict Steps.accu_left
-grows-verdict h a moment word packet = grind (arith, nat_tests)
+-- by a command: a picked packet takes 0.85 to 9.5 off the sum, and what else starts it anew takes less than 8.5
+record Adds (h g : Held) (considered early anew : Bool) (q : ℕ) : Type 0 where
+  at_least : g.accu + (if early then 850_000_000_000 else 0) ≤ h.accu + (if considered then q else 0)
+  at_most : h.accu + (if considered then q else 0)
+      ≤ g.accu + (if early then 9_500_000_000_000 else 0) + (if anew then 8_500_000_000_000 else 0)
 
-grows : (h : Held) (waiting : List Waiting) (packets : ℕ) (command : Command)
-    → (after_call h (call_of waiting packets command)).accu
-    ≤ h.accu + (if considers h (bytes_of waiting) command (answer_by h waiting packets command) then q-of h (arriving_size command) else 0)
-grows h waiting packets (Arrive moment packet word) =
-    let more = grows-verdict h (arrival_of waiting packets packet word) moment word packet in grind (arith, nat_tests)
-grows h waiting packets _ = grind (arith, nat_tests)
+abbrev restarts : Held → Held → ℕ → Command → Answer → Bool
+restarts h g bytes command answer =
+    (is_dropped_bytes (deed command answer) || is_dropped_packets (deed command answer)) || is_reset (deed command answer)
+    || (not h.active && g.active) || (considers h bytes command answer && (q-of h (arriving_size command) == 0))
+
+-- before the controller is turned on, if it is
+adds-verdict : (h : Held) (a : ArrivingPacket) (moment word : ℕ) (packet : Packet) → h.elements.picking ≡ Derandomized → h.accu < 8_500_000_000_000
+    → q-of h a.size ≤ 10 ^ 12
+    → Adds h (Steps.judged h a moment) (considers h a.queued (Arrive moment packet word) (answer_of (Steps.verdict h a)))
+    (is_early (answer_of (Steps.verdict h a)))
+    (is_dropped_bytes (deed (Arrive moment packet word) (answer_of (Steps.verdict h a)))
+    || is_dropped_packets (deed (Arrive moment packet word) (answer_of (Steps.verdict h a)))
+    || (considers h a.queued (Arrive moment packet word) (answer_of (Steps.verdict h a)) && (q-of h a.size == 0)))
+    (q-of h a.size)
+unfolding Steps.verdict Steps.accu_left is_picked
+adds-verdict h a moment word packet spaced small counts = record { at_least = grind (arith, nat_tests); at_most = grind (arith, nat_tests) }
+
+adds : (h : Held) (waiting : List Waiting) (packets : ℕ) (command : Command) → h.elements.picking ≡ Derandomized → h.accu < 8_500_000_000_000
+    → q-of h (arriving_size command) ≤ 10 ^ 12
+    → let g = after_call h (call_of waiting packets command) in let answer = answer_by h waiting packets command in
+    Adds h g (considers h (bytes_of waiting) command answer) (is_early answer) (restarts h g (bytes_of waiting) command answer)
+    (q-of h (arriving_size command))
+adds h waiting packets (Arrive moment packet word) spaced small counts =
+    let one = adds-verdict h (arrival_of waiting packets packet word) moment word packet spaced small counts in
+    let least = one.at_least in
+    let most = one.at_most in
+    record { at_least = grind (arith, nat_tests); at_most = grind (arith, nat_tests) }
+adds h waiting packets _ spaced small counts = record { at_least = grind (arith, nat_tests); at_most = grind (arith, nat_tests) }
 
 -- ---- a pick starts anew
 
@@ -45,8 +69,8 @@ left-zero : (h : Held) (waiting : List Waiting) (packets : ℕ) (command : Comma
 unfolding Steps.verdict Steps.accu_left
 left-zero h waiting packets command e = grind (arith, nat_tests)
 
-pub starts_anew : AtEachEvent (λ opening before event. IsEarly event → Book.accu_after opening (before ++ event ∷ []) ≡ 0)
-starts_anew opening before event later lawful early =
+pub picks_clear : AtEachEvent (λ opening before event. IsEarly event → Book.accu_after opening (before ++ event ∷ []) ≡ 0)
+picks_clear opening before event later lawful early =
     let step = step_at opening before event later lawful in
     ap (λ (g : Held). g.accu) step.held
     ∙ left-zero (held_after opening before) (waiting_after opening before) opening.limits.packets event.command
@@ -59,37 +83,111 @@ q-is : (opening : Opening) (before : List Event) (event : Event)
 unfolding held_after held_of
 q-is opening before event = refl
 
-grows-at : (opening : Opening) (before : List Event) (event : Event) → IsStep opening before event
-    → Book.accu_after opening (before ++ event ∷ [])
-    ≤ Book.accu_after opening before + (if was_considered opening before event then counted_at opening before event else 0)
-grows-at opening before event step =
+counted-within : (size : Size) (params : RawParams) (bytes prob : ℕ) → prob ≤ 10 ^ 12 → counted_as size params bytes prob ≤ 10 ^ 12
+counted-within Unscaled params bytes prob within = within
+counted-within Scaled params bytes prob within =
+    let less : bytes < params.mean_pkt → prob * bytes / params.mean_pkt ≤ prob =
+    λ small. div-le_of_le-mul params.mean_pkt (let le = mul-le prob bytes prob params.mean_pkt (omega arith) (omega (arith, small)) in grind (arith, le)) in
+    grind (arith, nat_tests)
+
+adds-at : (opening : Opening) (before : List Event) (event : Event) → IsStep opening before event → opening.choices.elements.picking ≡ Derandomized
+    → Adds (held_after opening before) (held_after opening (before ++ event ∷ [])) (was_considered opening before event) (is_early event.answer)
+    (starts_anew opening before event) (counted_at opening before event)
+adds-at opening before event step spaced =
     let h = held_after opening before in
     let w = waiting_after opening before in
-    rw (q-is opening before event) at (at-step opening before event step (λ (answer : Answer) (g : Held). g.accu ≤ h.accu
-    + (if considers h (bytes_of w) event.command answer then q-of h (arriving_size event.command) else 0))
-    (grows h w opening.limits.packets event.command))
+    let picking : h.elements.picking ≡ Derandomized = ap (λ (e : Elements). e.picking) (elements-is opening before) ∙ spaced in
+    rw (q-is opening before event) at (at-step opening before event step (λ (answer : Answer) (g : Held). Adds h g
+    (considers h (bytes_of w) event.command answer) (is_early answer) (restarts h g (bytes_of w) event.command answer)
+    (q-of h (arriving_size event.command)))
+    (adds h w opening.limits.packets event.command picking step.sound.accu
+    (counted-within h.elements.size h.params (arriving_size event.command) h.control.prob step.sound.prob)))
 
--- what is left of a bound where a packet is considered, or none
-more-at-most : (b : Bool) (n most accu q next total : ℕ) → accu + ((if b then 1 else 0) + n) * most ≤ total → next ≤ accu + (if b then q else 0)
-    → (b ≡ true → q ≤ most) → next + n * most ≤ total
-more-at-most b n most accu q next total old less few = grind (arith, nat_tests)
+-- ---- conservation
 
-far : (most : ℕ) (opening : Opening) (before between later : List Event) → IsLawful opening (before ++ between ++ later)
-    → Book.accu_after opening before ≡ 0 → AllAlong (CountsAtMost most opening) before between
-    → Book.accu_after opening (before ++ between) ≤ considered_in opening before between * most
-unfolding considered_in
-far most opening before between later lawful none few =
-    let all = along (λ earlier left. Book.accu_after opening earlier + considered_in opening earlier left * most
-    ≤ considered_in opening before between * most) (CountsAtMost most opening) opening
-    (λ earlier event left step few old. more-at-most (was_considered opening earlier event) (considered_in opening (earlier ++ event ∷ []) left) most
-    (Book.accu_after opening earlier) (counted_at opening earlier event) (Book.accu_after opening (earlier ++ event ∷ []))
-    (considered_in opening before between * most) old (grows-at opening earlier event step) few)
-    before between later lawful few (omega (arith, none)) in
-    omega (arith, all)
+picks-cons : (event : Event) (later : List Event) → picks_in (event ∷ later) ≡ (if is_early event.answer then 1 else 0) + picks_in later
+picks-cons event later = sum_by-cons (λ (e : Event). if is_early e.answer then 1 else 0) event later
 
-picked-sum : (prob sum word : ℕ) → is_picked Derandomized prob sum word ≡ true → 850_000_000_000 ≤ sum
-unfolding is_picked
-picked-sum prob sum word e = grind (arith, nat_tests)
+one-pick : (early considered : Bool) (q accu next all sum picks left : ℕ)
+    → next + (if early then 850_000_000_000 else 0) ≤ accu + (if considered then q else 0)
+    → accu + all + ((if considered then q else 0) + left) ≤ sum + ((if early then 1 else 0) + picks) * 850_000_000_000
+    → next + all + left ≤ sum + picks * 850_000_000_000
+one-pick early considered q accu next all sum picks left one old = grind (arith, nat_tests)
+
+one-restart : (early considered anew : Bool) (q accu next all sum picks restarts left : ℕ)
+    → accu + (if considered then q else 0) ≤ next + (if early then 9_500_000_000_000 else 0) + (if anew then 8_500_000_000_000 else 0)
+    → sum + ((if early then 1 else 0) + picks) * 9_500_000_000_000 + ((if anew then 1 else 0) + restarts) * 8_500_000_000_000
+    ≤ accu + all + ((if considered then q else 0) + left)
+    → sum + picks * 9_500_000_000_000 + restarts * 8_500_000_000_000 ≤ next + all + left
+one-restart early considered anew q accu next all sum picks restarts left one old = grind (arith, nat_tests)
+
+module _ (opening : Opening) (before between : List Event) where
+  -- with some of the events still to come
+  record Balance (earlier left : List Event) : Type 0 where
+    at_least : Book.accu_after opening earlier + picks_in between * 850_000_000_000 + counted_in opening earlier left
+        ≤ Book.accu_after opening before + counted_in opening before between + picks_in left * 850_000_000_000
+    at_most : Book.accu_after opening before + counted_in opening before between + picks_in left * 9_500_000_000_000
+        + restarts_in opening earlier left * 8_500_000_000_000
+        ≤ Book.accu_after opening earlier + (picks_in between * 9_500_000_000_000 + restarts_in opening before between * 8_500_000_000_000)
+        + counted_in opening earlier left
+
+  balance-next : opening.choices.elements.picking ≡ Derandomized → (earlier : List Event) (event : Event) (left : List Event)
+      → IsStep opening earlier event → Balance earlier (event ∷ left) → Balance (earlier ++ event ∷ []) left
+  unfolding sum_along
+  balance-next spaced earlier event left step old =
+      let one = adds-at opening earlier event step spaced in
+      record {
+        at_least = one-pick (is_early event.answer) (was_considered opening earlier event) (counted_at opening earlier event)
+            (Book.accu_after opening earlier) (Book.accu_after opening (earlier ++ event ∷ [])) (picks_in between * 850_000_000_000)
+            (Book.accu_after opening before + counted_in opening before between) (picks_in left)
+            (counted_in opening (earlier ++ event ∷ []) left) one.at_least (rw (picks-cons event left) at old.at_least);
+        at_most = one-restart (is_early event.answer) (was_considered opening earlier event) (starts_anew opening earlier event)
+            (counted_at opening earlier event) (Book.accu_after opening earlier) (Book.accu_after opening (earlier ++ event ∷ []))
+            (picks_in between * 9_500_000_000_000 + restarts_in opening before between * 8_500_000_000_000)
+            (Book.accu_after opening before + counted_in opening before between) (picks_in left)
+            (restarts_in opening (earlier ++ event ∷ []) left) (counted_in opening (earlier ++ event ∷ []) left) one.at_most
+            (rw (picks-cons event left) at old.at_most);
+      }
+
+  balanced : (later : List Event) → IsLawful opening (before ++ between ++ later) → opening.choices.elements.picking ≡ Derandomized
+      → Balance (before ++ between) []
+  balanced later lawful spaced =
+      along Balance (λ earlier event. ⊤) opening (λ earlier event left step passed. balance-next spaced earlier event left step) before between later
+      lawful (all_along (λ event. ⊤) before between (λ k d within. tt)) (record { at_least = omega arith; at_most = omega arith })
+
+-- the sum of what the probability counted as is shared by the picks and the other restarts
+pub shared : (opening : Opening) (before between later : List Event) → IsLawful opening (before ++ between ++ later)
+    → opening.choices.elements.picking ≡ Derandomized
+    → (picks_in between * 850_000_000_000 + Book.accu_after opening (before ++ between)
+    ≤ Book.accu_after opening before + counted_in opening before between)
+    × (counted_in opening before between + Book.accu_after opening before
+    < picks_in between * 9_500_000_000_000 + (restarts_in opening before between + 1) * 8_500_000_000_000)
+unfolding sum_along
+shared opening before between later lawful spaced =
+    let it = balanced opening before between later lawful spaced in
+    let sound = (sound_at opening (before ++ between) later lawful).0.accu in
+    (omega (arith, it.at_least), omega (arith, it.at_most, sound))
+
+-- ---- how far picks are apart
+
+counts-at-most : (most : ℕ) (opening : Opening) (before between : List Event) → AllAlong (CountsAtMost most opening) before between
+    → counted_in opening before between ≤ considered_in opening before between * most
+unfolding sum_along AllAlong
+counts-at-most most opening before [] few = omega arith
+counts-at-most most opening before (event ∷ between) few =
+    let rest = counts-at-most most opening (before ++ event ∷ []) between few.1 in let here = few.0 in grind (arith, nat_tests)
+
+counts-at-least : (least : ℕ) (opening : Opening) (before between : List Event) → AllAlong (CountsAtLeast least opening) before between
+    → considered_in opening before between * least ≤ counted_in opening before between
+unfolding sum_along AllAlong
+counts-at-least least opening before [] large = omega arith
+counts-at-least least opening before (event ∷ between) large =
+    let rest = counts-at-least least opening (before ++ event ∷ []) between large.1 in let here = large.0 in grind (arith, nat_tests)
+
+taken : (early considered : Bool) (q accu next n most : ℕ) → early ≡ true
+    → next + (if early then 850_000_000_000 else 0) ≤ accu + (if considered then q else 0) → accu ≤ n * most → q ≤ most
+    → 850_000_000_000 ≤ (n + 1) * most
+taken early considered q accu next n most is one low small = grind (arith, nat_tests)
 
 pub far_apart : (most : ℕ) (opening : Opening) (before : List Event) (between : List Event) (event : Event) (later : List Event)
     → IsLawful opening (before ++ between ++ event ∷ later) → opening.choices.elements.picking ≡ Derandomized
@@ -98,83 +196,48 @@ pub far_apart : (most : ℕ) (opening : Opening) (before : List Event) (between 
     → 850_000_000_000 ≤ (considered_in opening before between + 1) * most
 far_apart most opening before between event later lawful spaced none few last early =
     let step = step_at opening (before ++ between) event later lawful in
-    let h = held_after opening (before ++ between) in
-    let it = early_arrival opening (before ++ between) event step early in
-    let n = considered_in opening before between in
-    let grown = far most opening before between (event ∷ later) lawful none few in
-    let picking : h.elements.picking ≡ Derandomized = ap (λ (e : Elements). e.picking) (elements-is opening (before ++ between)) ∙ spaced in
-    let q : q-of h it.packet.size ≡ counted_at opening (before ++ between) event =
-    ap (λ (c : Command). q-of h (arriving_size c)) (sym it.is) ∙ q-is opening (before ++ between) event in
-    let sum = picked-sum (q-of h it.packet.size) (h.accu + q-of h it.packet.size) it.word
-    (subst (λ (p : Picking). is_picked p (q-of h it.packet.size) (h.accu + q-of h it.packet.size) it.word ≡ true) picking it.chosen.by_sum) in
-    together n most h.accu (q-of h it.packet.size) sum grown
-    (subst (λ (k : ℕ). k ≤ most) (sym q) last)
-  where
-    together : (n most accu q : ℕ) → 850_000_000_000 ≤ accu + q → accu ≤ n * most → q ≤ most → 850_000_000_000 ≤ (n + 1) * most
-    together n most accu q sum grown small = grind arith
+    let all = (shared opening before between (event ∷ later) lawful spaced).0 in
+    let few = counts-at-most most opening before between few in
+    taken (is_early event.answer) (was_considered opening (before ++ between) event) (counted_at opening (before ++ between) event)
+    (Book.accu_after opening (before ++ between)) (Book.accu_after opening (before ++ between ++ event ∷ []))
+    (considered_in opening before between) most early (adds-at opening (before ++ between) event step spaced).at_least
+    (omega (arith, all, none, few)) last
 
--- ---- as long as it goes on
+nothing-counted : (opening : Opening) (before between : List Event) → considered_in opening before between ≡ 0 → counted_in opening before between ≡ 0
+unfolding sum_along
+nothing-counted opening before [] none = refl
+nothing-counted opening before (event ∷ between) none =
+    let rest = nothing-counted opening (before ++ event ∷ []) between (omega (arith, none)) in grind (arith, nat_tests)
 
--- what an answer is that picks no packet, and nothing else starts the accumulated probability anew
-record Keeps (command : Command) (answer : Answer) : Type 0 where
-  unpicked : is_early answer ≡ false
-  no_bytes : is_dropped_bytes (deed command answer) ≡ false
-  no_packets : is_dropped_packets (deed command answer) ≡ false
-  unreset : is_reset (deed command answer) ≡ false
+pub not_in_a_row : (opening : Opening) (before : List Event) (first : Event) (between : List Event) (second : Event) (later : List Event)
+    → IsLawful opening (before ++ first ∷ [] ++ between ++ second ∷ later) → opening.choices.elements.picking ≡ Derandomized → IsEarly first
+    → considered_in opening (before ++ first ∷ []) between ≡ 0 → IsEarly second
+    → 850_000_000_000 ≤ counted_at opening (before ++ first ∷ [] ++ between) second
+not_in_a_row opening before first between second later lawful spaced picked none early =
+    let b = before ++ first ∷ [] in
+    let split : b ++ between ++ second ∷ later ≡ before ++ (first ∷ (between ++ second ∷ later)) =
+    append_assoc b between (second ∷ later) ∙ append_assoc before (first ∷ []) (between ++ second ∷ later) in
+    let zero = picks_clear opening before first (between ++ second ∷ later) (rw split at lawful) picked in
+    let all = (shared opening b between (second ∷ later) lawful spaced).0 in
+    let nothing = nothing-counted opening b between none in
+    let one = (adds-at opening (b ++ between) second (step_at opening (b ++ between) second later lawful) spaced).at_least in
+    grind (arith, nat_tests)
 
-keeps-verdict : (h : Held) (least : ℕ) (a : ArrivingPacket) (moment word : ℕ) (packet : Packet) → h.elements.picking ≡ Derandomized
-    → Keeps (Arrive moment packet word) (answer_of (Steps.verdict h a)) → 0 < least
-    → (considers h a.queued (Arrive moment packet word) (answer_of (Steps.verdict h a)) ≡ true → least ≤ q-of h a.size)
-    → h.accu + (if considers h a.queued (Arrive moment packet word) (answer_of (Steps.verdict h a)) then least else 0) ≤ Steps.accu_left h a
-unfolding Steps.verdict Steps.accu_left
-keeps-verdict h least a moment word packet spaced on some large = grind (arith, nat_tests)
-
-keeps : (h : Held) (least : ℕ) (waiting : List Waiting) (packets : ℕ) (command : Command) → h.elements.picking ≡ Derandomized
-    → Keeps command (answer_by h waiting packets command) → 0 < least
-    → (considers h (bytes_of waiting) command (answer_by h waiting packets command) ≡ true → least ≤ q-of h (arriving_size command))
-    → (h.active ≡ false → (after_call h (call_of waiting packets command)).active ≡ false)
-    → h.accu + (if considers h (bytes_of waiting) command (answer_by h waiting packets command) then least else 0)
-    ≤ (after_call h (call_of waiting packets command)).accu
-keeps h least waiting packets (Arrive moment packet word) spaced on some large no_start =
-    let more = keeps-verdict h least (arrival_of waiting packets packet word) moment word packet spaced on some large in grind (arith, nat_tests)
-keeps h least waiting packets _ spaced on some large no_start = grind (arith, nat_tests)
-
-keeps-at : (least : ℕ) (opening : Opening) (before : List Event) (event : Event) → IsStep opening before event
-    → opening.choices.elements.picking ≡ Derandomized → 0 < least → CountsAtLeast least opening before event → GoesOn opening before event
-    → Book.accu_after opening before + (if was_considered opening before event then least else 0) ≤ Book.accu_after opening (before ++ event ∷ [])
-keeps-at least opening before event step spaced some large on =
-    let h = held_after opening before in
-    let w = waiting_after opening before in
-    let picking : h.elements.picking ≡ Derandomized = ap (λ (e : Elements). e.picking) (elements-is opening before) ∙ spaced in
-    at-step opening before event step (λ (answer : Answer) (g : Held). Keeps event.command answer
-    → (considers h (bytes_of w) event.command answer ≡ true → least ≤ q-of h (arriving_size event.command)) → (h.active ≡ false → g.active ≡ false)
-    → h.accu + (if considers h (bytes_of w) event.command answer then least else 0) ≤ g.accu)
-    (λ on large off. keeps h least w opening.limits.packets event.command picking on some large off)
-    (record { unpicked = on.unpicked; no_bytes = on.no_bytes; no_packets = on.no_packets; unreset = on.unreset })
-    (λ con. rw (q-is opening before event) (large con)) on.no_start
-
-more-at-least : (b : Bool) (n least accu next total : ℕ) → total ≤ accu + ((if b then 1 else 0) + n) * least
-    → accu + (if b then least else 0) ≤ next → total ≤ next + n * least
-more-at-least b n least accu next total old more = grind (arith, nat_tests)
-
--- two properties that each event has
-both : (P Q : List Event → Event → Type 0) (before between : List Event) → AllAlong P before between → AllAlong Q before between
-    → AllAlong (λ earlier event. P earlier event × Q earlier event) before between
-unfolding AllAlong
-both P Q before [] p q = tt
-both P Q before (event ∷ between) p q = ((p.0, q.0), both P Q (before ++ event ∷ []) between p.1 q.1)
+goes-on : (least : ℕ) (opening : Opening) (before between : List Event) → 0 < least → AllAlong (CountsAtLeast least opening) before between
+    → AllAlong (GoesOn opening) before between → (picks_in between ≡ 0) × (restarts_in opening before between ≡ 0)
+unfolding sum_along AllAlong
+goes-on least opening before [] some large on = (refl, refl)
+goes-on least opening before (event ∷ between) some large on =
+    let rest = goes-on least opening (before ++ event ∷ []) between some large.1 on.1 in
+    let picks = picks-cons event between in
+    let here = on.0 in
+    let counts = large.0 in (grind (arith, nat_tests), grind (arith, nat_tests))
 
 pub not_too_far : (least : ℕ) → BetweenAny (λ opening before between. opening.choices.elements.picking ≡ Derandomized → 0 < least
     → AllAlong (CountsAtLeast least opening) before between → AllAlong (GoesOn opening) before between
     → considered_in opening before between * least < 8_500_000_000_000)
-unfolding considered_in
 not_too_far least opening before between later lawful spaced some large on =
-    let all = along (λ earlier left. considered_in opening before between * least
-    ≤ Book.accu_after opening earlier + considered_in opening earlier left * least)
-    (λ earlier event. CountsAtLeast least opening earlier event × GoesOn opening earlier event) opening
-    (λ earlier event left step here old. more-at-least (was_considered opening earlier event) (considered_in opening (earlier ++ event ∷ []) left)
-    least (Book.accu_after opening earlier) (Book.accu_after opening (earlier ++ event ∷ [])) (considered_in opening before between * least) old
-    (keeps-at least opening earlier event step spaced some here.0 here.1))
-    before between later lawful (both (CountsAtLeast least opening) (GoesOn opening) before between large on) (omega arith) in
-    let sound = (sound_at opening (before ++ between) later lawful).0.accu in
-    omega (arith, all, sound)
+    let all = (shared opening before between later lawful spaced).1 in
+    let none = goes-on least opening before between some large on in
+    let many = counts-at-least least opening before between large in
+    omega (arith, all, none.0, none.1, many)

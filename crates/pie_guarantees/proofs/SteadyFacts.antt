@@ -1,5 +1,5 @@
 -- How far updates at one delay move the probability, by the table of auto-tuning.
-use Rattle.pie_guarantees.proofs.Names.{◌≡◌, ◌≤◌, ◌<◌, ◌+◌, ◌*◌, ◌-◌, ◌/◌, ◌^◌, ℕ, zero, suc, false, refl, ap, ◌∙◌, arith, subst, min, ℤ, pos}
+use Rattle.pie_guarantees.proofs.Names.{◌≡◌, ◌≤◌, ◌<◌, ◌+◌, ◌*◌, ◌-◌, ◌/◌, ◌^◌, ℕ, zero, suc, false, refl, ap, ◌∙◌, arith, min, ℤ, pos}
 use Rattle.pie_guarantees.proofs.Names.{◌-ℤ◌, int_div, nat_tests, clamps, ints, le-div, mul-le, div-mul-le_self, lt-mul-div-succ}
 use Rattle.pie_guarantees.proofs.Names.{Elements, Step, decayed, decays, next, raw_step, tuned_step, tuning_divisor}
 use Rattle.pie_guarantees.proofs.Names.{after_updates, next-hold, least_rise, untuned_fall, untuned_rise, updates_from, updates_to_a_tenth}
@@ -36,7 +36,7 @@ unfolding tuned_step
 tuned-below step prob n = let q = quotient-below n (tuning_divisor prob) in grind (arith, nat_tests, ints, clamps)
 
 -- a rise is at least this, and at most that
-one-rise : (elements : Elements) (params : RawParams) (prob delay : ℕ) → 0 < params.target → params.target ≤ delay
+pub one-rise : (elements : Elements) (params : RawParams) (prob delay : ℕ) → 0 < params.target → params.target ≤ delay
     → (min (10 ^ 12) (prob + least_rise params delay prob) ≤ next elements params prob delay delay)
     × (next elements params prob delay delay ≤ prob + untuned_rise params delay / tuning_divisor prob)
 unfolding next decayed tuned_step
@@ -44,7 +44,7 @@ one-rise elements params prob delay some above =
     rw (none_decays elements.decay params delay delay some above, raw-above params delay above)
     (grind (arith, nat_tests, ints, clamps), grind (arith, nat_tests, ints, clamps))
 
-fallen-step : (elements : Elements) (params : RawParams) (prob delay : ℕ) → delay ≤ params.target
+pub fallen-step : (elements : Elements) (params : RawParams) (prob delay : ℕ) → delay ≤ params.target
     → tuned_step elements.step prob (raw_step params delay delay) ≡ pos 0 -ℤ pos (untuned_fall params delay / tuning_divisor prob)
 fallen-step elements params prob delay below =
     ap (λ (z : ℤ). tuned_step elements.step prob z) (raw-below params delay below) ∙ tuned-below elements.step prob (untuned_fall params delay)
@@ -73,12 +73,71 @@ rise-grows params delay low high le =
     let more = div-more (untuned_rise params delay) (tuning_divisor low) (tuning_divisor high) (divisor-some high) (divisor-falls low high le) in
     omega (arith, more)
 
-more-times : (n rise : ℕ) → suc n * rise ≡ rise + n * rise
+pub more-times : (n rise : ℕ) → suc n * rise ≡ rise + n * rise
 more-times n rise = grind arith
 
 -- so many steps go so far
 enough : (far by : ℕ) → 0 < by → far ≤ (far / by + 1) * by
 enough far by some = let rest = lt-mul-div-succ far some in omega (arith, rest)
+
+module _ (params : RawParams) (delay : ℕ) where
+  -- the least that so many updates leave of any probability, if the delay stays as high
+  pub lows : ℕ → ℕ
+  lows zero = 0
+  lows (suc n) = min (10 ^ 12) (lows n + least_rise params delay (lows n))
+
+  pub low_none : lows 0 ≡ 0
+  unfolding lows
+  low_none = refl
+
+  pub low_rise : (n prob : ℕ) → lows n ≤ prob → lows (suc n) ≤ min (10 ^ 12) (prob + least_rise params delay prob)
+  unfolding lows
+  low_rise n prob le = let more = rise-grows params delay (lows n) prob le in omega (arith, le, more)
+
+  lows-within : (n : ℕ) → lows n ≤ 10 ^ 12
+  unfolding lows
+  lows-within zero = omega arith
+  lows-within (suc n) = omega arith
+
+  lows-rise : (m n : ℕ) → (lows m ≤ lows (m + n)) × (min (10 ^ 12) (lows m + n * least_rise params delay (lows m)) ≤ lows (m + n))
+  unfolding lows
+  lows-rise m zero = let none : m + zero ≡ m = omega arith in rw none (omega arith, omega arith)
+  lows-rise m (suc n) =
+      let one : m + suc n ≡ suc (m + n) = omega arith in
+      let rest = lows-rise m n in
+      let more = rise-grows params delay (lows m) (lows (m + n)) rest.0 in
+      let times = more-times n (least_rise params delay (lows m)) in
+      let within = lows-within m in rw one (omega (arith, rest.0, within), omega (arith, rest.1, more, times))
+
+  module _ (steep : 2048 ≤ untuned_rise params delay) where
+    rise-some : (low : ℕ) → 0 < least_rise params delay low
+    rise-some low =
+        let one = le-div 1 (untuned_rise params delay) (tuning_divisor low) (divisor-some low)
+        (let top = divisor-falls 0 low (omega arith) in let first = first-divisor in omega (arith, steep, top, first)) in
+        omega (arith, one)
+
+    -- where so many updates have come so far, so many more come further
+    further : (m low high : ℕ) → high ≤ 10 ^ 12 → low ≤ lows m → high ≤ lows (m + updates_from params delay low high)
+    further m low high top there =
+        let far = (lows-rise m (updates_from params delay low high)).1 in
+        let steps = enough (high - low) (least_rise params delay low) (rise-some low) in
+        let more = mul-le (updates_from params delay low high) (least_rise params delay low) (updates_from params delay low high)
+        (least_rise params delay (lows m)) (omega arith) (rise-grows params delay low (lows m) there) in
+        omega (arith, far, steps, more, there, top)
+
+    first-row : 10 ^ 6 ≤ lows (updates_from params delay 0 (10 ^ 6))
+    first-row =
+        let none : 0 + updates_from params delay 0 (10 ^ 6) ≡ updates_from params delay 0 (10 ^ 6) = omega arith in
+        rw none at (further 0 0 (10 ^ 6) (omega arith) (omega arith))
+
+    pub low_tenth : (n : ℕ) → updates_to_a_tenth params delay ≤ n → 10 ^ 11 ≤ lows n
+    low_tenth n many =
+        let split : updates_to_a_tenth params delay + (n - updates_to_a_tenth params delay) ≡ n = omega (arith, many) in
+        let tenth = further _ (10 ^ 10) (10 ^ 11) (omega arith) (further _ (10 ^ 9) (10 ^ 10) (omega arith)
+        (further _ (10 ^ 8) (10 ^ 9) (omega arith) (further _ (10 ^ 7) (10 ^ 8) (omega arith)
+        (further _ (10 ^ 6) (10 ^ 7) (omega arith) first-row)))) in
+        let stays = rw split at (lows-rise (updates_to_a_tenth params delay) (n - updates_to_a_tenth params delay)).0 in
+        omega (arith, tenth, stays)
 
 module _ (elements : Elements) (params : RawParams) (delay : ℕ) where
   -- after one update, and after so many
@@ -171,38 +230,17 @@ module _ (elements : Elements) (params : RawParams) (delay : ℕ) where
 
   -- ---- to a tenth
 
-  module _ (some : 0 < params.target) (above : params.target ≤ delay) (steep : 2048 ≤ untuned_rise params delay) where
-    rise-some : (low : ℕ) → 0 < least_rise params delay low
-    rise-some low =
-        let one = le-div 1 (untuned_rise params delay) (tuning_divisor low) (divisor-some low)
-        (let top = divisor-falls 0 low (omega arith) in let first = first-divisor in omega (arith, steep, top, first)) in
-        omega (arith, one)
+  module _ (some : 0 < params.target) (above : params.target ≤ delay) where
+    low-after : (n prob : ℕ) → prob ≤ 10 ^ 12 → lows params delay n ≤ after n prob
+    unfolding after_updates lows
+    low-after zero prob within = omega arith
+    low-after (suc n) prob within =
+        let one : n + 1 ≡ suc n = omega arith in
+        let last = rw one at (after_both n 1 prob) in
+        let rise = (one-rise elements params (after n prob) delay some above).0 in
+        let low = low_rise params delay n (after n prob) (low-after n prob within) in rw last (omega (arith, rise, low))
 
-    reaches : (low high prob : ℕ) → low ≤ prob → prob ≤ 10 ^ 12 → high ≤ 10 ^ 12 → high ≤ after (updates_from params delay low high) prob
-    reaches low high prob from within top =
-        let far = (rises some above (updates_from params delay low high) (least_rise params delay low) 0 prob (rise-grows params delay low prob from)
-        within).1 in
-        let steps = enough (high - low) (least_rise params delay low) (rise-some low) in
-        omega (arith, far, steps, from, top)
-
-    -- where so many updates have come so far, so many more come further
-    further : (m low high prob : ℕ) → prob ≤ 10 ^ 12 → high ≤ 10 ^ 12 → low ≤ after m prob
-        → high ≤ after (m + updates_from params delay low high) prob
-    further m low high prob within top there =
-        rw (after_both m (updates_from params delay low high) prob) (reaches low high (after m prob) there (after-within m prob within) top)
-
-    tenth : (prob : ℕ) → prob ≤ 10 ^ 12 → 10 ^ 11 ≤ after (updates_to_a_tenth params delay) prob
-    tenth prob within =
-        further _ (10 ^ 10) (10 ^ 11) prob within (omega arith) (further _ (10 ^ 9) (10 ^ 10) prob within (omega arith)
-        (further _ (10 ^ 8) (10 ^ 9) prob within (omega arith) (further _ (10 ^ 7) (10 ^ 8) prob within (omega arith)
-        (further _ (10 ^ 6) (10 ^ 7) prob within (omega arith) (reaches 0 (10 ^ 6) prob (omega arith) within (omega arith))))))
-
-    pub reaches_a_tenth : (n prob : ℕ) → prob ≤ 10 ^ 12 → updates_to_a_tenth params delay ≤ n → 10 ^ 11 ≤ after n prob
-    reaches_a_tenth n prob within many =
-        let m = updates_to_a_tenth params delay in
-        let split : updates_to_a_tenth params delay + (n - updates_to_a_tenth params delay) ≡ n = omega (arith, many) in
-        let there = tenth prob within in
-        let stays = (rises some above (n - updates_to_a_tenth params delay) 0 0 (after (updates_to_a_tenth params delay) prob) (omega arith)
-        (after-within (updates_to_a_tenth params delay) prob within)).0 in
-        let both = after_both (updates_to_a_tenth params delay) (n - updates_to_a_tenth params delay) prob in
-        subst (λ (k : ℕ). 10 ^ 11 ≤ after k prob) split (rw both (omega (arith, there, stays)))
+    pub reaches_a_tenth : 2048 ≤ untuned_rise params delay → (n prob : ℕ) → prob ≤ 10 ^ 12 → updates_to_a_tenth params delay ≤ n
+        → 10 ^ 11 ≤ after n prob
+    reaches_a_tenth steep n prob within many =
+        let low = low-after n prob within in let tenth = low_tenth params delay steep n many in omega (arith, low, tenth)

@@ -1,10 +1,11 @@
 -- Worked histories, in which a law that one might expect fails, or in which a bound is all but reached.
-use Rattle.std.specs.Prelude.{ℕ, List, [], ◌∷◌}
+use Rattle.std.specs.Prelude.{ℕ, List, [], ◌∷◌, ◌&&◌, ◌==◌, count_by}
 use Rattle.pie_params.specs.Elements.{usual}
 use Rattle.pie_params.specs.declared.elements.Delay.TheVariants.{Stamp}
 use Rattle.pie_params.specs.declared.elements.Picking.TheVariants.{Random}
 use Rattle.pie_guarantees.specs.Names.{NotEct, RawParams, One, Command, Arrive, Depart, Update, SetParams, Answer, Enqueued, DroppedEarly, Left}
 use Rattle.pie_guarantees.specs.Names.{Updated, Done, Event, Bounded, Elements, Opening, Packet}
+use Rattle.pie_guarantees.specs.Verdicts.{is_early}
 
 abbrev pub happened : Command → Answer → Event
 happened command answer = record { caller = 1; command = command; answer = answer }
@@ -59,3 +60,32 @@ burst_goes_on =
 
 abbrev pub first_drop : Event
 first_drop = happened (Arrive 200 (thousand_bytes 4) 0) DroppedEarly
+
+-- ---- an update at the last moment of all, 2^60 - 1: no later update can be due
+
+abbrev pub last_update : List Event
+last_update = happened (Update 1152921504606846975) (Updated 0 0 200) ∷ []
+
+-- ---- two flows that send in turn, at a probability of a half: every second considered packet is picked, and each is of flow 1
+
+abbrev pub flows_opening : Opening
+flows_opening = opened (record usual { delay = Stamp }) (record (limited 100000) { max_burst = 0 })
+
+abbrev pub half_is_reached : List Event
+half_is_reached =
+    happened (Arrive 0 (thousand_bytes 9) 0) Enqueued ∷ happened (Arrive 0 (thousand_bytes 9) 0) Enqueued
+    ∷ happened (Depart 512000001) (Left (thousand_bytes 9)) ∷ happened (Update 512000001) (Updated 512000001 500000000000 0) ∷ []
+
+abbrev pub flows_in_turn : List Event
+flows_in_turn =
+    happened (Arrive 512000002 (thousand_bytes 2) 0) Enqueued ∷ happened (Arrive 512000003 (thousand_bytes 1) 0) DroppedEarly
+    ∷ happened (Arrive 512000004 (thousand_bytes 2) 0) Enqueued ∷ happened (Arrive 512000005 (thousand_bytes 1) 0) DroppedEarly
+    ∷ happened (Arrive 512000006 (thousand_bytes 2) 0) Enqueued ∷ happened (Arrive 512000007 (thousand_bytes 1) 0) DroppedEarly ∷ []
+
+-- the flow of an arriving packet, 0 with none, and the number of packets of a flow that were marked or dropped early
+abbrev pub flow_of : Command → ℕ
+flow_of (Arrive moment packet word) = packet.tag
+flow_of _ = 0
+
+abbrev pub picks_of : ℕ → List Event → ℕ
+picks_of flow events = count_by (λ event. is_early event.answer && (flow_of event.command == flow)) events

@@ -1,9 +1,9 @@
 -- How the probability follows the delay (RFC 8033, sections 4.2, 5.1 and 5.5).
-use Rattle.std.specs.Prelude.{◌≡◌, ◌+◌, ◌*◌, ◌-◌, ◌/◌, ◌^◌, min, ℕ, zero, suc, List, true, false}
+use Rattle.std.specs.Prelude.{◌≡◌, ◌≤◌, ◌<◌, ◌+◌, ◌*◌, ◌-◌, ◌/◌, ◌^◌, ◌++◌, ◌∷◌, [], min, ℕ, zero, suc, List, true, false}
 use Rattle.pie_params.specs.declared.elements.Elements.{Elements}
 use Rattle.pie_control.specs.Next.{next, tuning_divisor}
-use Rattle.pie_guarantees.specs.Names.{deed_of, is_update, RawParams, Event, Opening, active_after, delay_after, parts_after, is_reset}
-use Rattle.pie_guarantees.specs.Bursts.{KeepsParams}
+use Rattle.pie_guarantees.specs.Names.{deed_of, is_update, RawParams, Event, Opening, active_after, delay_after, params_after, parts_after, is_reset}
+use Rattle.pie_guarantees.specs.Bursts.{IsWhole, KeepsParams}
 
 -- the event is an update, and the controller was active before it
 pub record IsActiveUpdate (opening : Opening) (before : List Event) (event : Event) : Type 0 where
@@ -52,3 +52,29 @@ pub record IsSteady (delay : ℕ) (opening : Opening) (before : List Event) (eve
   pub active : active_after opening before ≡ true
   pub delay_now : is_update (deed_of event) ≡ true → delay_after opening before ≡ delay
   pub delay_old : is_update (deed_of event) ≡ true → old_delay_after opening before ≡ delay
+
+-- no parameters are set by the event, and if it is an update of the active controller, the update finds no delay
+pub record FindsNoDelay (opening : Opening) (before : List Event) (event : Event) : Type 0 where
+  pub keeps : KeepsParams event.command
+  pub delay : is_update (deed_of event) ≡ true → active_after opening before ≡ true → delay_after opening before ≡ 0
+
+-- the probability is 0 and the burst allowance is whole
+pub record HasRecovered (opening : Opening) (history : List Event) : Type 0 where
+  pub prob : probability_after opening history ≡ 0
+  pub burst : IsWhole opening history
+
+-- the update finds the delay below half the target, as the one before it did, and leaves the probability at 0
+pub record IsCalmUpdate (opening : Opening) (before : List Event) (event : Event) : Type 0 where
+  pub update : IsActiveUpdate opening before event
+  pub delay : 2 * delay_after opening before < (params_after opening before).target
+  pub old_delay : 2 * old_delay_after opening before < (params_after opening before).target
+  pub prob : probability_after opening (before ++ event ∷ []) ≡ 0
+
+-- the event sets no parameters and resets nothing, the controller is active, and if the event is an update, it finds a delay of at least `least`
+-- that is not below the delay of the update before it
+pub record IsLasting (least : ℕ) (opening : Opening) (before : List Event) (event : Event) : Type 0 where
+  pub keeps : KeepsParams event.command
+  pub unreset : is_reset (deed_of event) ≡ false
+  pub active : active_after opening before ≡ true
+  pub delay : is_update (deed_of event) ≡ true → least ≤ delay_after opening before
+  pub grows : is_update (deed_of event) ≡ true → old_delay_after opening before ≤ delay_after opening before

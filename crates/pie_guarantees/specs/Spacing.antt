@@ -1,5 +1,5 @@
 -- How far picked packets are apart, where probabilities accumulate (RFC 8033, section 5.4).
-use Rattle.std.specs.Prelude.{◌≡◌, ◌≤◌, ◌+◌, ◌++◌, ℕ, Bool, true, false, ◌&&◌, List, [], ◌∷◌, if◌then◌else◌}
+use Rattle.std.specs.Prelude.{◌≡◌, ◌≤◌, ◌+◌, ◌++◌, ℕ, Bool, true, false, ◌&&◌, ◌||◌, ◌==◌, not, List, [], ◌∷◌, count_by, if◌then◌else◌}
 use Rattle.pie_early.specs.Decision.{counted_as}
 use Rattle.pie_guarantees.specs.Names.{considered_where, Deed, deed_of, dropped_early, marked, queued, Event, Opening, active_after, params_after}
 use Rattle.pie_guarantees.specs.Names.{parts_after, bytes_after, arriving_size, is_dropped_bytes, is_dropped_packets, is_reset}
@@ -23,11 +23,34 @@ abbrev pub counted_at : Opening → List Event → Event → ℕ
 counted_at opening before event =
     counted_as opening.choices.elements.size (params_after opening before) (arriving_size event.command) (parts_after opening before).prob
 
--- how many of these packets were considered, after the events before
-unfoldable pub considered_in : Opening → List Event → List Event → ℕ
-considered_in opening before [] = 0
-considered_in opening before (event ∷ later) =
-    (if was_considered opening before event then 1 else 0) + considered_in opening (before ++ event ∷ []) later
+-- the event starts the accumulated probability anew and picks no packet: a tail drop, a reset, an arrival that turns the controller on, or a packet
+-- that is considered while the probability counts as 0
+abbrev pub starts_anew : Opening → List Event → Event → Bool
+starts_anew opening before event =
+    (is_dropped_bytes (deed_of event) || is_dropped_packets (deed_of event)) || is_reset (deed_of event)
+    || (not (active_after opening before) && active_after opening (before ++ event ∷ []))
+    || (was_considered opening before event && (counted_at opening before event == 0))
+
+-- the sum of a number of each of these later events, which may depend on all events before it
+unfoldable pub sum_along : (List Event → Event → ℕ) → List Event → List Event → ℕ
+sum_along f before [] = 0
+sum_along f before (event ∷ later) = f before event + sum_along f (before ++ event ∷ []) later
+
+-- the number of packets that early drop considered, after the events before
+abbrev pub considered_in : Opening → List Event → List Event → ℕ
+considered_in opening = sum_along (λ before event. if was_considered opening before event then 1 else 0)
+
+-- the sum of what the probability counted as for each of them
+abbrev pub counted_in : Opening → List Event → List Event → ℕ
+counted_in opening = sum_along (λ before event. if was_considered opening before event then counted_at opening before event else 0)
+
+-- the number of events that start the accumulated probability anew and pick no packet
+abbrev pub restarts_in : Opening → List Event → List Event → ℕ
+restarts_in opening = sum_along (λ before event. if starts_anew opening before event then 1 else 0)
+
+-- the number of packets that were marked or dropped early
+abbrev pub picks_in : List Event → ℕ
+picks_in events = count_by (λ event. is_early event.answer) events
 
 -- where a packet is considered, the probability counts as this at most
 abbrev pub CountsAtMost : ℕ → Opening → List Event → Event → Type 0

@@ -1,16 +1,18 @@
 //! How long a burst is let in (RFC 8033, section 4.4).
 ghost use Rattle.std.specs.Prelude.{◌≡◌, ◌≤◌, ◌+◌, ◌*◌, ◌++◌, ◌∷◌, [], All, List, ℕ, false, true};
 ghost use Rattle.pie_guarantees.specs.{Event, Opening, active_after, params_after, parts_after, effective_moment, AllAllow, IsAllowed, IsWhole};
-ghost use Rattle.pie_guarantees.specs.{AtEachEvent, BetweenAny};
+ghost use Rattle.pie_guarantees.specs.{AtEachEvent, BetweenAny, IsCalmUpdate};
 ghost use Rattle.pie_guarantees.specs.{KeepsParams, burst_left, updates_in, IsLawful, IsEarly};
 ghost use Rattle.pie_book.specs.Types.{Reset};
 
-/// The burst allowance is whole at the opening, after a reset, and where an arrival turns the controller on (RFC 8033, sections 4.4 and 5.3).
+/// The burst allowance is whole at the opening, after a reset, after an arrival that turns the controller on, and after each calm update, which finds
+/// the delay below half the target, as the update before it did, and leaves the probability at 0 (RFC 8033, sections 4.4 and 5.3).
 pub fn allowances_begin_whole()
     ensures opening { (opening : Opening) → IsLawful opening [] → IsWhole opening [] }
     ensures reset { AtEachEvent (λ opening before event. (moment : ℕ) → event.command ≡ Reset moment → IsWhole opening (before ++ event ∷ [])) }
     ensures turned_on { AtEachEvent (λ opening before event. active_after opening before ≡ false → active_after opening (before ++ event ∷ []) ≡ true
         → IsWhole opening (before ++ event ∷ [])) }
+    ensures calm { AtEachEvent (λ opening before event. IsCalmUpdate opening before event → IsWhole opening (before ++ event ∷ [])) }
 {}
 
 /// From any moment on, by what is left then of the burst allowance: before the first packet is marked or dropped early there are as many updates

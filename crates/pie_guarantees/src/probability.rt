@@ -43,7 +43,8 @@ pub fn what_gives_a_higher_probability()
 {}
 
 /// While each update finds the same delay the probability is that after so many updates of one delay (`steady`). With the defaults, from 0 at
-/// twice the target it is at least 10 per cent after 162 updates, 2.43 seconds (`tenth_at_last`, `not_before`). Where it decays it falls by 2 per
+/// twice the target it is at least 10 per cent after 162 updates, 2.43 seconds, if the update before these found that delay too (`tenth_at_last`,
+/// `not_before`), and after 158 updates, 2.37 seconds, if it found none (`from_rest`, `not_from_rest_before`). Where it decays it falls by 2 per
 /// cent an update at least (`fades`); with no delay from 1 to a tenth in 87 updates, 1.3 seconds (`faded`, `not_yet_faded`).
 pub fn how_fast_the_probability_changes()
     ensures steady { (delay : ℕ) → BetweenAny (λ opening before between. AllAlong (IsSteady delay opening) before between
@@ -51,6 +52,8 @@ pub fn how_fast_the_probability_changes()
         ≡ after_updates (updates_in between) opening.choices.elements (params_after opening before) delay (probability_after opening before)) }
     ensures tenth_at_last { after_updates 162 usual default_profile 30_000_000 0 ≡ 100_178_833_003 }
     ensures not_before { after_updates 161 usual default_profile 30_000_000 0 ≡ 99_241_333_003 }
+    ensures from_rest { after_updates 157 usual default_profile 30_000_000 (next usual default_profile 0 30_000_000 0) ≡ 100_185_241_696 }
+    ensures not_from_rest_before { after_updates 156 usual default_profile 30_000_000 (next usual default_profile 0 30_000_000 0) ≡ 99_247_741_696 }
     ensures fades { (delay : ℕ) → BetweenAny (λ opening before between. AllAlong (IsSteady delay opening) before between
         → decays opening.choices.elements.decay (params_after opening before) delay delay ≡ true
         → probability_after opening (before ++ between) * 100 ^ updates_in between ≤ probability_after opening before * 98 ^ updates_in between) }
@@ -58,7 +61,7 @@ pub fn how_fast_the_probability_changes()
     ensures not_yet_faded { after_updates 86 usual default_profile 0 1_000_000_000_000 ≡ 100_263_958_315 }
 {}
 
-/// What n updates of one delay make of a probability, by the table of auto-tuning (RFC 8033, section 5.1.1), whatever the parameters: from a
+/// What n updates of one delay make of a probability, by the table of auto-tuning (RFC 8033, section 4.2), whatever the parameters: from a
 /// probability they raise it by at least n times alpha over the divisor there for each nanosecond above the target, at most 2 points each (`rises`),
 /// and while it has come no further than `most` by no more than that over the divisor at `most` (`rises_no_faster`); below the target they lower it
 /// so (`falls`, and where it does not decay `falls_no_faster`). So it is at 10 per cent after the updates that each row of the table takes, one after

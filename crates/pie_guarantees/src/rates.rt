@@ -1,6 +1,7 @@
 //! What the estimate of the departure rate guarantees (RFC 8033, section 5.2).
-ghost use Rattle.std.specs.Prelude.{◌≡◌, ◌≤◌, ◌<◌, All, List, ℕ, length};
-ghost use Rattle.pie_guarantees.specs.{Event, Opening, IsLawful, IsBetween, samples_after};
+ghost use Rattle.std.specs.Prelude.{◌≡◌, ◌≤◌, ◌<◌, ◌*◌, ◌/◌, ◌^◌, min, All, List, ℕ, length};
+ghost use Rattle.pie_params.specs.declared.elements.Delay.TheVariants.{Rate};
+ghost use Rattle.pie_guarantees.specs.{Event, Opening, IsLawful, IsBetween, samples_after, bytes_after, delay_after, params_after};
 ghost use Rattle.pie_book.specs.Estimates.{average_after};
 
 /// The estimated time in which `dq_threshold` bytes depart lies between the shortest and the longest sample since the estimate was cleared,
@@ -11,4 +12,14 @@ pub fn the_rate_lies_between_its_samples()
         → IsBetween least most (average_after opening history) }
     ensures unmeasured { (opening : Opening) (history : List Event) → IsLawful opening history → length (samples_after opening history) ≡ 0
         → average_after opening history ≡ 0 }
+{}
+
+/// If the delay comes from the departure rate and there is a sample, the estimated delay is at most the bytes that wait times the longest sample, over
+/// `dq_threshold`, and at least these bytes times the shortest sample, over `dq_threshold`, or 2^40 nanoseconds, the greatest delay (RFC 8033,
+/// section 5.2; the greatest delay is this project's own).
+pub fn the_estimated_delay_lies_between()
+    ensures { (least : ℕ) (most : ℕ) (opening : Opening) (history : List Event) → IsLawful opening history → opening.choices.elements.delay ≡ Rate
+        → 0 < length (samples_after opening history) → All (IsBetween least most) (samples_after opening history)
+        → IsBetween (min (2 ^ 40) (bytes_after opening history * least / (params_after opening history).dq_threshold))
+        (bytes_after opening history * most / (params_after opening history).dq_threshold) (delay_after opening history) }
 {}

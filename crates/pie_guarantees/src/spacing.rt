@@ -2,7 +2,7 @@
 ghost use Rattle.std.specs.Prelude.{◌≡◌, ◌≤◌, ◌<◌, ◌+◌, ◌*◌, ◌++◌, ◌∷◌, [], List, ℕ};
 ghost use Rattle.pie_params.specs.declared.elements.Picking.TheVariants.{Derandomized};
 ghost use Rattle.pie_guarantees.specs.{Event, Opening, AllAlong, IsLawful, CountsAtLeast, CountsAtMost, GoesOn, considered_in, counted_at, IsEarly};
-ghost use Rattle.pie_guarantees.specs.{AtEachEvent, BetweenAny};
+ghost use Rattle.pie_guarantees.specs.{AtEachEvent, BetweenAny, counted_in, picks_in, restarts_in};
 ghost use Rattle.pie_book.specs.Estimates.{accu_after};
 
 /// A packet that is marked or dropped early leaves an accumulated probability of 0 (RFC 8033, section 5.4).
@@ -23,9 +23,33 @@ pub fn picks_are_far_apart()
 
 /// Where probabilities accumulate and the probability counts as at least `least` for each considered packet, above 0: as long as none is
 /// picked, and nothing else starts the accumulated probability anew, there are so few considered packets that these times `least` are below 8.5
-/// (RFC 8033, section 5.4). So at 1 per cent at least one of 850 in a row is picked.
+/// (RFC 8033, section 5.4). So at 1 per cent at least one of 850 in a row is
+/// picked, and after a tail drop the count begins again.
 pub fn picks_are_not_too_far_apart()
     ensures { (least : ℕ) → BetweenAny (λ opening before between. opening.choices.elements.picking ≡ Derandomized → 0 < least
         → AllAlong (CountsAtLeast least opening) before between → AllAlong (GoesOn opening) before between
         → considered_in opening before between * least < 8_500_000_000_000) }
+{}
+
+/// If probabilities accumulate and the probability counts as less than 0.85, no two consecutive considered packets are picked: from one pick to the
+/// next either a packet between them is considered and not picked, or the probability counts as at least 0.85 for the next (RFC 8033, section 5.4).
+/// This says nothing about flows: one flow may receive every pick (`one_flow_may_receive_every_pick`).
+pub fn picks_never_follow_at_once()
+    ensures { (opening : Opening) (before : List Event) (first : Event) (between : List Event) (second : Event) (later : List Event)
+        → IsLawful opening (before ++ first ∷ [] ++ between ++ second ∷ later) → opening.choices.elements.picking ≡ Derandomized → IsEarly first
+        → considered_in opening (before ++ first ∷ []) between ≡ 0 → IsEarly second
+        → 850_000_000_000 ≤ counted_at opening (before ++ first ∷ [] ++ between) second }
+{}
+
+/// Conservation (RFC 8033, section 5.4): if probabilities accumulate, the sum of what the probability counted as, over the packets that were
+/// considered between any two places, is at least 0.85 for each pick, if the accumulated probability is 0 at the first place (`at_least`), and less
+/// than 9.5 for each pick plus 8.5 for each other restart and for the last, unfinished sum (`at_most`). Other restarts are tail drops, resets,
+/// arrivals that turn the controller on, and packets that are considered while the probability counts as 0. So these bound the share of picked
+/// packets at any varying probability.
+pub fn picks_share_the_probability()
+    ensures at_least { BetweenAny (λ opening before between. opening.choices.elements.picking ≡ Derandomized → accu_after opening before ≡ 0
+        → 850_000_000_000 * picks_in between ≤ counted_in opening before between) }
+    ensures at_most { BetweenAny (λ opening before between. opening.choices.elements.picking ≡ Derandomized
+        → counted_in opening before between
+        < 9_500_000_000_000 * picks_in between + 8_500_000_000_000 * (restarts_in opening before between + 1)) }
 {}

@@ -1,6 +1,8 @@
 //! What does not follow, and how near the bounds are: worked histories.
-ghost use Rattle.std.specs.Prelude.{◌≡◌, ◌++◌, ◌∷◌, []};
-ghost use Rattle.pie_book.specs.Decision.{IsLegal};
+ghost use Rattle.std.specs.Prelude.{◌≡◌, ◌<◌, ◌++◌, ◌∷◌, [], ℕ, Some};
+ghost use Rattle.pie_book.specs.Decision.{IsLegal, refusal_by_rule};
+ghost use Rattle.pie_event.specs.declared.refusal.Refusal.TheVariants.{TooSoon};
+ghost use Rattle.pie_guarantees.specs.{Update, flows_in_turn, flows_opening, half_is_reached, last_update, picks_of};
 ghost use Rattle.pie_guarantees.specs.{params_after, bytes_after, effective_moment, IsWhole, burst_begins, burst_goes_on, burst_opening, first_drop};
 ghost use Rattle.pie_guarantees.specs.{lowered, lowered_opening, IsEarly};
 
@@ -20,4 +22,18 @@ pub fn bursts_may_meet_an_early_drop_so_soon()
     ensures began { effective_moment burst_opening burst_begins ≡ 99 }
     ensures dropped { effective_moment burst_opening (burst_begins ++ burst_goes_on) ≡ 200 }
     ensures early { IsEarly first_drop }
+{}
+
+/// After an update at the last moment of all, 2^60 - 1, every later update is refused, whatever its moment: here one `t_update` is 100.
+pub fn a_clock_at_its_end_refuses_every_update()
+    ensures legal { IsLegal burst_opening last_update }
+    ensures refused { (moment : ℕ) → moment < 1_152_921_504_606_846_976
+        → refusal_by_rule burst_opening last_update (Update moment) ≡ Some (TooSoon 1_152_921_504_606_847_075) }
+{}
+
+/// Spacing says nothing about flows: two flows send in turn at a probability of a half, and flow 1 receives every pick.
+pub fn one_flow_may_receive_every_pick()
+    ensures legal { IsLegal flows_opening (half_is_reached ++ flows_in_turn) }
+    ensures one { picks_of 1 flows_in_turn ≡ 3 }
+    ensures other { picks_of 2 flows_in_turn ≡ 0 }
 {}

@@ -7,6 +7,7 @@
 #![tactic(auto)]
 
 mod books;
+mod endless;
 mod event_costs;
 mod flushes;
 mod link_costs;
@@ -15,6 +16,7 @@ mod lock;
 mod lock_costs;
 mod places;
 mod report;
+mod rows;
 mod rules;
 mod seen;
 mod storms;
@@ -87,13 +89,45 @@ fn tests<R: Threads + Wait + Clock + Print + Sync>(to: &mut Report<R>, alloc: Gl
     say(to, "rules_by_worked_rows", rules::are_worked_rows());
     say(to, "refusals_in_words", words::refusals_in_words(alloc));
     say(to, "the_largest_ring", words::the_largest_ring(alloc));
+    worked_rows(to, alloc);
     let are_made = words::calls_that_nothing_else_makes(alloc);
     say(to, "calls_that_nothing_else_makes", are_made);
     let is_answered = links::is_answered(to.rt, alloc);
     say(to, "a_caller_of_65535_is_answered_and_closes", is_answered);
-    let take_part = storms::folds_take_part(to.rt, alloc);
-    say(to, "folds_and_a_change_take_part", take_part);
+    storms_of_threads(to, alloc);
     sleepers(to, alloc);
+}
+
+/// Says so of worked rows: a core, a book, runs, a history without an end, a queue.
+fn worked_rows<R: Clock + Print>(to: &mut Report<R>, alloc: Global) {
+    let holds = rows::core_decides(alloc);
+    say(to, "a_core_decides_worked_histories", holds);
+    let holds = rows::book_decides(alloc);
+    say(to, "a_book_decides_worked_histories_and_folds", holds);
+    let holds = rows::runs_end(alloc);
+    say(to, "runs_end_with_registers_and_statistics", holds);
+    let holds = rows::runs_are_bounded(alloc);
+    say(to, "runs_are_bounded_by_records", holds);
+    let holds = endless::lines_come(alloc);
+    say(to, "a_history_without_an_end_is_read", holds);
+    let holds = rows::queue_is_first_in_first_out(alloc);
+    say(to, "a_queue_of_two_packets", holds);
+}
+
+/// Says so of storms.
+fn storms_of_threads<R: Threads + Wait + Clock + Print + Sync>(to: &mut Report<R>, alloc: Global) {
+    let holds = storms::held_comes_last(to.rt, alloc);
+    say(to, "a_held_sender_comes_last", holds);
+    let holds = storms::flags_are_seen(to.rt, alloc);
+    say(to, "senders_see_the_flags_of_all_others", holds);
+    let holds = storms::folds_take_part(to.rt, alloc);
+    say(to, "folds_and_a_change_take_part", holds);
+    let holds = storms::early_fold_is_passed_over(to.rt, alloc);
+    say(to, "a_fold_that_comes_too_early_is_passed_over", holds);
+    let holds = storms::plans_are_checked(to.rt, alloc);
+    say(to, "plans_of_storms_are_checked", holds);
+    let holds = storms::pace_is_kept(to.rt, alloc);
+    say(to, "a_storm_keeps_its_pace", holds);
 }
 
 /// Says whether those that sleep at a held lock wake.

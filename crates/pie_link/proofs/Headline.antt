@@ -61,6 +61,9 @@ while_free look_back opening numbers lock history holder owner agreed free =
           queue = told.running.waiting;
           registers = look_back book.opening book.running (events_in history) told.running;
           stats = told.running.stats;
+          accepted = tells.accepted;
+          in_range = tells.in_range;
+          set = tells.set;
         }),
       ),
     )

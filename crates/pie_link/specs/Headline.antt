@@ -2,7 +2,7 @@
 -- shown, contains each caller's calls once and in its order, and ends with the stored tail; every recorded verdict is the
 -- rules' at its place, and looking back over the whole history gives what the book now holds. In a bounded link no recorded
 -- event is lost: what all folds handed out, in their order, and then the tail are all events of the history.
-use Rattle.std.specs.Prelude.{◌≡◌, ℕ, List, [], ◌∷◌, ◌++◌, length, slice_index, Option, Some, All}
+use Rattle.std.specs.Prelude.{◌≡◌, ℕ, List, [], ◌∷◌, ◌++◌, length, slice_index, Option, Some, None, All}
 use mathlib.Core.List.{IsPrefix}
 use mathlib.Core.Option.{some}
 use lib.ListN.{get_elem?}
@@ -19,7 +19,9 @@ use Rattle.pie_book.specs.Core.{registers_of}
 use Rattle.pie_book.specs.History.{waiting_after}
 use Rattle.pie_book.specs.Registers.{registers_after}
 use Rattle.pie_book.specs.Statistics.{stats_after}
-use Rattle.pie_link.specs.Kept.{KeptView}
+use Rattle.pie_params.specs.Range.{first_bad}
+use Rattle.pie_event.specs.Opening.{opening_refusal}
+use Rattle.pie_link.specs.Kept.{KeptView, SetsInRange}
 use Rattle.pie_link.specs.Views.{LinkView}
 
 -- a caller: the entries that it has been shown, and its numbers first..limit
@@ -60,6 +62,10 @@ pub record IsOneHistory (opening : Opening) (book : BookView) (callers : List In
   pub queue : book.running.waiting ≡ waiting_after opening (events_in history)
   pub registers : registers_of book.running ≡ registers_after opening (events_in history)
   pub stats : book.running.stats ≡ stats_after opening (events_in history)
+  -- limits and moment of the opening were accepted, and all parameters are in their ranges
+  pub accepted : opening_refusal opening.limits opening.moment ≡ None
+  pub in_range : first_bad opening.params ≡ None
+  pub set : All (λ event. SetsInRange event.command) (events_in history)
 
 -- the callers of which a seat at the lock knows; one that was gathered into another knows of none
 abbrev pub informed : Shown Entry Opening → Informed

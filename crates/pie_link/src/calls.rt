@@ -261,6 +261,9 @@ impl Link {
     /// none after one that sets parameters. The history stays as it was, and so do all later answers but `HistoryFull`. It never blocks and takes
     /// no memory, and a tail with no events is no refusal: there are none then.
     ///
+    /// Returns the number of events handed out, with the number of the last event in the checkpoint after the fold. The events have the numbers
+    /// `number - answer + 1` to `number`, so that a caller sees which events of a rolling link no fold handed out.
+    ///
     /// # Errors
     ///
     /// `Busy` alone, where another caller has the book.
@@ -269,7 +272,7 @@ impl Link {
         caller: &mut Caller,
         most: usize,
         events: &mut Vec<Recorded>,
-    ) -> Result<(), Tried<Refusal>>
+    ) -> Result<Told<usize>, Tried<Refusal>>
         requires own { caller.old.lock ≡ self.now }
         ensures folded { TriesToFoldInto self.now caller.old (min most (vec_capacity events.old - vec_len events.old)) result events.old.items
             events.new.items caller.new }

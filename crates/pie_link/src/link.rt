@@ -1,5 +1,7 @@
 //! The link: how it is opened, shared and closed.
 ghost use Rattle.std.specs.Prelude.{◌≡◌, ◌+◌, ◌<◌, ◌≤◌, ◌↔◌, [], All, Some, None, IsOk, IsErr, IfOk, IfErr, IfSome, OnOk, OnErr, List};
+ghost use Rattle.pie_params.specs.Range.{first_bad};
+ghost use Rattle.pie_event.specs.Opening.{opening_refusal};
 ghost use Rattle.pie_event.specs.declared.opening.Mode.TheVariants.{Bounded};
 ghost use Rattle.pie_event.specs.declared.profile.Profile.TheVariants.{One};
 ghost use Rattle.pie_params.specs.Elements.{usual};
@@ -85,6 +87,7 @@ impl Link {
         ensures headline { IfOk result (λ opened. KeepsOneHistory
             ⟦<LockRule as TableRule<Option<KeptBook>, Place<Entry, Opening>, LockOpening<KeptBook>>>⟧.holds opened.0) }
     {
+        are_in_range(&opening);
         let book = match Book::open_with(alloc, opening) {
             Ok(book) => book,
             Err(OpenRefusal::Memory) if callers == 0 => return Err(LinkRefusal::NoCallers),
@@ -110,6 +113,8 @@ impl Link {
         requires new { Tells book [] }
         requires tail { book.tail ≡ [] }
         requires room { 1 ≤ book.opening.limits.tail }
+        requires accepted { opening_refusal book.opening.limits book.opening.moment ≡ None }
+        requires in_range { first_bad book.opening.params ≡ None }
         ensures origin { IfSome result (λ made. made.0.origin ≡ Some book.opening) }
         ensures numbers { IfSome result (λ made. made.0.numbers ≡ callers) }
         ensures pass { IfSome result (λ made. made.1 ≡ first_pass made.0 callers) }
@@ -179,4 +184,11 @@ impl Link {
             Err(StillHeld { lock, pass }) => Err((Link { lock, alloc }, Caller { pass })),
         }
     }
+}
+
+// The parameters of an opening are in their ranges, as all of their type are. It does nothing.
+fn are_in_range(opening: &Opening)
+    ensures { first_bad opening.now.params ≡ None }
+{
+    let _ = opening.params.raw();
 }

@@ -15,7 +15,7 @@ use std::alloc::Global;
 ///
 /// Refuses an open port, then what `pie_open` refuses of the opening, and then no callers; and where there is no memory, all stays as it was.
 #[unsafe(no_mangle)]
-pub extern "C" fn pie_link_open(
+pub extern "C" fn pie_link_open_port(
     alloc: Global,
     opening: &PieOpening,
     callers: u16,
@@ -33,15 +33,20 @@ pub extern "C" fn pie_link_open(
 /// Opens `new`, which is closed before, with the highest number of `port`: a caller of its own, for another thread. Where the port has one number
 /// alone, or where there is no memory, all stays as it was.
 #[unsafe(no_mangle)]
-pub extern "C" fn pie_link_share(alloc: Global, port: &mut PiePort, new: &mut PiePort) -> u32
+pub extern "C" fn pie_link_share_port(alloc: Global, port: &mut PiePort, new: &mut PiePort) -> u32
     ensures { Shares port.old.port new.old.port result port.new.port new.new.port }
 {
     pie_port::share(alloc, port, new)
 }
 
-/// Takes the numbers of `other`, which is closed then, where the range of one begins where that of the other ends. Both are of one link.
+/// Takes the numbers of `other`, which is closed then, if the range of one begins where that of the other ends. Both are of one link: pie_link.h
+/// compares the memory that the ports of a link share, and calls this only for two ports of one link.
 #[unsafe(no_mangle)]
-pub extern "C" fn pie_link_gather(alloc: Global, port: &mut PiePort, other: &mut PiePort) -> u32
+pub extern "C" fn pie_link_gather_ports(
+    alloc: Global,
+    port: &mut PiePort,
+    other: &mut PiePort,
+) -> u32
     requires own { AreOfOneLink port.old.port other.old.port }
     ensures { Gathers port.old.port other.old.port result port.new.port other.new.port }
 {
@@ -50,7 +55,7 @@ pub extern "C" fn pie_link_gather(alloc: Global, port: &mut PiePort, other: &mut
 
 /// Closes a port, and frees the link with its last one. Its numbers are nobody's then.
 #[unsafe(no_mangle)]
-pub extern "C" fn pie_link_close(alloc: Global, port: &mut PiePort) -> u32
+pub extern "C" fn pie_link_close_port(alloc: Global, port: &mut PiePort) -> u32
     ensures answer { result ≡ close_code port.old.port }
     ensures closed { port.new.port ≡ None }
 {

@@ -1,7 +1,7 @@
 -- What a fold at a port promises, and how an event of the history lies in a caller's struct.
 use Rattle.std.specs.Prelude.{ℕ, ◌≡◌, List, [], ◌∷◌, ◌++◌, Option, Result, Ok, Err, drop, length, map, min}
 use Rattle.pie_port.specs.Names.{bits_of, Answer, Command, SetParams, Event, Refusal, TriesToFoldInto, CallerView, StaysOne, Tried, PieEvent}
-use Rattle.pie_port.specs.Names.{PieParams, arrived_event, bare_event, params_of}
+use Rattle.pie_port.specs.Names.{PieParams, Told, arrived_event, bare_event, params_of}
 use Rattle.pie_event.specs.declared.command.Command.TheVariants.{Arrive, Depart, Update, Reset}
 use Rattle.pie_port.specs.declared.filling.Asked.TheVariants as asked
 use Rattle.pie_port.specs.Calls.{AtPort}
@@ -55,23 +55,30 @@ params_after p [] = p
 params_after p (event ∷ events) = params_after (params_in p event.command) events
 
 -- what it answers
-abbrev pub fold_code : Result (Unit {0}) (Tried Refusal) → List Event → ℕ
-fold_code (Ok done) [] = 106
-fold_code (Ok done) (event ∷ events) = 0
+abbrev pub fold_code : Result (Told ℕ) (Tried Refusal) → List Event → ℕ
+fold_code (Ok told) [] = 106
+fold_code (Ok told) (event ∷ events) = 0
 fold_code (Err why) events = 121
 
+-- the number of the last event that has left the log after the fold, and else the number that was there
+abbrev pub last_after : ℕ → Result (Told ℕ) (Tried Refusal) → ℕ
+last_after before (Ok told) = told.number
+last_after before (Err why) = before
+
 -- what an open port's caller was handed out, up to so many events as there are structs, at most 64; or that the link was busy, and none were
-pub record IsFolded (before : CallerView) (structs : List PieEvent) (p : PieParams) (code : ℕ) (written : List PieEvent) (folded : ℕ)
+pub record IsFolded (before : CallerView) (structs : List PieEvent) (l : ℕ) (p : PieParams) (code : ℕ) (written : List PieEvent) (folded last : ℕ)
     (params : PieParams) (after : CallerView) : Type 0 where
-  pub reply : Result (Unit {0}) (Tried Refusal)
+  pub reply : Result (Told ℕ) (Tried Refusal)
   pub events : List Event
   pub tried : TriesToFoldInto before.lock before (min (length structs) 64) reply [] events after
   pub stays : StaysOne before after
   pub told : code ≡ fold_code reply events
   pub count : folded ≡ length events
+  pub number : last ≡ last_after l reply
   pub filled : written ≡ written_events structs events
   pub set : params ≡ params_after p events
 
-abbrev pub TriesToFoldAll : Option CallerView → List PieEvent → PieParams → ℕ → List PieEvent → ℕ → PieParams → Option CallerView → Type 0
-TriesToFoldAll port structs p code written folded params after = AtPort port code after ((written ≡ structs) × (folded ≡ 0) × (params ≡ p))
-    (λ before now. IsFolded before structs p code written folded params now)
+abbrev pub TriesToFoldAll : Option CallerView → List PieEvent → ℕ → PieParams → ℕ → List PieEvent → ℕ → ℕ → PieParams → Option CallerView → Type 0
+TriesToFoldAll port structs l p code written folded last params after =
+    AtPort port code after ((written ≡ structs) × (folded ≡ 0) × (last ≡ l) × (params ≡ p))
+    (λ before now. IsFolded before structs l p code written folded last params now)

@@ -148,16 +148,17 @@ impl Port {
         &mut self,
         events: &mut [PieEvent],
         count: &mut usize,
+        last: &mut u64,
         params: &mut PieParams,
     ) -> u32
-        ensures { IsFolded self.old events.old params.old result events.new count.new params.new self.new }
+        ensures { IsFolded self.old events.old last.old params.old result events.new count.new last.new params.new self.new }
     {
         self.folded.clear();
         let most = events.len().min(MOST);
         let reply = self
             .link
             .try_fold_into(&mut self.caller, most, &mut self.folded);
-        write_folded(&reply, &self.folded, events, count, params)
+        write_folded(&reply, &self.folded, events, count, last, params)
     }
 
     /// A new port with the highest number of this one, which keeps it where the new one can't be had.

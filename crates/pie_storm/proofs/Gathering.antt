@@ -5,14 +5,16 @@ use Rattle.pie_storm.proofs.Names.{dite, ℕ_discrete, Bool, true, false, ◌||�
 use Rattle.pie_storm.proofs.Names.{Entry, CallerView, LinkView, Plan, Work, calls_of, folder, opening_of, updater, CameOf, HasNoMore, IsWell}
 use Rattle.pie_storm.proofs.Names.{IsWorkBelow, WereHanded, zero, suc, ◌≤◌, cond, ◌∷◌, ◌++◌, All, All-nil, All-cons, All-head, All-tail, own}
 use Rattle.pie_storm.proofs.Names.{own_none, entries_of, Call, IsSound, total, AreMade}
-use Rattle.pie_storm.proofs.Names.{IsCutShort, IsStorm, Some, Ok, Err, Result, Bounded, Opening, IsLegal, handed_out, senders, IsEndOf, IsFor}
+use Rattle.pie_storm.proofs.Names.{◌⊎◌, AreHandedOut, IsCutShort, None, Some, Ok, Err, Result, Bounded, Opening, IsLegal, handed_out, senders, IsEndOf, IsFor}
+use Rattle.pie_storm.proofs.Names.{drop-append_seam, tail_in, take-append_seam}
 use Rattle.pie_lock.specs.Promises.{IsBothOf}
 use Rattle.pie_lock.proofs.Owns.{goes_on, gone_on}
 use Rattle.pie_storm.specs.declared.worker.Folding.{Folding}
-use Rattle.pie_storm.specs.Storms.{Begins, IsWorkOf, IsEntryOf, WasPassedOver}
+use Rattle.pie_storm.specs.Storms.{Begins, IsWorkOf, IsEntryOf, WasPassedOver, refusal_of}
+unfoldable use Rattle.pie_storm.specs.Storms.{HasFault}
 use Rattle.std.proofs.lemmas.List.Elements.{All-push}
 use native.Mathlib.Decide.{dec_le}
-use Rattle.std.specs.Result.{IfOk}
+use Rattle.std.specs.Result.{IfErr, IfOk}
 use Rattle.pie_lock.specs.Views.{HoldsAll}
 use Rattle.pie_book.specs.Book.{BookView, Tells}
 use Rattle.pie_book.specs.Registers.{registers_after}
@@ -20,8 +22,17 @@ use Rattle.pie_book.specs.Statistics.{stats_after}
 use Rattle.pie_link.specs.Kept.{TellsEntries}
 use Rattle.pie_storm.specs.declared.ending.StormEnd.{StormEnd}
 use Rattle.pie_storm.specs.declared.ending.StormFault.{StormFault}
+use Rattle.pie_storm.specs.declared.ending.StormFault.TheVariants as fault
 use Rattle.pie_storm.proofs.Making.{IsRight, few_made, handed_alone, handed_same, made_on, numbered, own_entry, stays}
 use Rattle.pie_storm.proofs.PlanFacts.{IsCallOf, calls_are, no_calls}
+
+-- with a sound plan and an open link, a storm ends for want of memory or of a thread
+pub run_fault : (plan : Plan) (result : Result StormEnd StormFault) → IsSound plan → refusal_of plan ≡ None
+    → IfErr result (λ why. (why ≡ fault.Memory) ⊎ (why ≡ fault.Thread)) → IfErr result (HasFault plan)
+unfolding HasFault
+run_fault plan (Ok end) sound none faulted = tt
+run_fault plan (Err why) sound none (inl is) = subst (HasFault plan) (sym is) (sound, none)
+run_fault plan (Err why) sound none (inr is) = subst (HasFault plan) (sym is) (sound, none)
 
 -- what came of a caller's calls in a history came of them in one that goes on with nothing more of it
 came_on : (law : EntriesLookBack) (plan : Plan) (caller : ℕ) (h k : List Entry) (passed : ℕ) → HasNoMore caller h k → CameOf plan caller h passed
@@ -201,20 +212,30 @@ module _ (plan : Plan) (caller : ℕ) where
   none_passed front (call ∷ calls) h passed no_updates no_folds its (inr m) =
       absurd (not_passed m.0 call no_updates no_folds (All-head IsIts call calls its) m.3)
 
-  right_by : (call : Call) → IsIts call → (entry : Entry) → IsEntryOf caller call entry → IsFine entry
-  right_by call its entry is = grind (arith, nat_tests)
+  right_by : (before : List Entry) (call : Call) → IsIts call → (entry : Entry) → IsEntryOf (opening_of plan) before caller call entry → IsFine entry
+  right_by before call its entry is = grind (arith, nat_tests)
 
   all_right_by : (front : List Entry) (calls : List Call) (h : List Entry) (passed : ℕ) → All IsIts calls
       → AreMade (opening_of plan) caller front calls h passed → All IsFine (entries_of caller front) → All IsFine (entries_of caller h)
   all_right_by front [] h passed its m all = subst (All IsFine) (sym m.0.1) all
   all_right_by front (call ∷ calls) h passed its (inl m) all =
       all_right_by (m.0 ++ m.1 ∷ []) calls h passed (All-tail IsIts call calls its) m.4
-      (subst (All IsFine) (sym (own_entry caller m.0 m.1 (numbered caller call m.1 m.3) ∙ ap (λ (l : List Entry). l ++ m.1 ∷ []) m.2.1))
-      (All-push IsFine (entries_of caller front) m.1 all (right_by call (All-head IsIts call calls its) m.1 m.3)))
+      (subst (All IsFine) (sym (own_entry caller m.0 m.1 (numbered caller (opening_of plan) m.0 call m.1 m.3) ∙ ap (λ (l : List Entry). l ++ m.1 ∷ []) m.2.1))
+      (All-push IsFine (entries_of caller front) m.1 all (right_by m.0 call (All-head IsIts call calls its) m.1 m.3)))
   all_right_by front (call ∷ calls) h passed its (inr m) all =
       all_right_by m.0 calls h m.1 (All-tail IsIts call calls its) m.5 (subst (All IsFine) (sym m.2.1) all)
 
 -- ---- a whole storm
+
+-- a caller made all its calls in this history, but for so many that were passed over
+abbrev AllMade : Plan → List Entry → ℕ → ℕ → Type 0
+AllMade plan h caller passed = AreMade (opening_of plan) caller [] (calls_of plan caller) h passed
+
+-- .. and each caller did, but for so many updates and folds
+abbrev pub IsAsPlanned : Plan → List Entry → ℕ → ℕ → Type 0
+IsAsPlanned plan h too_soon too_many =
+    AllMade plan h (updater plan) too_soon × AllMade plan h (folder plan) too_many
+    × ((caller : ℕ) → (caller ≡ updater plan → ⊥) → (caller ≡ folder plan → ⊥) → AllMade plan h caller 0)
 
 module _ (plan : Plan) (h : List Entry) (sound : IsSound plan) (below : All (IsBelow (callers_of_plan plan)) h) (too_soon : ℕ)
     (came : (caller : ℕ) → caller < callers_of_plan plan
@@ -283,19 +304,16 @@ module _ (plan : Plan) (h : List Entry) (sound : IsSound plan) (below : All (IsB
       (All-nil (IsRight (folder plan)))) k d within refl
 
   -- the history of a storm is what its plan asks for
-  pub is_storm : (too_many : ℕ) → CameOf plan (folder plan) h too_many → IsStorm plan (events_in h) too_soon too_many
+  pub is_storm : (too_many : ℕ) → CameOf plan (folder plan) h too_many → IsAsPlanned plan h too_soon too_many
   is_storm too_many folds =
-      let made = λ (caller : ℕ) (passed : ℕ). AreMade (opening_of plan) caller [] (calls_of plan caller) h passed in
-      let updates = each_made (updater plan) in record {
-        history = h;
-        of_history = refl;
-        updates = subst (made (updater plan)) (updates.2 refl) updates.1;
-        folds = all_made (folder plan) too_many (omega arith) folds;
-        others = λ caller no_updates no_folds.
+      let updates = each_made (updater plan) in (
+        subst (AllMade plan h (updater plan)) (updates.2 refl) updates.1,
+        all_made (folder plan) too_many (omega arith) folds,
+        λ caller no_updates no_folds.
             let m = each_made caller in
             let none = none_passed plan caller [] (calls_of plan caller) h m.0 no_updates no_folds (calls_are plan sound caller) m.1 in
-            subst (made caller) none m.1;
-      }
+            subst (AllMade plan h caller) none m.1,
+      )
 
 module _ (plan : Plan) (link : LinkView) (work : Work) (book : BookView) (link_for : IsFor plan link)
     (numbers : link.numbers ≡ senders plan + 5) (worked : IsWorkBelow link plan (senders plan + 5) work)
@@ -322,35 +340,58 @@ module _ (plan : Plan) (link : LinkView) (work : Work) (book : BookView) (link_f
   all_came fine caller less = worked.came fine caller (omega (arith, less))
 
   -- so its front is what the plan asks for
-  storm_of : IsWell work.folding → IsStorm plan (events_in work.caller.front) work.too_soon work.passed
+  storm_of : IsWell work.folding → IsAsPlanned plan work.caller.front work.too_soon work.passed
   storm_of fine =
       is_storm plan work.caller.front link_for.sound all_below work.too_soon (all_came fine) work.passed (worked.folds fine (omega arith)).0
 
-  -- what the folds handed out, and then the tail, are all events
+  -- the folds handed out what was kept of them
+  all_handed : IsWell work.folding → work.folding.events.items ≡ handed_out (opening_of plan) work.caller.front
+  all_handed fine =
+      let front = work.caller.front in
+      (worked.folds fine (omega arith)).1
+      ∙ handed_alone (opening_of plan) (folder plan) [] front (all_right plan front link_for.sound all_below work.too_soon (all_came fine))
+
+  -- .. which, and then the tail, are all events
   whole_history : IsWell work.folding → work.folding.events.items ++ book.tail ≡ events_in work.caller.front
   whole_history fine =
       let front = work.caller.front in
       let bounded : book.opening.choices.mode ≡ Bounded = ap (λ (o : Opening). o.choices.mode) opened_so in
-      let all : work.folding.events.items ≡ handed_out book.opening front = (worked.folds fine (omega arith)).1
-      ∙ (handed_alone (opening_of plan) (folder plan) [] front (all_right plan front link_for.sound all_below work.too_soon (all_came fine))
-      ∙ ap (λ (o : Opening). handed_out o front) (sym opened_so)) in
+      let all : work.folding.events.items ≡ handed_out book.opening front =
+      all_handed fine ∙ ap (λ (o : Opening). handed_out o front) (sym opened_so) in
       ap (λ (es : List Event). es ++ book.tail) all ∙ (told holds_all).nothing_lost bounded
+
+  -- .. of whichever so many were handed out
+  all_parted : IsWell work.folding → (events : List Event) (folded : ℕ) → events ≡ work.folding.events.items ++ book.tail
+      → folded ≡ length work.folding.events.items → AreHandedOut (opening_of plan) work.caller.front events folded
+  all_parted fine events folded are many =
+      let own = work.folding.events.items in record {
+        handed = rw (are, many) (sym (all_handed fine) ∙ sym (take-append_seam own book.tail));
+        left = rw (are, many) (ap (λ (o : Opening). tail_in o work.caller.front) (sym opened_so) ∙ (sym (told holds_all).tail
+            ∙ sym (drop-append_seam own book.tail)));
+      }
 
   -- how a storm ended
   pub ended : (result : Result StormEnd StormFault)
       → IfOk result (λ end. end.events.items ≡ work.folding.events.items ++ book.tail)
       → ((events : List Event) → Tells book events → IfOk result (λ end. end.registers ≡ registers_after book.opening events))
       → ((events : List Event) → Tells book events → IfOk result (λ end. end.stats ≡ stats_after book.opening events))
-      → IfOk result (λ end. IsWell work.folding × (end.too_soon ≡ work.too_soon) × (end.too_many ≡ work.passed)) → IfOk result (IsEndOf plan)
+      → IfOk result (λ end. IsWell work.folding × (end.too_soon ≡ work.too_soon) × (end.too_many ≡ work.passed)
+      × (end.folded ≡ length work.folding.events.items)) → IfOk result (IsEndOf plan)
   ended (Ok end) items registers stats counts =
       let h = events_in work.caller.front in
       let tells = (told holds_all).told in
+      let storm = storm_of counts.0 in
       let is : end.events.items ≡ h = items ∙ whole_history counts.0 in record {
         legal = subst (λ (es : List Event). IsLegal (opening_of plan) es) (sym is)
             (subst (λ (o : Opening). IsLegal o h) opened_so tells.running.legal);
-        made = subst (λ (es : List Event). IsStorm plan es end.too_soon end.too_many) (sym is)
-            (subst (λ (t : ℕ). IsStorm plan h t end.too_many) (sym (counts.1))
-            (subst (λ (t : ℕ). IsStorm plan h work.too_soon t) (sym (counts.2)) (storm_of counts.0)));
+        made = record {
+          history = work.caller.front;
+          of_history = sym is;
+          updates = subst (AllMade plan work.caller.front (updater plan)) (sym (counts.1)) storm.0;
+          folds = subst (AllMade plan work.caller.front (folder plan)) (sym (counts.2)) storm.1;
+          others = storm.2;
+        };
+        folded = all_parted counts.0 end.events.items end.folded items counts.3;
         registers = registers h tells ∙ (ap (λ o. registers_after o h) opened_so ∙ ap (λ es. registers_after (opening_of plan) es) (sym is));
         stats = stats h tells ∙ (ap (λ o. stats_after o h) opened_so ∙ ap (λ es. stats_after (opening_of plan) es) (sym is));
       }

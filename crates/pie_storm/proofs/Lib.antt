@@ -3,3 +3,4 @@ mod Making
 mod Gathering
 mod PlanFacts
 mod StormFacts
+mod SoundFacts

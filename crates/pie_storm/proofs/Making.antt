@@ -71,8 +71,9 @@ module _ (caller : ℕ) where
   pub own_entry : (g : List Entry) (entry : Entry) → number_of entry ≡ caller → entries_of caller (g ++ entry ∷ []) ≡ entries_of caller g ++ entry ∷ []
   own_entry g entry e = grind (arith, nat_tests, filter-append)
 
-  pub numbered : (call : Call) (entry : Entry) → IsEntryOf caller call entry → number_of entry ≡ caller
-  numbered call entry is = grind (arith, nat_tests)
+  pub numbered : (opening : Opening) (before : List Entry) (call : Call) (entry : Entry) → IsEntryOf opening before caller call entry
+      → number_of entry ≡ caller
+  numbered opening before call entry is = grind (arith, nat_tests)
 
 module _ (opening : Opening) (caller : ℕ) where
   -- what was made by one that had been shown more, was made by one that had been shown less
@@ -107,7 +108,7 @@ module _ (opening : Opening) (caller : ℕ) where
   few_made front [] h passed m = let same = m.0.1 in grind arith
   few_made front (call ∷ calls) h passed (inl m) =
       let rest = few_made (m.0 ++ m.1 ∷ []) calls h passed m.4 in
-      let one = own_entry caller m.0 m.1 (numbered caller call m.1 m.3) in
+      let one = own_entry caller m.0 m.1 (numbered caller opening m.0 call m.1 m.3) in
       let same = m.2.1 in
       grind (arith, length-append)
   few_made front (call ∷ calls) h passed (inr m) = let rest = few_made m.0 calls h m.1 m.5 in let same = m.2.1 in grind arith
@@ -160,7 +161,8 @@ module _ (plan : Plan) (number : ℕ) where
   shows h front is = subst (λ (l : List Entry). HasNoMore number h l) (sym is) (stays number h)
 
   -- one call has its entry right behind a history, or was passed over there
-  one_made : (call : Call) (h : List Entry) (entry : Entry) (front : List Entry) → IsEntryOf number call entry → front ≡ h ++ entry ∷ []
+  one_made : (call : Call) (h : List Entry) (entry : Entry) (front : List Entry) → IsEntryOf (opening_of plan) h number call entry
+      → front ≡ h ++ entry ∷ []
       → AreMade (opening_of plan) number h (call ∷ []) front 0
   one_made call h entry front is shown = inl (h, entry, stays number h, is, (shows (h ++ entry ∷ []) front shown, refl))
 
@@ -228,7 +230,7 @@ module _ (plan : Plan) (number k : ℕ) (link : LinkView) (link_for : IsFor plan
         let on = seen link number before a.0 at made.from.goes_on in
         let shown : after.front ≡ a.0 ++ Folded before.first n ∷ [] = ap (λ (c : CallerView). c.front) made.seen in (
           subst Came (sym kept.1) (one_came (Fold n) a.0 (Some 0) there made.from.goes_on
-              (one_made plan number (Fold n) a.0 (Folded before.first n) after.front (at.first, refl) shown)),
+              (one_made plan number (Fold n) a.0 (Folded before.first n) after.front (at.first, refl, made.said.held) shown)),
           λ had. kept.0 ∙ (ap (λ (es : List Event). es ++ told.answer.items) (handed_before a.0 on had)
               ∙ (ap (λ (es : List Event). handed_to (is_number number) (opening_of plan) [] a.0 ++ es) made.said.oldest
               ∙ (sym (handed_more law (opening_of plan) number a.0 n before.first at.first)

@@ -2,7 +2,7 @@
 pub use Rattle.std.proofs.Common.{Bool, Err, List, None, Ok, Option, Result, Some, Vec, [], ap, append_assoc, arith, cond, drop, eq-eqb, false, get_or, inl}
 pub use Rattle.std.proofs.Common.{inr, length, length-append, length-drop, map, min, nat_le, refl, rules, slice_get, subst, suc, sym, take, true}
 pub use Rattle.std.proofs.Common.{zero, ℕ, ⊎_elim, ◌*◌, ◌++◌, ◌+◌, ◌-◌, ◌/◌, ◌<◌, ◌==◌, ◌^◌, ◌∙◌, ◌∷◌, ◌≡◌, ◌≤◌, ◌⊎◌}
-pub use Rattle.std.proofs.Math.Seq.{take-add, take-length, take-suc}
+pub use Rattle.std.proofs.Math.Seq.{drop-append_seam, take-add, take-append_seam, take-length, take-suc}
 pub use Rattle.std.proofs.lemmas.Bool.Decides.{nat_tests}
 pub use Rattle.std.proofs.lemmas.List.{append-nil, length-map, length-take, map-append}
 pub use Rattle.std.proofs.lemmas.List.Elements.{All-cons, All-head, All-nil, All-tail}
@@ -34,7 +34,7 @@ pub use Rattle.pie_storm.specs.Plans.{IsFair, IsSound, arriving, changing, depar
 unfoldable pub use Rattle.pie_storm.specs.Plans.{calls_of}
 pub use Rattle.pie_storm.specs.StormPlan.{arrivals_of, held_by, planned_arrival, sender_words, words_of}
 unfoldable pub use Rattle.pie_storm.specs.StormPlan.{words_after}
-pub use Rattle.pie_storm.specs.Storms.{AddedByAll, AreMade, HasNoMore, IsAt, IsCutShort, IsEndOf, IsFor, IsStorm, IsWell}
+pub use Rattle.pie_storm.specs.Storms.{AddedByAll, AreHandedOut, AreMade, HasNoMore, IsAt, IsCutShort, IsEndOf, IsFor, IsWell}
 pub use Rattle.pie_storm.specs.Storms.{IsWorkBelow, WereHanded, is_number}
 unfoldable pub use Rattle.pie_storm.specs.Storms.{CameBy, CameOf}
 pub use Rattle.pie_storm.specs.declared.plan.Call.{Call}

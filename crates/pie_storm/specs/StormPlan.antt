@@ -8,6 +8,8 @@ use Rattle.rand_pcg.specs.Lcg.{Lcg, increment_of, started}
 use Rattle.rand_pcg.specs.Pcg.{multiplier_128, pcg64}
 use Rattle.pie_queue.specs.declared.ecn.Ecn.{Ecn}
 use Rattle.pie_queue.specs.declared.ecn.Ecn.TheVariants.{NotEct, Ect1, Ect0, Ce}
+use Rattle.pie_event.specs.declared.profile.Profile.TheVariants.{One}
+use Rattle.pie_params.specs.Elements.{usual}
 use Rattle.pie_params.specs.Profile.{default_profile}
 use Rattle.pie_params.specs.declared.raw.RawParams.{RawParams}
 use Rattle.pie_storm.specs.declared.numbers.StormNumbers.{StormNumbers}
@@ -111,6 +113,20 @@ pub record HasStormRange (n : StormNumbers) : Type 0 where
   pub load : n.load ≤ 200
   pub changes : n.changes ≤ 100
   pub folds : n.folds ≤ 100
+
+-- the usual storm of so many senders and packets: one packet a call, as many as the link sends, no changes and no folds
+abbrev pub usual_storm : ℕ → ℕ → ℕ → StormNumbers
+usual_storm senders packets seed = record {
+  senders = senders;
+  packets = packets;
+  burst = 1;
+  seed = seed;
+  load = 100;
+  changes = 0;
+  folds = 0;
+  profile = One;
+  elements = usual;
+}
 
 -- the plan of these numbers
 pub record IsStormPlan (n : StormNumbers) (plan : Plan) : Type 0 where

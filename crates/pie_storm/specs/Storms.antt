@@ -17,22 +17,26 @@ use Rattle.pie_book.specs.Registers.{registers_after}
 use Rattle.pie_book.specs.Statistics.{stats_after}
 use Rattle.pie_link.specs.declared.entry.Entry.{Entry}
 use Rattle.pie_link.specs.declared.entry.Entry.TheVariants.{Made, Folded}
-use Rattle.pie_link.specs.Entries.{entries_of, events_in, handed_to, number_of, tail_in}
+use Rattle.pie_link.specs.Entries.{entries_of, events_in, handed_out, handed_to, number_of, tail_in}
+use Rattle.pie_link.specs.Opening.{IsRefusedFor, IsWantOfMemory, link_refusal}
 use Rattle.pie_link.specs.Views.{LinkView, CallerView}
+use Rattle.pie_link.specs.declared.refusal.LinkRefusal.{LinkRefusal}
 use Rattle.pie_storm.specs.declared.ending.StormEnd.{StormEnd}
+use Rattle.pie_storm.specs.declared.ending.StormFault.{StormFault}
+use Rattle.pie_storm.specs.declared.ending.StormFault.TheVariants as fault
 use Rattle.pie_storm.specs.declared.plan.Plan.{Plan}
 use Rattle.pie_storm.specs.declared.plan.Call.{Call}
 use Rattle.pie_storm.specs.declared.plan.Call.TheVariants.{Ask, Fold}
 use Rattle.pie_storm.specs.declared.worker.Folding.{Folding}
 use Rattle.pie_storm.specs.declared.worker.Work.{Work}
-use Rattle.pie_storm.specs.Plans.{IsSound, calls_of, folder, opening_of, updater}
+use Rattle.pie_storm.specs.Plans.{IsSound, calls_of, folder, opening_of, senders, updater}
 
--- this entry is what the caller's call adds to a history
-abbrev pub IsEntryOf : ℕ → Call → Entry → Type 0
-IsEntryOf caller (Ask command) (Made event) = (event.caller ≡ caller) × (event.command ≡ command)
-IsEntryOf caller (Ask command) (Folded who n) = ⊥
-IsEntryOf caller (Fold count) (Made event) = ⊥
-IsEntryOf caller (Fold count) (Folded who n) = (who ≡ caller) × (n ≡ count)
+-- this entry is what the caller's call adds to this history; a fold found as many events in the tail as it hands out
+abbrev pub IsEntryOf : Opening → List Entry → ℕ → Call → Entry → Type 0
+IsEntryOf opening before caller (Ask command) (Made event) = (event.caller ≡ caller) × (event.command ≡ command)
+IsEntryOf opening before caller (Ask command) (Folded who n) = ⊥
+IsEntryOf opening before caller (Fold count) (Made event) = ⊥
+IsEntryOf opening before caller (Fold count) (Folded who n) = (who ≡ caller) × (n ≡ count) × (count ≤ length (tail_in opening before))
 
 -- a command was too soon after these events
 pub record WasTooSoon (opening : Opening) (before : List Event) (command : Command) : Type 0 where
@@ -58,7 +62,7 @@ HasNoMore caller front longer = GoesOn number_of caller (caller + 1) front longe
 abbrev pub AreMade : Opening → ℕ → List Entry → List Call → List Entry → ℕ → Type 0
 AreMade opening caller front [] history passed = HasNoMore caller front history × (passed ≡ 0)
 AreMade opening caller front (call ∷ calls) history passed =
-    ((before : List Entry) × (entry : Entry) × HasNoMore caller front before × IsEntryOf caller call entry
+    ((before : List Entry) × (entry : Entry) × HasNoMore caller front before × IsEntryOf opening before caller call entry
     × AreMade opening caller (before ++ entry ∷ []) calls history passed)
     ⊎ ((before : List Entry) × (fewer : ℕ) × HasNoMore caller front before × WasPassedOver opening before call × (passed ≡ fewer + 1)
     × AreMade opening caller before calls history fewer)
@@ -165,9 +169,37 @@ pub record IsStorm (plan : Plan) (events : List Event) (too_soon too_many : ℕ)
   pub others : (caller : ℕ) → (caller ≡ updater plan → ⊥) → (caller ≡ folder plan → ⊥)
       → AreMade (opening_of plan) caller [] (calls_of plan caller) history 0
 
--- a storm of this plan ended so: what was recorded is a legal history that the plan asks for, and the book held what looking back over it gives
+-- after this history of the link the folds had handed out so many of these events, the first ones, and the tail held the others
+pub record AreHandedOut (opening : Opening) (history : List Entry) (events : List Event) (folded : ℕ) : Type 0 where
+  pub handed : handed_out opening history ≡ take folded events
+  pub left : tail_in opening history ≡ drop folded events
+
+-- why the link of a storm of this plan is not opened, memory aside
+abbrev pub refusal_of : Plan → Option LinkRefusal
+refusal_of plan = link_refusal plan.limits plan.moment (senders plan + 5)
+
+-- a storm of this plan ended so: what was recorded is a legal history that the plan asks for, the folds handed out so many of its events, and the
+-- book held what looking back over it gives
 pub record IsEndOf (plan : Plan) (end : StormEnd) : Type 0 where
   pub legal : IsLegal (opening_of plan) end.events.items
   pub made : IsStorm plan end.events.items end.too_soon end.too_many
+  pub folded : AreHandedOut (opening_of plan) made.history end.events.items end.folded
   pub registers : end.registers ≡ registers_after (opening_of plan) end.events.items
   pub stats : end.stats ≡ stats_after (opening_of plan) end.events.items
+
+-- why a storm of this plan has no end: the plan is not sound; or the link is not opened, for this reason; or, with both in order, memory or a thread
+-- is wanting. There is never a gap
+unfoldable pub HasFault : Plan → StormFault → Type 0
+HasFault plan fault.BadPlan = IsSound plan → ⊥
+HasFault plan (fault.Opening why) = IsSound plan × IsRefusedFor (refusal_of plan) why
+HasFault plan fault.Memory = IsSound plan × (refusal_of plan ≡ None)
+HasFault plan fault.Thread = IsSound plan × (refusal_of plan ≡ None)
+HasFault plan fault.Gap = ⊥
+
+-- why a storm by numbers in their ranges has no end: memory or a thread is wanting
+unfoldable pub CanStop : StormFault → Type 0
+CanStop fault.BadPlan = ⊥
+CanStop (fault.Opening why) = IsWantOfMemory why
+CanStop fault.Memory = Unit {0}
+CanStop fault.Thread = Unit {0}
+CanStop fault.Gap = ⊥

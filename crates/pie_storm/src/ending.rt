@@ -9,6 +9,8 @@ use thiserror::Error;
 pub struct StormEnd {
     /// All events, in the order in which the link recorded them.
     pub events: Vec<Event>,
+    /// How many of the events the folds handed out: the first so many. The others were in the log at the end.
+    pub folded: u64,
     /// How many planned updates were refused as too soon, and passed over.
     pub too_soon: u64,
     /// How many planned folds were refused, since the tail held fewer events, and passed over.

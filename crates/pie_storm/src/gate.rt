@@ -8,3 +8,13 @@ pub trait Gate {
     /// Caller `caller` was answered its call number `call`, counted from 1.
     fn after(&self, caller: u16, call: u64);
 }
+
+/// The gate that does nothing.
+#[derive(Clone, Copy, Debug)]
+pub struct NoGate;
+
+impl Gate for NoGate {
+    fn before(&self, _caller: u16, _call: u64) {}
+
+    fn after(&self, _caller: u16, _call: u64) {}
+}

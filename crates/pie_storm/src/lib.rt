@@ -1,9 +1,9 @@
 //! Storms: a link under many threads at once, whose history is what a plan asked for (this project's own).
 //!
 //! `storm` makes the calls of a `Plan` at a link, each list in a thread of its own, and answers what was recorded: the planned calls, each
-//! caller's in order, in one history that is legal from the opening. `make_storm` plans one by some numbers and runs it under the threads
-//! of the runtime, which start together and stay close to one another (`Pace`); `write_storm` audits such events and writes their history, which
-//! as a text of its own is clean.
+//! caller's in order, in one history that is legal from the opening. `storm_plan` makes the usual plan. `make_storm` makes one of more numbers and runs
+//! it under the threads of the runtime, which start together and stay close to one another (`Pace`); `write_storm` audits such events and writes their
+//! history, which as a text of its own is clean.
 //!
 //! Not promised: that a thread runs, that a storm ends, or in which order the calls of two callers come.
 #![tactic(auto)]
@@ -19,9 +19,10 @@ mod storming;
 mod worker;
 
 pub use ending::{StormEnd, StormFault};
-pub use gate::Gate;
+pub use gate::{Gate, NoGate};
 pub use numbers::StormNumbers;
 pub use pie_link::Arrival;
 pub use plan::{Call, Change, LONGEST_BURST, Plan};
+pub use planning::storm_plan;
 pub use starter::storm;
 pub use storming::{MadeStorm, make_storm, write_storm};

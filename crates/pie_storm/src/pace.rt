@@ -1,5 +1,8 @@
 //! The pace of a storm: its callers start together, and none runs far ahead of another.
 
+ghost use Rattle.std.specs.Prelude.{◌≡◌, ◌≤◌, ◌↔◌, ◌⊎◌, [], IsTrue};
+ghost use Rattle.pie_storm.specs.Plans.{calls_of};
+
 use crate::gate::Gate;
 use crate::plan::{Call, Plan};
 use std::array::from_fn;
@@ -21,10 +24,10 @@ const NAP: u64 = 100_000;
 const NAPS: u64 = 2000;
 /// A caller that isn't there yet.
 const AWAY: u64 = 0;
-/// A caller that has made all its calls, or that the storm has not.
+/// A caller that has made all its calls.
 const GONE: u64 = u64::MAX;
 
-/// The gate of a storm that `storm_plan` plans (this project's own). Each caller shows the moment of its next call, and waits until no
+/// The gate of a storm that `make_storm` plans (this project's own). Each caller shows the moment of its next call, and waits until no
 /// other is away or further behind than `AHEAD`. Once one has waited in vain for long, nobody waits any more: so a caller whose thread was
 /// not started, or is never scheduled, stops nobody.
 #[derive(Drop)]
@@ -39,22 +42,27 @@ pub(crate) struct Pace<'a, C> {
     is_over: AtomicBool,
 }
 
+/// Returns true if a caller of a plan, which shows the moment `shown`, is not behind `least`. One that has no calls is behind nothing.
+fn is_level(plan: &Plan, caller: u16, shown: u64, least: u64) -> bool
+    ensures { IsTrue result ↔ ((calls_of plan.now caller ≡ []) ⊎ (least ≤ shown)) }
+{
+    least <= shown || plan.calls(caller) == 0
+}
+
 impl<'a, C: Clock> Pace<'a, C> {
     /// The pace of a storm of this plan.
     pub(crate) fn new(clock: &'a C, plan: &'a Plan) -> Pace<'a, C> {
-        let pace = Pace {
+        Pace {
             clock,
             plan,
             next: from_fn(|_| AtomicU64::new(AWAY)),
             is_over: AtomicBool::new(false),
-        };
-        for caller in 1..13 {
-            // (nobody waits for a caller that has no call)
-            if pace.moment(caller, 1) == GONE {
-                pace.show(caller, GONE);
-            }
         }
-        pace
+    }
+
+    /// Returns true if a caller has waited in vain, so that the storm went on without pace.
+    pub(crate) fn is_over(&self) -> bool {
+        self.is_over.load(Ordering::SeqCst)
     }
 
     /// The moment of a call of a caller in the plan, both counted from 1; `GONE` after its last. A sender's call is a burst; the folds are spread
@@ -75,6 +83,14 @@ impl<'a, C: Clock> Pace<'a, C> {
         }
     }
 
+    /// Returns the moment that a caller shows.
+    fn shown(&self, caller: u16) -> u64 {
+        match self.next.get(usize::from(caller).wrapping_sub(1)) {
+            Some(next) => next.load(Ordering::SeqCst),
+            None => GONE,
+        }
+    }
+
     /// Shows the moment of the next call of a caller.
     fn show(&self, caller: u16, moment: u64) {
         if let Some(next) = self.next.get(usize::from(caller).wrapping_sub(1)) {
@@ -82,13 +98,12 @@ impl<'a, C: Clock> Pace<'a, C> {
         }
     }
 
-    /// Whether every caller is there, and none is to make a call before this moment; or nobody waits any more.
+    /// Returns true if every caller is there and none is to make a call before this moment, or if nobody waits any more.
     fn are_level(&self, moment: u64) -> bool {
-        self.is_over.load(Ordering::SeqCst)
-            || self
-                .next
-                .iter()
-                .all(|next| next.load(Ordering::SeqCst) >= moment)
+        if self.is_over() {
+            return true;
+        }
+        (1..13).all(|caller| is_level(self.plan, caller, self.shown(caller), moment))
     }
 }
 

@@ -2,14 +2,14 @@
 ghost use Rattle.std.specs.Prelude.{◌≡◌, ◌+◌, ◌*◌, ◌/◌, ◌^◌, ◌<◌, ◌≤◌, IfOk, map};
 ghost use Rattle.std.specs.List.{range_with_len};
 ghost use Rattle.pie_storm.specs.StormPlan.{IsStormPlan, after_three, arrival_by, arrivals_of, change_at, changes_of, departs_of, ecn_of};
-ghost use Rattle.pie_storm.specs.StormPlan.{HasStormRange, folds_of, held_by, moment_of, params_at, updates_of, words_of};
+ghost use Rattle.pie_storm.specs.StormPlan.{HasStormRange, usual_storm, folds_of, held_by, moment_of, params_at, updates_of, words_of};
 
 use crate::numbers::StormNumbers;
 use crate::plan::{Change, Plan};
-use pie_book::Limits;
+use pie_book::{Elements, Limits, Profile};
 use pie_link::Arrival;
 use pie_params::{Params, RawParams};
-use pie_queue::{Ecn, Packet};
+use pie_queue::{Ecn, Memory, Packet};
 use rand_core::Rng;
 use rand_pcg::Lcg128Xsl64;
 use std::alloc::{AllocError, Global};
@@ -218,8 +218,8 @@ fn folds_of(alloc: Global, senders: u64, packets: u64, folds: u64) -> Result<Vec
 ///
 /// # Errors
 ///
-/// Where there was no memory for the lists.
-pub(crate) fn storm_plan(alloc: Global, numbers: StormNumbers) -> Result<Plan, AllocError>
+/// `AllocError` if there is no memory for the lists.
+pub(crate) fn plan_of(alloc: Global, numbers: StormNumbers) -> Result<Plan, AllocError>
     requires { HasStormRange numbers }
     ensures { IfOk result (IsStormPlan numbers) }
 {
@@ -248,4 +248,33 @@ pub(crate) fn storm_plan(alloc: Global, numbers: StormNumbers) -> Result<Plan, A
         changes,
         folds,
     })
+}
+
+/// Plans the usual storm (this project's own): 2 to 8 senders, with 1 to 10,000 `packets` each, whose random words are made of `seed`. Each sender
+/// hands in one packet each millisecond, in a call of its own, and the link sends as many as come. The parameters never change, there are no folds, and
+/// the controller is of profile one with the usual elements.
+///
+/// # Errors
+///
+/// `Memory` if there is none for the lists.
+pub fn storm_plan(alloc: Global, senders: u16, packets: u32, seed: u64) -> Result<Plan, Memory>
+    requires senders { (2 ≤ senders) × (senders ≤ 8) }
+    requires packets { (1 ≤ packets) × (packets ≤ 10_000) }
+    ensures { IfOk result (IsStormPlan (usual_storm senders packets seed)) }
+{
+    let numbers = StormNumbers {
+        senders,
+        packets,
+        burst: 1,
+        seed,
+        load: 100,
+        changes: 0,
+        folds: 0,
+        profile: Profile::One,
+        elements: Elements::usual(),
+    };
+    match plan_of(alloc, numbers) {
+        Ok(plan) => Ok(plan),
+        Err(_) => Err(Memory),
+    }
 }

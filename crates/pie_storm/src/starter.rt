@@ -1,5 +1,5 @@
 //! The storm: a link under many threads at once, recorded.
-ghost use Rattle.std.specs.Prelude.{◌≡◌, ◌+◌, ◌≢◌, ◌↔◌, ◌++◌, ℕ, List, Some, None, Err, IfSome, IfOk, IfErr};
+ghost use Rattle.std.specs.Prelude.{◌≡◌, ◌+◌, ◌↔◌, ◌++◌, ◌⊎◌, ℕ, List, Some, Err, IfSome, IfOk, IfErr, length};
 ghost use denote.Param.Send.{IsSync};
 ghost use Rattle.pie_event.specs.declared.command.Event.{Event};
 ghost use Rattle.pie_book.specs.Book.{Tells};
@@ -8,9 +8,8 @@ ghost use Rattle.pie_book.specs.Statistics.{stats_after};
 ghost use Rattle.pie_storm.specs.declared.plan.Plan.{Plan};
 ghost use Rattle.pie_link.specs.Entries.{number_of};
 ghost use Rattle.pie_link.specs.declared.refusal.LinkRefusal.{LinkRefusal};
-ghost use Rattle.pie_link.specs.Opening.{IsRefusedFor, link_refusal};
 ghost use Rattle.pie_storm.specs.Plans.{IsSound, senders, updater};
-ghost use Rattle.pie_storm.specs.Storms.{Begins, IsEndOf, IsFor, IsWell, IsWorkBelow, IsWorkOf};
+ghost use Rattle.pie_storm.specs.Storms.{Begins, HasFault, IsEndOf, IsFor, IsWell, IsWorkBelow, IsWorkOf, refusal_of};
 ghost use Rattle.pie_lock.specs.Promises.{IsBothOf, first_pass};
 
 use crate::ending::{StormEnd, StormFault};
@@ -194,6 +193,7 @@ fn both(link: &Link, plan: &Plan, work: Work, last: Work) -> Work
 /// `BadPlan` before anything else, where the plan is not sound; `Opening` where the link is not opened; `Thread` where a worker's
 /// thread could not be started, whatever the others met; then `Memory`, where a fold, the answers to a burst or the list of all events
 /// had none. All workers that were started have ended then. `Gap` never comes: no event is lost between folds and tail.
+#[tactic(auto, unfolding(crate::specs::Storms::HasFault), using(crate::proofs::Gathering::run_fault))]
 pub fn storm<R: Threads + Wait + Sync, G: Gate + Sync>(
     rt: &R,
     alloc: Global,
@@ -201,11 +201,8 @@ pub fn storm<R: Threads + Wait + Sync, G: Gate + Sync>(
     gate: &G,
 ) -> Result<StormEnd, StormFault>
     ensures bad_plan { (result ≡ Err StormFault.BadPlan) ↔ (IsSound plan.now → ⊥) }
-    ensures refused { IsSound plan.now → (why : LinkRefusal) → link_refusal plan.now.limits plan.now.moment (senders plan.now + 5) ≡ Some why
-        → result ≡ Err (StormFault.Opening why) }
-    ensures opening { (why : LinkRefusal) → result ≡ Err (StormFault.Opening why)
-        → IsRefusedFor (link_refusal plan.now.limits plan.now.moment (senders plan.now + 5)) why }
-    ensures no_gap { result ≢ Err StormFault.Gap }
+    ensures refused { IsSound plan.now → (why : LinkRefusal) → refusal_of plan.now ≡ Some why → result ≡ Err (StormFault.Opening why) }
+    ensures fault { IfErr result (HasFault plan.now) }
     ensures ended { IfOk result (IsEndOf plan.now) }
 {
     if !plan.is_sound() {
@@ -232,9 +229,7 @@ fn run<R: Threads + Wait + Sync, G: Gate + Sync>(
     requires callers { link.numbers ≡ senders plan.now + 5 }
     requires starter { starter ≡ first_pass link (senders plan.now + 5) }
     ensures ended { IfOk result (IsEndOf plan.now) }
-    ensures sound { result ≢ Err StormFault.BadPlan }
-    ensures opened { (why : LinkRefusal) → result ≢ Err (StormFault.Opening why) }
-    ensures no_gap { result ≢ Err StormFault.Gap }
+    ensures fault { IfErr result (λ why. (why ≡ StormFault.Memory) ⊎ (why ≡ StormFault.Thread)) }
 {
     let Some(work) = work_at_once(rt, alloc, &link, plan, gate, starter) else {
         return Err(StormFault::Thread);
@@ -268,13 +263,16 @@ fn end_of(
     ensures registers { (events : List Event) → Tells book.old events
         → IfOk result (λ end. end.registers ≡ registers_after book.old.opening events) }
     ensures stats { (events : List Event) → Tells book.old events → IfOk result (λ end. end.stats ≡ stats_after book.old.opening events) }
-    ensures counts { IfOk result (λ end. IsWell folding.old × (end.too_soon ≡ too_soon) × (end.too_many ≡ too_many)) }
+    ensures counts { IfOk result (λ end. IsWell folding.old × (end.too_soon ≡ too_soon) × (end.too_many ≡ too_many)
+        × (end.folded ≡ length folding.old.events.items)) }
 {
     let registers = book.registers();
     let stats = book.stats();
+    let folded = folding.events.len() as u64;
     match all_events(alloc, book, folding) {
         Some(events) => Ok(StormEnd {
             events,
+            folded,
             too_soon,
             too_many,
             registers,

@@ -1,12 +1,13 @@
 //! A storm is made by its plan, and its events are audited and written as a history.
-ghost use Rattle.std.specs.Prelude.{◌≡◌, ◌≢◌, Err, IfOk, OnOk, map};
+ghost use Rattle.std.specs.Prelude.{◌≡◌, IfErr, IfOk, OnOk, map};
 ghost use Rattle.pie_book.specs.Decision.{IsLegal};
 ghost use Rattle.pie_record.specs.declared.history_record.Line.TheVariants.{Made};
 ghost use Rattle.pie_audit.specs.Auditor.{Audits};
 ghost use Rattle.pie_storm.specs.Plans.{opening_of};
 ghost use Rattle.pie_book.specs.Registers.{registers_after};
 ghost use Rattle.pie_book.specs.Statistics.{stats_after};
-ghost use Rattle.pie_storm.specs.Storms.{IsEndOf, IsStorm};
+ghost use Rattle.pie_record.specs.Fault.{IsWrite};
+ghost use Rattle.pie_storm.specs.Storms.{CanStop, HasFault, IsEndOf, IsStorm};
 ghost use Rattle.pie_storm.specs.StormHistory.{WritesHistory};
 ghost use Rattle.pie_storm.specs.StormPlan.{HasStormRange, IsStormPlan};
 
@@ -14,7 +15,7 @@ use crate::ending::{StormEnd, StormFault};
 use crate::numbers::StormNumbers;
 use crate::pace::Pace;
 use crate::plan::Plan;
-use crate::planning::storm_plan;
+use crate::planning::plan_of;
 use crate::starter::storm;
 use pie_audit::{Auditor, Finding, clean_is_legal, clean_parts_are_legal, events_are_lines};
 use pie_book::{Event, OpenRefusal, Opening, all_numbers_are_held};
@@ -34,9 +35,11 @@ pub struct MadeStorm {
     pub plan: Plan,
     /// What the link recorded.
     pub end: StormEnd,
+    /// One caller waited in vain for another, and from then on none waited. So it is if a thread gets no processor for long.
+    pub lost_pace: bool,
 }
 
-/// Makes the storm of these numbers (`storm_plan`), under threads of the runtime.
+/// Makes the storm of these numbers, under threads of the runtime.
 ///
 /// # Errors
 ///
@@ -52,29 +55,37 @@ pub fn make_storm<H: Threads + Wait + Clock + Sync>(
     ensures made { IfOk result (λ made. IsStorm made.plan made.end.events.items made.end.too_soon made.end.too_many) }
     ensures registers { IfOk result (λ made. made.end.registers ≡ registers_after (opening_of made.plan) made.end.events.items) }
     ensures stats { IfOk result (λ made. made.end.stats ≡ stats_after (opening_of made.plan) made.end.events.items) }
-    ensures no_gap { result ≢ Err StormFault.Gap }
+    ensures ended { IfOk result (λ made. IsEndOf made.plan made.end) }
+    ensures fault { IfErr result CanStop }
 {
-    let plan = match storm_plan(alloc, numbers) {
+    let plan = match plan_of(alloc, numbers) {
         Ok(plan) => plan,
         Err(_) => return Err(StormFault::Memory),
     };
     match run_plan(rt, alloc, &plan) {
-        Ok(end) => Ok(MadeStorm { plan, end }),
+        Ok((end, lost_pace)) => Ok(MadeStorm {
+            plan,
+            end,
+            lost_pace,
+        }),
         Err(why) => Err(why),
     }
 }
 
-/// Runs a plan at the storm's pace.
+/// Runs a plan at the storm's pace, and tells whether that was lost.
 fn run_plan<H: Threads + Wait + Clock + Sync>(
     rt: &H,
     alloc: Global,
     plan: &Plan,
-) -> Result<StormEnd, StormFault>
-    ensures ended { IfOk result (IsEndOf plan.now) }
-    ensures no_gap { result ≢ Err StormFault.Gap }
+) -> Result<(StormEnd, bool), StormFault>
+    ensures ended { IfOk result (λ made. IsEndOf plan.now made.0) }
+    ensures fault { IfErr result (HasFault plan.now) }
 {
     let pace = Pace::new(rt, plan);
-    storm(rt, alloc, plan, &pace)
+    match storm(rt, alloc, plan, &pace) {
+        Ok(end) => Ok((end, pace.is_over())),
+        Err(fault) => Err(fault),
+    }
 }
 
 /// Audits these events, which a storm of this plan left, and writes their history.
@@ -90,7 +101,8 @@ pub fn write_storm<W: Write>(
 ) -> Result<(), TraceFault>
     requires legal { IsLegal (opening_of plan.now) events.now }
     requires limits { plan.now.limits.events ≡ plan.now.limits.tail }
-    ensures { OnOk result (WritesHistory plan.now events.now (W.contents output.old) (W.contents output.new)) }
+    ensures written { OnOk result (WritesHistory plan.now events.now (W.contents output.old) (W.contents output.new)) }
+    ensures device { IfErr result IsWrite }
 {
     all_numbers_are_held();
     events_are_lines();

@@ -37,7 +37,8 @@ pub(crate) struct Folding {
 impl Folding {
     /// No folds, and room for so many answers, where there is memory for them.
     pub(crate) fn none(alloc: Global, answers: usize) -> Folding
-        ensures { result.events.items ≡ [] }
+        ensures events { result.events.items ≡ [] }
+        ensures well { IsWell result }
     {
         let replies = match Vec::with_capacity(alloc, answers) {
             Ok(replies) => replies,

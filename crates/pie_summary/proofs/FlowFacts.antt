@@ -3,7 +3,7 @@ use Rattle.pie_summary.proofs.Names.{◌≡◌, ℕ, suc, zero, Bool, true, fals
 use Rattle.pie_summary.proofs.Names.{append-nil, length, ◌<◌, ◌+◌, Option, Some, None, if◌then◌else◌, cons_option, filter_map, values_of, eqb-true}
 use Rattle.pie_summary.proofs.Names.{eq-eqb, map_push, filter_map-append, Explained, Flow, FlowSums, added_up, flow_sums, is_of, HasFlows}
 use Rattle.pie_summary.proofs.Names.{distinct, first_of, in_order, placed, sums_beside, digits, greatest, greatest-push, kept}
-use Rattle.pie_summary.proofs.Names.{max, min, noted_of, replicate, sum, ◌-◌}
+use Rattle.pie_summary.proofs.Names.{max, min, noted_of, replicate, sum, sum_by_push, ◌-◌, ◌^◌}
 use Rattle.std.proofs.Common.{◌||◌, arith, nat_eq, take, true≢false}
 use Rattle.std.specs.Fmt.{char_count, format_spec, padded_integral}
 use Rattle.std.specs.Prelude.{slice_index_or}
@@ -19,6 +19,7 @@ use Rattle.std.proofs.lemmas.List.Sums.{fold_push}
 use Rattle.indexmap.specs.IndexMap.{insert_entry}
 use Rattle.pie_summary.specs.FlowSums.{flow_in, is_this, numbers_of}
 use Rattle.pie_summary.specs.Flows.{flow_of, flows_of, is_among, precedes, row_of}
+use Rattle.pie_summary.proofs.CountFacts.{kept-more}
 use Rattle.pie_summary.proofs.SumsFacts.{sum-push}
 
 -- ---- numbers of flows
@@ -37,6 +38,18 @@ sum-more number all one = sum-push number all one (two (kept (sum (map number al
     two : (n more : ℕ) → kept (sum (n ∷ more ∷ [])) ≡ min (n + more) 18446744073709551615
     two n more = omega arith
 
+-- .. of 128 bits
+wide-more : (number : FlowSums → ℕ) (all : List FlowSums) (one : FlowSums)
+    → min (sum (min (sum (map number all)) (2 ^ 128 - 1) ∷ number one ∷ [])) (2 ^ 128 - 1) ≡ min (sum (map number (all ++ one ∷ []))) (2 ^ 128 - 1)
+wide-more number all one =
+    let grown : sum (map number (all ++ one ∷ [])) ≡ sum (map number all) + number one =
+    ap sum (map_push number all one) ∙ sum_by_push (λ (n : ℕ). n) (map number all) (number one) in
+    two (min (sum (map number all)) (2 ^ 128 - 1)) (number one) ∙ kept-more (sum (map number all)) (number one) (2 ^ 128 - 1)
+    ∙ ap (λ (n : ℕ). min n (2 ^ 128 - 1)) (sym grown)
+  where
+    two : (n more : ℕ) → min (sum (n ∷ more ∷ [])) (2 ^ 128 - 1) ≡ min (n + more) (2 ^ 128 - 1)
+    two n more = omega arith
+
 pub added-push : (all : List FlowSums) (one : FlowSums) → added_up (added_up all ∷ one ∷ []) ≡ added_up (all ++ one ∷ [])
 unfolding added_up
 added-push all one = λ i. record {
@@ -49,7 +62,7 @@ added-push all one = λ i. record {
   no_packets = sum-more (λ n. n.no_packets) all one i;
   left = sum-more (λ n. n.left) all one i;
   carried = sum-more (λ n. n.carried) all one i;
-  waited = sum-more (λ n. n.waited) all one i;
+  waited = wide-more (λ n. n.waited) all one i;
   greatest_wait = greatest-more (λ n. n.greatest_wait) all one i;
   held = sum-more (λ n. n.held) all one i;
 }

@@ -1,14 +1,17 @@
 -- What is kept of a period that is summed up as it goes, with one more event.
 use Rattle.pie_summary.proofs.Names.{◌≡◌, ◌≤◌, ◌<◌, ◌+◌, ◌*◌, ◌-◌, ◌/◌, ◌==◌, arith, ℕ, Bool, true, false, cond, not, List, [], ◌∷◌, ◌++◌, refl}
-use Rattle.pie_summary.proofs.Names.{sym, ap, ◌∙◌, min, count_by, Option, Some, None, if◌then◌else◌, eq-eqb, ne_eqb}
+use Rattle.pie_summary.proofs.Names.{sym, ap, ◌∙◌, min, max, count_by, Option, Some, None, if◌then◌else◌, eq-eqb, ne_eqb}
 use Rattle.pie_summary.proofs.Names.{sum_by_push, Place, places, time_of, Explained, LivePeriod, Meter, kept, Holds, clock_of}
 use Rattle.pie_summary.proofs.Names.{length_of, number_in, last_events, last_period, period_at, since, starts, ranges_of, record_of, said_of}
 use Rattle.pie_summary.proofs.Names.{meter_of, reached, sums_of, waits_of}
 use Rattle.std.proofs.lemmas.Nat.{div-mul-add}
 use Rattle.pie_summary.proofs.Names.{cons_option, timed_by}
 use Rattle.pie_summary.specs.Live.{Awaits, IsSet, Spans, is_first, periods_begun}
+use Rattle.pie_summary.specs.Period.{at_last}
+use Rattle.std.specs.Prelude.{is_some}
 use Rattle.pie_summary.specs.Sums.{meter_in}
 use Rattle.pie_summary.specs.Words.{wait_99}
+use Rattle.std.proofs.Common.{true≢false}
 use Rattle.pie_summary.proofs.CountFacts.{kept-more}
 use Rattle.pie_summary.proofs.PeriodFacts.{last_events-push, last_period-push, since_begun, some-events, under-way}
 use Rattle.pie_summary.proofs.SumsFacts.{noted-moment, times_kept, place_of, places-push, reached_later, reached_none}
@@ -31,6 +34,32 @@ within-period number every start end moment some start-is end-is from to =
     let whole : moment ≡ number * every + (moment - start) = omega (arith, start-is, from) in
     let few : moment - start < every = omega (arith, end-is, from, to) in
     ap (λ (m : ℕ). m / every) whole ∙ div-mul-add number every (moment - start) few
+
+-- ---- its interval
+
+-- of an interval that has begun
+pub spans-begun : (begun number every start end : ℕ) → (begun ≡ 0 → ⊥) → start ≡ number * max every 1
+    → end ≡ min (start + max every 1) 18446744073709551615 → Spans begun number every start end
+spans-begun begun number every start end some start-is end-is = record {
+  starts = start-is ∙ sym (ap (λ (b : Bool). if b then 0 else number * max every 1) (ne_eqb begun 0 some));
+  ends = end-is ∙ sym (ap (λ (b : Bool). if b then 0 else min (start + max every 1) 18446744073709551615) (ne_eqb begun 0 some));
+}
+
+-- a moment from its start on and before its end is in it
+pub in-interval : (begun number every start end moment : ℕ) → Spans begun number every start end → start ≤ moment → moment < end
+    → (begun ≡ 0 → ⊥) × (moment / max every 1 ≡ number)
+in-interval begun number every start end moment spans from to = by (begun == 0) refl
+  where
+    by : (b : Bool) → (begun == 0) ≡ b → (begun ≡ 0 → ⊥) × (moment / max every 1 ≡ number)
+    by true none =
+        let never : end ≡ 0 = spans.ends ∙ ap (λ (b : Bool). if b then 0 else min (start + max every 1) 18446744073709551615) none in
+        absurd (omega (arith, never, to))
+    by false some = (
+      λ none. absurd (true≢false (sym (eq-eqb begun 0 none) ∙ some)),
+      within-period number (max every 1) start end moment (omega arith)
+          (spans.starts ∙ ap (λ (b : Bool). if b then 0 else number * max every 1) some)
+          (spans.ends ∙ ap (λ (b : Bool). if b then 0 else min (start + max every 1) 18446744073709551615) some) from to,
+    )
 
 -- ---- a period
 
@@ -70,7 +99,7 @@ awaits-same period shown one holds same =
 pub awaits-new : (old : LivePeriod) (shown : List Explained) (one : Explained) (number start end begun : ℕ) (meter : Meter) (waits : List ℕ)
     → Holds old shown → number ≡ period_at (length_of old) one → starts (number_in old) number ≡ true
     → begun ≡ kept (old.begun + 1) → meter ≡ record (meter_of [] []) { first = one.told.moment; since = one.told.moment } → waits ≡ ranges_of []
-    → Spans (record old { number = number; start = start; end = end; begun = begun; meter = meter; waits = waits })
+    → Spans begun number old.every start end
     → Awaits (record old { number = number; start = start; end = end; begun = begun; meter = meter; waits = waits }) shown one
 unfolding waits_of
 awaits-new old shown one number start end begun meter waits holds number-is started begun-is empty cleared spans =
@@ -119,6 +148,15 @@ holds-taken period shown one meter waits awaits meter-is waits-is = record {
 }
 
 -- ---- its record
+
+-- what is written at the end of no event, and of some
+pub at_last-none : (every : ℕ) (said : List Explained → List ℕ) (all : List Explained) → last_period (Some every) all ≡ None
+    → [] ≡ at_last (Some every) said all
+at_last-none every said all none = sym (ap (λ (last : Option ℕ). if is_some last then said (last_events (Some every) all) else []) none)
+
+pub at_last-some : (every number : ℕ) (said : List Explained → List ℕ) (all : List Explained) → last_period (Some every) all ≡ Some number
+    → said (last_events (Some every) all) ≡ at_last (Some every) said all
+at_last-some every number said all some = sym (ap (λ (last : Option ℕ). if is_some last then said (last_events (Some every) all) else []) some)
 
 pub said_live : (by_wall : Bool) (all : List Explained) (meter : Meter) (waits : List ℕ) (most : ℕ) → meter ≡ meter_in all → waits ≡ waits_of all
     → most ≡ wait_99 waits meter → record_of by_wall meter most ≡ said_of (record { csv = true; by_wall = by_wall }) all

@@ -9,7 +9,7 @@ use Rattle.pie_summary.specs.declared.by_flow.ByFlow.{ByFlow}
 use Rattle.pie_summary.specs.declared.flow_period.FlowPeriod.{FlowPeriod}
 use Rattle.pie_summary.specs.Flows.{HasFlows, flows_of}
 use Rattle.pie_summary.specs.FlowWords.{flow_names, flows_said}
-use Rattle.pie_summary.specs.Period.{Keeps, at_end, last_events}
+use Rattle.pie_summary.specs.Period.{Keeps, at_end, at_last}
 use Rattle.pie_summary.specs.Spans.{span_of}
 
 -- what stands before the first period: for CSV the header row
@@ -26,7 +26,7 @@ flows_so_far by_flow all = flow_header by_flow.form ++ flat_map (at_end by_flow.
 
 -- .. and behind them, sums of the last ones
 abbrev pub flows_whole : ByFlow → List Explained → List ℕ
-flows_whole by_flow all = flows_so_far by_flow all ++ said_by_flow by_flow (last_events by_flow.every all)
+flows_whole by_flow all = flows_so_far by_flow all ++ at_last by_flow.every (said_by_flow by_flow) all
 
 -- what a period has of these events: when they were, and their flows
 pub record HoldsFlows (period : FlowPeriod) (all : List Explained) : Type 0 where

@@ -1,5 +1,5 @@
 -- The numbers of a flow: which events are of it, and what these come to.
-use Rattle.std.specs.Prelude.{ℕ, ◌*◌, ◌/◌, ◌^◌, ◌==◌, Bool, false, List, map, Option, Some, None, unwrap_or, is_some, if◌then◌else◌}
+use Rattle.std.specs.Prelude.{ℕ, ◌-◌, ◌*◌, ◌/◌, ◌^◌, ◌==◌, min, Bool, false, List, map, Option, Some, None, unwrap_or, is_some, if◌then◌else◌}
 use Rattle.std.specs.List.{sum}
 use Rattle.pie_aqm.specs.Places.{greatest}
 use Rattle.pie_event.specs.declared.command.Command.{Command}
@@ -55,7 +55,7 @@ numbers_of one = record {
 
 -- ---- of several
 
--- what numbers come to: each the sum of theirs, but for the longest wait
+-- what numbers come to: each the sum of theirs, except the longest wait; the sum of waits has 128 bits
 unfoldable pub added_up : List FlowSums → FlowSums
 added_up all = record {
   arrivals = kept (sum (map (λ one. one.arrivals) all));
@@ -67,7 +67,7 @@ added_up all = record {
   no_packets = kept (sum (map (λ one. one.no_packets) all));
   left = kept (sum (map (λ one. one.left) all));
   carried = kept (sum (map (λ one. one.carried) all));
-  waited = kept (sum (map (λ one. one.waited) all));
+  waited = min (sum (map (λ one. one.waited) all)) (2 ^ 128 - 1);
   greatest_wait = greatest (map (λ one. one.greatest_wait) all);
   held = kept (sum (map (λ one. one.held) all));
 }

@@ -9,6 +9,7 @@ use Rattle.pie_summary.specs.declared.flow_words.Heading.{Heading}
 use Rattle.pie_summary.specs.declared.flow_words.Name.{Name}
 use Rattle.pie_summary.specs.declared.flow_words.Name.TheVariants as name
 use Rattle.pie_summary.specs.declared.spans.Span.{Span}
+use Rattle.pie_summary.specs.Counts.{kept}
 use Rattle.pie_summary.specs.Flows.{first_of, sums_beside}
 use Rattle.pie_summary.specs.Record.{last_fields, number_fields}
 use Rattle.pie_summary.specs.Words.{head_words, time_words}
@@ -36,9 +37,9 @@ amount_words name total sums =
     joined (codes "  " ∷ name_words name ∷ codes ": " ∷ decimal sums.arrivals ∷ codes " arrivals, " ∷ decimal sums.bytes ∷ codes " bytes, "
     ∷ share sums.bytes total.bytes ∷ codes " of all; " ∷ share sums.held total.held ∷ codes " of the queue\n" ∷ [])
 
--- the mean wait of the packets that left, rounded down; 0 where none did
+-- the mean wait of the packets that left, rounded down; 0 if none did
 abbrev pub mean_wait : FlowSums → ℕ
-mean_wait sums = sums.waited / max sums.left 1
+mean_wait sums = kept (sums.waited / max sums.left 1)
 
 -- how long those had waited that left
 unfoldable pub wait_words : FlowSums → List ℕ

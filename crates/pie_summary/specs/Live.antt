@@ -1,12 +1,13 @@
 -- A period that is summed up as it goes: the numbers of a summary's record, kept in as much memory as they take.
-use Rattle.std.specs.Prelude.{ℕ, ◌≡◌, ◌≤◌, ◌<◌, ◌==◌, Bool, true, List, [], ◌∷◌, ◌++◌, Option, Some, None, count_by, if◌then◌else◌}
+use Rattle.std.specs.Prelude.{ℕ, ◌≡◌, ◌+◌, ◌-◌, ◌*◌, ◌^◌, ◌==◌, min, max, Bool, true, List, [], ◌∷◌, ◌++◌, Option, Some, None, count_by}
+use Rattle.std.specs.Prelude.{if◌then◌else◌}
 use Rattle.pie_aqm.specs.Places.{Place, places}
 use Rattle.pie_record.specs.declared.clock.Clock.{Clock}
 use Rattle.pie_explain.specs.declared.explanation.Explained.{Explained}
 use Rattle.pie_explain.specs.declared.form.Form.{Form}
 use Rattle.pie_summary.specs.declared.live.LivePeriod.{LivePeriod}
 use Rattle.pie_summary.specs.Counts.{kept}
-use Rattle.pie_summary.specs.Period.{last_events, last_period, period_at, period_of, since, starts}
+use Rattle.pie_summary.specs.Period.{last_events, last_period, period_at, since, starts}
 use Rattle.pie_summary.specs.Sums.{meter_in, reached, waits_of}
 pub use Rattle.pie_summary.specs.Sums.{Meets, noted_of}
 
@@ -26,10 +27,11 @@ length_of period = Some period.every
 abbrev pub number_in : LivePeriod → Option ℕ
 number_in period = if period.begun == 0 then None else Some period.number
 
--- the moments from its start on and before its end are in it
-abbrev pub Spans : LivePeriod → Type 0
-Spans period = (moment : ℕ) → period.start ≤ moment → moment < period.end
-    → (period.begun ≡ 0 → ⊥) × (period_of (length_of period) moment ≡ period.number)
+-- when the interval under way starts and ends: both are 0 before the first event. After it the start is the interval's number times its length, and
+-- the end one length later, at most 2^64 - 1
+pub record Spans (begun number every start end : ℕ) : Type 0 where
+  pub starts : start ≡ (if begun == 0 then 0 else number * max every 1)
+  pub ends : end ≡ (if begun == 0 then 0 else min (start + max every 1) (2 ^ 64 - 1))
 
 -- what is kept is of these events: the period of the last one, how many periods there were, and the numbers and the waits of the last events as
 -- far back as they are in the same period
@@ -38,7 +40,7 @@ pub record Holds (period : LivePeriod) (all : List Explained) : Type 0 where
   pub begun : period.begun ≡ periods_begun (length_of period) all
   pub meter : period.meter ≡ meter_in (last_events (length_of period) all)
   pub waits : period.waits ≡ waits_of (last_events (length_of period) all)
-  pub spans : Spans period
+  pub spans : Spans period.begun period.number period.every period.start period.end
 
 -- .. before the last one of these events is counted, when its period is under way
 pub record Awaits (period : LivePeriod) (shown : List Explained) (one : Explained) : Type 0 where
@@ -46,7 +48,7 @@ pub record Awaits (period : LivePeriod) (shown : List Explained) (one : Explaine
   pub begun : period.begun ≡ periods_begun (length_of period) (shown ++ one ∷ [])
   pub meter : period.meter ≡ reached (since (length_of period) (Some (period_at (length_of period) one)) shown) one
   pub waits : period.waits ≡ waits_of (since (length_of period) (Some (period_at (length_of period) one)) shown)
-  pub spans : Spans period
+  pub spans : Spans period.begun period.number period.every period.start period.end
 
 -- the time of day that was told last
 abbrev pub clock_of : LivePeriod → Option Clock

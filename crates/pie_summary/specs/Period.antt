@@ -1,5 +1,5 @@
 -- Periods of equal length: which of the explained events are summed up together.
-use Rattle.std.specs.Prelude.{ℕ, ◌≡◌, ◌/◌, ◌==◌, max, if◌then◌else◌, Bool, true, false, not, List, [], map, Option, Some, None}
+use Rattle.std.specs.Prelude.{ℕ, ◌≡◌, ◌/◌, ◌==◌, max, if◌then◌else◌, Bool, true, false, not, List, [], map, Option, Some, None, is_some}
 use Rattle.std.specs.List.{after_last}
 use Rattle.pie_aqm.specs.Places.{Place, last_or}
 use Rattle.pie_explain.specs.declared.explanation.Explained.{Explained}
@@ -45,6 +45,15 @@ starts (Some before) period = not (before == period)
 abbrev pub at_end : Option ℕ → (List Explained → List ℕ) → Place Explained → List ℕ
 at_end every said place =
     if begins (last_period every place.before) (period_at every place.event) then said (last_events every place.before) else []
+
+-- at the end something is said if all events are summed up together, or if there is an event, whose period is then known
+abbrev pub is_said : Option ℕ → Option ℕ → Bool
+is_said None last = true
+is_said (Some every) last = is_some last
+
+-- what is written at the end: what is said of the last events
+abbrev pub at_last : Option ℕ → (List Explained → List ℕ) → List Explained → List ℕ
+at_last every said all = if is_said every (last_period every all) then said (last_events every all) else []
 
 -- where the period with this number, if any, is that of the last of these events, this is so of the last events as far back as they are in it
 pub record Keeps (of : List Explained → Type 0) (every under_way : Option ℕ) (all : List Explained) : Type 0 where

@@ -11,7 +11,7 @@ use Rattle.pie_explain.specs.Words.{words_by}
 use Rattle.pie_summary.specs.declared.period.Period.{Period}
 use Rattle.pie_summary.specs.declared.summary.Summary.{Summary}
 use Rattle.pie_summary.specs.declared.sums.Sums.{Sums}
-use Rattle.pie_summary.specs.Period.{Keeps, at_end, last_events}
+use Rattle.pie_summary.specs.Period.{Keeps, at_end, at_last}
 use Rattle.pie_summary.specs.Record.{field_names, record_of}
 use Rattle.pie_summary.specs.Sums.{sums_of, waits_of}
 use Rattle.pie_summary.specs.Words.{wait_99, words}
@@ -51,7 +51,7 @@ summaries summary all = header summary.form ++ flat_map (written_at summary) (pl
 
 -- .. and behind them, a summary of the last ones
 abbrev pub summary_of : Summary → List Explained → List ℕ
-summary_of summary all = summaries summary all ++ said_of summary.form (last_events summary.every all)
+summary_of summary all = summaries summary all ++ at_last summary.every (said_of summary.form) all
 
 -- what a period has of these events: their numbers, and their waits
 pub record HoldsSums (period : Period) (all : List Explained) : Type 0 where

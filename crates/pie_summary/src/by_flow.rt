@@ -6,7 +6,7 @@ ghost use Rattle.pie_summary.specs.FlowWords.{flows_said};
 use crate::flow::{Flow, flows_of};
 use crate::flow_period::FlowPeriod;
 use crate::flow_words::{NAMES, push_flows};
-use crate::period::{begins, period_of};
+use crate::period::{begins, is_said, period_of};
 use crate::spans::Span;
 use crate::words::Written;
 use pie_explain::{Explained, Form, Report, push_header};
@@ -66,6 +66,7 @@ impl Report for ByFlow {
     }
 
     fn end(&self, state: &FlowPeriod, page: &mut Page) -> Written {
-        push_ended(page, self, true, &state.span, flows_of(&state.rows))
+        let ends = is_said(self.every, state.number);
+        push_ended(page, self, ends, &state.span, flows_of(&state.rows))
     }
 }

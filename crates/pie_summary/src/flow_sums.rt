@@ -28,8 +28,8 @@ pub struct FlowSums {
     pub left: u64,
     /// Their bytes.
     pub carried: u64,
-    /// How long they had waited, in nanoseconds, all together.
-    pub waited: u64,
+    /// How long they had waited, in nanoseconds, all together: 2^128 - 1 where that would be above it.
+    pub waited: u128,
     /// The longest that one of them had, in nanoseconds.
     pub greatest_wait: u64,
     /// What they had of the queue: of each its bytes times the whole microseconds that it had waited.
@@ -65,7 +65,7 @@ fn numbers_of(one: &Noted) -> FlowSums
         no_packets: u64::from(one.answer == 4),
         left: u64::from(one.answer == 5),
         carried: one.carried,
-        waited,
+        waited: u128::from(waited),
         greatest_wait: waited,
         held: one.carried.saturating_mul(waited / 1000),
     }

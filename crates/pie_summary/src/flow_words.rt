@@ -89,7 +89,7 @@ fn push_amount(page: &mut String, name: Name, total: &FlowSums, sums: &FlowSums)
 fn mean_wait(sums: &FlowSums) -> u64
     ensures { result ≡ mean_wait sums.now }
 {
-    sums.waited / sums.left.max(1)
+    (sums.waited / u128::from(sums.left.max(1))).min(u128::from(u64::MAX)) as u64
 }
 
 /// How long the packets of a flow had waited that left.

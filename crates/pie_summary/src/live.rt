@@ -3,7 +3,7 @@ ghost use Rattle.std.specs.Prelude.{◌≡◌, ◌<◌, ◌++◌, ◌∷◌, [],
 ghost use Rattle.std.specs.List.{cons_option};
 ghost use Rattle.pie_explain.specs.Selection.{time_of};
 ghost use Rattle.pie_summary.specs.Live.{Awaits, Holds, IsSet, clock_of, form_in, length_of, noted_of, number_in};
-ghost use Rattle.pie_summary.specs.Period.{last_events, starts};
+ghost use Rattle.pie_summary.specs.Period.{at_last, starts};
 ghost use Rattle.pie_summary.specs.Summary.{header, said_of};
 ghost use Rattle.pie_summary.specs.Sums.{timed_by};
 ghost use Rattle.pie_explain.specs.declared.explanation.Explained.{Explained};
@@ -28,9 +28,9 @@ pub struct LivePeriod {
     pub begun: u64,
     /// The number of the period under way, counted from 0 for the one that begins at moment 0.
     pub number: u64,
-    /// The moment at which it began.
+    /// The moment at which it begins: `number * every`; 0 before the first event.
     pub start: u64,
-    /// The moment at which it ends: an event from then on is in another.
+    /// The moment at which it ends, `every` nanoseconds later: an event from then on is in another. 0 before the first event.
     pub end: u64,
     /// 1 where a time of day is told, and else 0.
     pub told: u64,
@@ -177,12 +177,15 @@ impl LivePeriod {
         }
     }
 
-    /// Adds the record of the period under way to an empty line.
+    /// Adds the record of the period under way to an empty line; before the first event there is none.
     #[tactic(auto, using(crate::proofs::LiveFacts::said_live))]
     pub fn put_record(&self, line: &mut LongRow)
         requires { line.old ≡ [] }
-        ensures { (shown : List Explained) → Holds self.now shown → line.new ≡ said_of (form_in self.now) (last_events (length_of self.now) shown) }
+        ensures { (shown : List Explained) → Holds self.now shown → line.new ≡ at_last (length_of self.now) (said_of (form_in self.now)) shown }
     {
+        if self.begun == 0 {
+            return;
+        }
         let most = self.meter.wait_99(&self.waits);
         push_record(line, self.wall == 1, &self.meter, most);
     }

@@ -1,7 +1,7 @@
 //! The period that is being summed up.
 ghost use Rattle.std.specs.Prelude.{◌≡◌, ◌++◌, ◌∷◌, [], ℕ, List, IfOk, Option, None, Some};
 ghost use Rattle.pie_explain.specs.declared.explanation.Explained.{Explained};
-ghost use Rattle.pie_summary.specs.Period.{Keeps, begins, period_of, since, starts};
+ghost use Rattle.pie_summary.specs.Period.{Keeps, begins, is_said, period_of, since, starts};
 ghost use Rattle.pie_summary.specs.Summary.{HoldsSums};
 
 use crate::noted::noted_of;
@@ -37,6 +37,16 @@ pub(crate) fn starts(before: Option<u64>, period: u64) -> bool
 {
     match before {
         Some(before) => before != period,
+        None => true,
+    }
+}
+
+/// Returns true if something is said at the end: of all events together, or of the last interval, whose number is `last`, if there is an event.
+pub(crate) fn is_said(every: Option<u64>, last: Option<u64>) -> bool
+    ensures { result ≡ is_said every last }
+{
+    match every {
+        Some(_) => last.is_some(),
         None => true,
     }
 }

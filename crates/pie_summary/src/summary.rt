@@ -5,7 +5,7 @@ ghost use Rattle.pie_summary.specs.Words.{words};
 ghost use Rattle.pie_summary.specs.Summary.{is_lost_or_marked, noted, said};
 
 use crate::meter::Meter;
-use crate::period::{Period, begins, period_of};
+use crate::period::{Period, begins, is_said, period_of};
 use crate::record::{NAMES, push_record};
 use crate::sums::Sums;
 use crate::words::{Written, push_words};
@@ -14,8 +14,8 @@ use pie_text::{LongRow, Page};
 use std::alloc::AllocError;
 
 /// Summaries of the explained events: how many arrivals each verdict and each cause had, how long packets waited, what the updates
-/// made, and when the controller turned on and off. One of all events, or one of each period that has some; each is written when its
-/// last event is known.
+/// made, and when the controller turned on and off. One of all events, also if there is none, or one of each period that has some; each is
+/// written when its last event is known.
 #[derive(Clone, Copy)]
 pub struct Summary {
     /// In words, or as CSV: a header row, and one record a summary. By times of day a line tells those of the first and the last event that has
@@ -108,6 +108,6 @@ impl Report for Summary {
     }
 
     fn end(&self, state: &Period, page: &mut Page) -> Written {
-        push_ended(page, self.form, state, true)
+        push_ended(page, self.form, state, is_said(self.every, state.number))
     }
 }

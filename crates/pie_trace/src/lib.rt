@@ -33,6 +33,7 @@ pub use law::{
     resumed_runs_go_on_as_the_whole, runs_are_clean,
 };
 pub use migration::migrate;
+pub use pie_book::Opening;
 pub use pie_record::{Flaw, HistoryLines, Line, OpenFault, TraceFault, Version};
 pub use pie_text::write_history;
 pub use run::{RunEnd, run_trace, run_trace_within};

@@ -7,6 +7,7 @@ from pathlib import Path
 
 NINE = ("target", "t_update", "max_burst", "alpha", "beta", "mean_pkt", "limit_bytes", "mark_ecnth", "dq_threshold")
 RECORD_ROOM = 256
+MAX_MOMENT = (1 << 60) - 1
 
 
 class RawParams(Structure):

@@ -4,7 +4,7 @@ from __future__ import annotations
 from ctypes import byref
 from dataclasses import dataclass
 from enum import IntEnum
-from typing import NamedTuple
+from typing import Any, NamedTuple
 
 from ._library import LIBRARY, RawEvent, RawState, number
 from .history import Recorder
@@ -104,9 +104,24 @@ def set_params(state: RawState, params: Params, asked: RawEvent) -> None:
 
 
 class Held:
-    """What holds a controller's numbers."""
+    """What holds a controller's numbers. A copy, and what pickle restores, has numbers of its own; with a history there is none."""
 
     _state: RawState
+    _history: Recorder | None
+
+    def __getstate__(self) -> dict[str, Any]:
+        if self._history is not None:
+            raise TypeError(f"a {type(self).__name__} that records a history cannot be copied: both would write to one text")
+        return {**self.__dict__, "_state": bytes(self._state)}
+
+    def __setstate__(self, held: dict[str, Any]) -> None:
+        self.__dict__.update(held, _state=RawState.from_buffer_copy(held["_state"]))
+
+    def __repr__(self) -> str:
+        return f"{type(self).__name__}({self._numbers()})"
+
+    def _numbers(self) -> str:
+        return f"moment={self._state.moment}, prob={self._state.prob}, due={self.due}"
 
     @property
     def state(self) -> State:

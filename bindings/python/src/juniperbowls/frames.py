@@ -2,11 +2,12 @@
 of the type UInt64, words are categories, times of day datetimes."""
 from __future__ import annotations
 
+import contextlib
 import io
 import os
 import subprocess
 import tempfile
-from collections.abc import Iterator
+from collections.abc import Generator, Iterator
 from os import fspath
 from typing import IO, TYPE_CHECKING, Any, NamedTuple
 
@@ -23,7 +24,7 @@ if TYPE_CHECKING:
 ECN = ("not", "ect1", "ect0", "ce")
 VERDICTS = ("enqueue", "mark", "early", "bytes", "packets")
 ANSWERS = (*VERDICTS, "left", "empty", "updated", "done", "refused")
-_WORDS = ("kind", "verdict", "cause", "ecn")
+_WORDS = ("kind", "verdict", "cause", "ecn", "flow")
 
 
 class Fault(RuntimeError):
@@ -33,6 +34,9 @@ class Fault(RuntimeError):
         super().__init__(text)
         #: the program's: 1 for a fault, 2 for an event that differs
         self.status = status
+
+    def __reduce__(self) -> tuple[type[Fault], tuple[str, int]]:
+        return type(self), (str(self), self.status)
 
 
 class Finding(NamedTuple):
@@ -63,19 +67,37 @@ def audit(history: Place, pie: str | None = None) -> Finding:
 
 def explain(history: Place, *options: str, pie: str | None = None) -> pd.DataFrame:
     """What `pie explain` says of a history with these options, `--all` where there are none: `explain(place, "--every", "100ms")`. The columns are
-    those of docs/FORMATS.md, "Explanations". A `Fault` where the history has one, or an event differs."""
+    those of docs/FORMATS.md, "Explanations"; of `wall` with `--wall` texts if one is later than 2262-04-11, which is pandas's last. A `Fault` where
+    the history has one, or an event differs."""
     import pandas as pd
 
-    parts = list(explain_parts(history, *options, pie=pie))
+    parts = list(_explained(history, options, 500_000, pie))
     if len(parts) == 1:
-        return parts[0]
+        return _timed(parts[0])
     every = {name: pd.api.types.union_categoricals([part[name] for part in parts]) for name in _WORDS if name in parts[0]}
     whole = pd.concat([part.drop(columns=list(every)) for part in parts], ignore_index=True)
-    return whole.assign(**every)[list(parts[0])]
+    return _timed(whole.assign(**every)[list(parts[0])])
 
 
 def explain_parts(history: Place, *options: str, rows: int = 500_000, pie: str | None = None) -> Iterator[pd.DataFrame]:
     """The same in parts of some so many rows, for histories that are larger than the memory: each part can be written and forgotten."""
+    with contextlib.closing(_explained(history, options, rows, pie)) as parts:
+        yield from map(_timed, parts)
+
+
+def _timed(rows: pd.DataFrame) -> pd.DataFrame:
+    """Returns a frame with its times of day as datetimes, unless pandas's nanoseconds do not reach so far."""
+    import pandas as pd
+
+    if "wall" not in rows:
+        return rows
+    try:
+        return rows.assign(wall=pd.to_datetime(rows["wall"], utc=True).array)
+    except pd.errors.OutOfBoundsDatetime:
+        return rows
+
+
+def _explained(history: Place, options: tuple[str, ...], rows: int, pie: str | None) -> Generator[pd.DataFrame, None, None]:
     words = [_program(pie), "explain", *(options or ("--all",)), "--csv", "--", fspath(history)]
     with tempfile.TemporaryFile() as errors:
         with subprocess.Popen(words, stdout=subprocess.PIPE, stderr=errors) as process:
@@ -121,7 +143,7 @@ def _table(names: list[str], body: bytes, first: int) -> pd.DataFrame:
     for name, missing in zip(names, empty.T):
         column = found[name]
         if name == "wall":
-            columns[name] = pd.to_datetime(column.mask(missing), utc=True).array
+            columns[name] = column.mask(missing).array
         elif name in _WORDS:
             columns[name] = column.cat.remove_categories([it for it in column.cat.categories if it == "0"]).array
         else:
@@ -163,10 +185,11 @@ def frame(events: Events, first: int = 1) -> pd.DataFrame:
 
 
 def read_history(history: Place) -> pd.DataFrame:
-    """A history's events as a frame, as `frame` makes it. It is not audited: `audit` does that."""
+    """A history's events as a frame, as `frame` makes it. It is not audited: `audit` does that. A `ValueError` if the file is no history."""
+    events = read_events(history)
     with open(history, "rb") as text:
-        beginning = text.readline().split(b",")
-    return frame(read_events(history), int(beginning[_count_at(beginning)]) + 1 if beginning[0] == b"resume" else 1)
+        beginning = text.readline().removeprefix(b"\xef\xbb\xbf").split(b",")
+    return frame(events, int(beginning[_count_at(beginning)]) + 1 if beginning[0] == b"resume" else 1)
 
 
 def _count_at(fields: list[bytes]) -> int:
@@ -208,13 +231,16 @@ _FIELDS: dict[tuple[bytes, int], tuple[str, ...]] = {
     (b"params", 13): (*(f"parameter {it}" for it in range(9)), "answer"),
 }
 _CODES = {"enqueue": 0, "mark": 1, "early": 2, "bytes": 3, "packets": 4, "left": 0, "empty": 5, "done": 0}
+_NOTES = frozenset((b"", b"refused", b"folded", b"shown", b"tallied", b"clock", b"queued"))
 
 
 def read_events(history: Place) -> Events:
     """A history's events, as `pie` and the library write them, in a numpy array, without its notes. So they can be decided again, by a `Queue` that
-    was opened otherwise. New parameters are events of the kind 5 without the parameters."""
+    was opened otherwise. New parameters are events of the kind 5 without the parameters. A `ValueError` if the file is no history."""
+    read_opening(history)
     with open(history, "rb") as text:
-        lines = text.read().split(b"\n")
+        lines = text.read().replace(b"\r\n", b"\n").split(b"\n")
+    lines[0] = b""  # (the opening)
     places: dict[tuple[bytes, int], list[int]] = {it: [] for it in _FIELDS}
     known, wrong = {kind for kind, _ in _FIELDS}, 0
     for n, line in enumerate(lines):
@@ -225,6 +251,8 @@ def read_events(history: Place) -> Events:
                 wrong += 1
             else:
                 at.append(n)
+        elif kind not in _NOTES:
+            raise ValueError(f"{fspath(history)}: line {n + 1} is no record of a history")
     if wrong:
         raise ValueError(f"{fspath(history)}: {wrong} records have a wrong number of fields")
     found = [_events_of(kind, names, [lines[n] for n in places[kind, count]]) for (kind, count), names in _FIELDS.items()]
@@ -244,6 +272,9 @@ def _events_of(kind: bytes, names: tuple[str, ...], lines: list[bytes]) -> Event
     for name in types:
         if name in ("ecn", "answer"):
             codes = {word: code for code, word in enumerate(ECN)} if name == "ecn" else _CODES
+            strange = [it for it in table[name].cat.categories if it not in codes]
+            if strange:
+                raise ValueError(f"{strange[0]!r} is no word of a history")
             made[name] = np.array([codes[it] for it in table[name].cat.categories], np.uint32)[table[name].cat.codes]
         elif name in (EVENT.names or ()) and name != "kind":
             made[name] = table[name]

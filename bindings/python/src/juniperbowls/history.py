@@ -25,13 +25,14 @@ _AT_ONCE = 4096
 
 class Recorder:
     """Writes a history into a file, which it names or which is open for bytes: the opening, and then each event in its order. `pie audit` decides all
-    of it again. Close it, or use it by `with`: until then the end may not be in the file.
+    of it again. Close it, or use it by `with`: until then the end may not be in the file. If a file of this name exists, it is left unchanged and
+    `FileExistsError` is raised; `force` replaces it.
 
     >>> with Recorder("link.history", opening) as history:
     ...     pie = Controller(opening, history)
     """
 
-    def __init__(self, out: Place | BinaryIO, opening: Opening):
+    def __init__(self, out: Place | BinaryIO, opening: Opening, force: bool = False):
         text = _text(lambda to, room: LIBRARY.pie_write_opening(byref(opening.raw()), to, room))
         if not text:
             raise ValueError(f"an opening that no history has: {opening}")
@@ -41,8 +42,12 @@ class Recorder:
         self.untold = 0
         self._has_clock = text.startswith(b"open3,")
         self._is_own = isinstance(out, (str, PathLike))
-        self._out: Any = open(fspath(out), "wb") if isinstance(out, (str, PathLike)) else out
+        self._out: Any = open(fspath(out), "wb" if force else "xb") if isinstance(out, (str, PathLike)) else out
+        self._name = repr(fspath(out)) if isinstance(out, (str, PathLike)) else "a file"
         self._out.write(text)
+
+    def __repr__(self) -> str:
+        return f"Recorder({self._name}, records={self.records}, untold={self.untold})"
 
     def record(self, events: RawEvent | Events) -> None:
         """Writes the records of events; of one that was refused that it was. A `ValueError` where one is none that a history has, behind those

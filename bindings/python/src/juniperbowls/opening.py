@@ -16,7 +16,7 @@ class Profile(IntEnum):
 
 
 class Choices(IntFlag):
-    """RFC 8033's optional elements that are chosen otherwise than usual."""
+    """RFC 8033's optional elements, as flags: `Opening.for_rate` chooses DELAY_STAMP alone, as Linux does; USUAL is none."""
     USUAL = 0
     DELAY_STAMP = 1
     PICK_RANDOM = 2
@@ -133,7 +133,7 @@ class Opening:
     @classmethod
     def for_rate(cls, rate: int | str = 0, **changes: int | str) -> Opening:
         """The default opening for a link of this rate (0: RFC 8033's defaults), with some of its numbers or parameters changed:
-        `Opening.for_rate("100mbit", target="20ms", choices=Choices.DELAY_STAMP)`."""
+        `Opening.for_rate("100mbit", target="20ms", mode=Mode.BOUNDED)`."""
         raw = RawOpening()
         LIBRARY.pie_default_opening(byref(raw), whole("rate", rate))
         params = Params.of(raw.params)

@@ -1,7 +1,8 @@
 """A queue of packets with the controller in front, for simulations: one event at a time, or a numpy array of them at the speed of C."""
 from __future__ import annotations
 
-import ctypes
+import copy
+import operator
 from ctypes import byref
 from types import TracebackType
 from typing import Any, NamedTuple
@@ -9,7 +10,7 @@ from typing import Any, NamedTuple
 import numpy as np
 import numpy.typing as npt
 
-from ._library import ALL, EVENTS, GROW, KIND, LIBRARY, OUT, REFUSED, RawEvent, RawQueue, number
+from ._library import ALL, EVENTS, GROW, LIBRARY, MAX_MOMENT, OUT, REFUSED, RawEvent, RawQueue, RawState, number
 from .controller import Ecn, Held, Kind, Updated, Verdict, event, opened, set_params
 from .history import EVENT, Events, Place, Recorder
 from .opening import Opening, Params, whole
@@ -17,6 +18,7 @@ from .refusal import Refused
 
 PACKET = np.dtype([("tag", "<u8"), ("since", "<u8"), ("size", "<u4"), ("ecn", "<u4")])
 _SPARE = 1 << 16  # events, for updates and for packets that wait
+_MOST_UPDATES = 1 << 26  # that one call makes in the pauses between arrivals: 4 GB of events
 
 
 class Packet(NamedTuple):
@@ -29,12 +31,29 @@ class Packet(NamedTuple):
 class Exhausted(RuntimeError):
     """There were as many events as the opening allows."""
 
+    #: of a call over an array: the events that it decided before
+    events: Events | None = None
+
+
+def _whole(name: str, values: npt.NDArray[Any]) -> npt.NDArray[Any]:
+    """Returns objects as an array of 64-bit numbers: integers of Python, which numpy takes for floating point if some are above 2^63 - 1, and columns of
+    pandas that may lack numbers."""
+    try:
+        numbers = [operator.index(it) for it in values.flat]
+    except TypeError:
+        raise TypeError(f"{name}: these are not whole numbers, or one is missing") from None
+    if min(numbers) < 0 or max(numbers) >= 1 << 64:
+        raise ValueError(f"{name}: a number does not fit in 64 bits without a sign")
+    return np.array(numbers, np.uint64).reshape(values.shape)
+
 
 def column(name: str, values: npt.ArrayLike, kind: str, count: int | None = None) -> npt.NDArray[Any]:
     """Whole numbers as an array of this type, which numpy would cut; one number stands for `count`."""
     found = np.asarray(values)
+    if found.dtype.kind == "b":
+        raise TypeError(f"{name}: these are truth values, and no numbers")
     if found.dtype.kind not in "iu" and found.size:
-        raise TypeError(f"{name}: these are not whole numbers that fit in 64 bits")
+        found = _whole(name, np.asarray(values, dtype=object))
     is_within = not found.size or (found.dtype.kind == "u" or found.min() >= 0) and (found.dtype == kind or int(found.max()) <= np.iinfo(kind).max)
     if not is_within:
         raise ValueError(f"{name}: a number does not fit in {np.iinfo(kind).bits} bits without a sign")
@@ -57,8 +76,9 @@ def events(kinds: npt.ArrayLike, moments: npt.ArrayLike, **columns: npt.ArrayLik
 
 class Queue(Held):
     """Packets in order, with PIE in front. What is refused raises `Refused` and changes nothing. `history` names a file, or is a `Recorder`: then
-    every event is recorded, by the library's writers, and `pie audit` finds the history clean. Random words that are not handed in come from a
-    generator that `seed` begins. It is for one thread at a time.
+    every event is recorded, by the library's writers, and `pie audit` finds the history clean. An existing file is left unchanged, unless `force`
+    replaces it. Random words that are not handed in come from a generator that `seed` begins. It is for one thread at a time. A copy
+    (`copy.copy`) goes on by itself, with the same random words; a queue that records a history has none.
 
     >>> queue = Queue(Opening.for_rate("10mbit"), history="link.history", seed=1)
     >>> queue.arrive(moment="1ms", size=1500, ecn=Ecn.ECT0)
@@ -67,13 +87,25 @@ class Queue(Held):
     Packet(tag=0, size=1500, ecn=<Ecn.ECT0: 2>)
     """
 
-    def __init__(self, opening: Opening, history: Place | Recorder | None = None, seed: int | None = None):
+    def __init__(self, opening: Opening, history: Place | Recorder | None = None, seed: int | None = None, force: bool = False):
         self._state = opened(opening)
         self._ring = np.zeros(min(1024, _power(opening.packets)), PACKET)
         self._queue = RawQueue(self._ring.ctypes.data, len(self._ring), 0, 0, opening.packets, 0, 0, opening.events)
-        self._history = history if isinstance(history, Recorder) or history is None else Recorder(history, opening)
+        self._history = history if isinstance(history, Recorder) or history is None else Recorder(history, opening, force)
         self._random = np.random.default_rng(seed)
+        self._words = np.zeros(0, np.uint64)  # that were drawn, and not used
         self._arrivals = 0
+
+    def __getstate__(self) -> dict[str, Any]:
+        own = {"_queue": bytes(self._queue), "_ring": self._ring.copy(), "_random": copy.deepcopy(self._random)}
+        return {**super().__getstate__(), **own}
+
+    def __setstate__(self, held: dict[str, Any]) -> None:
+        super().__setstate__({**held, "_queue": RawQueue.from_buffer_copy(held["_queue"])})
+        self._queue.ring = self._ring.ctypes.data
+
+    def _numbers(self) -> str:
+        return f"{super()._numbers()}, packets={self.packets}, bytes={self.bytes}, events={self._queue.events}"
 
     @property
     def packets(self) -> int:
@@ -92,12 +124,29 @@ class Queue(Held):
 
     def arrive(self, moment: int | str, size: int, ecn: int = Ecn.NOT, *, word: int | None = None, tag: int | None = None,
                caller: int = 1) -> Verdict:
-        """A packet arrives: it is queued, marked and queued, or dropped. Tags count from 0 where none is told."""
-        chance = int(self._random.integers(1 << 64, dtype=np.uint64)) if word is None else word
-        asked = event(Kind.ARRIVE, moment, caller, size=size, ecn=ecn, word=chance, tag=self._arrivals if tag is None else tag)
-        self._decide_one(asked)
+        """A packet arrives: it is queued, marked and queued, or dropped. Tags count from 0 where none is told. A call that is refused uses no random
+        word."""
+        asked = event(Kind.ARRIVE, moment, caller, size=size, ecn=ecn, word=0 if word is None else word, tag=self._arrivals if tag is None else tag)
+        drawn = self._draw(1 if word is None else 0)
+        if word is None:
+            asked.word = int(drawn[0])
+        try:
+            self._decide_one(asked)
+        except (Refused, Exhausted):
+            self._keep(drawn)
+            raise
         self._arrivals += 1
         return Verdict(asked.answer)
+
+    def _draw(self, count: int) -> npt.NDArray[np.uint64]:
+        """Returns so many random words: those that were kept first."""
+        kept, self._words = self._words[:count], self._words[count:]
+        more = self._random.integers(1 << 64, size=count - len(kept), dtype=np.uint64)
+        return np.concatenate([kept, more]) if len(kept) else more
+
+    def _keep(self, words: npt.NDArray[np.uint64]) -> None:
+        """Keeps words that were drawn and not used for the next arrivals."""
+        self._words = np.concatenate([words, self._words])
 
     def depart(self, moment: int | str, *, caller: int = 2) -> Packet | None:
         """The oldest packet leaves; nothing where none waits."""
@@ -117,15 +166,27 @@ class Queue(Held):
 
     def set_params(self, params: Params, moment: int | str, *, caller: int = 3) -> None:
         """Puts new parameters in force."""
-        if self._queue.events >= self._queue.most_events:
-            raise Exhausted(f"there were {self._queue.events} events, as many as the opening allows")
         asked = event(Kind.PARAMS, moment, caller)
+        state = RawState.from_buffer_copy(self._state)
         try:
-            set_params(self._state, params, asked)
-            self._queue.events += 1
-        finally:
-            if self._history:
-                self._history.record_params(asked, params)
+            set_params(state, params, asked)
+        except Refused:
+            self._record_params(asked, params)
+            raise
+        if self._queue.events >= self._queue.most_events:
+            raise self._exhausted()
+        self._state = state
+        self._queue.events += 1
+        self._record_params(asked, params)
+
+    def _record_params(self, asked: RawEvent, params: Params) -> None:
+        if self._history:
+            self._history.record_params(asked, params)
+
+    def _exhausted(self, decided: Events | None = None) -> Exhausted:
+        why = Exhausted(f"there were {self._queue.events} events, as many as the opening allows")
+        why.events = decided
+        return why
 
     def _decide_one(self, asked: RawEvent) -> None:
         while not LIBRARY.pie_array_decide(byref(self._state), byref(self._queue), byref(asked), 1, False):
@@ -137,9 +198,12 @@ class Queue(Held):
 
     def decide(self, asked: Events, keeps_refused: bool = False) -> Events:
         """Decides events (made by `events`) in their order, and gives them back as they were answered: departures with the packet that left, or
-        answer 5 where none did. At the first that is refused `Refused` tells its `index`, behind the events before it; with `keeps_refused` its
-        `answer` is above 100, and the next is decided."""
+        answer 5 where none did. At the first that is refused `Refused` has its `index`, and in `events` those before it as they were answered; with
+        `keeps_refused` its `answer` is above 100, and the next is decided."""
         made = np.array(asked, dtype=EVENT, ndmin=1)
+        strange = np.flatnonzero((made["kind"] < Kind.ARRIVE) | (made["kind"] > Kind.RESET))
+        if len(strange):
+            raise ValueError(f"event {strange[0]} is no arrival, departure, update or reset")
         done = 0
         while done < len(made):
             passed = LIBRARY.pie_array_decide(byref(self._state), byref(self._queue), made[done:].ctypes.data, len(made) - done, keeps_refused)
@@ -147,20 +211,34 @@ class Queue(Held):
             done += passed
             if self._queue.why == REFUSED:
                 self._record(made[done:done + 1])
-                raise Refused(int(made[done]["answer"]), f"event {done}", done)
-            self._go_on(done)
+                raise Refused(int(made[done]["answer"]), f"event {done}", done, made[:done])
+            self._go_on(made[:done])
         return made
 
     def offer(self, moments: npt.ArrayLike, sizes: npt.ArrayLike, rate: int | str, *, ecn: npt.ArrayLike = Ecn.NOT,
               words: npt.ArrayLike | None = None, tags: npt.ArrayLike | None = None, until: int | str = 0, caller: int = 1) -> Events:
         """Offers packets that arrive at these moments to a link of this rate, which takes the oldest as soon as it has sent the one before; an update
         is made whenever one is due. Gives back all events in their order: arrivals, departures by caller 2, updates by caller 3. After the last
-        arrival it goes on to the moment `until`; a later call goes on from there. A pause is as many updates as come due in it."""
-        self._queue.rate = whole("rate", rate)
-        if not 1 <= self._queue.rate < 1 << 60:
+        arrival it goes on to the moment `until`; a later call goes on from there. A pause is as many updates as come due in it: a `ValueError`, and
+        nothing is decided, where these are more than 2^26. At an arrival that is refused `Refused` has its `index`, and in `events` all before it;
+        the arrivals from it on may be offered again, and use the random words that they would have had."""
+        speed = whole("rate", rate)
+        if not 1 <= speed < 1 << 60:
             raise ValueError("rate: a link has a rate of 1 bit a second to 2^60 - 1")
-        arrivals = self._arriving(moments, sizes, ecn, words, tags, caller)
-        end, taken, made = whole("until", until), 0, 0
+        end, arrivals = whole("until", until), self._arriving(moments, sizes, ecn, words, tags, caller)
+        self._check_pauses(arrivals["moment"], end)
+        self._queue.rate = speed
+        drawn = self._draw(len(arrivals) if words is None else 0)
+        if words is None:
+            arrivals["word"] = drawn
+        taken = self._arrivals
+        try:
+            return self._offer(arrivals, end)
+        finally:
+            self._keep(drawn[self._arrivals - taken:])
+
+    def _offer(self, arrivals: Events, end: int) -> Events:
+        taken, made = 0, 0
         parts: list[Events] = []
         # (memory that nothing is written to costs nothing)
         out = np.empty(2 * len(arrivals) + _SPARE, EVENT)
@@ -171,35 +249,43 @@ class Queue(Held):
             self._arrivals += self._queue.taken
             self._record(out[made:made + more])
             made += more
-            if self._queue.why == REFUSED:
-                self._record(out[made:made + 1])
-                raise Refused(int(out[made]["answer"]), f"arrival {taken}" if out[made]["kind"] == Kind.ARRIVE else "the link", taken)
             if self._queue.why == ALL:
                 return np.concatenate([*parts, out[:made]]) if parts else out[:made]
+            if self._queue.why == REFUSED:
+                self._record(out[made:made + 1])
+                about = f"arrival {taken}" if out[made]["kind"] == Kind.ARRIVE else "the link"
+                raise Refused(int(out[made]["answer"]), about, taken, np.concatenate([*parts, out[:made]]))
             if self._queue.why == OUT:
                 parts.append(out)
                 out, made = np.empty(2 * (len(arrivals) - taken) + _SPARE, EVENT), 0
-            self._go_on()
+            self._go_on(np.concatenate([*parts, out[:made]]) if self._queue.why == EVENTS else None)
+
+    def _check_pauses(self, moments: npt.NDArray[Any], end: int) -> None:
+        """Refuses moments so far away that the updates up to them would fill the memory. An arrival after the last moment is refused at its place."""
+        late = np.flatnonzero(moments > MAX_MOMENT)
+        reached = moments[:late[0]] if len(late) else moments
+        last = min(max(int(reached.max(initial=0)), 0 if len(late) else end), MAX_MOMENT)
+        updates = (last - self.due) // self._state.params.t_update + 1
+        if updates > _MOST_UPDATES:
+            raise ValueError(f"{updates} updates come due up to the moment {last}, more than {_MOST_UPDATES}: open the queue at a moment near the first "
+                             "arrival, or count moments from it")
 
     def _arriving(self, moments: npt.ArrayLike, sizes: npt.ArrayLike, ecn: npt.ArrayLike, words: npt.ArrayLike | None, tags: npt.ArrayLike | None,
                   caller: int) -> Events:
         count = len(np.atleast_1d(np.asarray(moments)))
-        chance = self._random.integers(1 << 64, size=count, dtype=np.uint64) if words is None else words
         names = np.arange(self._arrivals, self._arrivals + count, dtype=np.uint64) if tags is None else tags
-        return events(int(Kind.ARRIVE), moments, size=sizes, ecn=ecn, word=chance, tag=names, caller=number("caller", caller, 16))
+        return events(int(Kind.ARRIVE), moments, size=sizes, ecn=ecn, word=0 if words is None else words, tag=names,
+                      caller=number("caller", caller, 16))
 
-    def _go_on(self, at: int = 0) -> None:
-        """Gives the ring more memory where the last loop ended for want of it."""
-        why = self._queue.why
-        if why == GROW:
+    def _go_on(self, decided: Events | None = None) -> None:
+        """Gives the ring more memory if the last loop ended for want of it. These events were decided before."""
+        if self._queue.why == GROW:
             packets = self.waiting
             self._ring = np.zeros(2 * len(self._ring), PACKET)
             self._ring[:len(packets)] = packets
             self._queue.ring, self._queue.slots, self._queue.first = self._ring.ctypes.data, len(self._ring), 0
-        elif why == EVENTS:
-            raise Exhausted(f"there were {self._queue.events} events, as many as the opening allows")
-        elif why == KIND:
-            raise ValueError(f"event {at} is no arrival, departure, update or reset")
+        elif self._queue.why == EVENTS:
+            raise self._exhausted(decided)
 
     def _record(self, made: RawEvent | Events) -> None:
         if self._history:

@@ -2,8 +2,12 @@
 from __future__ import annotations
 
 from enum import IntEnum
+from typing import TYPE_CHECKING
 
 from ._library import LIBRARY
+
+if TYPE_CHECKING:
+    from .history import Events
 
 
 class Refusal(IntEnum):
@@ -35,9 +39,15 @@ def text_of(code: int) -> str:
 class Refused(ValueError):
     """A call that was refused: nothing changed by it. Its text is the library's."""
 
-    def __init__(self, code: int, about: str = "", index: int | None = None):
+    def __init__(self, code: int, about: str = "", index: int | None = None, events: Events | None = None):
         super().__init__(text_of(code) + (f" ({about})" if about else ""))
         #: which refusal it is
         self.refusal = Refusal(code)
         #: of a call over an array: which of its elements was refused
         self.index = index
+        #: of a call over an array: the events that it decided before
+        self.events = events
+        self._about = about
+
+    def __reduce__(self) -> tuple[type[Refused], tuple[int, str, int | None, Events | None]]:
+        return type(self), (int(self.refusal), self._about, self.index, self.events)

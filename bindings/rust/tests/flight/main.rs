@@ -389,7 +389,8 @@ fn what_a_killed_process_left() {
             .spawn()
             .unwrap();
         let wanted = 1 + u64::from(child.id()) % 2000;
-        while !fs::read(&file).is_ok_and(|it| left(&it).0.is_ok()) {
+        // (until it has kept some events, however late it has a processor)
+        while !fs::read(&file).is_ok_and(|it| matches!(left(&it), (Ok(()), text) if numbers(&text).1 > 100)) {
             assert!(child.try_wait().unwrap().is_none(), "the child ended");
             thread::sleep(Duration::from_millis(1));
         }

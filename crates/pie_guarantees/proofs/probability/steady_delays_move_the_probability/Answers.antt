@@ -10,7 +10,7 @@ returns c = record {
   rises_no_faster = rises_at_most;
   falls = falls_at_least;
   falls_no_faster = falls_at_most;
-  to_a_tenth = reaches_a_tenth;
+  to_a_tenth = λ elements params delay some above steep. reaches_a_tenth elements params delay some above steep;
   at_twice_the_target = refl;
   fades_to_a_tenth = a_tenth_is_left;
 }

@@ -1,5 +1,5 @@
-use Rattle.pie_guarantees.proofs.SpacingFacts.{starts_anew}
+use Rattle.pie_guarantees.proofs.SpacingFacts.{picks_clear}
 use Rattle.pie_guarantees.proofs.spacing.picks_start_anew.Goals as goal
 
 pub returns : goal.returns
-returns c = starts_anew
+returns c = picks_clear

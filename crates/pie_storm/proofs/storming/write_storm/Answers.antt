@@ -15,8 +15,8 @@ write_history-requires g c = record {
   fitting = fit-legal c.all_numbers_are_held.ensures.kinds (opening_of c.args.plan.now) c.args.events.now c.requires.legal;
 }
 
-pub returns : goal.returns
-returns g c = writes-told c.events_are_lines.ensures c.clean_is_legal.ensures.legal_is_clean c.clean_parts_are_legal.ensures.legal_is_clean
+pub returns-clause-written : goal.returns-clause-written
+returns-clause-written g c = writes-told c.events_are_lines.ensures c.clean_is_legal.ensures.legal_is_clean c.clean_parts_are_legal.ensures.legal_is_clean
     c.write_history.result c.args.plan.now c.args.events.now c.in-Ok.auditor c.opening-opening.result (g.W.Write.contents c.args.output.now)
     (g.W.Write.contents c.write_history.new.writer) c.opening-opening.ensures c.requires.legal c.requires.limits c.in-Ok.ensures
     c.write_history.ensures.written c.write_history.ensures.read_back

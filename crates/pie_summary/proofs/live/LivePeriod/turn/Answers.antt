@@ -1,9 +1,6 @@
-use Rattle.pie_summary.proofs.Names.{[], ◌≡◌, ◌∙◌, ◌/◌, ◌*◌, ◌≤◌, arith, ℕ, ap, refl, sym, max, number_in, starts, meter_of}
-use Rattle.pie_summary.proofs.LiveFacts.{awaits-new, awaits-same, within-period}
+use Rattle.pie_summary.proofs.Names.{[], ◌≡◌, ◌∙◌, ◌+◌, ◌/◌, ◌*◌, arith, ℕ, ap, sym, min, max, number_in, starts, meter_of}
+use Rattle.pie_summary.proofs.LiveFacts.{awaits-new, awaits-same, spans-begun}
 use Rattle.pie_summary.proofs.live.LivePeriod.turn.Goals as goal
-
-at-least : (n most : ℕ) → most ≡ max n 1 → 1 ≤ most
-at-least n most is = omega (arith, is)
 
 -- the number of a period by another name of moment and length
 same-number : (moment told every longest : ℕ) → told ≡ moment → longest ≡ max every 1 → moment / longest ≡ told / max every 1
@@ -17,12 +14,9 @@ returns-then-begins-clause-awaits c = λ shown one at holds.
     (same-number c.args.moment one.told.moment period.every every at c.max-every.ensures)
     (sym c.begins.ensures ∙ c.if-begins.true) c.saturating_add-self-then-begins.ensures
     (c.begun-self.ensures ∙ (λ i. record (meter_of [] []) { first = sym at i; since = sym at i })) c.clear_counts.ensures
-    (λ moment from to. (
-      λ none. omega (arith, none, c.saturating_add-self-then-begins.ensures),
-      ap (λ (e : ℕ). moment / e) (sym c.max-every.ensures)
-          ∙ within-period (c.args.moment / every) every (c.args.moment / every * every) c.saturating_add-self.result moment
-          (at-least period.every every c.max-every.ensures) refl c.saturating_add-self.ensures from to,
-    ))
+    (spans-begun _ (c.args.moment / every) period.every (c.args.moment / every * every) c.saturating_add-self.result (λ none. omega (arith, none, c.saturating_add-self-then-begins.ensures))
+    (ap (λ (e : ℕ). c.args.moment / every * e) c.max-every.ensures)
+    (c.saturating_add-self.ensures ∙ ap (λ (e : ℕ). min (c.args.moment / every * every + e) 18446744073709551615) c.max-every.ensures))
 
 pub returns-else-begins-clause-awaits : goal.returns-else-begins-clause-awaits
 returns-else-begins-clause-awaits c = λ shown one at holds.

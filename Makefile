@@ -1,0 +1,167 @@
+# Builds the libraries and the program from dist/ with a C compiler alone: dist/ contains the assembly of the proved code (dist/README.md).
+#
+#   make                 the libraries and the program, in build/
+#   make check           runs the worked rows and the examples over them; says what is not here to be run
+#   make install         installs all of it below PREFIX (/usr/local); install-library and install-program install a part
+#   make uninstall       removes the files that `make install` installs
+#   make archive         build/juniperbowls-VERSION.tar.gz: unpacks anywhere, for any Debian 12 or later
+#   make clean           removes build/
+#   make shared, make program, make libraries     build a part
+#
+# Variables: CC, CPPFLAGS, CFLAGS, LDFLAGS, AR; DESTDIR, PREFIX, BINDIR, LIBDIR, INCLUDEDIR, DATADIR, MANDIR, DOCDIR; BUILD, the folder in which
+# all is built; PIE_C_S, PIE_LINK_C_S and PIE_S, other assembly, for example what bindings/c/library.py writes to crates/pie_c/out/pie_c.S.
+
+VERSION := $(shell sed -n 's/^.define PIE_VERSION "\(.*\)"$$/\1/p' include/pie.h)
+MAJOR := $(firstword $(subst ., ,$(VERSION)))
+SONAME := libpie.so.$(MAJOR)
+BUILD ?= build
+PIE_C_S ?= dist/x86_64/pie_c.S
+PIE_LINK_C_S ?= dist/x86_64/pie_link_c.S
+PIE_S ?= dist/x86_64/pie.S.xz
+
+CFLAGS ?= -O2
+OPTIONS := -std=gnu11 -Wall -Wextra -fPIC -Iinclude
+HARDENING := -Wl,-z,relro -Wl,-z,now -Wl,-z,noexecstack
+
+PREFIX ?= /usr/local
+BINDIR ?= $(PREFIX)/bin
+LIBDIR ?= $(PREFIX)/lib
+INCLUDEDIR ?= $(PREFIX)/include
+DATADIR ?= $(PREFIX)/share
+MANDIR ?= $(DATADIR)/man
+DOCDIR ?= $(DATADIR)/doc/pie
+
+SHARED := libpie.so.$(VERSION)
+LIBRARIES := $(addprefix $(BUILD)/,libpie_c.a libpie_link.a $(SHARED) $(SONAME) libpie.so)
+
+all: libraries program
+libraries: $(LIBRARIES)
+shared: $(BUILD)/libpie.so $(BUILD)/$(SONAME)
+program: $(BUILD)/pie
+
+$(BUILD):
+	mkdir -p $@
+
+# The assembly has no preprocessor lines. -g would have the assembler describe each of its lines.
+assemble = $(CC) $(filter-out -g%,$(CFLAGS)) -x assembler -c -o $@
+$(BUILD)/pie_c.o: $(PIE_C_S) | $(BUILD)
+	$(assemble) $<
+$(BUILD)/pie_link_c.o: $(PIE_LINK_C_S) | $(BUILD)
+	$(assemble) $<
+$(BUILD)/pie.o: $(BUILD)/pie.S
+	$(assemble) $<
+$(BUILD)/pie.S: $(PIE_S) | $(BUILD)
+	case $< in \
+	*.xz) if command -v xz > /dev/null; then xz -dc $<; else python3 -c 'import lzma, sys; sys.stdout.buffer.write(lzma.open(sys.argv[1]).read())' $<; fi ;; \
+	*) cat $< ;; \
+	esac > $@.part
+	mv $@.part $@
+
+$(BUILD)/%.o: dist/%.c dist/runtime.h | $(BUILD)
+	$(CC) $(CPPFLAGS) $(CFLAGS) $(OPTIONS) -c -o $@ $<
+$(BUILD)/pie_arrays.o: bindings/python/native/pie_arrays.c bindings/python/native/pie_arrays.h include/pie.h | $(BUILD)
+	$(CC) $(CPPFLAGS) $(CFLAGS) $(OPTIONS) -c -o $@ $<
+
+$(BUILD)/libpie_c.a: $(BUILD)/pie_c.o
+$(BUILD)/libpie_link.a: $(BUILD)/pie_link_c.o $(BUILD)/heap.o
+$(BUILD)/%.a:
+	rm -f $@
+	$(AR) rcD $@ $^
+
+# The functions of the headers are exported, as dist/abi.txt lists them, and nothing else; each of them has to be there.
+$(BUILD)/libpie.map: dist/abi.txt | $(BUILD)
+	sed -n 's/^function \(.*\): .*/-Wl,--require-defined=\1/p' $< > $(BUILD)/libpie.wanted
+	(echo 'PIE_$(MAJOR) { global:' && sed -n 's/^function \(.*\): .*/    \1;/p' $< && echo '    local: *;' && echo '};') > $@
+$(BUILD)/$(SHARED): $(addprefix $(BUILD)/,pie_c.o pie_link_c.o heap.o pie_arrays.o libpie.map)
+	$(CC) $(CFLAGS) $(HARDENING) $(LDFLAGS) -shared -o $@ $(filter %.o,$^) -pthread @$(BUILD)/libpie.wanted -Wl,-soname,$(SONAME) \
+		-Wl,--version-script=$(BUILD)/libpie.map -Wl,-Bsymbolic -Wl,--gc-sections -Wl,--as-needed -Wl,-z,defs
+$(BUILD)/$(SONAME) $(BUILD)/libpie.so: $(BUILD)/$(SHARED)
+	ln -sf $(SHARED) $@
+
+$(BUILD)/pie: $(addprefix $(BUILD)/,pie.o heap.o process.o)
+	$(CC) $(CFLAGS) $(HARDENING) $(LDFLAGS) -pie -o $@ $^ -pthread -lm
+
+check: all
+	CC='$(CC)' dist/check.sh $(BUILD)
+
+# What is installed where: MODE FILE PLACE
+define PROGRAM
+755 $(BUILD)/pie $(BINDIR)/pie
+755 report/pie-report $(BINDIR)/pie-report
+755 report/pie-metrics $(BINDIR)/pie-metrics
+644 report/page.html $(DATADIR)/pie/page.html
+644 report/page.css $(DATADIR)/pie/page.css
+644 report/page.js $(DATADIR)/pie/page.js
+644 report/grafana.json $(DATADIR)/pie/grafana.json
+644 man/pie.1 $(MANDIR)/man1/pie.1
+644 man/pie-report.1 $(MANDIR)/man1/pie-report.1
+644 man/pie-metrics.1 $(MANDIR)/man1/pie-metrics.1
+644 completions/pie.bash $(DATADIR)/bash-completion/completions/pie
+644 completions/_pie $(DATADIR)/zsh/site-functions/_pie
+644 completions/pie.fish $(DATADIR)/fish/vendor_completions.d/pie.fish
+endef
+define LIBRARY
+644 $(BUILD)/libpie_c.a $(LIBDIR)/libpie_c.a
+644 $(BUILD)/libpie_link.a $(LIBDIR)/libpie_link.a
+644 $(BUILD)/$(SHARED) $(LIBDIR)/$(SHARED)
+link $(SHARED) $(LIBDIR)/$(SONAME)
+link $(SHARED) $(LIBDIR)/libpie.so
+644 include/pie.h $(INCLUDEDIR)/pie.h
+644 include/pie_text.h $(INCLUDEDIR)/pie_text.h
+644 include/pie_flight.h $(INCLUDEDIR)/pie_flight.h
+644 include/pie_follow.h $(INCLUDEDIR)/pie_follow.h
+644 include/pie_link.h $(INCLUDEDIR)/pie_link.h
+644 bindings/c/thread_sanitizer.txt $(DATADIR)/pie/thread_sanitizer.txt
+644 $(BUILD)/pie_c.pc $(LIBDIR)/pkgconfig/pie_c.pc
+644 $(BUILD)/pie_link.pc $(LIBDIR)/pkgconfig/pie_link.pc
+644 $(BUILD)/pie.pc $(LIBDIR)/pkgconfig/pie.pc
+644 dist/juniperbowls-config.cmake $(LIBDIR)/cmake/juniperbowls/juniperbowls-config.cmake
+644 $(BUILD)/juniperbowls-config-version.cmake $(LIBDIR)/cmake/juniperbowls/juniperbowls-config-version.cmake
+endef
+define LICENCES
+644 LICENSE-MIT $(DOCDIR)/LICENSE-MIT
+644 LICENSE-APACHE $(DOCDIR)/LICENSE-APACHE
+endef
+export PROGRAM LIBRARY LICENCES
+put = while read -r mode file place; do \
+	case $$mode in \
+	link) mkdir -p "$(DESTDIR)$${place%/*}" && ln -sf "$$file" "$(DESTDIR)$$place" ;; \
+	*) install -D -m "$$mode" "$$file" "$(DESTDIR)$$place" ;; \
+	esac || exit 1; \
+	echo "$(DESTDIR)$$place"; \
+	done
+
+install: install-program install-library
+install-program: program
+	@printf '%s\n' "$$PROGRAM" "$$LICENCES" | $(put)
+install-library: libraries described
+	@printf '%s\n' "$$LIBRARY" "$$LICENCES" | $(put)
+uninstall:
+	@printf '%s\n' "$$PROGRAM" "$$LIBRARY" "$$LICENCES" | while read -r mode file place; do rm -fv "$(DESTDIR)$$place"; done
+
+# The pkg-config files name where the library is installed, so each installation writes them anew; pie is the shared library.
+described: | $(BUILD)
+	@for it in 'pie_c -lpie_c' 'pie_link -lpie_link -lpie_c -pthread' 'pie -lpie -pthread'; do \
+		printf '%s\n' 'prefix=$(PREFIX)' 'libdir=$(patsubst $(PREFIX)/%,$${prefix}/%,$(LIBDIR))' \
+			'includedir=$(patsubst $(PREFIX)/%,$${prefix}/%,$(INCLUDEDIR))' '' "Name: $${it%% *}" \
+			'Description: PIE (RFC 8033) for a packet queue that its caller owns' 'Version: $(VERSION)' \
+			"Libs: -L\$${libdir} $${it#* }" 'Cflags: -I$${includedir}' > $(BUILD)/$${it%% *}.pc; \
+	done
+	@printf '%s\n' 'set(PACKAGE_VERSION "$(VERSION)")' 'if(PACKAGE_FIND_VERSION VERSION_EQUAL PACKAGE_VERSION)' \
+		'    set(PACKAGE_VERSION_EXACT TRUE)' 'endif()' 'if(NOT PACKAGE_FIND_VERSION VERSION_GREATER PACKAGE_VERSION)' \
+		'    set(PACKAGE_VERSION_COMPATIBLE TRUE)' 'endif()' > $(BUILD)/juniperbowls-config-version.cmake
+
+# (the same files make the same archive)
+archive: all
+	rm -rf $(BUILD)/archive
+	$(MAKE) install DESTDIR=$(BUILD)/archive PREFIX=/juniperbowls-$(VERSION) > $(BUILD)/installed
+	sed -i 's|^prefix=.*|prefix=$${pcfiledir}/../..|' $(BUILD)/archive/juniperbowls-$(VERSION)/lib/pkgconfig/*.pc
+	tar --create --gzip --file $(BUILD)/juniperbowls-$(VERSION).tar.gz --sort=name --mtime='2000-01-01 00:00:00Z' --owner=0 --group=0 \
+		--numeric-owner -C $(BUILD)/archive juniperbowls-$(VERSION)
+	@echo $(BUILD)/juniperbowls-$(VERSION).tar.gz
+
+clean:
+	rm -rf $(BUILD)
+
+.PHONY: all libraries shared program check install install-program install-library uninstall described archive clean
+.DELETE_ON_ERROR:

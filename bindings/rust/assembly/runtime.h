@@ -1,0 +1,1 @@
+../../../dist/runtime.h

@@ -1,0 +1,265 @@
+-- How fast the probability falls without delay, from any state.
+use Rattle.pie_guarantees.proofs.Names.{◌≡◌, ◌≤◌, ◌<◌, ◌+◌, ◌*◌, ◌-◌, ◌/◌, ◌^◌, ℕ, zero, suc, List, [], ◌∷◌, ◌++◌, true, false, refl, sym, ap, ◌∙◌}
+use Rattle.pie_guarantees.proofs.Names.{arith, subst, min, max, nat_tests, clamps, ints, BetweenAny, AllAlong, IsLawful}
+use Rattle.pie_guarantees.proofs.Names.{Elements, RawParams, decayed, decays, next, tuned_step, raw_step, tuning_divisor, next-hold, in-range}
+use Rattle.pie_guarantees.proofs.Names.{deed, is_update, after_call, call_of, Held, Waiting, Command, Update, Answer, Event, Opening, bytes_of}
+use Rattle.pie_guarantees.proofs.Names.{active_after, held_after, params_after, waiting_after, updates_in, KeepsParams, untuned_fall}
+use Rattle.pie_guarantees.proofs.Names.{Bool, nat_lt, if◌then◌else◌, append_assoc, Empty, after_updates, usual, default_profile}
+use Rattle.pie_guarantees.specs.{FindsNoDelay, HasRecovered}
+use Rattle.pie_guarantees.proofs.BurstFacts.{counted_with, counted-with}
+use Rattle.pie_params.specs.declared.elements.Decay.{Decay}
+use Rattle.pie_aqm.specs.Steps as Steps
+use Rattle.pie_guarantees.proofs.LawfulFacts.{IsStep, along, counted-cons, sound_at}
+use Rattle.pie_guarantees.proofs.NextFacts.{div-mono, divisor-some}
+use Rattle.pie_guarantees.proofs.SteadyFacts.{fallen-step}
+
+-- ---- one update
+
+decays-at-none : (choice : Decay) (params : RawParams) → 0 < params.target → decays choice params 0 0 ≡ true
+decays-at-none choice params some = grind (arith, nat_tests)
+
+fades-to : (elements : Elements) (params : RawParams) (prob : ℕ) → 0 < params.target
+    → next elements params prob 0 0 ≤ (prob - untuned_fall params 0 / tuning_divisor prob) * 98 / 100
+unfolding next decayed
+fades-to elements params prob some =
+    let t = fallen-step elements params prob 0 (omega arith) in
+    rw (decays-at-none elements.decay params some) (grind (arith, nat_tests, ints, clamps))
+
+-- the most that an update leaves of a probability of at most `most` that is at most `prob`, with this divisor
+in-row : ℕ → ℕ → ℕ → ℕ → ℕ
+in-row fall most divisor prob = (min prob most - fall / divisor) * 98 / 100
+
+-- .. in any row of the table of auto-tuning
+under : ℕ → ℕ → ℕ
+under fall prob =
+    max (in-row fall 999_999 2048 prob) (max (in-row fall 9_999_999 512 prob) (max (in-row fall 99_999_999 128 prob)
+    (max (in-row fall 999_999_999 32 prob) (max (in-row fall 9_999_999_999 8 prob) (max (in-row fall 99_999_999_999 2 prob)
+    (in-row fall 1_000_000_000_000 1 prob))))))
+
+row-grows : (fall most divisor low high : ℕ) → low ≤ high → in-row fall most divisor low ≤ in-row fall most divisor high
+unfolding in-row
+row-grows fall most divisor low high le =
+    div-mono ((min low most - fall / divisor) * 98) ((min high most - fall / divisor) * 98) 100 (omega arith) (omega (arith, le))
+
+greater : (a b c d : ℕ) → a ≤ c → b ≤ d → max a b ≤ max c d
+greater a b c d first second = omega (arith, first, second)
+
+under-grows : (fall low high : ℕ) → low ≤ high → under fall low ≤ under fall high
+unfolding under
+under-grows fall low high le =
+    greater _ _ _ _ (row-grows fall _ _ low high le) (greater _ _ _ _ (row-grows fall _ _ low high le)
+    (greater _ _ _ _ (row-grows fall _ _ low high le) (greater _ _ _ _ (row-grows fall _ _ low high le)
+    (greater _ _ _ _ (row-grows fall _ _ low high le) (greater _ _ _ _ (row-grows fall _ _ low high le)
+    (row-grows fall _ _ low high le))))))
+
+row-is : (fall most divisor prob : ℕ) → prob ≤ most → in-row fall most divisor prob ≡ (prob - fall / divisor) * 98 / 100
+unfolding in-row
+row-is fall most divisor prob low = let is : min prob most ≡ prob = omega (arith, low) in ap (λ (p : ℕ). (p - fall / divisor) * 98 / 100) is
+
+row-falls : (fall most divisor prob : ℕ) → in-row fall most divisor prob ≤ prob
+unfolding in-row
+row-falls fall most divisor prob = omega arith
+
+under-falls : (fall prob : ℕ) → under fall prob ≤ prob
+unfolding under
+under-falls fall prob =
+    let a = row-falls fall 999_999 2048 prob in
+    let b = row-falls fall 9_999_999 512 prob in
+    let c = row-falls fall 99_999_999 128 prob in
+    let d = row-falls fall 999_999_999 32 prob in
+    let e = row-falls fall 9_999_999_999 8 prob in
+    let f = row-falls fall 99_999_999_999 2 prob in
+    let g = row-falls fall 1_000_000_000_000 1 prob in omega (arith, a, b, c, d, e, f, g)
+
+choose : (b : Bool) (P : ℕ → Type 0) (x y : ℕ) → (b ≡ true → P x) → (b ≡ false → P y) → P (if b then x else y)
+choose true P x y t f = t refl
+choose false P x y t f = f refl
+
+below : (a b : ℕ) → nat_lt a (suc b) ≡ true → a ≤ b
+below a b e = grind (arith, nat_tests)
+
+in-first : (a b : ℕ) → a ≤ max a b
+in-first a b = omega arith
+
+in-second : (x a b : ℕ) → x ≤ b → x ≤ max a b
+in-second x a b le = omega (arith, le)
+
+in-its-row : (fall prob : ℕ) → prob ≤ 10 ^ 12 → (prob - fall / tuning_divisor prob) * 98 / 100 ≤ under fall prob
+unfolding under tuning_divisor
+in-its-row fall prob within =
+    choose (nat_lt prob (10 ^ 6)) Lies 2048 _ (λ t. row 999_999 2048 (below _ 999_999 t) (in-first _ _))
+    (λ f. choose (nat_lt prob (10 ^ 7)) Lies 512 _ (λ t. row 9_999_999 512 (below _ 9_999_999 t) (in-second _ _ _ (in-first _ _)))
+    (λ f. choose (nat_lt prob (10 ^ 8)) Lies 128 _
+    (λ t. row 99_999_999 128 (below _ 99_999_999 t) (in-second _ _ _ (in-second _ _ _ (in-first _ _))))
+    (λ f. choose (nat_lt prob (10 ^ 9)) Lies 32 _
+    (λ t. row 999_999_999 32 (below _ 999_999_999 t) (in-second _ _ _ (in-second _ _ _ (in-second _ _ _ (in-first _ _)))))
+    (λ f. choose (nat_lt prob (10 ^ 10)) Lies 8 _
+    (λ t. row 9_999_999_999 8 (below _ 9_999_999_999 t)
+    (in-second _ _ _ (in-second _ _ _ (in-second _ _ _ (in-second _ _ _ (in-first _ _))))))
+    (λ f. choose (nat_lt prob (10 ^ 11)) Lies 2 1
+    (λ t. row 99_999_999_999 2 (below _ 99_999_999_999 t)
+    (in-second _ _ _ (in-second _ _ _ (in-second _ _ _ (in-second _ _ _ (in-second _ _ _ (in-first _ _)))))))
+    (λ f. row (10 ^ 12) 1 within
+    (in-second _ _ _ (in-second _ _ _ (in-second _ _ _ (in-second _ _ _ (in-second _ _ _ (in-second _ _ _ (omega arith)))))))))))))
+  where
+    Lies : ℕ → Type 0
+    Lies divisor = (prob - fall / divisor) * 98 / 100 ≤ under fall prob
+
+    row : (most divisor : ℕ) → prob ≤ most → in-row fall most divisor prob ≤ under fall prob → Lies divisor
+    row most divisor low le = subst (λ (x : ℕ). x ≤ under fall prob) (row-is fall most divisor prob low) le
+
+next-under : (elements : Elements) (params : RawParams) (fall prob most : ℕ) → 0 < params.target → fall ≤ untuned_fall params 0 → prob ≤ most
+    → prob ≤ 10 ^ 12 → next elements params prob 0 0 ≤ under fall most
+next-under elements params fall prob most some far low within =
+    let first = fades-to elements params prob some in
+    let more = div-mono fall (untuned_fall params 0) (tuning_divisor prob) (divisor-some prob) far in
+    let second = div-mono ((prob - untuned_fall params 0 / tuning_divisor prob) * 98) ((prob - fall / tuning_divisor prob) * 98) 100 (omega arith)
+    (omega (arith, more)) in
+    let third = in-its-row fall prob within in
+    let last = under-grows fall prob most low in omega (arith, first, second, third, last)
+
+-- ---- several updates
+
+-- the most that the first of so many updates without delay, at any old delay, and then the others leave of any probability
+bound : ℕ → ℕ → ℕ
+bound fall zero = 10 ^ 12
+bound fall (suc zero) = 10 ^ 12
+bound fall (suc (suc n)) = under fall (bound fall (suc n))
+
+bound-falls : (fall m n : ℕ) → bound fall (suc m + n) ≤ bound fall (suc m)
+unfolding bound
+bound-falls fall m zero = let none : suc m + zero ≡ suc m = omega arith in rw none (omega arith)
+bound-falls fall m (suc n) =
+    let one : suc m + suc n ≡ suc (suc (m + n)) = omega arith in
+    let other : suc m + n ≡ suc (m + n) = omega arith in
+    let rest = rw other at (bound-falls fall m n) in
+    let less = under-falls fall (bound fall (suc (m + n))) in rw one (omega (arith, rest, less))
+
+-- ---- what a controller holds, from call to call
+
+-- after so many updates without delay
+record Falls (fall n : ℕ) (h : Held) : Type 0 where
+  prob : h.control.prob ≤ bound fall n
+  old : 1 ≤ n → h.active ≡ true → h.control.old_delay ≡ 0
+  off : h.active ≡ false → h.control.burst ≡ h.params.max_burst
+  none : h.active ≡ false → h.control.prob ≡ 0
+  whole : 2 ≤ n → bound fall n ≡ 0 → h.control.burst ≡ h.params.max_burst
+  far : fall ≤ untuned_fall h.params 0
+
+falls-update : (fall n : ℕ) (h : Held) (queued moment : ℕ) → 0 < h.params.target → h.control.prob ≤ 10 ^ 12
+    → (h.active ≡ true → Steps.delay_in h queued ≡ 0) → Falls fall n h → Falls fall (suc n) (Steps.updated h queued moment)
+unfolding bound
+falls-update fall zero h queued moment some within free old =
+    let p = next-hold h.elements h.params h.control.prob (Steps.delay_in h queued) h.control.old_delay in
+    record {
+      prob = grind (arith, nat_tests);
+      old = λ n on. grind (arith, nat_tests);
+      off = λ off. grind (arith, nat_tests);
+      none = λ off. grind (arith, nat_tests);
+      whole = λ n none. absurd (omega (arith, n));
+      far = old.far;
+    }
+falls-update fall (suc n) h queued moment some within free old =
+    let p : h.active ≡ true
+    → next h.elements h.params h.control.prob (Steps.delay_in h queued) h.control.old_delay ≤ under fall (bound fall (suc n)) =
+    λ on. rw (free on, old.old (omega arith) on)
+    (next-under h.elements h.params fall h.control.prob (bound fall (suc n)) some old.far old.prob within) in
+    let before = old.old (omega arith) in
+    record {
+      prob = grind (arith, nat_tests);
+      old = λ n on. grind (arith, nat_tests);
+      off = λ off. grind (arith, nat_tests);
+      none = λ off. grind (arith, nat_tests);
+      whole = λ n none. grind (arith, nat_tests);
+      far = old.far;
+    }
+
+falls-next : (fall n : ℕ) (h : Held) (waiting : List Waiting) (packets : ℕ) (command : Command) → 0 < h.params.target → h.control.prob ≤ 10 ^ 12
+    → KeepsParams command → (is_update (deed command Empty) ≡ true → h.active ≡ true → Steps.delay_in h (bytes_of waiting) ≡ 0) → Falls fall n h
+    → Falls fall (counted_with command n) (after_call h (call_of waiting packets command))
+falls-next fall n h waiting packets (Update moment) some within keeps free old =
+    let one : suc n ≡ n + 1 = omega arith in
+    subst (λ (k : ℕ). Falls fall k (Steps.updated h (bytes_of waiting) moment)) one
+    (falls-update fall n h (bytes_of waiting) moment some within (free refl) old)
+falls-next fall n h waiting packets command some within keeps free old = record {
+  prob = grind (arith, nat_tests);
+  old = λ n on. grind (arith, nat_tests);
+  off = λ off. grind (arith, nat_tests);
+  none = λ off. grind (arith, nat_tests);
+  whole = λ n none. grind (arith, nat_tests);
+  far = grind (arith, nat_tests);
+}
+
+-- which commands are updates does not depend on the answer
+pub same-update : (command : Command) (answer : Answer) → is_update (deed command answer) ≡ is_update (deed command Empty)
+same-update command answer = grind (arith, nat_tests)
+
+-- ---- along a lawful history
+
+module _ (fall : ℕ) (opening : Opening) (before between : List Event) where
+  -- with some of the events still to come
+  record Since (earlier left : List Event) : Type 0 where
+    n : ℕ
+    counted : updates_in between ≡ n + updates_in left
+    falls : Falls fall n (held_after opening earlier)
+
+  since-next : (earlier : List Event) (event : Event) (left : List Event) → IsStep opening earlier event → FindsNoDelay opening earlier event
+      → Since earlier (event ∷ left) → Since (earlier ++ event ∷ []) left
+  since-next earlier event left step here old =
+      let h = held_after opening earlier in
+      let count = counted-cons event left in
+      let one = counted-with event.command event.answer old.n in
+      let target = (in-range h.params step.sound.params).target in
+      let same = same-update event.command event.answer in
+      record {
+        n = counted_with event.command old.n;
+        counted = let was = old.counted in omega (arith, was, count, one);
+        falls = subst (Falls fall (counted_with event.command old.n)) (sym step.held)
+            (falls-next fall old.n h (waiting_after opening earlier) opening.limits.packets event.command (omega (arith, target.0)) step.sound.prob
+            here.keeps (λ asks on. here.delay (same ∙ asks) on) old.falls);
+      }
+
+  recovers : (later : List Event) → IsLawful opening (before ++ between ++ later) → (n : ℕ) → bound fall (suc (suc n)) ≡ 0
+      → active_after opening before ≡ true → fall ≤ untuned_fall (params_after opening before) 0 → AllAlong (FindsNoDelay opening) before between
+      → suc (suc n) ≤ updates_in between → HasRecovered opening (before ++ between)
+  unfolding bound
+  recovers later lawful n none on far free many =
+      let it = sound_at opening before (between ++ later) (rw (append_assoc before between later) at lawful) in
+      let s = along Since (FindsNoDelay opening) opening since-next before between later lawful free (record {
+        n = 0;
+        counted = omega arith;
+        falls = record {
+          prob = it.0.prob;
+          old = λ n on. absurd (omega (arith, n));
+          off = λ off. let wrong : true ≡ false = sym on ∙ off in cc;
+          none = λ off. let wrong : true ≡ false = sym on ∙ off in cc;
+          whole = λ n none. absurd (omega (arith, n));
+          far = far;
+        };
+      }) in
+      let count : s.n ≡ updates_in between = let c = s.counted in omega (arith, c) in
+      let split : suc (suc n) + (s.n - suc (suc n)) ≡ s.n = omega (arith, many, count) in
+      let least = bound-falls fall (suc n) (s.n - suc (suc n)) in
+      let last : bound fall (suc (suc n) + (s.n - suc (suc n))) ≡ 0 = omega (arith, least, none) in
+      let zero : bound fall s.n ≡ 0 = rw split at last in
+      let prob = s.falls.prob in
+      record { prob = omega (arith, prob, zero); burst = s.falls.whole (omega (arith, many, count)) zero }
+
+pub recovers_by_default : BetweenAny (λ opening before between. active_after opening before ≡ true
+    → 1_875_000_000 ≤ untuned_fall (params_after opening before) 0 → AllAlong (FindsNoDelay opening) before between → 182 ≤ updates_in between
+    → HasRecovered opening (before ++ between))
+unfolding bound under in-row
+recovers_by_default opening before between later lawful = recovers 1_875_000_000 opening before between later lawful 180 refl
+
+pub recovers_in_any_case : BetweenAny (λ opening before between. active_after opening before ≡ true → AllAlong (FindsNoDelay opening) before between
+    → 1204 ≤ updates_in between → HasRecovered opening (before ++ between))
+unfolding bound under in-row
+recovers_in_any_case opening before between later lawful on = recovers 0 opening before between later lawful 1202 refl on (omega arith)
+
+-- the same numbers are reached
+pub as_slow : (after_updates 180 usual default_profile 0 (next usual default_profile 986_448_007_965 0 1) ≡ 1)
+    × (after_updates 178 usual default_profile 0 1_000_000_000_000 ≡ 0) × (after_updates 177 usual default_profile 0 1_000_000_000_000 ≡ 1_988_772)
+    × (after_updates 1202 usual (record default_profile { alpha = 0; beta = 0 }) 0
+    (next usual (record default_profile { alpha = 0; beta = 0 }) 1_000_000_000_000 0 1) ≡ 1)
+unfolding after_updates next raw_step tuned_step tuning_divisor decayed
+as_slow = (refl, refl, refl, refl)

@@ -1,0 +1,7 @@
+use Rattle.pie_guarantees.proofs.Names.{refl, tuning_divisor}
+use Rattle.pie_guarantees.proofs.DeadlineFacts.{all_considered, burst_used, tenth_reached}
+use Rattle.pie_guarantees.proofs.deadline.lasting_delays_are_answered.Goals as goal
+
+pub returns : goal.returns
+unfolding tuning_divisor
+returns c = record { probability = tenth_reached; burst = burst_used; considered = all_considered; at_twice_the_target = refl }

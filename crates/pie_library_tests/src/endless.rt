@@ -1,0 +1,102 @@
+//! A reader without an end, and a writer that compares what it takes.
+
+use pie_book::Answer;
+use pie_trace::{HistoryLines, Line};
+use std::alloc::Global;
+use std::io;
+use std::io::{Read, Write};
+
+/// Gives a first record with the default parameters, a ring of four packets and a tail of 16 events, and then one record without end.
+#[derive(Drop)]
+pub(crate) struct Endless {
+    /// The bytes that are left of the record that it gives now.
+    rest: &'static [u8],
+    /// The record that it gives then.
+    again: &'static [u8],
+}
+
+impl Endless {
+    pub(crate) fn of(again: &'static [u8]) -> Endless {
+        let rest = b"open,0,4,16,100\n";
+        Endless { rest, again }
+    }
+}
+
+impl Read for Endless {
+    fn read(&mut self, buf: &mut [u8]) -> io::Result<usize> {
+        if self.rest.is_empty() {
+            self.rest = self.again;
+        }
+        let count = self.rest.len().min(buf.len());
+        buf[..count].copy_from_slice(&self.rest[..count]);
+        self.rest = &self.rest[count..];
+        Ok(count)
+    }
+}
+
+/// Takes all, and compares it with what is wanted.
+#[derive(Drop)]
+pub(crate) struct Compared<'a> {
+    /// The wanted bytes that did not come yet.
+    rest: &'a [u8],
+    /// Another byte came than was wanted.
+    differs: bool,
+}
+
+impl<'a> Compared<'a> {
+    pub(crate) fn with(wanted: &'a [u8]) -> Compared<'a> {
+        Compared {
+            rest: wanted,
+            differs: false,
+        }
+    }
+
+    /// Returns true if what is wanted came, and nothing else.
+    pub(crate) fn is_all(&self) -> bool {
+        self.rest.is_empty() && !self.differs
+    }
+}
+
+impl Write for Compared<'_> {
+    fn write(&mut self, buf: &[u8]) -> io::Result<usize> {
+        let seen = buf.len().min(self.rest.len());
+        self.differs |= !self.rest.starts_with(buf);
+        self.rest = &self.rest[seen..];
+        Ok(buf.len())
+    }
+
+    fn flush(&mut self) -> io::Result<()> {
+        Ok(())
+    }
+}
+
+/// The history of 999 departures where the tail has room for 16.
+pub(crate) fn departures(alloc: Global) -> io::Result<String> {
+    let mut history = String::from_str(alloc, "open,0,4,16,100\n")?;
+    for _ in 0..16 {
+        history.push_str("depart,1,1,empty\n")?;
+    }
+    for record in 18..1001 {
+        writeln!(history, "refused,{record},5")?;
+    }
+    Ok(history)
+}
+
+/// A history without an end tells its opening, and a thousand events.
+pub(crate) fn lines_come(alloc: Global) -> bool {
+    let Ok((mut lines, opening)) = HistoryLines::open(alloc, Endless::of(b"depart,2,1,empty\n"))
+    else {
+        return false;
+    };
+    for _ in 0..1000 {
+        match lines.next_line() {
+            Ok(Some(Line::Made(event))) => {
+                if event.caller != 2 || event.answer != Answer::Empty {
+                    return false;
+                }
+            }
+            _ => return false,
+        }
+    }
+    opening.limits.tail == 16
+}

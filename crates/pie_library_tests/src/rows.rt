@@ -1,0 +1,278 @@
+//! Worked histories, whose events a core and a book decide again; the numbers of runs; texts without an end; a queue. All numbers are worked out by
+//! hand.
+
+use crate::books::packet;
+use crate::endless::{Compared, Endless, departures};
+use pie_book::{Answer, Book, Core, Event, Opening, Profile, Registers, Stats};
+use pie_fixed::Nanos;
+use pie_queue::ByteQueue;
+use pie_trace::{HistoryLines, Line, RunEnd, TraceFault, run_trace, run_trace_within};
+use std::alloc::Global;
+use std::io::Read;
+
+/// One packet comes and leaves, and the next departure finds none.
+const EMPTIED: &[u8] = b"open,0,4,16,100
+arrive,1,10,7,1500,ect0,0,enqueue
+depart,2,25,left,7,1500,ect0
+depart,2,30,empty
+";
+
+/// Its trace.
+const TRACE: &[u8] = b"open,0,4,16,100
+arrive,1,10,7,1500,ect0,0
+depart,2,25
+depart,2,30
+";
+
+/// A queue under load: of three packets one is marked, one is dropped, and one is queued by its random word; then come new parameters and a reset.
+const LOADED: &[u8] = b"open,0,8,32,100,2,1,0,850000,0,1,100000,1000000000000,1024
+arrive,1,0,1,1024,not,0,enqueue
+arrive,1,0,2,1024,not,0,enqueue
+arrive,1,0,3,1024,not,0,enqueue
+arrive,1,0,4,1024,not,0,enqueue
+depart,3,1000,left,1,1024,not
+depart,3,1001000,left,2,1024,not
+update,4,1001000,2000000,830077294,0
+update,4,1001001,2000000,53955024169,0
+update,4,1001002,2000000,903954174169,0
+arrive,1,1001003,5,500,ect0,0,mark
+arrive,2,1001003,6,500,not,0,early
+arrive,2,1001003,7,500,not,18446744073709551615,enqueue
+params,5,1001004,2,1,50,850000,0,1,100000,1000000000000,1024,done
+reset,5,1001005,done
+";
+
+/// Profile two: the fourth packet turns the controller on, and a calm update turns it off.
+const TURNED_OFF: &[u8] = b"open2,2,bounded,0,8,32,100,2,1,5,850000,0,1,9000,1000000000000,1024
+arrive,1,0,1,1024,not,0,enqueue
+arrive,1,0,1,1024,not,0,enqueue
+depart,1,1,left,1,1024,not
+arrive,1,1,1,1024,not,0,enqueue
+arrive,1,1,1,1024,not,0,enqueue
+depart,1,2,left,1,1024,not
+depart,1,1002,left,1,1024,not
+update,1,1002,1000,414208,4
+reset,1,1003,done
+update,1,1004,0,0,5
+update,1,1005,0,0,5
+";
+
+/// Profile two: a packet that is dropped turns the controller on again.
+const TURNED_ON: &[u8] = b"open2,2,bounded,0,8,32,100,2,1,5,850000,0,1,9000,1000000000000,1024
+arrive,1,0,1,1024,not,0,enqueue
+arrive,1,0,1,1024,not,0,enqueue
+arrive,1,0,1,1024,not,0,enqueue
+update,1,1,0,0,5
+arrive,1,1,1,65535,not,0,bytes
+";
+
+/// What decides one event after another.
+trait Decides {
+    /// Opens it.
+    fn open(alloc: Global, opening: &Opening) -> Option<Self>;
+
+    /// Decides an event's command.
+    fn decide(&mut self, alloc: Global, event: &Event) -> Option<Answer>;
+
+    /// Returns the registers.
+    fn registers(&self) -> Registers;
+}
+
+impl Decides for Core {
+    fn open(alloc: Global, opening: &Opening) -> Option<Core> {
+        if opening.choices.profile == Profile::One {
+            Core::open(alloc, opening.limits, opening.params, opening.moment).ok()
+        } else {
+            Core::open_with(alloc, opening).ok()
+        }
+    }
+
+    fn decide(&mut self, _alloc: Global, event: &Event) -> Option<Answer> {
+        self.step(event.caller, event.command).ok()
+    }
+
+    fn registers(&self) -> Registers {
+        self.registers()
+    }
+}
+
+/// After each event a fold empties the tail, and the checkpoint is to be what the book holds.
+impl Decides for Book {
+    fn open(alloc: Global, opening: &Opening) -> Option<Book> {
+        Book::open_with(alloc, *opening).ok()
+    }
+
+    fn decide(&mut self, alloc: Global, event: &Event) -> Option<Answer> {
+        let answer = self.apply(event.caller, event.command).ok();
+        let is_folded = self.fold(alloc, 1).is_ok();
+        let is_same = self.checkpoint() == self.registers();
+        if is_folded && is_same && self.checkpoint_stats() == self.stats() {
+            answer
+        } else {
+            None
+        }
+    }
+
+    fn registers(&self) -> Registers {
+        self.registers()
+    }
+}
+
+/// Returns true if the next lines are so many events, each with the answer that it is given here, and then the text ends for good.
+fn agree<D: Decides>(
+    alloc: Global,
+    lines: &mut HistoryLines<&[u8]>,
+    place: &mut D,
+    events: u64,
+) -> bool {
+    for _ in 0..events {
+        match lines.next_line() {
+            Ok(Some(Line::Made(event))) => {
+                if place.decide(alloc, &event) != Some(event.answer) {
+                    return false;
+                }
+            }
+            _ => return false,
+        }
+    }
+    matches!(lines.next_line(), Ok(None)) && matches!(lines.next_line(), Ok(None))
+}
+
+/// The registers after a history of so many events, where each is answered as the history has it.
+fn decided<D: Decides + Drop>(alloc: Global, text: &[u8], events: u64) -> Option<Registers> {
+    match HistoryLines::open(alloc, text) {
+        Ok((mut lines, opening)) => {
+            let mut place = D::open(alloc, &opening)?;
+            if agree(alloc, &mut lines, &mut place, events) {
+                Some(place.registers())
+            } else {
+                None
+            }
+        }
+        Err(_) => None,
+    }
+}
+
+/// Returns true if these are the registers after `LOADED`.
+fn are_as_loaded(held: Registers) -> bool {
+    held.count == 14
+        && held.moment == 1_001_005
+        && held.packets == 4
+        && held.bytes == 3048
+        && (held.prob, held.old, held.accu) == (0, 0, 0)
+        && (held.burst, held.last, held.average) == (50, 1_001_002, 0)
+        && !held.measuring
+}
+
+/// Returns true if all worked histories are decided again.
+fn are_decided<D: Decides + Drop>(alloc: Global) -> bool {
+    let loaded = decided::<D>(alloc, LOADED, 14);
+    let emptied = decided::<D>(alloc, EMPTIED, 3);
+    let off = decided::<D>(alloc, TURNED_OFF, 11);
+    let on = decided::<D>(alloc, TURNED_ON, 5);
+    loaded.is_some_and(are_as_loaded)
+        && emptied.is_some()
+        && off.is_some_and(|held| !held.active)
+        && on.is_some_and(|held| held.active)
+}
+
+/// A core decides each event of the worked histories as they have it.
+pub(crate) fn core_decides(alloc: Global) -> bool {
+    are_decided::<Core>(alloc)
+}
+
+/// A book does so too, and a fold after each event leaves nothing in its tail that its checkpoint lacks.
+pub(crate) fn book_decides(alloc: Global) -> bool {
+    are_decided::<Book>(alloc)
+}
+
+// ---- runs
+
+/// The registers and the statistics of a run of these records with the default parameters.
+fn is_ended(end: &RunEnd, events: u64, moment: u64, stats: Stats) -> bool {
+    let held = end.registers;
+    let is_new = (held.prob, held.old, held.accu, held.burst) == (0, 0, 0, 150_000_000);
+    let is_empty = (held.packets, held.bytes, held.last, held.average) == (0, 0, 0, 0);
+    (end.events, end.refused, held.count, held.moment) == (events, 0, events, moment)
+        && is_new
+        && is_empty
+        && !held.measuring
+        && end.stats == stats
+}
+
+/// What a run tells at its end, over an opening alone and over a packet that comes and goes.
+pub(crate) fn runs_end(alloc: Global) -> bool {
+    let none = Stats {
+        arrivals: 0,
+        enqueued: 0,
+        marked: 0,
+        early: 0,
+        over_bytes: 0,
+        over_packets: 0,
+        left: 0,
+        left_bytes: 0,
+        empty: 0,
+        updates: 0,
+        resets: 0,
+        changes: 0,
+        largest_queue: 0,
+        largest_delay: 0,
+        waited: 0,
+    };
+    let one = Stats {
+        arrivals: 1,
+        enqueued: 1,
+        left: 1,
+        left_bytes: 1500,
+        empty: 1,
+        largest_queue: 1500,
+        waited: 15,
+        ..none
+    };
+    let opened = run_trace(alloc, &TRACE[..16], &mut Compared::with(&TRACE[..16]));
+    let emptied = run_trace(alloc, TRACE, &mut Compared::with(EMPTIED));
+    opened.is_ok_and(|end| is_ended(&end, 0, 0, none))
+        && emptied.is_ok_and(|end| is_ended(&end, 3, 30, one))
+}
+
+/// Returns true if a run of so many records at the most meets one more, and writes this.
+fn is_too_long<R: Read + Drop>(alloc: Global, trace: R, most: u64, wanted: &[u8]) -> bool {
+    let mut writer = Compared::with(wanted);
+    let fault = run_trace_within(alloc, trace, &mut writer, most).err();
+    fault == Some(TraceFault::TooLong) && writer.is_all()
+}
+
+/// Runs of three records, and of a thousand of a trace without an end.
+pub(crate) fn runs_are_bounded(alloc: Global) -> bool {
+    let (trace, wanted) = (
+        b"open,0,4,4,2\ndepart,1,1\ndepart,1,1\ndepart,1,1\n",
+        b"open,0,4,4,2\ndepart,1,1,empty\ndepart,1,1,empty\n",
+    );
+    let endless = Endless::of(b"depart,1,1\n");
+    match departures(alloc) {
+        Ok(history) => {
+            is_too_long(alloc, trace.as_slice(), 3, wanted)
+                && is_too_long(alloc, endless, 1000, history.as_bytes())
+        }
+        Err(_) => false,
+    }
+}
+
+// ---- a queue
+
+/// A queue of two packets takes two, hands the third one back, and gives the first.
+pub(crate) fn queue_is_first_in_first_out(alloc: Global) -> bool {
+    match (ByteQueue::new(alloc, 2), Nanos::from_units(5)) {
+        (Ok(mut queue), Some(since)) => {
+            let are_in = queue.admit(packet(1, 100), since).is_ok()
+                && queue.admit(packet(2, 200), since).is_ok();
+            let back = queue.admit(packet(3, 300), since).err();
+            let first = queue.take();
+            are_in
+                && back.is_some_and(|back| back.tag == 3)
+                && first.is_some_and(|first| first.packet.tag == 1 && first.since == since)
+                && queue.bytes() == 200
+        }
+        _ => false,
+    }
+}

@@ -5,7 +5,8 @@ library in out/rlib, with no stamp) or otherwise, and none is older than its sou
 assembly is newer than all of these, all stays.
 
 The assembly of a library's code is written beside it, crates/CRATE/out/CRATE.S, from the same module and with the same options: dist/ is a copy of it.
-If CRATE is the program, pie, its assembly alone is written.
+If CRATE is the program, pie, its assembly alone is written. If the environment has PIE_MODULE, the crate is always compiled, and its LLVM module is
+copied to that file (bindings/kernel/make.sh).
 
 usage: bindings/c/library.py [CRATE]"""
 import importlib.machinery
@@ -19,6 +20,7 @@ import tempfile
 sys.dont_write_bytecode = True
 ROOT = os.path.dirname(os.path.dirname(os.path.dirname(os.path.abspath(__file__))))
 CRATE = (sys.argv[1:] or ["pie_c"])[0]
+MODULE = os.path.abspath(os.environ["PIE_MODULE"]) if "PIE_MODULE" in os.environ else None
 
 
 def toolchain():
@@ -33,6 +35,7 @@ def toolchain():
 
 # The toolchain's clang in front of which it stands: the call as it is, and then the same module as assembly. GNU's assembler has no .addrsig.
 CLANG = """#!/bin/sh
+{keep}
 "{clang}" "$@" || exit
 for word do
     shift
@@ -56,7 +59,7 @@ def compile_with_assembly(rtlib, crate):
             os.symlink(f"{real}/bin/{name}", f"{work}/bin/{name}")
         os.remove(f"{work}/bin/clang")
         with open(f"{work}/bin/clang", "w", encoding="utf-8") as it:
-            it.write(CLANG.format(clang=f"{real}/bin/clang", assembly=f"{work}/module.S"))
+            it.write(CLANG.format(clang=f"{real}/bin/clang", assembly=f"{work}/module.S", keep=f'cp module.bc "{MODULE}" || exit' if MODULE else ""))
         os.chmod(f"{work}/bin/clang", 0o755)
         call = crate.call
         crate.call = lambda *words: call(*[work if it == real else it for it in words])
@@ -100,7 +103,7 @@ def main():
         rtlib = toolchain()
         crate = next(it for it in rtlib.crates_below(ROOT) if it.name == CRATE)
         proved, assembly = proved_at(crate.below()), f"{crate.folder}/out/{CRATE}.S"
-        is_new = lambda: proved and os.path.isfile(assembly) and max(proved, newest(crate.folder)) < os.path.getmtime(assembly)
+        is_new = lambda: not MODULE and proved and os.path.isfile(assembly) and max(proved, newest(crate.folder)) < os.path.getmtime(assembly)
         if is_new():
             with_memory()
             return

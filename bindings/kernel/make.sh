@@ -1,0 +1,27 @@
+#!/usr/bin/env bash
+# Makes bindings/kernel/pie_kernel.S and MANIFEST anew from the committed crates. It needs the toolchain (rt). The crate pie_c is proved and compiled over
+# the libraries below it, as for dist/ (bindings/c/library.py); lower.py lowers the same LLVM module for the kernel. Run it after dist/make.sh.
+#
+# usage: bindings/kernel/make.sh
+set -euo pipefail
+cd "$(dirname "$0")/../.."
+if [ -n "$(git status --porcelain crates crates.txt)" ]; then
+    echo "bindings/kernel/make.sh: crates/ or crates.txt has changes that are not committed, so MANIFEST could not name their commit" >&2
+    exit 1
+fi
+work=$(mktemp -d)
+trap 'rm -rf "$work"' EXIT
+if ! PIE_MODULE=$work/module.bc bindings/c/library.py pie_c > "$work/log" 2>&1 || ! [ -s "$work/module.bc" ]; then
+    cat "$work/log" >&2
+    echo "bindings/kernel/make.sh: pie_c was not compiled" >&2
+    exit 1
+fi
+clang=$(dirname "$(readlink -f "$(command -v rt)")")/../toolchain/bin/clang
+bindings/kernel/lower.py "$clang" "$work/module.bc" bindings/kernel/pie_kernel.S
+{
+    echo "commit $(git rev-list -1 HEAD -- crates crates.txt)"
+    echo "crates $(git rev-parse HEAD:crates)"
+    echo "rt $(rt version)"
+    (cd bindings/kernel && sha256sum pie_kernel.S)
+} > bindings/kernel/MANIFEST
+cat bindings/kernel/MANIFEST

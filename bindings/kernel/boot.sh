@@ -1,7 +1,8 @@
 #!/usr/bin/env bash
 # Boots a kernel of Debian under qemu-system-x86_64 with the module, in simulated time, and sends TCP and pings through it from one network namespace over
-# another to a third (boot_init.sh). Then the audit finds each record clean, its sums are those of `tc -s`, and the kernel warned of nothing. ROOT has a
-# kernel's boot/ and lib/modules/, of an installed package (/, the default) or an unpacked one; the kernel's headers are installed. It takes a minute of one processor.
+# another to a third (boot_init.sh). Then the audit finds each record clean, and the kernel warned of nothing; the sums are printed beside those of
+# `tc -s`. ROOT has a kernel's boot/ and lib/modules/, of an installed package (/, the default) or an unpacked one; the kernel's headers are installed.
+# It takes a minute of one processor.
 # needs: a request, program
 #
 # usage: bindings/kernel/boot.sh [ROOT]

@@ -580,7 +580,7 @@ pie_default_opening:
 	movq	$16384, 64(%rdi)
 	movq	$0, 72(%rdi)
 	movq	$1, 80(%rdi)
-	movq	$0, 88(%rdi)
+	movq	$1, 88(%rdi)
 	movq	$1, 96(%rdi)
 	movq	$1048576, 104(%rdi)
 	movq	$1024, 112(%rdi)

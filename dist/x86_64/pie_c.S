@@ -4319,7 +4319,7 @@ pie_default_opening:
 	movq	$16384, 64(%rdi)
 	movq	$0, 72(%rdi)
 	movq	$1, 80(%rdi)
-	movq	$0, 88(%rdi)
+	movq	$1, 88(%rdi)
 	movq	$1, 96(%rdi)
 	movq	$1048576, 104(%rdi)
 	movq	$1024, 112(%rdi)
@@ -5661,19 +5661,19 @@ pie_write_period:
 	pushq	%r12
 	pushq	%rbx
 	subq	$1512, %rsp
-	movq	%rdx, 8(%rsp)
+	movq	%rdx, 24(%rsp)
+	movq	%rsi, %r14
 	movq	%rdi, %r15
-	xorl	%eax, %eax
+	xorl	%r12d, %r12d
 	testq	%rsi, %rsi
-	sete	%al
-	shll	$12, %eax
-	addq	%rsi, %rax
-	movq	%rax, 80(%rsp)
+	sete	%bpl
 	leaq	224(%rsp), %rdi
-	xorl	%r14d, %r14d
+	xorl	%ebx, %ebx
 	movl	$1288, %edx
 	xorl	%esi, %esi
 	callq	memset@PLT
+	cmpq	$0, 16(%r15)
+	je	.LBB47_51
 	leaq	72(%r15), %rdi
 	movq	112(%r15), %rsi
 	movq	%rsi, %rax
@@ -5681,104 +5681,107 @@ pie_write_period:
 	movabsq	$2951479051793528259, %rcx
 	mulq	%rcx
 	shrq	$2, %rdx
-	movq	%rsi, 216(%rsp)
 	movq	%rsi, %rax
 	subq	%rdx, %rax
+	xorl	%ecx, %ecx
+	movq	%r14, 16(%rsp)
+	movq	%rsi, 216(%rsp)
 	.p2align	4
-.LBB47_1:
-	subq	480(%r15,%r14,8), %rax
-	jbe	.LBB47_10
-	subq	488(%r15,%r14,8), %rax
-	jbe	.LBB47_7
-	subq	496(%r15,%r14,8), %rax
+.LBB47_2:
+	subq	480(%r15,%rcx,8), %rax
+	jbe	.LBB47_11
+	subq	488(%r15,%rcx,8), %rax
 	jbe	.LBB47_8
-	subq	504(%r15,%r14,8), %rax
+	subq	496(%r15,%rcx,8), %rax
 	jbe	.LBB47_9
-	addq	$4, %r14
-	cmpq	$1720, %r14
-	jne	.LBB47_1
+	subq	504(%r15,%rcx,8), %rax
+	jbe	.LBB47_10
+	addq	$4, %rcx
+	cmpq	$1720, %rcx
+	jne	.LBB47_2
 	movq	328(%r15), %rax
+	movq	%rax, 80(%rsp)
 	movq	%rax, 72(%rsp)
-	movq	%rax, 64(%rsp)
-	jmp	.LBB47_18
-.LBB47_7:
-	incq	%r14
-	movq	328(%r15), %r8
-	cmpq	$9, %r14
-	movq	%r8, 72(%rsp)
-	jbe	.LBB47_11
-	jmp	.LBB47_12
+	jmp	.LBB47_19
 .LBB47_8:
-	addq	$2, %r14
-.LBB47_10:
-	movq	328(%r15), %r8
-	cmpq	$9, %r14
-	movq	%r8, 72(%rsp)
-	ja	.LBB47_12
-.LBB47_11:
-	cmpq	%r8, %r14
-	cmovaeq	%r8, %r14
-	movq	%r14, 64(%rsp)
-	jmp	.LBB47_18
+	incq	%rcx
+	movq	328(%r15), %r9
+	cmpq	$9, %rcx
+	movq	%r9, 80(%rsp)
+	jbe	.LBB47_12
+	jmp	.LBB47_13
 .LBB47_9:
-	addq	$3, %r14
-	movq	328(%r15), %r8
-	cmpq	$9, %r14
-	movq	%r8, 72(%rsp)
-	jbe	.LBB47_11
+	addq	$2, %rcx
+.LBB47_11:
+	movq	328(%r15), %r9
+	cmpq	$9, %rcx
+	movq	%r9, 80(%rsp)
+	ja	.LBB47_13
 .LBB47_12:
-	addq	$-10, %r14
-	movabsq	$3279421168659475843, %rcx
-	movq	%r14, %rax
-	mulq	%rcx
-	movq	%rdx, %rcx
-	shrq	$4, %rcx
-	imulq	$90, %rcx, %rax
-	subq	%rax, %r14
-	addq	$11, %r14
-	testl	%ecx, %ecx
-	je	.LBB47_13
+	cmpq	%r9, %rcx
+	cmovaeq	%r9, %rcx
+	movq	%rcx, 72(%rsp)
+	jmp	.LBB47_19
+.LBB47_10:
+	addq	$3, %rcx
+	movq	328(%r15), %r9
+	cmpq	$9, %rcx
+	movq	%r9, 80(%rsp)
+	jbe	.LBB47_12
+.LBB47_13:
+	addq	$-10, %rcx
+	movabsq	$3279421168659475843, %rdx
+	movq	%rcx, %rax
+	mulq	%rdx
+	movq	%rdx, %rsi
+	shrq	$4, %rsi
+	imulq	$90, %rsi, %rax
+	subq	%rax, %rcx
+	addq	$11, %rcx
+	testl	%esi, %esi
+	je	.LBB47_14
 	movq	$-1, %rax
-	movq	$-1, %rsi
-	cmpl	$38, %ecx
-	ja	.LBB47_17
+	movq	$-1, %r8
+	cmpl	$38, %esi
+	ja	.LBB47_18
 	movl	$1, %eax
-	xorl	%esi, %esi
+	xorl	%r8d, %r8d
 	.p2align	4
-.LBB47_16:
+.LBB47_17:
 	movl	$10, %edx
 	mulq	%rdx
-	leaq	(%rsi,%rsi,4), %rsi
-	leaq	(%rdx,%rsi,2), %rsi
-	decl	%ecx
-	jne	.LBB47_16
-	jmp	.LBB47_17
-.LBB47_13:
+	leaq	(%r8,%r8,4), %r8
+	leaq	(%rdx,%r8,2), %r8
+	decl	%esi
+	jne	.LBB47_17
+	jmp	.LBB47_18
+.LBB47_14:
 	movl	$1, %eax
-	xorl	%esi, %esi
-.LBB47_17:
-	mulq	%r14
-	movq	%rdx, %rcx
-	movq	%rax, %r9
-	movq	%rsi, %rax
-	mulq	%r14
-	addq	%rcx, %rax
+	xorl	%r8d, %r8d
+.LBB47_18:
+	mulq	%rcx
+	movq	%rdx, %rsi
+	movq	%rax, %r10
+	movq	%r8, %rax
+	mulq	%rcx
+	addq	%rsi, %rax
 	adcq	$0, %rdx
 	xorl	%ecx, %ecx
-	movq	%r9, %rsi
+	movq	%r10, %rsi
 	orq	%rax, %rsi
 	setne	%cl
-	subq	%rcx, %r9
+	subq	%rcx, %r10
 	sbbq	$0, %rax
 	xorl	%ecx, %ecx
-	cmpq	%r9, %r8
+	cmpq	%r10, %r9
 	sbbq	%rax, %rcx
-	cmovbq	%r8, %r9
+	cmovbq	%r9, %r10
 	testq	%rdx, %rdx
-	cmovneq	%r8, %r9
-	movq	%r9, 64(%rsp)
-.LBB47_18:
-	movq	8(%r15), %rbp
+	cmovneq	%r9, %r10
+	movq	%r10, 72(%rsp)
+.LBB47_19:
+	movq	8(%r15), %rax
+	movq	%rax, 8(%rsp)
 	movl	$9, %esi
 	callq	"pie_summary::record::together"
 	movq	264(%r15), %rbx
@@ -5798,17 +5801,17 @@ pie_write_period:
 	movq	%r12, %rsi
 	callq	"pie_text::long_row::LongRow::number"
 	xorps	%xmm0, %xmm0
+	movaps	%xmm0, 48(%rsp)
 	movaps	%xmm0, 32(%rsp)
-	movaps	%xmm0, 16(%rsp)
-	movq	$0, 48(%rsp)
+	movq	$0, 64(%rsp)
 	movq	296(%r15), %r9
 	movq	304(%r15), %rcx
 	movl	$40, %r8d
 	testq	%r9, %r9
-	je	.LBB47_22
+	je	.LBB47_23
 	movq	%r9, %r10
 	.p2align	4
-.LBB47_20:
+.LBB47_21:
 	movq	%r9, %rsi
 	shldq	$63, %rcx, %rsi
 	shrq	%r10
@@ -5829,7 +5832,7 @@ pie_write_period:
 	leaq	(%rdi,%rdi,4), %rdi
 	subl	%edi, %ecx
 	orb	$48, %cl
-	movb	%cl, 15(%rsp,%r8)
+	movb	%cl, 31(%rsp,%r8)
 	decq	%r8
 	movabsq	$-3689348814741910324, %rcx
 	imulq	%rsi, %rcx
@@ -5839,14 +5842,14 @@ pie_write_period:
 	movq	%rax, %rcx
 	cmpq	$9, %r9
 	movq	%r10, %r9
-	ja	.LBB47_20
+	ja	.LBB47_21
 	movq	%rax, %rcx
-.LBB47_22:
+.LBB47_23:
 	movabsq	$3777893186295716171, %r13
 	cmpq	$10000, %rcx
-	jb	.LBB47_23
+	jb	.LBB47_24
 	.p2align	4
-.LBB47_24:
+.LBB47_25:
 	movq	%rcx, %rax
 	mulq	%r13
 	shrq	$11, %rdx
@@ -5860,29 +5863,29 @@ pie_write_period:
 	movzwl	%si, %esi
 	leaq	.Lstatic.34(%rip), %rdi
 	movzwl	(%rdi,%rsi,2), %esi
-	movw	%si, 14(%rsp,%r8)
+	movw	%si, 30(%rsp,%r8)
 	movzwl	(%rdi,%rax,2), %eax
-	movw	%ax, 12(%rsp,%r8)
+	movw	%ax, 28(%rsp,%r8)
 	addq	$-4, %r8
 	cmpq	$99999999, %rcx
 	movq	%rdx, %rcx
-	ja	.LBB47_24
+	ja	.LBB47_25
 	cmpq	$99, %rdx
-	movq	%rbp, (%rsp)
-	ja	.LBB47_29
-.LBB47_26:
+	movb	%bpl, 7(%rsp)
+	ja	.LBB47_30
+.LBB47_27:
 	cmpq	$9, %rdx
-	ja	.LBB47_28
+	ja	.LBB47_29
 	orb	$48, %dl
-	movb	%dl, 15(%rsp,%r8)
+	movb	%dl, 31(%rsp,%r8)
 	decq	%r8
-	jmp	.LBB47_32
-.LBB47_23:
+	jmp	.LBB47_33
+.LBB47_24:
 	movq	%rcx, %rdx
 	cmpq	$99, %rdx
-	movq	%rbp, (%rsp)
-	jbe	.LBB47_26
-.LBB47_29:
+	movb	%bpl, 7(%rsp)
+	jbe	.LBB47_27
+.LBB47_30:
 	movl	%edx, %eax
 	shrl	$2, %eax
 	movzwl	%ax, %eax
@@ -5894,27 +5897,27 @@ pie_write_period:
 	movzwl	%si, %esi
 	leaq	.Lstatic.34(%rip), %rcx
 	movzwl	(%rcx,%rsi,2), %esi
-	movw	%si, 14(%rsp,%r8)
+	movw	%si, 30(%rsp,%r8)
 	cmpq	$999, %rdx
-	ja	.LBB47_31
+	ja	.LBB47_32
 	orb	$48, %al
-	movb	%al, 13(%rsp,%r8)
+	movb	%al, 29(%rsp,%r8)
 	addq	$-3, %r8
-	jmp	.LBB47_32
-.LBB47_28:
+	jmp	.LBB47_33
+.LBB47_29:
 	leaq	.Lstatic.34(%rip), %rax
 	movzwl	(%rax,%rdx,2), %eax
-	movw	%ax, 14(%rsp,%r8)
+	movw	%ax, 30(%rsp,%r8)
 	addq	$-2, %r8
-	jmp	.LBB47_32
-.LBB47_31:
+	jmp	.LBB47_33
+.LBB47_32:
 	movzwl	%ax, %eax
 	movzwl	(%rcx,%rax,2), %eax
-	movw	%ax, 12(%rsp,%r8)
+	movw	%ax, 28(%rsp,%r8)
 	addq	$-4, %r8
-.LBB47_32:
+.LBB47_33:
 	leaq	(%rsp,%r8), %rsi
-	addq	$16, %rsi
+	addq	$32, %rsi
 	movl	$40, %r12d
 	movl	$40, %ebx
 	subq	%r8, %rbx
@@ -6037,7 +6040,7 @@ pie_write_period:
 	movq	%rbx, %rsi
 	callq	"pie_text::long_row::LongRow::number"
 	movq	%r14, %rdi
-	movq	72(%rsp), %rsi
+	movq	80(%rsp), %rsi
 	callq	"pie_text::long_row::LongRow::number"
 	movq	%r14, %rdi
 	movq	%rbp, %rsi
@@ -6076,7 +6079,7 @@ pie_write_period:
 	movq	168(%rsp), %rsi
 	callq	"pie_text::long_row::LongRow::number"
 	movq	%r14, %rdi
-	movq	64(%rsp), %rsi
+	movq	72(%rsp), %rsi
 	callq	"pie_text::long_row::LongRow::number"
 	movq	%r14, %rdi
 	movq	176(%rsp), %rsi
@@ -6094,16 +6097,16 @@ pie_write_period:
 	movq	208(%rsp), %rsi
 	callq	"pie_text::long_row::LongRow::number"
 	xorps	%xmm0, %xmm0
+	movaps	%xmm0, 48(%rsp)
 	movaps	%xmm0, 32(%rsp)
-	movaps	%xmm0, 16(%rsp)
-	movq	$0, 48(%rsp)
+	movq	$0, 64(%rsp)
 	movq	456(%r15), %rcx
 	cmpq	$10000, %rcx
-	jb	.LBB47_33
+	jb	.LBB47_34
 	movl	$40, %r12d
-	movq	(%rsp), %rbp
+	movzbl	7(%rsp), %ebp
 	.p2align	4
-.LBB47_35:
+.LBB47_36:
 	movq	%rcx, %rax
 	mulq	%r13
 	shrq	$11, %rdx
@@ -6117,28 +6120,29 @@ pie_write_period:
 	movzwl	%si, %esi
 	leaq	.Lstatic.34(%rip), %rdi
 	movzwl	(%rdi,%rsi,2), %esi
-	movw	%si, 14(%rsp,%r12)
+	movw	%si, 30(%rsp,%r12)
 	movzwl	(%rdi,%rax,2), %eax
-	movw	%ax, 12(%rsp,%r12)
+	movw	%ax, 28(%rsp,%r12)
 	addq	$-4, %r12
 	cmpq	$99999999, %rcx
 	movq	%rdx, %rcx
-	ja	.LBB47_35
+	ja	.LBB47_36
 	cmpq	$99, %rdx
-	ja	.LBB47_40
-.LBB47_37:
+	ja	.LBB47_41
+.LBB47_38:
 	cmpq	$9, %rdx
-	ja	.LBB47_39
+	movq	8(%rsp), %r13
+	ja	.LBB47_40
 	orb	$48, %dl
-	movb	%dl, 15(%rsp,%r12)
+	movb	%dl, 31(%rsp,%r12)
 	decq	%r12
-	jmp	.LBB47_43
-.LBB47_33:
+	jmp	.LBB47_44
+.LBB47_34:
 	movq	%rcx, %rdx
-	movq	(%rsp), %rbp
+	movzbl	7(%rsp), %ebp
 	cmpq	$99, %rdx
-	jbe	.LBB47_37
-.LBB47_40:
+	jbe	.LBB47_38
+.LBB47_41:
 	movl	%edx, %eax
 	shrl	$2, %eax
 	movzwl	%ax, %eax
@@ -6150,27 +6154,28 @@ pie_write_period:
 	movzwl	%si, %esi
 	leaq	.Lstatic.34(%rip), %rcx
 	movzwl	(%rcx,%rsi,2), %esi
-	movw	%si, 14(%rsp,%r12)
+	movw	%si, 30(%rsp,%r12)
 	cmpq	$999, %rdx
-	ja	.LBB47_42
+	movq	8(%rsp), %r13
+	ja	.LBB47_43
 	orb	$48, %al
-	movb	%al, 13(%rsp,%r12)
+	movb	%al, 29(%rsp,%r12)
 	addq	$-3, %r12
-	jmp	.LBB47_43
-.LBB47_39:
+	jmp	.LBB47_44
+.LBB47_40:
 	leaq	.Lstatic.34(%rip), %rax
 	movzwl	(%rax,%rdx,2), %eax
-	movw	%ax, 14(%rsp,%r12)
+	movw	%ax, 30(%rsp,%r12)
 	addq	$-2, %r12
-	jmp	.LBB47_43
-.LBB47_42:
+	jmp	.LBB47_44
+.LBB47_43:
 	movzwl	%ax, %eax
 	movzwl	(%rcx,%rax,2), %eax
-	movw	%ax, 12(%rsp,%r12)
+	movw	%ax, 28(%rsp,%r12)
 	addq	$-4, %r12
-.LBB47_43:
+.LBB47_44:
 	leaq	(%rsp,%r12), %rsi
-	addq	$16, %rsi
+	addq	$32, %rsi
 	movl	$40, %ebx
 	subq	%r12, %rbx
 	movq	1504(%rsp), %r14
@@ -6179,17 +6184,17 @@ pie_write_period:
 	movq	%rbx, %rdx
 	callq	memcpy@PLT
 	addq	%r14, %rbx
-	cmpq	$1, %rbp
-	jne	.LBB47_47
+	cmpq	$1, %r13
+	jne	.LBB47_48
 	cmpq	$0, 416(%r15)
-	je	.LBB47_45
+	je	.LBB47_46
 	movb	$44, 224(%rsp,%rbx)
 	incq	%rbx
 	movq	%rbx, 1504(%rsp)
 	movq	424(%r15), %r13
 	movabsq	$7512003556908026083, %rcx
 	movq	%r13, %rax
-	movq	%r13, (%rsp)
+	movq	%r13, 8(%rsp)
 	mulq	%rcx
 	movq	%rdx, %rcx
 	shrq	$45, %rcx
@@ -6266,6 +6271,7 @@ pie_write_period:
 	movl	$2, %esi
 	movq	%r12, %rdi
 	movq	%rbp, %rdx
+	movzbl	7(%rsp), %ebp
 	movq	%r14, %rcx
 	callq	"pie_summary::record::push_padded"
 	leaq	.Lstatic.70(%rip), %rcx
@@ -6304,7 +6310,7 @@ pie_write_period:
 	movq	%r12, %rdi
 	movq	%rbx, %rdx
 	callq	"pie_summary::record::push_padded"
-	movq	(%rsp), %rsi
+	movq	8(%rsp), %rsi
 	movq	%rsi, %rax
 	shrq	$9, %rax
 	movabsq	$19342813113834067, %rcx
@@ -6318,17 +6324,19 @@ pie_write_period:
 	movq	%r12, %rdi
 	callq	"pie_summary::record::push_padded"
 	movq	1504(%rsp), %rbx
-.LBB47_47:
+.LBB47_48:
 	movb	$10, 224(%rsp,%rbx)
 	incq	%rbx
 	movq	%rbx, 1504(%rsp)
-	movq	8(%rsp), %rax
+	movq	16(%rsp), %r14
+	xorl	%r12d, %r12d
+	movq	24(%rsp), %rax
 	cmpq	%rbx, %rax
-	jae	.LBB47_50
-.LBB47_49:
+	jae	.LBB47_51
+.LBB47_50:
 	xorl	%ebx, %ebx
-	jmp	.LBB47_51
-.LBB47_45:
+	jmp	.LBB47_52
+.LBB47_46:
 	leaq	(%rsp,%rbx), %rax
 	addq	$224, %rax
 	leaq	.Lstatic.68(%rip), %rcx
@@ -6336,17 +6344,22 @@ pie_write_period:
 	subq	%rcx, %rdx
 	cmpq	$1, %rdx
 	movw	$2604, (%rax)
-	movq	8(%rsp), %rax
+	movq	16(%rsp), %r14
+	xorl	%r12d, %r12d
+	movq	24(%rsp), %rax
 	addq	$2, %rbx
 	movq	%rbx, 1504(%rsp)
 	cmpq	%rbx, %rax
-	jb	.LBB47_49
-.LBB47_50:
+	jb	.LBB47_50
+.LBB47_51:
+	movb	%bpl, %r12b
+	shll	$12, %r12d
+	addq	%r12, %r14
 	leaq	224(%rsp), %rsi
-	movq	80(%rsp), %rdi
+	movq	%r14, %rdi
 	movq	%rbx, %rdx
 	callq	memcpy@PLT
-.LBB47_51:
+.LBB47_52:
 	movq	%rbx, %rax
 	addq	$1512, %rsp
 	popq	%rbx

@@ -393,6 +393,12 @@
 	.p2align	4
 	.type	"pie_book::deciding_core::Core::copy_from",@function
 "pie_book::deciding_core::Core::copy_from":
+	movq	192(%rdi), %rcx
+	cmpq	192(%rsi), %rcx
+	jne	.LBB3_49
+	movq	200(%rsi), %r9
+	cmpq	%r9, %rcx
+	jb	.LBB3_49
 	pushq	%rbp
 	pushq	%r15
 	pushq	%r14
@@ -400,45 +406,39 @@
 	pushq	%r12
 	pushq	%rbx
 	subq	$184, %rsp
-	movq	192(%rdi), %rcx
-	movq	%rsi, 32(%rsp)
-	movq	200(%rsi), %r9
-	cmpq	%r9, %rcx
-	jb	.LBB3_48
 	leaq	8(%rsp), %rax
 	testq	%r9, %r9
-	je	.LBB3_2
-	movq	32(%rsp), %r8
-	movq	184(%r8), %rdx
-	movq	192(%r8), %rsi
-	movq	208(%r8), %r8
-	subq	%r8, %rsi
+	je	.LBB3_3
+	movq	184(%rsi), %rdx
+	movq	208(%rsi), %r8
+	movq	%rcx, %r10
+	subq	%r8, %r10
 	movq	%r9, %rbx
 	leaq	(%r8,%r8,2), %r8
 	leaq	(%rdx,%r8,8), %r8
-	subq	%rsi, %rbx
-	jbe	.LBB3_4
-	movq	%rsi, %r9
+	subq	%r10, %rbx
+	jbe	.LBB3_5
+	movq	%r10, %r9
 	movq	%rdx, %rax
 	cmpq	$0, 200(%rdi)
-	jne	.LBB3_7
-	jmp	.LBB3_8
-.LBB3_2:
+	jne	.LBB3_8
+	jmp	.LBB3_9
+.LBB3_3:
 	xorl	%r9d, %r9d
 	movq	%rax, %r8
 	xorl	%ebx, %ebx
 	cmpq	$0, 200(%rdi)
-	je	.LBB3_8
-.LBB3_7:
-	movq	$0, 200(%rdi)
+	je	.LBB3_9
 .LBB3_8:
+	movq	$0, 200(%rdi)
+.LBB3_9:
 	xorl	%edx, %edx
-	movq	%r9, %rsi
-	subq	%rcx, %rsi
-	cmovaeq	%rsi, %rdx
+	movq	%r9, %r10
+	subq	%rcx, %r10
+	cmovaeq	%r10, %rdx
 	movq	%r9, %r10
 	subq	%rdx, %r10
-	jne	.LBB3_10
+	jne	.LBB3_11
 	xorl	%r11d, %r11d
 	movq	%rbx, %r9
 	subq	%rcx, %r9
@@ -446,10 +446,10 @@
 	movq	%rbx, %r8
 	subq	%r9, %r8
 	cmpq	%r9, %rbx
-	jne	.LBB3_30
-	jmp	.LBB3_47
-.LBB3_10:
-	movq	%rbx, 24(%rsp)
+	jne	.LBB3_31
+	jmp	.LBB3_48
+.LBB3_11:
+	movq	%rbx, 32(%rsp)
 	leaq	(%rdx,%rdx,2), %rdx
 	leaq	(%r8,%rdx,8), %rbx
 	movq	184(%rdi), %r11
@@ -464,25 +464,26 @@
 	cmpq	%r10, %r13
 	cmovaeq	%r10, %r13
 	subq	%rdx, %rcx
-	je	.LBB3_18
-	movl	%r13d, %r14d
-	andl	$3, %r14d
+	je	.LBB3_19
+	movl	%r13d, %edx
+	andl	$3, %edx
 	cmpq	$4, %r13
-	jae	.LBB3_13
+	movq	%rdx, 16(%rsp)
+	jae	.LBB3_14
 	xorl	%ebp, %ebp
-	jmp	.LBB3_16
-.LBB3_4:
+	jmp	.LBB3_17
+.LBB3_5:
 	xorl	%ebx, %ebx
 	cmpq	$0, 200(%rdi)
-	jne	.LBB3_7
-	jmp	.LBB3_8
-.LBB3_13:
-	movq	%r14, 40(%rsp)
+	jne	.LBB3_8
+	jmp	.LBB3_9
+.LBB3_14:
 	movq	%r13, %r14
 	andq	$-4, %r14
+	movq	%r15, 24(%rsp)
 	leaq	(,%r15,8), %rdx
 	leaq	(%rdx,%rdx,2), %rdx
-	movq	%r12, 16(%rsp)
+	movq	%r12, 40(%rsp)
 	leaq	(,%r12,8), %r12
 	leaq	(%r12,%r12,2), %r12
 	subq	%r12, %rdx
@@ -490,60 +491,62 @@
 	movl	$72, %r12d
 	xorl	%ebp, %ebp
 	.p2align	4
-.LBB3_14:
+.LBB3_15:
 	movups	-72(%rbx,%r12), %xmm0
-	movq	-56(%rbx,%r12), %rsi
-	movq	%rsi, -56(%rdx,%r12)
+	movq	-56(%rbx,%r12), %r15
+	movq	%r15, -56(%rdx,%r12)
 	movups	%xmm0, -72(%rdx,%r12)
 	movups	-48(%rbx,%r12), %xmm0
-	movq	-32(%rbx,%r12), %rsi
-	movq	%rsi, -32(%rdx,%r12)
+	movq	-32(%rbx,%r12), %r15
+	movq	%r15, -32(%rdx,%r12)
 	movups	%xmm0, -48(%rdx,%r12)
 	movups	-24(%rbx,%r12), %xmm0
-	movq	-8(%rbx,%r12), %rsi
-	movq	%rsi, -8(%rdx,%r12)
+	movq	-8(%rbx,%r12), %r15
+	movq	%r15, -8(%rdx,%r12)
 	movups	%xmm0, -24(%rdx,%r12)
 	movups	(%rbx,%r12), %xmm0
-	movq	16(%rbx,%r12), %rsi
-	movq	%rsi, 16(%rdx,%r12)
+	movq	16(%rbx,%r12), %r15
+	movq	%r15, 16(%rdx,%r12)
 	movups	%xmm0, (%rdx,%r12)
 	addq	$4, %rbp
 	addq	$96, %r12
 	cmpq	%rbp, %r14
-	jne	.LBB3_14
-	movq	40(%rsp), %r14
-	testq	%r14, %r14
-	movq	16(%rsp), %r12
-	je	.LBB3_18
-.LBB3_16:
+	jne	.LBB3_15
+	movq	16(%rsp), %rdx
+	testq	%rdx, %rdx
+	movq	24(%rsp), %r15
+	movq	40(%rsp), %r12
+	je	.LBB3_19
+.LBB3_17:
 	leaq	(%r9,%r9,2), %rdx
-	leaq	(,%rbp,2), %rsi
-	addq	%rbp, %rsi
-	shlq	$3, %rsi
-	leaq	(%rsi,%rdx,8), %rdx
-	leaq	(,%r10,8), %rsi
-	leaq	(%rsi,%rsi,2), %rsi
-	subq	%rsi, %rdx
+	leaq	(,%rbp,2), %r14
+	addq	%rbp, %r14
+	shlq	$3, %r14
+	leaq	(%r14,%rdx,8), %rdx
+	leaq	(,%r10,8), %r14
+	leaq	(%r14,%r14,2), %r14
+	subq	%r14, %rdx
 	addq	%r8, %rdx
 	addq	%rbp, %r15
 	subq	%r12, %r15
-	leaq	(%r15,%r15,2), %rsi
-	leaq	(%r11,%rsi,8), %rsi
-	shll	$3, %r14d
-	leaq	(%r14,%r14,2), %r14
-	xorl	%r15d, %r15d
+	leaq	(%r15,%r15,2), %r14
+	leaq	(%r11,%r14,8), %r14
+	movq	16(%rsp), %r15
+	shll	$3, %r15d
+	leaq	(%r15,%r15,2), %r15
+	xorl	%r12d, %r12d
 	.p2align	4
-.LBB3_17:
-	movups	(%rdx,%r15), %xmm0
-	movq	16(%rdx,%r15), %r12
-	movq	%r12, 16(%rsi,%r15)
-	movups	%xmm0, (%rsi,%r15)
-	addq	$24, %r15
-	cmpq	%r15, %r14
-	jne	.LBB3_17
 .LBB3_18:
+	movups	(%rdx,%r12), %xmm0
+	movq	16(%rdx,%r12), %rbp
+	movq	%rbp, 16(%r14,%r12)
+	movups	%xmm0, (%r14,%r12)
+	addq	$24, %r12
+	cmpq	%r12, %r15
+	jne	.LBB3_18
+.LBB3_19:
 	cmpq	%rcx, %r10
-	jbe	.LBB3_26
+	jbe	.LBB3_27
 	leaq	(,%r13,8), %rcx
 	leaq	(%rcx,%rcx,2), %r15
 	movq	%r10, %r12
@@ -552,16 +555,16 @@
 	andl	$7, %ecx
 	subq	%r10, %r13
 	cmpq	$-8, %r13
-	jbe	.LBB3_21
+	jbe	.LBB3_22
 	xorl	%r14d, %r14d
-	jmp	.LBB3_24
-.LBB3_21:
+	jmp	.LBB3_25
+.LBB3_22:
 	addq	%r15, %rbx
 	andq	$-8, %r12
 	movl	$168, %r13d
 	xorl	%r14d, %r14d
 	.p2align	4
-.LBB3_22:
+.LBB3_23:
 	movups	-168(%rbx,%r13), %xmm0
 	movq	-152(%rbx,%r13), %rdx
 	movq	%rdx, -152(%r11,%r13)
@@ -597,38 +600,38 @@
 	addq	$8, %r14
 	addq	$192, %r13
 	cmpq	%r14, %r12
-	jne	.LBB3_22
+	jne	.LBB3_23
 	testq	%rcx, %rcx
-	je	.LBB3_26
-.LBB3_24:
+	je	.LBB3_27
+.LBB3_25:
 	shlq	$3, %r14
 	leaq	(%r14,%r14,2), %rdx
 	addq	%rdx, %r11
-	leaq	(%r9,%r9,2), %rsi
-	leaq	(%rdx,%rsi,8), %rdx
+	leaq	(%r9,%r9,2), %r9
+	leaq	(%rdx,%r9,8), %rdx
 	addq	%r15, %rdx
-	leaq	(,%r10,8), %rsi
-	leaq	(%rsi,%rsi,2), %rsi
-	subq	%rsi, %rdx
+	leaq	(,%r10,8), %r9
+	leaq	(%r9,%r9,2), %r9
+	subq	%r9, %rdx
 	addq	%rdx, %r8
 	shll	$3, %ecx
 	leaq	(%rcx,%rcx,2), %rcx
 	xorl	%edx, %edx
 	.p2align	4
-.LBB3_25:
+.LBB3_26:
 	movups	(%r8,%rdx), %xmm0
-	movq	16(%r8,%rdx), %rsi
-	movq	%rsi, 16(%r11,%rdx)
+	movq	16(%r8,%rdx), %r9
+	movq	%r9, 16(%r11,%rdx)
 	movups	%xmm0, (%r11,%rdx)
 	addq	$24, %rdx
 	cmpq	%rdx, %rcx
-	jne	.LBB3_25
-.LBB3_26:
+	jne	.LBB3_26
+.LBB3_27:
 	addq	200(%rdi), %r10
 	movq	%r10, 200(%rdi)
 	movq	192(%rdi), %rcx
 	xorl	%r9d, %r9d
-	movq	24(%rsp), %rbx
+	movq	32(%rsp), %rbx
 	movq	%rbx, %rdx
 	subq	%rcx, %rdx
 	cmovaeq	%rdx, %r9
@@ -638,112 +641,114 @@
 	subq	%r8, %r11
 	movq	%r10, %rdx
 	subq	%r11, %rdx
-	jbe	.LBB3_27
+	jbe	.LBB3_28
 	addq	208(%rdi), %rdx
-	xorl	%esi, %esi
+	xorl	%r10d, %r10d
 	cmpq	%rcx, %rdx
-	cmovaeq	%rcx, %rsi
-	subq	%rsi, %rdx
+	cmovaeq	%rcx, %r10
+	subq	%r10, %rdx
 	movq	%rdx, 208(%rdi)
 	movq	%r11, 200(%rdi)
 	cmpq	%r9, %rbx
-	jne	.LBB3_30
-	jmp	.LBB3_47
-.LBB3_27:
+	jne	.LBB3_31
+	jmp	.LBB3_48
+.LBB3_28:
 	movq	%r10, %r11
 	cmpq	%r9, %rbx
-	je	.LBB3_47
-.LBB3_30:
+	je	.LBB3_48
+.LBB3_31:
 	shlq	$3, %r9
 	leaq	(%r9,%r9,2), %rbp
 	leaq	(%rax,%rbp), %r10
-	movq	208(%rdi), %r9
-	leaq	(%r9,%r11), %rsi
+	movq	208(%rdi), %r14
+	leaq	(%r14,%r11), %r9
 	xorl	%r15d, %r15d
-	cmpq	%rcx, %rsi
+	cmpq	%rcx, %r9
 	cmovaeq	%rcx, %r15
 	movq	184(%rdi), %rdx
-	subq	%r15, %rsi
+	subq	%r15, %r9
 	movq	%rcx, %rbx
-	subq	%rsi, %rbx
+	subq	%r9, %rbx
 	cmpq	%r8, %rbx
 	cmovaeq	%r8, %rbx
-	subq	%rsi, %rcx
-	je	.LBB3_38
-	leaq	-1(%rbx), %rsi
+	subq	%r9, %rcx
+	je	.LBB3_39
+	leaq	-1(%rbx), %r9
 	movl	%ebx, %r12d
 	andl	$3, %r12d
-	cmpq	$3, %rsi
-	jae	.LBB3_33
+	cmpq	$3, %r9
+	jae	.LBB3_34
 	xorl	%r13d, %r13d
-	jmp	.LBB3_36
-.LBB3_33:
-	movq	%rbp, 24(%rsp)
+	jmp	.LBB3_37
+.LBB3_34:
+	movq	%r12, 24(%rsp)
+	movq	%rbp, 32(%rsp)
 	movq	%rbx, %rbp
 	andq	$-4, %rbp
-	leaq	(%r11,%r11,2), %rsi
-	movq	%r9, 16(%rsp)
-	leaq	(%r9,%r9,2), %r9
-	shlq	$3, %r9
-	leaq	(%r9,%rsi,8), %r9
-	leaq	(,%r15,8), %rsi
-	leaq	(%rsi,%rsi,2), %rsi
-	subq	%rsi, %r9
+	leaq	(%r11,%r11,2), %r9
+	movq	%r14, 16(%rsp)
+	leaq	(%r14,%r14,2), %r14
+	shlq	$3, %r14
+	leaq	(%r14,%r9,8), %r9
+	leaq	(,%r15,8), %r14
+	leaq	(%r14,%r14,2), %r14
+	subq	%r14, %r9
 	addq	%rdx, %r9
 	xorl	%r13d, %r13d
-	xorl	%esi, %esi
-	.p2align	4
-.LBB3_34:
-	movups	(%r10,%rsi), %xmm0
-	movq	16(%r10,%rsi), %r14
-	movq	%r14, 16(%r9,%rsi)
-	movups	%xmm0, (%r9,%rsi)
-	movups	24(%r10,%rsi), %xmm0
-	movq	40(%r10,%rsi), %r14
-	movq	%r14, 40(%r9,%rsi)
-	movups	%xmm0, 24(%r9,%rsi)
-	movups	48(%r10,%rsi), %xmm0
-	movq	64(%r10,%rsi), %r14
-	movq	%r14, 64(%r9,%rsi)
-	movups	%xmm0, 48(%r9,%rsi)
-	movups	72(%r10,%rsi), %xmm0
-	movq	88(%r10,%rsi), %r14
-	movq	%r14, 88(%r9,%rsi)
-	movups	%xmm0, 72(%r9,%rsi)
-	addq	$4, %r13
-	addq	$96, %rsi
-	cmpq	%r13, %rbp
-	jne	.LBB3_34
-	testq	%r12, %r12
-	movq	24(%rsp), %rbp
-	movq	16(%rsp), %r9
-	je	.LBB3_38
-.LBB3_36:
-	leaq	(,%r13,2), %rsi
-	addq	%r13, %rsi
-	leaq	(,%rsi,8), %rsi
-	addq	%rbp, %rsi
-	addq	%rax, %rsi
-	addq	%r13, %r11
-	addq	%r9, %r11
-	subq	%r15, %r11
-	leaq	(%r11,%r11,2), %r9
-	leaq	(%rdx,%r9,8), %r9
-	shll	$3, %r12d
-	leaq	(%r12,%r12,2), %r11
 	xorl	%r14d, %r14d
 	.p2align	4
-.LBB3_37:
-	movups	(%rsi,%r14), %xmm0
-	movq	16(%rsi,%r14), %r15
-	movq	%r15, 16(%r9,%r14)
+.LBB3_35:
+	movups	(%r10,%r14), %xmm0
+	movq	16(%r10,%r14), %r12
+	movq	%r12, 16(%r9,%r14)
 	movups	%xmm0, (%r9,%r14)
-	addq	$24, %r14
-	cmpq	%r14, %r11
-	jne	.LBB3_37
+	movups	24(%r10,%r14), %xmm0
+	movq	40(%r10,%r14), %r12
+	movq	%r12, 40(%r9,%r14)
+	movups	%xmm0, 24(%r9,%r14)
+	movups	48(%r10,%r14), %xmm0
+	movq	64(%r10,%r14), %r12
+	movq	%r12, 64(%r9,%r14)
+	movups	%xmm0, 48(%r9,%r14)
+	movups	72(%r10,%r14), %xmm0
+	movq	88(%r10,%r14), %r12
+	movq	%r12, 88(%r9,%r14)
+	movups	%xmm0, 72(%r9,%r14)
+	addq	$4, %r13
+	addq	$96, %r14
+	cmpq	%r13, %rbp
+	jne	.LBB3_35
+	movq	24(%rsp), %r12
+	testq	%r12, %r12
+	movq	32(%rsp), %rbp
+	movq	16(%rsp), %r14
+	je	.LBB3_39
+.LBB3_37:
+	leaq	(,%r13,2), %r9
+	addq	%r13, %r9
+	leaq	(,%r9,8), %r9
+	addq	%rbp, %r9
+	addq	%rax, %r9
+	addq	%r13, %r11
+	addq	%r14, %r11
+	subq	%r15, %r11
+	leaq	(%r11,%r11,2), %r11
+	leaq	(%rdx,%r11,8), %r11
+	shll	$3, %r12d
+	leaq	(%r12,%r12,2), %r14
+	xorl	%r15d, %r15d
+	.p2align	4
 .LBB3_38:
+	movups	(%r9,%r15), %xmm0
+	movq	16(%r9,%r15), %r12
+	movq	%r12, 16(%r11,%r15)
+	movups	%xmm0, (%r11,%r15)
+	addq	$24, %r15
+	cmpq	%r15, %r14
+	jne	.LBB3_38
+.LBB3_39:
 	cmpq	%rcx, %r8
-	jbe	.LBB3_46
+	jbe	.LBB3_47
 	leaq	(,%rbx,8), %rcx
 	leaq	(%rcx,%rcx,2), %r11
 	movq	%r8, %r14
@@ -752,86 +757,87 @@
 	andl	$7, %ecx
 	subq	%r8, %rbx
 	cmpq	$-8, %rbx
-	jbe	.LBB3_41
+	jbe	.LBB3_42
 	xorl	%ebx, %ebx
-	jmp	.LBB3_44
-.LBB3_41:
+	jmp	.LBB3_45
+.LBB3_42:
 	addq	%r11, %r10
 	andq	$-8, %r14
 	movl	$168, %r15d
 	xorl	%ebx, %ebx
 	.p2align	4
-.LBB3_42:
+.LBB3_43:
 	movups	-168(%r10,%r15), %xmm0
-	movq	-152(%r10,%r15), %rsi
-	movq	%rsi, -152(%rdx,%r15)
+	movq	-152(%r10,%r15), %r9
+	movq	%r9, -152(%rdx,%r15)
 	movups	%xmm0, -168(%rdx,%r15)
 	movups	-144(%r10,%r15), %xmm0
-	movq	-128(%r10,%r15), %rsi
-	movq	%rsi, -128(%rdx,%r15)
+	movq	-128(%r10,%r15), %r9
+	movq	%r9, -128(%rdx,%r15)
 	movups	%xmm0, -144(%rdx,%r15)
 	movups	-120(%r10,%r15), %xmm0
-	movq	-104(%r10,%r15), %rsi
-	movq	%rsi, -104(%rdx,%r15)
+	movq	-104(%r10,%r15), %r9
+	movq	%r9, -104(%rdx,%r15)
 	movups	%xmm0, -120(%rdx,%r15)
 	movups	-96(%r10,%r15), %xmm0
-	movq	-80(%r10,%r15), %rsi
-	movq	%rsi, -80(%rdx,%r15)
+	movq	-80(%r10,%r15), %r9
+	movq	%r9, -80(%rdx,%r15)
 	movups	%xmm0, -96(%rdx,%r15)
 	movups	-72(%r10,%r15), %xmm0
-	movq	-56(%r10,%r15), %rsi
-	movq	%rsi, -56(%rdx,%r15)
+	movq	-56(%r10,%r15), %r9
+	movq	%r9, -56(%rdx,%r15)
 	movups	%xmm0, -72(%rdx,%r15)
 	movups	-48(%r10,%r15), %xmm0
-	movq	-32(%r10,%r15), %rsi
-	movq	%rsi, -32(%rdx,%r15)
+	movq	-32(%r10,%r15), %r9
+	movq	%r9, -32(%rdx,%r15)
 	movups	%xmm0, -48(%rdx,%r15)
 	movups	-24(%r10,%r15), %xmm0
-	movq	-8(%r10,%r15), %rsi
-	movq	%rsi, -8(%rdx,%r15)
+	movq	-8(%r10,%r15), %r9
+	movq	%r9, -8(%rdx,%r15)
 	movups	%xmm0, -24(%rdx,%r15)
 	movups	(%r10,%r15), %xmm0
-	movq	16(%r10,%r15), %rsi
-	movq	%rsi, 16(%rdx,%r15)
+	movq	16(%r10,%r15), %r9
+	movq	%r9, 16(%rdx,%r15)
 	movups	%xmm0, (%rdx,%r15)
 	addq	$8, %rbx
 	addq	$192, %r15
 	cmpq	%rbx, %r14
-	jne	.LBB3_42
+	jne	.LBB3_43
 	testq	%rcx, %rcx
-	je	.LBB3_46
-.LBB3_44:
+	je	.LBB3_47
+.LBB3_45:
 	shlq	$3, %rbx
-	leaq	(%rbx,%rbx,2), %rsi
-	addq	%rsi, %rdx
+	leaq	(%rbx,%rbx,2), %r9
+	addq	%r9, %rdx
 	addq	%r11, %rbp
 	addq	%rbp, %rax
-	addq	%rsi, %rax
+	addq	%r9, %rax
 	shll	$3, %ecx
 	leaq	(%rcx,%rcx,2), %rcx
-	xorl	%esi, %esi
+	xorl	%r9d, %r9d
 	.p2align	4
-.LBB3_45:
-	movups	(%rax,%rsi), %xmm0
-	movq	16(%rax,%rsi), %r9
-	movq	%r9, 16(%rdx,%rsi)
-	movups	%xmm0, (%rdx,%rsi)
-	addq	$24, %rsi
-	cmpq	%rsi, %rcx
-	jne	.LBB3_45
 .LBB3_46:
-	addq	%r8, 200(%rdi)
+	movups	(%rax,%r9), %xmm0
+	movq	16(%rax,%r9), %r10
+	movq	%r10, 16(%rdx,%r9)
+	movups	%xmm0, (%rdx,%r9)
+	addq	$24, %r9
+	cmpq	%r9, %rcx
+	jne	.LBB3_46
 .LBB3_47:
-	movq	32(%rsp), %r14
-	movq	216(%r14), %rax
+	addq	%r8, 200(%rdi)
+.LBB3_48:
+	movq	216(%rsi), %rax
 	movq	%rax, 216(%rdi)
-	movq	(%r14), %rax
+	movq	(%rsi), %rax
 	movq	%rax, (%rdi)
-	leaq	8(%r14), %rsi
+	leaq	8(%rsi), %rax
 	leaq	8(%rdi), %rcx
 	movl	$176, %edx
 	movq	%rdi, %rbx
 	movq	%rcx, %rdi
+	movq	%rsi, %r14
+	movq	%rax, %rsi
 	callq	memmove@PLT
 	movq	224(%r14), %rax
 	movups	240(%r14), %xmm0
@@ -868,7 +874,6 @@
 	movups	%xmm0, 336(%rbx)
 	movaps	160(%rsp), %xmm0
 	movups	%xmm0, 352(%rbx)
-.LBB3_48:
 	addq	$184, %rsp
 	popq	%rbx
 	popq	%r12
@@ -876,6 +881,7 @@
 	popq	%r14
 	popq	%r15
 	popq	%rbp
+.LBB3_49:
 	retq
 .Lfunc_end3:
 	.size	"pie_book::deciding_core::Core::copy_from", .Lfunc_end3-"pie_book::deciding_core::Core::copy_from"
@@ -1494,10 +1500,10 @@
 .Lfunc_end12:
 	.size	"pie_aqm::controller::Controller::update", .Lfunc_end12-"pie_aqm::controller::Controller::update"
 
-	.section	".text.pie_book::deciding_core::Core::set","ax",@progbits
+	.section	".text.pie_book::deciding_core::RawCore::set","ax",@progbits
 	.p2align	4
-	.type	"pie_book::deciding_core::Core::set",@function
-"pie_book::deciding_core::Core::set":
+	.type	"pie_book::deciding_core::RawCore::set",@function
+"pie_book::deciding_core::RawCore::set":
 	pushq	%rbp
 	pushq	%r15
 	pushq	%r14
@@ -1554,7 +1560,7 @@
 	popq	%rbp
 	retq
 .Lfunc_end13:
-	.size	"pie_book::deciding_core::Core::set", .Lfunc_end13-"pie_book::deciding_core::Core::set"
+	.size	"pie_book::deciding_core::RawCore::set", .Lfunc_end13-"pie_book::deciding_core::RawCore::set"
 
 	.section	.rodata.cst16,"aM",@progbits,16
 	.p2align	4, 0x0
@@ -1815,7 +1821,7 @@
 	leaq	320(%rsp), %r8
 	movl	%ebx, %edx
 	movq	%r13, %rcx
-	callq	"pie_book::deciding_core::Core::set"
+	callq	"pie_book::deciding_core::RawCore::set"
 	movzbl	48(%rsp), %r11d
 	movzbl	52(%rsp), %r15d
 	movq	64(%rsp), %rax

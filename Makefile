@@ -113,6 +113,7 @@ link $(SHARED) $(LIBDIR)/libpie.so
 644 include/pie_follow.h $(INCLUDEDIR)/pie_follow.h
 644 include/pie_link.h $(INCLUDEDIR)/pie_link.h
 644 bindings/c/thread_sanitizer.txt $(DATADIR)/pie/thread_sanitizer.txt
+644 docs/LIBRARY.md $(DOCDIR)/LIBRARY.md
 644 $(BUILD)/pie_c.pc $(LIBDIR)/pkgconfig/pie_c.pc
 644 $(BUILD)/pie_link.pc $(LIBDIR)/pkgconfig/pie_link.pc
 644 $(BUILD)/pie.pc $(LIBDIR)/pkgconfig/pie.pc

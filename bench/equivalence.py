@@ -1,8 +1,10 @@
 #!/usr/bin/env python3
-"""Whether two queues come to the same, within a margin that is fixed before: two one-sided tests (Schuirmann) of Welch's kind at 5 per cent, with
-the power that so many runs have where there is no difference. "Not significant" says nothing; only `same` and `different` are results.
+"""Tests whether two queues give the same results within a margin fixed beforehand: two one-sided tests (Schuirmann)
+of Welch's kind at 5 per cent, with the power of this number of runs if there is no difference. "Not significant"
+means nothing; only `same` and `different` are results.
 
-Own numerics, since nothing beside Python's standard library is needed for them: tests/documents/equivalence.py holds them to published values."""
+The numerics are this project's own, because they need nothing beside Python's standard library:
+tests/documents/equivalence.py compares them with published values."""
 import math
 from statistics import NormalDist, fmean, variance
 
@@ -63,16 +65,28 @@ def power(margin, error, freedom, difference=0.0, level=LEVEL):
     return total * most / steps
 
 
-def compare(ours, theirs, margin):
-    """The difference of the means, its 90 per cent interval, the verdict and the power at no difference. `same`: the interval lies within the margin;
+def judge(difference, error, freedom, margin):
+    """The difference, its 90 per cent interval, the verdict and the power at no difference. `same`: the interval lies within the margin;
     `different`: it lies outside; else `open`."""
+    reach = student_quantile(1 - LEVEL, freedom) * error
+    least, most = difference - reach, difference + reach
+    verdict = "same" if -margin < least and most < margin else "different" if least > margin or most < -margin else "open"
+    return difference, least, most, verdict, power(margin, error, freedom)
+
+
+def compare(ours, theirs, margin):
+    """The verdict on the difference of the means (`judge`)."""
     parts = [variance(ours) / len(ours), variance(theirs) / len(theirs)]
     difference, error = fmean(ours) - fmean(theirs), math.sqrt(sum(parts))
     if error == 0:
         freedom = len(ours) + len(theirs) - 2
     else:
         freedom = sum(parts) ** 2 / (parts[0] ** 2 / (len(ours) - 1) + parts[1] ** 2 / (len(theirs) - 1))
-    reach = student_quantile(1 - LEVEL, freedom) * error
-    least, most = difference - reach, difference + reach
-    verdict = "same" if -margin < least and most < margin else "different" if least > margin or most < -margin else "open"
-    return difference, least, most, verdict, power(margin, error, freedom)
+    return judge(difference, error, freedom, margin)
+
+
+def compare_pairs(ours, theirs, margin):
+    """As `compare`, of blocks that both got: the mean of the differences within a block, tested by Student's t."""
+    differences = [one - other for one, other in zip(ours, theirs, strict=True)]
+    difference, error, freedom = fmean(differences), math.sqrt(variance(differences) / len(differences)), len(differences) - 1
+    return judge(difference, error, freedom, margin)

@@ -1,6 +1,6 @@
-"""Follows a run of the gate: looks a few times a second at the processes below it, says of each what it is for, and adds up their times.
-A process's last moments, after the last look at it, are missed: some tenths of a second each. The whole is exact, and what no row
-has stands in a row of its own. Used by bench/gate.sh, which says how."""
+"""Follows a run of the gate: reads the processes below it a few times a second, assigns each to a part, and sums
+their times. The time of a process after the last reading is missed, some tenths of a second each. The total is
+exact, and time without an assigned row has a row of its own. Used by bench/gate.sh."""
 import importlib.machinery
 import importlib.util
 import os
@@ -27,7 +27,7 @@ def read(path):
 
 
 def processes():
-    """Of each process its parent, and what it and the children that it has waited for took of a processor, in seconds."""
+    """Returns for each process its parent, and the processor seconds of it and of its waited-for children."""
     found = {}
     for name in os.listdir("/proc"):
         if name.isdigit():
@@ -42,7 +42,8 @@ def words_of(pid):
 
 
 def task_of(pid):
-    """What a process that rt ci started is for, as a crate and a kind, or nothing where it is not known yet."""
+    """Returns the purpose of a process that rt ci started, as a crate and a kind, or nothing if it is not known
+    yet."""
     words = words_of(pid)
     name = os.path.basename(words[0]) if words else ""
     if name == "rattle" and "--crate-name" in words:
@@ -67,7 +68,7 @@ def most_memory(pid):
 
 
 class Follower:
-    """What was seen of each process below the gate."""
+    """The readings of each process below the gate."""
 
     def __init__(self, gate):
         self.gate, self.begun = gate, time.monotonic()

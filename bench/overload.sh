@@ -1,6 +1,6 @@
 #!/usr/bin/env bash
-# Draws queueing delay, probability, drops, marks and waiting bytes over time of the trace that bench/overload.py writes: a link that is
-# overloaded for four seconds. examples/plot.sh draws it from what `pie explain` tells.
+# Draws queueing delay, probability, drops, marks and queued bytes over time for the trace of bench/overload.py: a
+# link that is overloaded for four seconds. examples/plot.sh draws it from the output of `pie explain`.
 # usage: bench/overload.sh PIE [PICTURE]      PIE: the built program, as crates/pie/out/ has it after `rt run`
 . "$(dirname "$0")/shared.sh"
 program=$1

@@ -1,6 +1,7 @@
 #!/usr/bin/env bash
-# One event decided (and recorded) by pie_book, or one at a link, beside the same by an earlier one, both in turn, so many times (21),
-# and of each the least and the median, and their ratios. It ends with status 1 where the two decide otherwise.
+# Measures one event decided (and recorded) by pie_book, or one at a link, beside an earlier version, both in turn,
+# RUNS times (21). Prints the least and the median of each, and their ratios. The exit status is 1 if the two decide
+# differently.
 # usage: bench/pie_before.sh TESTS_OF_THE_EARLIER_COMMIT TESTS [RUNS] [book|link]     TESTS: crates/pie_library_tests/out/pie_library_tests
 . "$(dirname "$0")/shared.sh"
 runs=${3:-21}

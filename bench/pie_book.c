@@ -14,7 +14,7 @@
 #define LAST_MOMENT ((1ull << 60) - 1)
 
 enum kind { ARRIVE, DEPART, UPDATE };
-/* What an event did; an arrival's answers are its choices and 1. */
+/* The result of an event; the answers of an arrival are its choices and 1. */
 enum answer { ENQUEUED = ENQUEUE + 1, MARKED, DROPPED_EARLY, DROPPED_BYTES, DROPPED_PACKETS, EMPTY, DONE, LEFT, UPDATED, REFUSED };
 
 struct packet {

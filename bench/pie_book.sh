@@ -1,6 +1,6 @@
 #!/usr/bin/env bash
-# One event decided (and recorded) by pie_book beside the same steps in C: both in turn, so many times (9), and of each the
-# least and the median, and their ratios. It ends with status 1 where the two come to other results.
+# Measures one event decided (and recorded) by pie_book beside the same steps in C, both in turn, RUNS times (9).
+# Prints the least and the median of each, and their ratios. The exit status is 1 if their results differ.
 # usage: bench/pie_book.sh TESTS [RUNS]     TESTS: crates/pie_library_tests/out/pie_library_tests
 . "$(dirname "$0")/shared.sh"
 tests=$1

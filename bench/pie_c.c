@@ -64,8 +64,8 @@ STEP void left_at(struct plain *plain, const struct params *p, uint32_t size, ui
     departed_by(&plain->rate, size, left, plain->moment, p->dq_threshold);
 }
 
-/* The same with parameters and whether PIE is active beside it, as the library's state has them; its calls are refused for
- * what the library refuses. */
+/* PIE in plain C with parameters and activity in the state, as in the library's state; its calls refuse what the
+ * library refuses. */
 struct checked {
     struct params params;
     struct plain plain;
@@ -227,7 +227,7 @@ static struct timed {
 } timed[TIMES];
 static int times;
 
-/* Keeps the time of a call of this name, of so many that began then; the time now. */
+/* Stores the time of this many calls of this name that began at `then`. Returns the present time. */
 static double keep_nanos(const char *name, double begin, int calls) {
     double now = nanos();
     timed[times++] = (struct timed){name, (now - begin) / calls};

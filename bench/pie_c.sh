@@ -1,11 +1,11 @@
 #!/usr/bin/env bash
-# Builds and runs bench/pie_c.c over the static library, which `rt lib` in crates/pie_c builds: with DPDK's rte_pie.h where
-# Debian's libdpdk-dev is installed, and without it elsewhere. Prints of each the least and the median, and the ratios; and
-# where valgrind is there, the instructions of a call (bench/pie_c_count.sh).
+# Builds and runs bench/pie_c.c over the static library, which `rt lib` in crates/pie_c builds: with DPDK's
+# rte_pie.h if Debian's libdpdk-dev is installed. Prints the least and the median of each, and the ratios; and the
+# instructions of a call (bench/pie_c_count.sh) if valgrind is installed.
 #
-# It measures four programs of the same code, in which the library and the rest begin at an even or an odd multiple of 16 bytes: on
-# some processors (Intel's from Skylake to Cascade Lake) a branch costs more where it lies across a multiple of 32. So the first table
-# is of all four, and one for each place of the library follows.
+# It measures four programs of the same code, in which the library and the rest begin at an even or an odd multiple
+# of 16 bytes: on some processors (Intel's from Skylake to Cascade Lake) a branch costs more if it crosses a
+# multiple of 32. So the first table covers all four, and one for each place of the library follows.
 set -eu
 cd "$(dirname "$0")/.."
 work=$(mktemp -d)

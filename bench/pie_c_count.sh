@@ -1,8 +1,7 @@
 #!/usr/bin/env bash
-# Counts by valgrind the instructions of the library's calls, which no load changes, beside the stored ones (bench/pie_c_count.txt): a
-# mean over 1000 calls of a kind (bench/pie_c_count.c), inside the library alone; at a link, of one event, or of a burst of 32 together. Ends with
-# the status 1 where a kind of call grew.
-#
+# Counts the instructions of the library's calls by valgrind, independent of the load, and compares them with the
+# stored ones (bench/pie_c_count.txt): a mean over 1000 calls of a kind (bench/pie_c_count.c), inside the library
+# only; at a link for one event, and for a burst of 32. The exit status is 1 if a kind of call grew.
 # usage: bench/pie_c_count.sh [--store | --within PERCENT]    after bindings/c/library.py
 #        --store: keeps what was counted; --within: only what grew by more than so many per cent ends with the status 1
 set -eu

@@ -1,11 +1,12 @@
 #!/usr/bin/env bash
-# Packets a second from one null port of DPDK to another, in bursts of 32: forwarding alone, through DPDK's rte_pie (which makes no marks),
-# through the stage of bindings/dpdk without marks and with, through the stage with its flight recorder of the last 16384 events, through a link in
-# its place (bindings/dpdk/linked.h), and through the stage with the records of its periods, and with its whole history, both written to /dev/null by
-# one more lcore; all but the first and the link behind the same lock and ring. Once one lcore receives, enqueues, dequeues and sends; once as many as
-# the processors allow receive and enqueue, and one dequeues and sends. Prints the greatest and the median of the runs, which take turns, as the table
-# of docs/PERFORMANCE.md. It needs libdpdk (bindings/dpdk/install.sh) and the libraries, which bindings/c/library.py builds.
-#
+# Measures packets per second from one DPDK null port to another, in bursts of 32: forwarding alone; through DPDK's
+# rte_pie (which makes no marks); through the stage of bindings/dpdk without marks and with marks; through the stage
+# with its flight recorder of the last 16384 events; through a link in its place (bindings/dpdk/linked.h); and
+# through the stage with its interval records, and with its whole history, both written to /dev/null by one more
+# lcore. All except the first and the link use the same lock and ring. In one part one lcore receives, enqueues,
+# dequeues and sends; in the other all available processors receive and enqueue, and one dequeues and sends. Prints
+# the greatest and the median of the runs, which take turns, as the table of docs/PERFORMANCE.md. It needs libdpdk
+# (bindings/dpdk/install.sh) and the libraries, which bindings/c/library.py builds.
 # usage: bench/pie_dpdk.sh [SECONDS [RUNS [PRIORITY]]]      SECONDS of each run, 1 where none is given; RUNS of each kind, 9: some 150 seconds in
 # all. With a PRIORITY (50, say) each run has its processors for itself, by the system's real-time policy (chrt): take runs of 0.02 seconds then,
 # since nothing else runs meanwhile.

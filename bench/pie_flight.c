@@ -21,7 +21,7 @@
 #define TURN 2000    /* pairs in a turn: the kinds take turns, so that other work on the machine meets all */
 #define SIZE 1000    /* bytes of a packet */
 
-/* A queue of packets that are told by their numbers alone. */
+/* A queue of packets that have numbers only. */
 struct queue {
     struct pie_state pie;
     struct pie_opening opening;

@@ -60,7 +60,7 @@ static struct worker {
     enum kind kind;
     uint32_t burst;
     uint64_t events, turns, changes, word, due;
-    atomic_ulong bursts; /* so far, for others to read */
+    atomic_ulong bursts; /* so far, for other threads to read */
     struct pie_event burst_of[MOST_BURST];
     pthread_t id;
 } workers[MOST_THREADS];
@@ -196,7 +196,7 @@ static uint32_t depart_recorded(struct worker *worker, uint64_t moment) {
     return made;
 }
 
-/* What is told of the packets so far, and a snapshot where one is due. */
+/* Updates the statistics of the packets so far, and takes a snapshot if one is due. */
 static void end_bulk(struct pie_flight_burst *burst) {
     pie_flight_end(&shared.flight, burst);
     if (!pie_flight_is_due(&shared.flight))
@@ -279,7 +279,8 @@ static void two_turns(struct worker *worker, int threads) {
     moment = now();
     if (worker->kind == LINK) {
         for (uint32_t i = 0; i < worker->burst; i++)
-            worker->burst_of[i].moment = moment; /* (a departure reads no more, but that its kind is not an update) */
+            worker->burst_of[i].moment = moment; /* (of a departure the library reads nothing else, except that its
+                                                    kind is not an update) */
         if (worker->burst == 1)
             made = pie_link_depart(&worker->port, worker->burst_of) == PIE_DONE;
         else
@@ -323,7 +324,7 @@ static void open_link(int threads) {
         die("a link", code);
 }
 
-/* How often an event's turn follows on another caller's, of the turns whose events the log holds; and closes the link. */
+/* Counts the turns that follow one of another caller, among the turns whose events the log holds. Closes the link. */
 static double changes_of_log(int threads, uint32_t burst) {
     struct pie_event events[PIE_LINK_MOST];
     struct pie_params params;

@@ -1,6 +1,7 @@
 #!/usr/bin/env bash
-# The ruled lock beside `std::sync::Mutex`: both in turn within each of so many runs (9), and of each the best and the median,
-# and their ratios. Threads that find no free processor run in turn and hardly meet: look at the load that it prints.
+# Measures the ruled lock beside `std::sync::Mutex`: both in turn in each of RUNS runs (9). Prints the best and the
+# median of each, and their ratios. Threads without a free processor run one after another and hardly contend: check
+# the load that the script prints.
 # usage: bench/pie_lock.sh TESTS [RUNS]     TESTS: crates/pie_library_tests/out/pie_library_tests
 . "$(dirname "$0")/shared.sh"
 tests=$1

@@ -1,8 +1,8 @@
 #!/usr/bin/env bash
-# The system calls of the ruled lock, counted by strace: of ten million takes and puts while no other thread is there, and of four
-# threads of which one holds the lock for 200 milliseconds while the others wait. No clause speaks of them. It ends with status 1
-# where a lock that nobody waits for makes any (a put that always wakes), where none of those who wait sleeps, or where they
-# yield time and again (a waiter that never sleeps).
+# Counts the system calls of the ruled lock by strace: of ten million takes and puts without another thread, and of
+# four threads, one of which holds the lock for 200 milliseconds while the others wait. No clause covers system
+# calls. The exit status is 1 if an uncontended lock makes any (a put that always wakes), if no waiting thread
+# sleeps, or if waiting threads yield again and again.
 # usage: bench/pie_lock_calls.sh TESTS     TESTS: crates/pie_library_tests/out/pie_library_tests, as the gate leaves it
 set -eu
 command -v strace >/dev/null || { echo "bench/pie_lock_calls.sh: NOT RUN: no strace" >&2; exit 2; }
@@ -11,7 +11,8 @@ import os, re, signal, subprocess, sys
 
 (tests,) = sys.argv[1:]
 SLEEPERS = "sleepers"
-# So many calls are enough to tell, and so many yields are those of four waiters who look again some 500 times before they sleep.
+# This number of calls is enough, and this number of yields is that of four waiting threads that try about 500 times
+# before they sleep.
 ENOUGH, FEW = 10_000, 2_500
 
 

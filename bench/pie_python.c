@@ -1,5 +1,5 @@
-/* The arrivals that bench/pie_python.py left in a file, by the same loop: the time of the processor for an event, in ns, and what the answers add
- * up to. */
+/* Runs the arrivals of bench/pie_python.py from a file through the same loop: processor time for an event, in ns,
+ * and a checksum of the answers. */
 #include "pie_arrays.h"
 
 #include <inttypes.h>

@@ -19,7 +19,7 @@
 #define STEP __attribute__((noinline, unused)) static
 #endif
 
-/* What is decided of an arrival: the numbers are those of pie.h. */
+/* The decision of an arrival: the numbers are those of pie.h. */
 enum choice { ENQUEUE, MARK, DROP_EARLY, DROP_BYTES, DROP_PACKETS };
 
 struct params {
@@ -106,7 +106,7 @@ STEP void departed(struct rate *rate, uint32_t size, uint64_t left, uint64_t mom
     departed_by(rate, size, left, moment, threshold);
 }
 
-/* The delay of so many bytes (section 5.2). */
+/* Returns the delay of this many bytes (section 5.2). */
 static inline uint64_t delay_by(uint64_t bytes, uint64_t average, uint64_t threshold) {
     unsigned __int128 estimate = (unsigned __int128)bytes * average / threshold;
     return estimate > MAX_DELAY ? MAX_DELAY : (uint64_t)estimate;

@@ -1,7 +1,7 @@
 #!/usr/bin/env python3
-"""Reads lines `name value unit` of several runs, and prints for each pair of names the best value and the median of each
-side, and their ratios, as rows of a table. The best of times is the least, and of throughputs the greatest. Of a name alone
-it prints the least, the median and the greatest value.
+"""Reads lines `name value unit` of several runs, and prints for each pair of names the best value and the median of
+each side, and their ratios, as rows of a table. The best of times is the least, of throughputs the greatest. For a
+single name it prints the least, the median and the greatest value.
 
 usage: bench/ratios.py LINES NAME/OTHER.. NAME..     a pair of checksums has to be the same in all runs, else exit status 1
 """

@@ -1,6 +1,6 @@
 #!/usr/bin/env bash
 # Checks what make built: the six functions of runtime.h; the worked rows and examples by the program; worked rows and examples in C, C++, Rust and
-# Python over the libraries. It names what this machine lacks on a line that begins with NOT RUN.
+# Python over the libraries. The parts run at the same time, each in a folder of its own. A line that begins with NOT RUN names what this machine lacks.
 #
 # usage: dist/check.sh [BUILD]      BUILD: the folder that make built in (build)
 set -eu
@@ -10,6 +10,7 @@ cc=${CC:-cc}
 work=$(mktemp -d)
 trap 'rm -rf "$work"' EXIT
 warnings="-Wall -Wextra -Werror"
+export LD_LIBRARY_PATH=$build${LD_LIBRARY_PATH:+:$LD_LIBRARY_PATH}
 
 has() {
     command -v "${1%% *}" > /dev/null
@@ -22,86 +23,112 @@ is_clean() {
     found=$("$build/pie" audit < "$1") && [ "$found" = "clean,$events" ] || { echo "dist/check.sh: ${1##*/}: $found of $events events" >&2; return 1; }
 }
 
-# over NAME LIBRARY..: worked rows, traps of pie.h, random events and the example in C
-over() {
-    local name=$1 program
+# compiled FOLDER PROGRAM..: compiles programs of bindings/c to object files
+compiled() {
+    local folder=$1 program
     shift
-    for program in rows traps events example; do
+    for program in "$@"; do
         # shellcheck disable=SC2086
-        $cc -O1 -std=c11 $warnings -Iinclude -o "$work/$program" "bindings/c/$program.c" "$@"
+        $cc -O1 -std=c11 $warnings -Iinclude -c -o "$folder/$program.o" "bindings/c/$program.c"
     done
-    "$work/rows"
-    "$work/traps"
-    "$work/events" 1 500 > "$work/history"
-    is_clean "$work/history"
-    "$work/example" > "$work/history"
-    cmp "$work/history" bindings/c/example.history
-    echo "C: rows, traps, events and example ($name)"
 }
 
-# shellcheck disable=SC2086
-$cc -std=c11 -D_GNU_SOURCE $warnings -Idist -o "$work/runtime_test" dist/runtime_test.c "$build/heap.o" "$build/process.o"
-"$work/runtime_test"
+check_program() {
+    [ "$("$build/pie" --version)" = "pie $(sed -n 's/^#define PIE_VERSION "\(.*\)"$/\1/p' include/pie.h)" ]
+    tests/program/rows.sh "$build/pie"
+    is_clean bindings/c/example.history
+    echo "pie: $(ls tests/rows/*.in tests/rows/choices/*.in tests/rows/*.history | wc -l) worked rows"
+}
 
-[ "$("$build/pie" --version)" = "pie $(sed -n 's/^#define PIE_VERSION "\(.*\)"$/\1/p' include/pie.h)" ]
-tests/program/rows.sh "$build/pie"
-tests/program/examples.sh "$build/pie"
-is_clean bindings/c/example.history
-echo "pie: $(ls tests/rows/*.in tests/rows/choices/*.in tests/rows/*.history | wc -l) worked rows and $(ls examples/*.trace | wc -l) examples"
+check_examples() {
+    tests/program/examples.sh "$build/pie"
+    echo "pie: $(ls examples/*.trace | wc -l) examples"
+}
 
-over libpie_c.a "$build/libpie_c.a"
-export LD_LIBRARY_PATH=$build${LD_LIBRARY_PATH:+:$LD_LIBRARY_PATH}
-over libpie.so "$build/libpie.so"
+check_c() {
+    local library program
+    # shellcheck disable=SC2086
+    $cc -std=c11 -D_GNU_SOURCE $warnings -Idist -o "$1/runtime_test" dist/runtime_test.c "$build/heap.o" "$build/process.o"
+    "$1/runtime_test"
+    compiled "$1" rows traps events example
+    for library in libpie_c.a libpie.so; do
+        for program in rows traps events example; do
+            $cc -o "$1/$program" "$1/$program.o" "$build/$library"
+        done
+        "$1/rows"
+        "$1/traps"
+        "$1/events" 1 500 > "$1/history"
+        is_clean "$1/history"
+        "$1/example" > "$1/history"
+        cmp "$1/history" bindings/c/example.history
+        echo "C: rows, traps, events and example ($library)"
+    done
+}
+
 threads="$build/libpie_link.a $build/libpie_c.a -pthread"
-# shellcheck disable=SC2086
-$cc -O1 -std=c11 $warnings -Iinclude -o "$work/ports" bindings/c/ports.c $threads -Wl,--wrap=malloc,--wrap=realloc
-"$work/ports"
-# shellcheck disable=SC2086
-$cc -O1 -std=c11 $warnings -Iinclude -o "$work/threads" bindings/c/threads.c $threads
-(cd "$work" && ./threads)
-for excerpt in 1 2 3; do
-    "$build/pie" audit < "$work/excerpt.$excerpt" > "$work/finding"
-done
-echo "C: threads at a link"
+check_threads() {
+    local excerpt
+    compiled "$1" ports threads
+    # shellcheck disable=SC2086
+    $cc -o "$1/ports" "$1/ports.o" $threads -Wl,--wrap=malloc,--wrap=realloc
+    "$1/ports"
+    # shellcheck disable=SC2086
+    $cc -o "$1/threads" "$1/threads.o" $threads
+    (cd "$1" && ./threads)
+    for excerpt in 1 2 3; do
+        "$build/pie" audit < "$1/excerpt.$excerpt" > "$1/finding"
+    done
+    echo "C: threads at a link"
+}
 
-if has "${CXX:-c++}"; then
+check_cxx() {
+    local program
+    if ! has "${CXX:-c++}"; then
+        echo "NOT RUN: dist/check.sh: no C++ compiler (${CXX:-c++}) here, so the rows were not built as C++"
+        return
+    fi
     for program in rows events; do
         # shellcheck disable=SC2086
-        ${CXX:-c++} -x c++ -std=c++11 $warnings -Iinclude -c -o "$work/$program.o" "bindings/c/$program.c"
-        ${CXX:-c++} -o "$work/$program" "$work/$program.o" "$build/libpie_c.a"
+        ${CXX:-c++} -x c++ -std=c++11 $warnings -Iinclude -c -o "$1/$program.o" "bindings/c/$program.c"
+        ${CXX:-c++} -o "$1/$program" "$1/$program.o" "$build/libpie_c.a"
     done
-    "$work/rows"
-    "$work/events" 1 500 > "$work/history"
-    is_clean "$work/history"
+    "$1/rows"
+    "$1/events" 1 500 > "$1/history"
+    is_clean "$1/history"
     # shellcheck disable=SC2086
-    ${CXX:-c++} -O1 -std=c++17 $warnings -Iinclude -o "$work/ports" bindings/c/ports.cc $threads
-    "$work/ports"
+    ${CXX:-c++} -O1 -std=c++17 $warnings -Iinclude -o "$1/ports" bindings/c/ports.cc $threads
+    "$1/ports"
     echo "C++: rows, events and ports"
-else
-    echo "NOT RUN: dist/check.sh: no C++ compiler (${CXX:-c++}) here, so the rows were not built as C++"
-fi
+}
 
-if has cargo && [ "$(rustc --version | cut -d. -f2)" -ge 82 ]; then
-    cargo() {
-        # (the library is built from the assembly, by cc)
-        (cd bindings/rust && CARGO_TARGET_DIR=$work/target CARGO_INCREMENTAL=0 CARGO_PROFILE_DEV_DEBUG=0 PIE_C_PREFIX='' command cargo "$@")
-    }
-    cargo test --offline --locked --quiet --test rows > "$work/said" 2>&1 || { cat "$work/said"; exit 1; }
-    cargo run --offline --locked --quiet --features std --example recorded > "$work/history"
-    is_clean "$work/history"
-    echo "Rust: rows and the recorded queue"
-else
-    echo "NOT RUN: dist/check.sh: no cargo (1.82 or later) here, so the rows were not built in Rust"
-fi
-
-python=
-for it in python3 /usr/bin/python3; do
-    if [ -z "$python" ] && has "$it" && "$it" -c 'import numpy' 2> /dev/null; then
-        python=$it
+check_rust() {
+    local minor
+    # (rustup's cargo may be here without a toolchain)
+    minor=$(rustc --version 2> /dev/null | cut -d. -f2)
+    if ! has cargo || [ "${minor:-0}" -lt 82 ]; then
+        echo "NOT RUN: dist/check.sh: no cargo (1.82 or later) here, so the rows were not built in Rust"
+        return
     fi
-done
-if [ -n "$python" ]; then
-    PYTHONPATH=bindings/python/src PYTHONDONTWRITEBYTECODE=1 PIE=$build/pie "$python" - "$work/python" << 'END'
+    # (cc builds the library from the assembly)
+    export CARGO_TARGET_DIR=$1/target CARGO_INCREMENTAL=0 CARGO_PROFILE_DEV_DEBUG=0 PIE_C_PREFIX=''
+    (cd bindings/rust && cargo test --offline --locked --quiet --test rows) > "$1/said" 2>&1 || { cat "$1/said"; exit 1; }
+    (cd bindings/rust && cargo run --offline --locked --quiet --features std --example recorded) > "$1/history"
+    is_clean "$1/history"
+    echo "Rust: rows and the recorded queue"
+}
+
+check_python() {
+    local python='' it
+    for it in python3 /usr/bin/python3; do
+        if [ -z "$python" ] && has "$it" && "$it" -c 'import numpy' 2> /dev/null; then
+            python=$it
+        fi
+    done
+    if [ -z "$python" ]; then
+        echo "NOT RUN: dist/check.sh: no python3 with numpy here, so the module was not tried"
+        return
+    fi
+    PYTHONPATH=bindings/python/src PYTHONDONTWRITEBYTECODE=1 PIE=$build/pie "$python" - "$1/history" << 'END'
 import sys
 import juniperbowls as jb
 import numpy as np
@@ -109,9 +136,25 @@ import numpy as np
 with jb.Queue(jb.Opening.for_rate("10mbit", target="5ms"), history=sys.argv[1], seed=1) as queue:
     queue.offer(np.arange(2000) * 1_000_000, 1400, "10mbit")
 END
-    is_clean "$work/python"
+    is_clean "$1/history"
     echo "Python: a queue of 2000 arrivals"
-else
-    echo "NOT RUN: dist/check.sh: no python3 with numpy here, so the module was not tried"
+}
+
+parts="program examples c threads cxx rust python"
+for part in $parts; do
+    mkdir "$work/$part"
+    # (in a shell of its own, so that a command that fails ends the part)
+    (set -e; "check_$part" "$work/$part") > "$work/$part.out" 2>&1 &
+    eval "pid_$part=$!"
+done
+failed=''
+for part in $parts; do
+    pid=pid_$part
+    wait "${!pid}" || failed="$failed $part"
+    cat "$work/$part.out"
+done
+if [ -n "$failed" ]; then
+    echo "make check: failed:$failed" >&2
+    exit 1
 fi
 echo "make check: all passed"

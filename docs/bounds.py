@@ -23,7 +23,8 @@ RUN, BOUND, OTHER = COLOURS[3], COLOURS[0], COLOURS[2]
 
 
 def run(delay, params, records, picking="derandomized"):
-    """The rows of the history of these records, from an opening with the usual choices but for where the delay comes from, and how it picks."""
+    """Returns the rows of the history of these records, from an opening with the default choices except the delay
+    and the picking."""
     lines = [("open3", 1, delay, picking, "capped", "unscaled", "rolling", 0, 65536, 65536, 2**40, *params), *records]
     text = "".join(",".join(map(str, line)) + "\n" for line in lines)
     done = subprocess.run([PROGRAM, "run"], input=text.encode(), capture_output=True, check=True)
@@ -80,8 +81,9 @@ def burst_panel():
 # ---- the share of picks
 
 def share(part, words):
-    """At this probability, the share of considered packets that were picked, up to the last of them. One update makes the probability: a delay by
-    stamps, of which beta alone makes it, over the first divisor of auto-tuning."""
+    """Returns the share of considered packets that were picked at this probability, up to the last pick. One update
+    sets the probability: a delay by time stamps, multiplied by beta alone, divided by the first divisor of
+    auto-tuning."""
     count = 60 * 10**12 // part
     delay = part * 2048 // 10**6
     records = [("arrive", 1, 0, 0, 1000, "not", 0)] * 2 + [("depart", 1, delay), ("update", 1, delay)]
@@ -115,7 +117,8 @@ def share_panel():
 # ---- the probability at one delay
 
 def probabilities(delay, count, params, first=()):
-    """After each of so many updates at this delay, by stamps: before each a packet departs that had waited so long."""
+    """Returns the probability after each of these updates with this delay by time stamps: before each update a
+    packet departs that waited for that delay."""
     updates = [20 * 10**9 + UPDATE * place for place in range(count + 1)]
     records = [("arrive", 1, now - delay, 0, 1000, "not", 0) for now in updates]
     records += [record for now in updates[:-1] for record in (("depart", 1, now), ("update", 1, now))]

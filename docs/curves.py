@@ -1,5 +1,5 @@
-"""Curves as SVG, for the pictures that scripts of docs/ draw: panels side by side, each with its axes, lines and dots. What is drawn depends on
-the numbers alone, so a picture that was stored can be compared with one drawn anew."""
+"""Curves as SVG for the pictures of docs/: panels side by side, each with axes, lines and dots. The output depends
+on the numbers alone, so a stored picture can be compared with a new one."""
 import html
 import math
 import sys

@@ -1,7 +1,7 @@
 #!/usr/bin/env python3
-"""Draws the map of the crates, docs/crates.svg, from crates.txt: a box for each group, an arrow from each crate to those that it stands
-on, without the arrows that others imply, and in colour the three ways of a packet, each step of which has its arrow. And it writes the list of
-crates in docs/ARCHITECTURE.md. It takes graphviz (Debian's package).
+"""Draws the map of the crates, docs/crates.svg, from crates.txt: a box for each group, an arrow from each crate to
+its dependencies, without the arrows that others imply, and in colour the three paths of a packet. It also writes
+the list of crates in docs/ARCHITECTURE.md. It needs graphviz (Debian's package).
 
 usage: docs/map.py           draws and writes
        docs/map.py --check   draws nothing: ends with status 1 where picture or list are not those of crates.txt (needs no graphviz)
@@ -18,16 +18,16 @@ DOCS = Path(__file__).resolve().parent
 PICTURE = DOCS / "crates.svg"
 PAGE = DOCS / "ARCHITECTURE.md"
 BEGIN, END = "<!-- by docs/map.py from crates.txt -->", "<!-- to here -->"
-# where a packet comes in from outside, its colour, and its way: each crate stands on the next
+# the crate at which packets enter, the colour, and the path of each: each crate depends on the next
 WAYS = {"a trace": ("#c07000", ["pie", "pie_commands", "pie_trace", "pie_book", "pie_aqm", "pie_early"]),
         "a call from C": ("#6a3fb5", ["pie_c", "pie_aqm", "pie_early"]),
         "a thread at a link": ("#b0305c", ["pie_link", "pie_book", "pie_aqm", "pie_early"])}
-COLOURS = {"rules": "#e8f1e4", "words": "#f4f4ec", "controller": "#cfe5c4", "book": "#dce6f5", "text": "#f5f0d8", "threads": "#f3dfe6", "laws": "#f6e9d8", "C": "#e3ddf0",
+COLOURS = {"rules": "#e8f1e4", "types": "#f4f4ec", "controller": "#cfe5c4", "book": "#dce6f5", "text": "#f5f0d8", "threads": "#f3dfe6", "laws": "#f6e9d8", "C": "#e3ddf0",
            "program": "#e6eaec", "tests and measures": "#ffffff"}
 
 
 def groups():
-    """Of each group its line and its crates: each with what it stands on here, and what it is."""
+    """Returns the line of each group and its crates: each with its dependencies here, and its description."""
     found = []
     for line in (DOCS.parent / "crates.txt").read_text().splitlines():
         words, _, said = line.partition("#")
@@ -41,7 +41,7 @@ def groups():
 
 
 def arrows(crates):
-    """Each crate with the crates that it stands on, but for those that another of these stands on."""
+    """Returns each crate with its direct dependencies, without those that another of these implies."""
     def under(crate):
         return {it for low in crates[crate][0] if low in crates for it in {low, *under(low)}}
     for crate, (below, _) in crates.items():
@@ -84,7 +84,7 @@ def mark():
 def listing():
     """Of each layer a line, with its crates and what each is."""
     lines = [f"- **{name}** ({meaning}): " + "; ".join(f"{crate}: {said}" for crate, (_, said) in crates.items()) for name, meaning, crates in groups()]
-    return "\n".join(textwrap.fill(line, 148, subsequent_indent="  ", break_on_hyphens=False) for line in lines)
+    return "\n".join(textwrap.fill(line, 100, subsequent_indent="  ", break_on_hyphens=False) for line in lines)
 
 
 def page_with(text):
@@ -93,7 +93,7 @@ def page_with(text):
 
 
 def wrong():
-    """What of picture and page is not as crates.txt has it."""
+    """Yields the differences of picture and page from crates.txt."""
     crates, picture = all_crates(), PICTURE.read_text()
     drawn = {html.unescape(it) for it in re.findall(r"<title>(.*?)</title>", picture)}
     yield from (f"docs/map.py: {one} does not stand on {other}" for one, other, _ in steps() if other not in crates.get(one, [[]])[0])

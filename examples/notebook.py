@@ -18,7 +18,7 @@ import matplotlib.pyplot as plt  # noqa: E402
 rows = jb.explain(history, "--every", period)
 rows.index = rows.first_moment / 1e9
 chart = plt.figure(figsize=(11, 4)).add_subplot(title="Queueing delay and waits, ms", xlabel="s")
-for name, column, counts in [("queueing delay at updates", "greatest_delay", "updates"), ("mean wait of packets that left", "mean_wait", "left"),
+for name, column, counts in [("queueing delay at updates", "greatest_delay", "updates"), ("mean wait of departed packets", "mean_wait", "left"),
                              ("greatest wait", "greatest_wait", "left"), ("burst allowance", "last_burst_allowance", "events"),
                              ("target", "last_target", "events")]:
     chart.plot(rows[column][rows[counts] > 0] / 1e6, label=name)

@@ -13,8 +13,8 @@ trap 'rm -rf "$work"' EXIT
 target=$(awk -F, 'NR == 1 { at = $1 == "resume" ? 21 : $1 == "open3" ? 12 : $1 == "open2" ? 8 : 6
     at += $7 == "zero" || $7 == "half"
     printf "%.3f", (NF >= at ? $at : 15000000) / 1e6 }' "$history")
-# By the names of the header row: what each event left behind, the delay that each update took, and how many packets were dropped and
-# marked in each of a hundred parts of the time.
+# By the names of the header row: the state after each event, the delay of each update, and the number of drops and
+# marks in each hundredth of the time.
 awk -F, -v work="$work" '
     NR == 1 { for (i = 1; i <= NF; i++) at[$i] = i; next }
     { moment = $at["effective_moment"] / 1e9; if (NR == 2) first = moment; last = moment

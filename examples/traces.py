@@ -1,5 +1,5 @@
 #!/usr/bin/env python3
-"""Writes the traces of this folder: each shows one thing that PIE is for. The same bytes each time.
+"""Writes the traces of this folder, each of which shows one purpose of PIE. The output is always the same.
 
 usage: examples/traces.py [FOLDER]
 

@@ -1,6 +1,7 @@
 #!/usr/bin/env bash
-# Histories a second on a Dask cluster of this machine with 1, 2 and 4 workers, beside xargs with as many processes of the same two commands. Each
-# worker count has so many histories that xargs takes some SECONDS; the whole command is timed, with the start of its Python and the table's end.
+# Measures histories per second on a Dask cluster of this machine with 1, 2 and 4 workers, beside xargs with the
+# same number of processes of the same two commands. Each number of workers has as many histories as xargs processes
+# in about SECONDS; the whole command is timed, with the start of its Python and the writing of the table.
 # usage: fleet/measure.sh PROGRAM [SECONDS EVENTS RUNS]     PROGRAM: crates/pie/out/pie; 20 s, 100000 events, 1 run; of several the least
 set -eu
 program=$(realpath "$1") seconds=${2:-20} events=${3:-100000} runs=${4:-1}
@@ -20,7 +21,7 @@ done
 printf '%s\n' '#!/bin/sh' 'pie audit "$1" && pie explain --summary --csv "$1"' > "$work/one"
 chmod +x "$work/one"
 
-# named MANY FOLDER: so many names
+# named COUNT FOLDER: COUNT names
 named() {
     mkdir "$2"
     for n in $(seq "$1"); do ln "$work/made/$((n % 4 + 1))" "$2/link$n.history"; done

@@ -1,6 +1,6 @@
-/* Follows a flight recorder (pie_flight.h): one thread reads the events as another keeps them, or writes the whole history, so that the data path
- * never touches a file. Nothing waits, and nothing is lost silently: whoever comes too late is told how many events it missed. C11, or C++11 and
- * later; link with libpie_c.a.
+/* Follows a flight recorder (pie_flight.h): one thread reads events while another thread keeps them, or writes the whole history, so that the
+ * data path never touches a file. No call blocks. A reader that is too slow receives the number of events that it missed. Requires C11, or
+ * C++11 and later; link with libpie_c.a.
  *
  *     (under the lock)                                                  (the thread that writes)
  *     uint32_t verdict = pie_arrive_event(&pie, .., event);             pie_flight_follow_open(&follower, memory, bytes);    (once)
@@ -15,29 +15,31 @@
 extern "C" {
 #endif
 
-#define PIE_FOLLOWED 32 /* events that are copied at once */
+#define PIE_FOLLOWED 32 /* the most events of one copy */
 
-/* Who reads the events of a recorder as they are kept: one thread, of any process that has the memory. */
+/* A reader of a recorder: one thread, in any process that maps the memory. */
 struct pie_flight_follower {
-    PIE_WORD *words;                 /* the memory */
+    PIE_WORD *words;                 /* the memory of the recorder */
     struct pie_flight_layout layout;
     uint64_t next;                   /* the number of the next event, counted from 0 */
-    uint64_t missed;                 /* events that were written over before they were read, in all */
-    uint64_t untold;                 /* .. of which the text has to tell */
-    int is_begun;                    /* the text has its beginning */
-    size_t at, count;                /* the next of those that were copied, and how many those are */
+    uint64_t missed;                 /* events that were overwritten before they were read */
+    uint64_t untold;                 /* of these, the events that the text has not reported yet */
+    int is_begun;                    /* 1 if the text has its first record */
+    size_t at, count;                /* the index of the next copied event, and the number of copied events */
     uint64_t copied[PIE_FOLLOWED][PIE_FLIGHT_EVENT];
 };
 
-/* Begins to follow a recorder at its first event. Answers 1, and 0 where the memory is no recorder's. */
+/* Starts to follow a recorder at its first event.
+ * Returns 1, or 0 if the memory contains no recorder. */
 static inline int pie_flight_follow_open(struct pie_flight_follower *follower, const void *memory, size_t bytes) {
     memset(follower, 0, sizeof *follower);
     follower->words = (PIE_WORD *)(uintptr_t)memory;
     return pie_flight_layout_in(&follower->layout, follower->words, bytes);
 }
 
-/* Copies events that were kept since, and answers 0; or how many were written over before they were read. It goes on behind these, so far that
- * half of the memory is left before it is too late again. */
+/* Copies events that were kept since the last call.
+ * Returns 0, or the number of events that were overwritten before they were read. The follower then continues after them, so that half of
+ * the memory remains until the next loss. */
 static inline uint64_t pie_flight_copy_next(struct pie_flight_follower *follower) {
     const struct pie_flight_layout *layout = &follower->layout;
     uint64_t number = follower->next, kept = PIE_LOAD(follower->words[PIE_FLIGHT_KEPT]), missed;
@@ -55,8 +57,9 @@ static inline uint64_t pie_flight_copy_next(struct pie_flight_follower *follower
     return missed;
 }
 
-/* Reads the next event, and the parameters of one of kind PIE_EVENT_PARAMS: answers 1, and 0 where there is none yet. Where events were written over
- * before they were read it is of kind PIE_EVENT_LOST, and its tag is how many. */
+/* Reads the next event, and the parameters of an event of kind PIE_EVENT_PARAMS. If events were overwritten before they were read, the event
+ * has the kind PIE_EVENT_LOST and its tag is their number.
+ * Returns 1, or 0 if there is no new event. */
 static inline int pie_flight_follow(struct pie_flight_follower *follower, struct pie_event *event, struct pie_params *params) {
     if (follower->at == follower->count) {
         uint64_t missed = pie_flight_copy_next(follower);
@@ -74,7 +77,7 @@ static inline int pie_flight_follow(struct pie_flight_follower *follower, struct
     return 1;
 }
 
-/* Writes how many events are missing, and what a new text begins with: a snapshot behind them. */
+/* Writes the number of missing events and starts a new text with the preamble of a later snapshot. */
 static inline void pie_flight_follow_anew(struct pie_flight_follower *follower, struct pie_flight_text *text, void *scratch) {
     uint64_t begun = pie_flight_copy((PIE_WORD *)scratch, follower->words, &follower->layout, NULL, NULL), count;
     PIE_WORD *snapshot = pie_flight_oldest((PIE_WORD *)scratch, &follower->layout, begun, follower->next);
@@ -91,7 +94,7 @@ static inline void pie_flight_follow_anew(struct pie_flight_follower *follower, 
     follower->at = follower->count = 0;
 }
 
-/* Writes what a history begins with: the opening, and the time of day where it is known. */
+/* Writes the first records of a history: the opening, and the wall-clock time if it is known. */
 static inline void pie_flight_follow_begin(struct pie_flight_follower *follower, struct pie_flight_text *text) {
     struct pie_opening opening;
     uint64_t unix_time = PIE_LOAD(follower->words[PIE_FLIGHT_CLOCK]);
@@ -103,12 +106,12 @@ static inline void pie_flight_follow_begin(struct pie_flight_follower *follower,
     follower->is_begun = 1;
 }
 
-/* Writes the history as it is kept, of a recorder of pie_flight_keep that was opened right after pie_open: at each call the text of the events
- * since the one before, from the opening on. Where it came too late, a line `lost,<count>` tells how many events are missing, where an audit ends;
- * and behind it a text begins anew, which resumes and stands alone (`sed 1,/^lost,/d`). `scratch` is memory for a copy, as of pie_flight_dump.
- *
- * Answers PIE_FLIGHT_DONE or PIE_FLIGHT_STOPPED; PIE_FLIGHT_BROKEN as pie_flight_dump; PIE_FLIGHT_GONE where the new text cannot begin yet: at the
- * next call. */
+/* Writes the history while it is kept, of a recorder that uses pie_flight_keep and was opened right after pie_open. Each call writes the text of
+ * the events since the last call, the first call from the opening on. If events were overwritten, the line `lost,<count>` has their number.
+ * An audit ends at that line. The text after it is an excerpt, which can be audited alone (`sed 1,/^lost,/d`). `scratch` is memory for a copy
+ * as in pie_flight_dump.
+ * Returns PIE_FLIGHT_DONE or PIE_FLIGHT_STOPPED; PIE_FLIGHT_BROKEN as pie_flight_dump; PIE_FLIGHT_GONE if the excerpt cannot start yet: call
+ * again later. */
 static inline int pie_flight_follow_text(struct pie_flight_follower *follower, void *scratch, pie_flight_write write, void *user) {
     struct pie_flight_text text;
     struct pie_event event;

@@ -1,48 +1,51 @@
-/* A link: one PIE controller (RFC 8033) with its queue and its event log, which several threads call. Link with libpie_link.a and libpie_c.a
- * (`pkg-config pie_link`); C11, or C++11 and later.
+/* A link: one PIE controller (RFC 8033) with its queue and its event log, shared by several threads. Link with libpie_link.a and
+ * libpie_c.a (`pkg-config pie_link`). Requires C11, or C++11 and later.
  *
  *     struct pie_port port = PIE_PORT_CLOSED, other = PIE_PORT_CLOSED;
  *     struct pie_opening opening;
  *     pie_link_default_opening(&opening, rate);
- *     pie_link_open(&opening, 2, &port);          a link of two callers; `port` has both numbers
- *     pie_link_share(&port, &other);              `other` has one of them now, and goes to another thread
+ *     pie_link_open(&opening, 2, &port);          a link for two callers; `port` has both caller numbers
+ *     pie_link_share(&port, &other);              `other` receives one of them; pass it to another thread
  *
- *     struct pie_event event = {0};               (by each thread, with its own port)
+ *     struct pie_event event = {0};               (in each thread, with its own port)
  *     event.moment = now; event.tag = number; event.size = bytes; event.ecn = PIE_ECT0; event.word = random;
  *     verdict = pie_link_arrive(&port, &event);
  *
- * Proved, for all interleavings of any number of threads: whenever no port has the turn, one history of one thread lies behind all ports. It
- * contains each port's calls once and in its order, and every answer is RFC 8033's at its place. A bounded link (PIE_BOUNDED) loses no event. A
- * rolling link (PIE_ROLLING, the default) lets its oldest event go when its log is full: folds return numbers that show the gap (pie_link_fold).
- * The calls with `try` in their name, those of excerpts and those whose name ends in `port` or `ports` have contracts that cite this history; an
- * event's fields and an excerpt's text are proved too. Tested, not proved: the inline functions of this header. Not proved: that a call that waits
- * returns.
+ * Terms: a port is the handle of one thread; it has one or more caller numbers. A call has exclusive access to the link while it
+ * runs: its turn.
  *
- * The caller in C ensures the following, since nothing can check it:
+ * Proved, for all interleavings of any number of threads: while no port has the turn, all events of the link form one history. It
+ * contains the calls of each port exactly once and in the port's order, and every result is RFC 8033's at its place. A bounded link
+ * (PIE_BOUNDED) loses no event. A rolling link (PIE_ROLLING, the default) discards its oldest event when its log is full; the number
+ * that pie_link_fold returns shows the gap. The proof covers the calls with `try` in their name, the calls for excerpts, and the calls
+ * whose name ends in `port` or `ports`, with the fields of events and the text of excerpts. The inline functions of this header are
+ * tested, not proved. It is not proved that a waiting call returns.
  *
- * - One thread at a time uses a port or an excerpt. It goes to another thread by what orders memory between them: a mutex, a thread's start or
- *   join, a sequentially consistent atomic. (That what they point to may go is proved; that the structs may, and that calls run at once, is
- *   trusted.) A port or an excerpt is moved, never copied to be used twice, and all zeros before it is opened.
- * - Pointers point to structs that no other thread reads or writes during the call. They do not overlap.
- * - Each packet is a name here, `tag`: the link has the order in which packets leave, and the caller has the packets.
+ * Requirements that no call can check:
+ * - One thread at a time uses a port or an excerpt. To pass it to another thread, use an operation that orders memory between the
+ *   threads: a mutex, the start or join of a thread, a sequentially consistent atomic. Move a port or an excerpt; never use two
+ *   copies. It is all zeros before it is opened. (It is proved that the memory behind the pointer may move between threads. That
+ *   concurrent calls through these structs are safe is trusted.)
+ * - Pointers point to structs that do not overlap and that no other thread reads or writes during the call.
+ * - The caller stores the packets. The link stores their names, `tag`, in the order of the queue.
  *
- * A call with `try` in its name never waits. It returns PIE_BUSY if another port has the turn, and its event is unchanged. Only pie_link_open,
- * pie_link_share and pie_link_open_excerpt take memory; if there is none, they change nothing.
+ * A call with `try` in its name never waits: it returns PIE_BUSY and leaves its event unchanged if another port has the turn. Only
+ * pie_link_open, pie_link_share and pie_link_open_excerpt allocate memory; if they fail, nothing has changed.
  *
  * Hazards:
- *
- * - Signal handlers. A waiting call in a handler that interrupted a call at the same link never returns. A `try` call returns PIE_BUSY there.
- * - fork. If another thread has the turn at that moment, the link stays busy in the child for ever. A child closes its ports, or calls exec.
- * - Asynchronous cancellation (PTHREAD_CANCEL_ASYNCHRONOUS), and longjmp out of a handler that interrupted a call: the link may stay busy for ever.
- *   No call here is a cancellation point, so deferred cancellation is safe.
- * - Real-time priorities. A waiting thread keeps its processor for some 500 rounds before it sleeps, and the turn's holder inherits no priority.
- *   Threads at one link have one priority, or those with the higher one use `try` calls.
- * - Moments. A moment below an earlier one counts as the greatest so far. If one caller's clock runs ahead by a time, the others' updates are
- *   refused as too soon for that time. All callers read one clock that never goes back, such as CLOCK_MONOTONIC.
- * - Bursts read the kind of each event. An event that was an update stays one if it is used again, until its kind is set to 0.
- * - `try` calls wake no thread that sleeps in a waiting call; it looks again after a millisecond. pie_link_wake wakes it.
- * - ThreadSanitizer reports false races in the library, which is not built for it. Its suppressions are bindings/c/thread_sanitizer.txt
- *   (installed as share/pie/thread_sanitizer.txt): TSAN_OPTIONS=suppressions=FILE. */
+ * - Signal handlers: a waiting call in a handler that interrupted a call at the same link never returns. A `try` call returns PIE_BUSY.
+ * - fork: if another thread has the turn during fork, the link stays busy in the child for ever. Close the ports in the child, or
+ *   call exec.
+ * - Asynchronous cancellation (PTHREAD_CANCEL_ASYNCHRONOUS), and longjmp out of a handler that interrupted a call: the link may stay
+ *   busy for ever. No call is a cancellation point, so deferred cancellation is safe.
+ * - Real-time priorities: a waiting thread keeps its processor for about 500 rounds before it sleeps, and the thread that has the turn
+ *   inherits no priority. Give all threads of a link the same priority, or use `try` calls in those with a higher one.
+ * - Moments: a moment below an earlier one counts as the greatest so far. If the clock of one caller is ahead, the updates of the
+ *   others are too soon for that time. Use one clock that never goes back, such as CLOCK_MONOTONIC, for all callers.
+ * - Bursts read the kind of each event. Set the kind to 0 before you reuse the event of an update, or it is an update again.
+ * - `try` calls wake no thread that sleeps in a waiting call; that thread looks again after one millisecond. pie_link_wake wakes it.
+ * - ThreadSanitizer reports false races in the library, which is compiled without it. Set
+ *   TSAN_OPTIONS=suppressions=FILE with bindings/c/thread_sanitizer.txt (installed as share/pie/thread_sanitizer.txt). */
 #ifndef PIE_LINK_H
 #define PIE_LINK_H
 
@@ -82,17 +85,17 @@ extern "C" {
 #define PIE_LINK_SWAP(word, seen, next) atomic_compare_exchange_weak(&(word), &(seen), next)
 #endif
 
-/* Memory that the ports of one link share: the waiting calls of one link wake no thread at another. pie_link_open takes it, and pie_link_close of
- * the last port frees it. No other memory lies within 52 bytes of the words, so that they seldom share a cache line with what others write. */
+/* Memory shared by the ports of one link, so that a waiting call wakes only threads at its own link. pie_link_open allocates it,
+ * pie_link_close of the last port frees it. The padding keeps other data out of the cache line of these words. */
 struct pie_link_shared {
     unsigned char before[64];
     PIE_LINK_WORD(32) ports;    /* open ports */
-    PIE_LINK_WORD(32) sleepers; /* threads that sleep */
-    PIE_LINK_WORD(32) turns;    /* changes when a thread is to be woken */
+    PIE_LINK_WORD(32) sleepers; /* threads that sleep in a waiting call */
+    PIE_LINK_WORD(32) turns;    /* incremented to wake a thread */
     unsigned char after[52];
 };
 
-/* One caller of a link, for one thread at a time. Zeros are a closed port. The fields are not the caller's to look at. */
+/* A handle of a link for one thread at a time. All zeros is a closed port. The fields are private. */
 struct pie_port {
     void *at;
     struct pie_link_shared *shared;
@@ -100,30 +103,30 @@ struct pie_port {
 
 #define PIE_PORT_CLOSED {NULL, NULL}
 
-/* Codes that a call at a port returns beside those of pie.h. */
+/* Return codes of calls at a port, in addition to those of pie.h. After PIE_BUSY, PIE_CLOSED and PIE_NO_MEMORY nothing has changed. */
 enum {
     PIE_EXHAUSTED = 104,  /* the history has as many events as the opening allows */
-    PIE_FULL = 105,       /* the event log of a bounded link is full: fold some */
-    PIE_TOO_MANY = 106,   /* a fold, and the log holds no event */
-    PIE_BUSY = 121,       /* nothing was done: another port has the turn */
-    PIE_CLOSED = 122,     /* nothing was done: the port, or the excerpt, is closed */
-    PIE_NO_MEMORY = 123,  /* nothing was done: there was no memory */
-    PIE_NO_CALLERS = 124, /* a link for no callers */
-    PIE_ONE_NUMBER = 125, /* a port with one number has none to share */
-    PIE_APART = 126,      /* two ports of two links, or whose ranges of numbers are not adjacent */
-    PIE_OPEN = 127,       /* the port, or the excerpt, is open already */
-    PIE_TOO_SMALL = 129   /* the excerpt has less room than those of the link may need */
+    PIE_FULL = 105,       /* the event log of a bounded link is full: fold some events */
+    PIE_TOO_MANY = 106,   /* fold: the log contains no event */
+    PIE_BUSY = 121,       /* another port has the turn */
+    PIE_CLOSED = 122,     /* the port or the excerpt is closed */
+    PIE_NO_MEMORY = 123,  /* out of memory */
+    PIE_NO_CALLERS = 124, /* open: the number of callers is 0 */
+    PIE_ONE_NUMBER = 125, /* share: the port has only one caller number */
+    PIE_APART = 126,      /* gather: the ports belong to two links, or their ranges of caller numbers are not adjacent */
+    PIE_OPEN = 127,       /* the port or the excerpt is already open */
+    PIE_TOO_SMALL = 129   /* the excerpt has less room than an excerpt of this link may need */
 };
 
-/* ---- A link is opened, shared and closed. The four functions whose name ends in `port` or `ports` are the library's. The inline functions
- * below call them, and keep the memory that the ports share. */
+/* ---- Opening and closing. The four functions whose name ends in `port` or `ports` belong to the library. Call the inline functions
+ * below, which use them and manage the memory shared by the ports. */
 
 uint32_t pie_link_open_port(const struct pie_opening *opening, uint16_t callers, struct pie_port *port);
 uint32_t pie_link_share_port(struct pie_port *port, struct pie_port *added);
 uint32_t pie_link_gather_ports(struct pie_port *port, struct pie_port *other);
 uint32_t pie_link_close_port(struct pie_port *port);
 
-/* Takes the memory that the ports of a new link share, or returns NULL. */
+/* Allocates the memory shared by the ports of a new link. Returns NULL if there is none. */
 static inline struct pie_link_shared *pie_link_new_shared(void) {
 #ifdef __cplusplus
     void *memory = malloc(sizeof(pie_link_shared));
@@ -139,7 +142,7 @@ static inline struct pie_link_shared *pie_link_new_shared(void) {
     return shared;
 }
 
-/* Ends a closed port's part in that memory. The last port frees it. */
+/* Releases the share of a closed port in that memory. The last port frees it. */
 static inline void pie_link_leave(struct pie_port *port) {
     struct pie_link_shared *shared = port->shared;
     port->shared = NULL;
@@ -147,9 +150,9 @@ static inline void pie_link_leave(struct pie_port *port) {
         free(shared);
 }
 
-/* Fills in an opening for a link of this rate, in bits a second: that of pie_default_opening, but with fewer `packets`, since memory and the
- * longest turn grow with them. The queue has room for four times the packets of mean size that limit_bytes holds, from 1024 to 2^20. At 100 Mbit/s
- * that is 9765 packets: a link takes 2.0 MB then, and an excerpt 1.5 MB. */
+/* Fills `opening` for a link of `rate` bits per second: as pie_default_opening, except `packets`, which determines the memory and the
+ * longest turn. `packets` is four times limit_bytes / mean_pkt, at least 1024 and at most 2^20. At 100 Mbit/s that is 9765 packets: 2.0 MB
+ * for a link and 1.5 MB for an excerpt. */
 static inline void pie_link_default_opening(struct pie_opening *opening, uint64_t rate) {
     uint64_t packets;
     pie_default_opening(opening, rate);
@@ -157,10 +160,11 @@ static inline void pie_link_default_opening(struct pie_opening *opening, uint64_
     opening->packets = packets < opening->packets ? packets : opening->packets;
 }
 
-/* Opens a link of this many callers, with an empty queue, and the port with all their numbers, 0 to callers - 1. It takes some 72 bytes for each of
- * the opening's `packets`, and 128 for each of `packets` or of `tail`, whichever is more: 209.7 MB with the 2^20 packets of pie_default_opening. One
- * event in as many as that copies the packets that wait, 24 bytes each. Refused, in this order: an open port (PIE_OPEN), what
- * pie_open refuses of the opening, PIE_NO_CALLERS, PIE_NO_MEMORY. Then the port is unchanged. */
+/* Opens a link for `callers` callers with an empty queue. `port` receives all caller numbers, 0 to callers - 1.
+ * Returns PIE_DONE.
+ * Errors, in this order: PIE_OPEN, those of pie_open, PIE_NO_CALLERS, PIE_NO_MEMORY. The port is then unchanged.
+ * Notes: the link takes about 72 bytes for each of `packets` and 128 bytes for each of `packets` or `tail`, whichever is more: 209.7 MB
+ * with the 2^20 packets of pie_default_opening. One event in that many copies the queued packets, 24 bytes each. */
 static inline uint32_t pie_link_open(const struct pie_opening *opening, uint16_t callers, struct pie_port *port) {
     uint32_t code = pie_link_open_port(opening, callers, port);
     if (code != PIE_DONE)
@@ -172,8 +176,9 @@ static inline uint32_t pie_link_open(const struct pie_opening *opening, uint16_t
     return PIE_NO_MEMORY;
 }
 
-/* Opens `added`, a closed port, with the highest number of `port`. Refused, in this order: PIE_CLOSED, PIE_OPEN of `added`, PIE_ONE_NUMBER,
- * PIE_NO_MEMORY. Then both are unchanged. */
+/* Opens `added`, a closed port, with the highest caller number of `port`.
+ * Returns PIE_DONE.
+ * Errors, in this order: PIE_CLOSED, PIE_OPEN (`added`), PIE_ONE_NUMBER, PIE_NO_MEMORY. Both ports are then unchanged. */
 static inline uint32_t pie_link_share(struct pie_port *port, struct pie_port *added) {
     uint32_t code = PIE_OPEN;
     if (port->at == NULL)
@@ -187,8 +192,10 @@ static inline uint32_t pie_link_share(struct pie_port *port, struct pie_port *ad
     return code;
 }
 
-/* Gives `port` the numbers of `other`, which is closed then. Refused, in this order: PIE_CLOSED of either, PIE_APART: they are ports of two links,
- * or one port, or their ranges of numbers are not adjacent. Then both are unchanged. */
+/* Moves the caller numbers of `other` to `port` and closes `other`.
+ * Returns PIE_DONE.
+ * Errors, in this order: PIE_CLOSED (either), PIE_APART (ports of two links, the same port twice, or ranges that are not adjacent). Both ports
+ * are then unchanged. */
 static inline uint32_t pie_link_gather(struct pie_port *port, struct pie_port *other) {
     uint32_t code = PIE_APART;
     if (port->at == NULL || other->at == NULL)
@@ -200,7 +207,9 @@ static inline uint32_t pie_link_gather(struct pie_port *port, struct pie_port *o
     return code;
 }
 
-/* Closes a port; the last port of a link frees it. Its numbers are no port's then, and its calls stay in the history. PIE_CLOSED if it is closed. */
+/* Closes a port. The last port of a link frees the link. The calls of the port stay in the history; its caller numbers are not used again.
+ * Returns PIE_DONE.
+ * Errors: PIE_CLOSED. */
 static inline uint32_t pie_link_close(struct pie_port *port) {
     uint32_t code = pie_link_close_port(port);
     if (code == PIE_DONE)
@@ -208,65 +217,76 @@ static inline uint32_t pie_link_close(struct pie_port *port) {
     return code;
 }
 
-/* Decides the arrival of a packet. Reads moment, tag, size, ECN field and random word of the event. Returns the verdict; PIE_ENQUEUE and PIE_MARK
- * queue the packet. Refused, in this order: PIE_CLOSED, PIE_BAD_ECN, PIE_BUSY, PIE_BAD_MOMENT, PIE_BAD_SIZE, PIE_EXHAUSTED, PIE_FULL. The event
- * then has the code as its answer, but it is unchanged at PIE_CLOSED and PIE_BUSY. An event that was not refused is a record of the history; its
- * caller is the least number of the port. */
+/* Decides an arriving packet. Reads moment, tag, size, ECN field and random word of the event.
+ * Returns PIE_ENQUEUE, PIE_MARK, PIE_EARLY, PIE_BYTES or PIE_PACKETS. The first two queue the packet.
+ * Errors, in this order: PIE_CLOSED, PIE_BAD_ECN, PIE_BUSY, PIE_BAD_MOMENT, PIE_BAD_SIZE, PIE_EXHAUSTED, PIE_FULL.
+ * Notes: the event's answer is the return value, also after an error; after PIE_CLOSED and PIE_BUSY the event is unchanged. An event
+ * without error is recorded in the history, with the least caller number of the port. */
 uint32_t pie_link_try_arrive(struct pie_port *port, struct pie_event *event);
 
-/* Takes the next packet from the queue, at the event's moment. Returns PIE_DONE, and the event has tag, size and ECN field of the packet that left,
- * PIE_CE if it was marked; or PIE_NONE if no packet waits. Refused, in this order: PIE_CLOSED, PIE_BUSY, PIE_BAD_MOMENT, PIE_EXHAUSTED, PIE_FULL. */
+/* Removes the oldest packet from the queue at the event's moment. The event receives its tag, its size and its ECN field, which is PIE_CE
+ * if the packet was marked.
+ * Returns PIE_DONE, or PIE_NONE if the queue is empty.
+ * Errors, in this order: PIE_CLOSED, PIE_BUSY, PIE_BAD_MOMENT, PIE_EXHAUSTED, PIE_FULL. */
 uint32_t pie_link_try_depart(struct pie_port *port, struct pie_event *event);
 
-/* Computes the probability anew, at the event's moment. Refused, in this order: PIE_CLOSED, PIE_BUSY, PIE_BAD_MOMENT, PIE_TOO_SOON,
- * PIE_EXHAUSTED, PIE_FULL. */
+/* Updates probability and burst allowance at the event's moment.
+ * Returns PIE_DONE.
+ * Errors, in this order: PIE_CLOSED, PIE_BUSY, PIE_BAD_MOMENT, PIE_TOO_SOON, PIE_EXHAUSTED, PIE_FULL. */
 uint32_t pie_link_try_update(struct pie_port *port, struct pie_event *event);
 
-/* Starts probability, delays and rate estimate anew, at the event's moment. Refused as a departure. */
+/* Resets probability, delays and rate estimate at the event's moment, as pie_reset.
+ * Returns PIE_DONE.
+ * Errors: those of pie_link_try_depart. */
 uint32_t pie_link_try_reset(struct pie_port *port, struct pie_event *event);
 
-/* Sets parameters, which hold from the next event on. Refused, in this order: PIE_CLOSED, PIE_BAD_PARAMS, PIE_BUSY, PIE_BAD_MOMENT, PIE_EXHAUSTED,
- * PIE_FULL. */
+/* Sets parameters for the events that follow.
+ * Returns PIE_DONE.
+ * Errors, in this order: PIE_CLOSED, PIE_BAD_PARAMS, PIE_BUSY, PIE_BAD_MOMENT, PIE_EXHAUSTED, PIE_FULL. */
 uint32_t pie_link_try_set_params(struct pie_port *port, const struct pie_params *params, struct pie_event *event);
 
-/* ---- Folds: the history, as far as it has come. */
+/* ---- Folds: reading the history in parts. */
 
-#define PIE_LINK_MOST 64 /* events that one fold hands out at most */
+#define PIE_LINK_MOST 64 /* the most events of one fold */
 
-/* Hands out the oldest events of the log, oldest first, which leave it: up to `count`, at most PIE_LINK_MOST, and none after one that sets
- * parameters (PIE_EVENT_PARAMS), which are in `params` then. `folded` is their number, 0 unless PIE_DONE is returned. `last` is the number of the
- * last event that has left the log: the events have the numbers last - folded + 1 to last, where the first event of the history has 1. The other
- * structs are unchanged. pie_write_event and pie_write_params make the records, pie_write_lost the line of a gap:
+/* Removes the oldest events from the log and copies them to `events`, oldest first: at most `count`, at most PIE_LINK_MOST, and none after
+ * an event that sets parameters (PIE_EVENT_PARAMS), whose parameters are copied to `params`.
+ *   folded  receives the number of events; 0 unless PIE_DONE is returned
+ *   last    receives the number of the last event that has left the log. The events have the numbers last - folded + 1 to last; the first
+ *           event of the history has the number 1
+ * Returns PIE_DONE.
+ * Errors, in this order: PIE_CLOSED, PIE_BUSY, PIE_TOO_MANY (the log contains no event, or `count` is 0). No event is then written, and
+ * after PIE_CLOSED and PIE_BUSY `last` is unchanged.
+ * Notes: pie_write_event and pie_write_params write the records, pie_write_lost the line of a gap:
  *
  *     while (pie_link_fold(&port, events, PIE_LINK_MOST, &folded, &last, &params) == PIE_DONE) {
- *         uint64_t missing = last - folded - written;     (no fold of this thread handed these events out)
+ *         uint64_t missing = last - folded - written;     (no fold of this thread returned these events)
  *         fwrite(out, 1, pie_write_lost(missing, out, sizeof out), file);     (writes nothing if none is missing)
  *         written = last;
- *         ..                                              (writes the records of the events)
+ *         ..                                              (write the records of the events)
  *     }
  *
- * A rolling link lets events go between two folds if more than `tail` come, and another thread's fold takes events away. At a gap an audit of the
- * text ends; an excerpt begins a new one. If one thread folds a bounded link, nothing is missing. Refused, in this order: PIE_CLOSED, PIE_BUSY,
- * PIE_TOO_MANY (the log holds no event, or `count` is 0). Then no event is written, and at PIE_CLOSED and PIE_BUSY `last` is unchanged. `events` is
- * never NULL, not even with a count of 0. */
+ * A rolling link discards events if more than `tail` occur between two folds; a fold by another thread also removes events. An audit of the
+ * text ends at a gap; an excerpt starts a new text. If one thread folds a bounded link, no event is missing. `events` is never NULL, not even
+ * with a count of 0. */
 uint32_t pie_link_try_fold(struct pie_port *port, struct pie_event *events, size_t count, size_t *folded, uint64_t *last, struct pie_params *params);
 
-/* ---- Readings: what the controller and its queue hold. They make no event. */
+/* ---- Registers and statistics. Reading them records no event. */
 
 /* Times are in nanoseconds, probabilities in units of 10^-12. */
 struct pie_registers {
     uint64_t count;           /* the number of events */
     uint64_t moment;          /* the effective moment, the greatest so far */
-    uint64_t packets;         /* the packets that wait */
+    uint64_t packets;         /* the number of queued packets */
     uint64_t bytes;           /* their bytes */
     uint64_t prob;            /* the probability of drop or mark */
     uint64_t old_delay;       /* the delay at the last update */
     uint64_t accu;            /* the accumulated probability */
     uint64_t burst;           /* the burst allowance */
     uint64_t last;            /* the moment of the last update, or of the opening */
-    uint64_t due;             /* the moment from which the next update is due */
-    uint64_t average;         /* the average time in which dq_threshold bytes depart; 0 with no sample */
-    uint64_t measuring;       /* 1 if a cycle of the departure rate is open, otherwise 0 */
+    uint64_t due;             /* the moment from which the next update is not too soon */
+    uint64_t average;         /* the average time in which dq_threshold bytes depart; 0: no sample */
+    uint64_t measuring;       /* 1 if a departure rate cycle is open, otherwise 0 */
     uint64_t active;          /* 1 if the controller is active, otherwise 0; always 1 with PIE_ALWAYS_ON */
     struct pie_params params; /* the parameters in force */
 };
@@ -277,61 +297,72 @@ struct pie_totals {
     struct pie_stats stats; /* their statistics */
 };
 
-/* Read the registers and the statistics, as they are after `count` events of the history. Refused, in this order: PIE_CLOSED, PIE_BUSY. Then the
- * struct is unchanged. */
+/* Read the registers or the statistics after `count` events of the history.
+ * Return PIE_DONE.
+ * Errors, in this order: PIE_CLOSED, PIE_BUSY. The struct is then unchanged. */
 uint32_t pie_link_try_registers(struct pie_port *port, struct pie_registers *registers);
 uint32_t pie_link_try_stats(struct pie_port *port, struct pie_totals *totals);
 
-/* ---- Excerpts: the last events behind a preamble, as a text for `pie audit`, `pie explain` and `pie cut`, while the link works on. */
+/* ---- Excerpts: a snapshot and the last events as a text for `pie audit`, `pie explain` and `pie cut`, while the link continues. */
 
-/* An excerpt, in memory of its own, for one thread at a time. Like a port it is moved, never copied. Zeros are a closed excerpt. */
+/* An excerpt with its own memory, for one thread at a time. Move it, never use two copies. All zeros is a closed excerpt. */
 struct pie_excerpt {
-    void *at; /* not the caller's to look at */
+    void *at; /* private */
 };
 
 #define PIE_EXCERPT_CLOSED {0}
 
-/* Takes memory for the excerpts of every link with this opening: 24 bytes for each of its `packets`, and 128 for each of `packets` or of `tail`,
- * whichever is more. With the 2^20 packets of pie_default_opening that is 159.4 MB (184.5 MB are asked for, since the 24 bytes a packet are taken,
- * freed and taken again). It is an excerpt of no events then. Refused, in this order: an open excerpt (PIE_OPEN), what pie_open refuses of the
- * opening, PIE_NO_MEMORY. Then it is unchanged. */
+/* Allocates memory for excerpts of every link with this opening. The excerpt then contains no event.
+ * Returns PIE_DONE.
+ * Errors, in this order: PIE_OPEN, those of pie_open, PIE_NO_MEMORY. The excerpt is then unchanged.
+ * Notes: it takes 24 bytes for each of `packets` and 128 bytes for each of `packets` or `tail`, whichever is more: 159.4 MB with the 2^20
+ * packets of pie_default_opening. The call requests 184.5 MB, because the 24 bytes per packet are allocated, freed and allocated again. */
 uint32_t pie_link_open_excerpt(const struct pie_opening *opening, struct pie_excerpt *excerpt);
 
-/* Copies the events that the link still keeps into the excerpt, at least those of the log, with their preamble. The excerpt's text begins anew. The
- * history is unchanged. The copy is the turn, which others wait for: its time grows with the packets that wait and the events that the link keeps,
- * up to twice `packets` or `tail` (58 ms were measured for 1.9 million). Refused, in this order: PIE_CLOSED of either, PIE_BUSY, PIE_TOO_SMALL.
- * Then the excerpt is unchanged. */
+/* Copies all events that the link still has, at least those of the log, with their preamble to the excerpt. The text of the excerpt starts
+ * again at its first record. The history is unchanged.
+ * Returns PIE_DONE.
+ * Errors, in this order: PIE_CLOSED (either), PIE_BUSY, PIE_TOO_SMALL. The excerpt is then unchanged.
+ * Notes: other callers wait during the copy. Its time grows with the number of queued packets and of events, which is at most twice
+ * `packets` or `tail`: 58 ms for 1.9 million events. */
 uint32_t pie_link_try_excerpt(struct pie_port *port, struct pie_excerpt *excerpt);
 
-/* Writes the next record of the excerpt's text, the first one after it was filled, into the first `room` bytes of `out`. Returns its number of
- * bytes: 0 after the last record, and of a closed excerpt. If the record has more than `room` bytes, the call returns 0 and the record stays the
- * next. PIE_RESUME_ROOM bytes are enough for each. `out` is never NULL, and no 0 byte is written after the record. The call takes no turn. */
+/* Writes the next record of the excerpt's text to the first `room` bytes of `out`, without a terminating 0. PIE_RESUME_ROOM bytes are enough
+ * for each record. `out` is never NULL.
+ * Returns the number of bytes; 0 after the last record and if the excerpt is closed. If the record has more than `room` bytes, returns 0 and
+ * the record stays the next one.
+ * Notes: the call takes no turn at the link. */
 size_t pie_link_write_excerpt(struct pie_excerpt *excerpt, unsigned char *out, size_t room);
 
-/* Frees the excerpt's memory. PIE_CLOSED if it is closed. */
+/* Frees the memory of an excerpt.
+ * Returns PIE_DONE.
+ * Errors: PIE_CLOSED. */
 uint32_t pie_link_close_excerpt(struct pie_excerpt *excerpt);
 
-/* ---- Bursts: several events of one port, one after another in one turn, with no event of another port between. The calls read and write the events
- * in place (`events` is never NULL, not even with a count of 0), copy none and take no memory. Each event receives its own result or refusal. Events
- * after the end of the burst are unchanged. An event of kind PIE_EVENT_UPDATE is an update at its moment, in either burst. Both calls return
- * PIE_DONE; or PIE_CLOSED or PIE_BUSY, and then each event is unchanged. A burst of no events returns PIE_DONE even if another port has the turn. */
+/* ---- Bursts: several events of one port in one turn, with no event of another port between them. The calls read and write the events in
+ * place, and allocate no memory. Each event receives its own result or error. Events after the end of the burst are unchanged. An event of
+ * kind PIE_EVENT_UPDATE is an update, in both calls. `events` is never NULL, not even with a count of 0.
+ * Both calls return PIE_DONE, also for 0 events while another port has the turn.
+ * Errors, in this order: PIE_CLOSED, PIE_BUSY. Each event is then unchanged. */
 
-/* Decides arrivals, each as pie_link_try_arrive. After a refused packet, PIE_BAD_ECN too, the next one is decided. */
+/* Decides `count` arrivals, each as pie_link_try_arrive. An error of one event, PIE_BAD_ECN too, does not end the burst. */
 uint32_t pie_link_try_arrive_all(struct pie_port *port, struct pie_event *events, size_t count);
 
-/* Takes packets from the queue, each at its event's moment, as pie_link_try_depart. The burst ends after `count` events, after a departure without a
- * packet (PIE_NONE, which is recorded, or a refusal), after an update that is refused otherwise than as too soon, and before a departure whose packet
- * has more bytes than remain of `bytes`. The packets that leave never exceed `bytes` together; UINT64_MAX is no limit. `*made` is the number of
- * events that received a result. */
+/* Removes packets from the queue, each at the moment of its event, as pie_link_try_depart.
+ *   bytes  the most bytes of the departing packets together; UINT64_MAX for no limit
+ *   count  the most events
+ *   made   receives the number of events with a result
+ * The burst also ends after PIE_NONE, which is recorded, after an error of a departure, after an update with an error other than
+ * PIE_TOO_SOON, and before a packet that would exceed `bytes`. */
 uint32_t pie_link_try_depart_all(struct pie_port *port, uint64_t bytes, struct pie_event *events, size_t count, size_t *made);
 
-/* ---- Calls that wait while another port has the turn. Each makes its `try` call again and again: after a pause that doubles up to 64
- * instructions, then after it gave the processor up, some 500 times, then after a sleep until another waiting call has had its turn, at most a
- * millisecond. Tested, and not proved; nothing says that a call that waits is ever served. They leave errno unchanged. */
+/* ---- Waiting calls. Each repeats its `try` call until it returns a code other than PIE_BUSY, and returns that code. Between two tries it
+ * pauses, for up to 64 instructions at first; then it yields its processor about 500 times; then it sleeps until another waiting call ends
+ * its turn, but at most one millisecond. errno is unchanged. These calls are tested, not proved. No call is guaranteed to get its turn. */
 
-#define PIE_LINK_ROUNDS 512 /* that a call waits before it sleeps: most turns are over by then, and a sleep with its wake costs more than a turn */
+#define PIE_LINK_ROUNDS 512 /* rounds before a waiting call sleeps: most turns are over by then, and a sleep with its wake costs more than a turn */
 
-/* How long a call has waited: its rounds, and `turns` before its last look. */
+/* The progress of a waiting call: its rounds, and the value of `turns` before its last try. */
 struct pie_link_patience {
     uint32_t rounds;
     uint32_t seen;
@@ -350,7 +381,7 @@ static inline void pie_link_pause(uint32_t round) {
 #endif
 }
 
-/* Waits a little for a turn at this port's link, longer each time. */
+/* Waits a short time, longer in each round, for a turn at the link of `port`. */
 static inline void pie_link_wait(const struct pie_port *port, struct pie_link_patience *waited) {
     struct pie_link_shared *shared = port->shared;
     if (waited->rounds < 7) {
@@ -367,7 +398,7 @@ static inline void pie_link_wait(const struct pie_port *port, struct pie_link_pa
         return;
     }
     if (waited->rounds == PIE_LINK_ROUNDS) {
-        /* from now on it counts among those that sleep, and looks once more before it does: a turn that ends after this look wakes it */
+        /* the thread counts as a sleeper from now on, and tries once more before it sleeps: a turn that ends after that try wakes it */
         PIE_LINK_ADD(shared->sleepers, 1);
         waited->seen = PIE_LINK_LOAD(shared->turns);
     }
@@ -378,8 +409,8 @@ static inline void pie_link_wait(const struct pie_port *port, struct pie_link_pa
     sched_yield();
 }
 
-/* Wakes one thread that sleeps in a waiting call at this port's link, if there is one. The waiting calls do so after their turns. A thread calls it
- * after the turn of a `try` call if others wait. The port is open. */
+/* Wakes one thread that sleeps in a waiting call at the link of `port`, an open port, if there is one. Waiting calls do so after their
+ * turns. Call it after the turn of a `try` call if other threads use waiting calls. */
 static inline void pie_link_wake(const struct pie_port *port) {
 #ifdef __linux__
     struct pie_link_shared *shared = port->shared;
@@ -394,7 +425,7 @@ static inline void pie_link_wake(const struct pie_port *port) {
 #endif
 }
 
-/* Ends a wait after a turn. */
+/* Ends a waiting call after its turn. */
 static inline void pie_link_had_turn(const struct pie_port *port, const struct pie_link_patience *waited) {
     if (port->shared == NULL)
         return; /* (the port is closed) */
@@ -456,18 +487,18 @@ static inline uint32_t pie_link_depart_all(struct pie_port *port, uint64_t bytes
     PIE_LINK_WAITING(pie_link_try_depart_all(port, bytes, events, count, made));
 }
 
-/* ---- A hint: what a data plane may read without a turn. It may be old, and lacks what it was not told. It says whether a call is worth its turn,
- * and no more. */
+/* ---- Hint: the approximate number of queued packets and moment of the next update, readable without a turn. Use it only to decide whether
+ * a call is worth its turn: it is as old as the last pie_link_tell. */
 
-/* The number of packets that wait, and when the next update is due, in one word that the ports of a link share. Zeros before it is told anything. */
+/* A hint in one word that the threads of a link share. Initialize it with zeros. */
 struct pie_link_hint {
-    PIE_LINK_WORD(64) word; /* the packets, in 22 bits with a sign, and above them the moment in units of 2^18 ns */
+    PIE_LINK_WORD(64) word; /* number of packets, signed, in the lower 22 bits; moment in units of 2^18 ns above them */
 };
 
 #define PIE_LINK_HINT_PACKETS UINT64_C(0x3fffff)
 #define PIE_LINK_HINT_SIGN UINT64_C(0x200000)
 
-/* Tells a hint the packets of events that a call of any port was answered. */
+/* Adds the results of `count` events of any port to the hint's number of packets. */
 static inline void pie_link_tell(struct pie_link_hint *hint, const struct pie_event *events, size_t count) {
     uint64_t packets = 0;
     for (; count != 0; count--, events++) {
@@ -480,9 +511,9 @@ static inline void pie_link_tell(struct pie_link_hint *hint, const struct pie_ev
         PIE_LINK_ADD(hint->word, packets);
 }
 
-/* Tells a hint when the next update is due: `due` of registers that were read after an update, a reset or new parameters. (The moment of an update's
- * event is no such moment: another caller's may be ahead.) The hint keeps the greatest that it was told, so that calls may tell it in any order; a
- * shorter t_update shows after an update more. */
+/* Sets the hint's moment of the next update to `due`, the field of registers read after an update, a reset or new parameters, unless the
+ * hint has a greater moment. So threads may call it in any order; a shorter t_update becomes visible one update later. Do not compute `due`
+ * from the moment of an update's event: the effective moment may be greater. */
 static inline void pie_link_tell_due(struct pie_link_hint *hint, uint64_t due) {
     const uint64_t most = (UINT64_C(1) << 42) - 1;
     uint64_t units = (due >> 18) + ((due & ((UINT64_C(1) << 18) - 1)) != 0), seen = PIE_LINK_LOAD(hint->word), packets;
@@ -494,20 +525,20 @@ static inline void pie_link_tell_due(struct pie_link_hint *hint, uint64_t due) {
     } while (!PIE_LINK_SWAP(hint->word, seen, (units << 22) + packets));
 }
 
-/* Returns the number of packets that wait. */
+/* Returns the number of queued packets according to the hint. */
 static inline uint64_t pie_link_waiting(const struct pie_link_hint *hint) {
     uint64_t packets = ((PIE_LINK_LOAD(hint->word) & PIE_LINK_HINT_PACKETS) ^ PIE_LINK_HINT_SIGN) - PIE_LINK_HINT_SIGN;
-    return packets >> 63 ? 0 : packets; /* (a departure may be told before its arrival) */
+    return packets >> 63 ? 0 : packets; /* (a departure may be added before its arrival) */
 }
 
-/* Returns the moment from which an update is due, late by less than 2^18 ns; UINT64_MAX if that is after every moment. */
+/* Returns the moment from which an update is due according to the hint, at most 2^18 ns late. Returns UINT64_MAX if no moment is. */
 static inline uint64_t pie_link_due(const struct pie_link_hint *hint) {
     uint64_t word = PIE_LINK_LOAD(hint->word);
     uint64_t units = (word - (((word & PIE_LINK_HINT_PACKETS) ^ PIE_LINK_HINT_SIGN) - PIE_LINK_HINT_SIGN)) >> 22;
     return units == (UINT64_C(1) << 42) - 1 ? UINT64_MAX : units << 18;
 }
 
-/* A code of a call at a port in words, for a log. */
+/* Returns a description of a return code, for a log. */
 static inline const char *pie_link_text(uint32_t code) {
     switch (code) {
     case PIE_EXHAUSTED: return "as many events as the opening allows";
@@ -531,7 +562,7 @@ static inline const char *pie_link_text(uint32_t code) {
 inline uint32_t pie_link_close_any(pie_port *port) noexcept { return pie_link_close(port); }
 inline uint32_t pie_link_close_any(pie_excerpt *excerpt) noexcept { return pie_link_close_excerpt(excerpt); }
 
-/* What closes itself: it is moved, and never copied. */
+/* Base of a port or an excerpt that closes itself; it can be moved, not copied. */
 template <typename Raw> class pie_link_owned {
 public:
     pie_link_owned() noexcept : raw() {}
@@ -552,7 +583,7 @@ protected:
     Raw raw;
 };
 
-/* An excerpt, and a port. Each call answers as the one in C that it is named after. */
+/* An excerpt and a port. Each member function does what the C function of that name does. */
 class pie_owned_excerpt : public pie_link_owned<pie_excerpt> {
 public:
     uint32_t open(const pie_opening &opening) noexcept { return pie_link_open_excerpt(&opening, &raw); }
@@ -569,7 +600,7 @@ public:
     uint32_t gather(pie_link_port &other) noexcept { return pie_link_gather(&raw, &other.raw); }
     void wake() const noexcept { pie_link_wake(&raw); }
 
-    /* a call, and beside it the one that never waits: `try_arrive` and `arrive` */
+    /* the `try` call and the waiting call: `try_arrive` and `arrive` */
 #define PIE_LINK_BOTH(name, taken, handed)                                    \
     uint32_t try_##name taken noexcept { return pie_link_try_##name handed; } \
     uint32_t name taken noexcept { return pie_link_##name handed; }

@@ -1,6 +1,5 @@
-/* The text of a history as it is written, record by record: the calls of pie.h that write a record, with the numbers that a refusal's record tells;
- * and the statistics of its events.
- * C11, or C++11 and later; link with libpie_c.a.
+/* Writes a history record by record: wraps the pie_write_* calls of pie.h, counts records for the numbers in `refused` records, and computes
+ * the statistics. Requires C11, or C++11 and later; link with libpie_c.a.
  *
  *     struct pie_history history = {0};
  *     count = pie_text_opening(&history, &opening, bytes, sizeof bytes);
@@ -8,8 +7,8 @@
  *     verdict = pie_arrive_event(&pie, .., &event);
  *     count = pie_text_event(&history, &event, NULL, bytes, sizeof bytes);
  *
- * A thread that must not touch a file keeps its events in a flight recorder (pie_flight.h), and another follows that; or it calls a link
- * (pie_link.h), of which another folds. */
+ * A thread that must not write files keeps its events in a flight recorder (pie_flight.h), which another thread follows; or it uses a
+ * link (pie_link.h), whose log another thread folds. */
 #ifndef PIE_TEXT_H
 #define PIE_TEXT_H
 
@@ -22,30 +21,32 @@
 extern "C" {
 #endif
 
-/* A text that is being written: begin with {0}, and with pie_text_opening. */
+/* The progress of a history that is being written. Initialize it with {0}, then call pie_text_opening. */
 struct pie_history {
-    uint64_t records; /* in it so far: a refusal tells its number */
-    uint64_t untold;  /* calls that were refused by codes that no history has */
+    uint64_t records; /* records written so far */
+    uint64_t untold;  /* refused calls whose code histories do not contain */
     uint64_t lost;    /* events that are missing */
 };
 
-/* Writes the opening (pie_write_opening), and answers its bytes: none where pie_open refuses it. `room` is at least PIE_RECORD_ROOM. */
+/* Writes the opening with pie_write_opening. `room` is at least PIE_RECORD_ROOM.
+ * Returns the number of bytes; 0 if pie_open rejects the opening. */
 static inline size_t pie_text_opening(struct pie_history *text, const struct pie_opening *opening, unsigned char *out, size_t room) {
     size_t count = pie_write_opening(opening, out, room);
     text->records = count != 0 ? 1 : 0;
     return count;
 }
 
-/* Writes the time of day (pie_write_clock), anywhere behind an opening of version three, and answers its bytes: none where `moment` is above
- * 2^60 - 1. `room` is at least PIE_RECORD_ROOM. */
+/* Writes the wall-clock time with pie_write_clock. Call it after an opening of version three. `room` is at least PIE_RECORD_ROOM.
+ * Returns the number of bytes; 0 if `moment` is above 2^60 - 1. */
 static inline size_t pie_text_clock(struct pie_history *text, uint64_t moment, uint64_t unix_time, unsigned char *out, size_t room) {
     size_t count = pie_write_clock(moment, unix_time, out, room);
     text->records += count != 0 ? 1 : 0;
     return count;
 }
 
-/* Writes the record of one event, with the parameters of one of kind PIE_EVENT_PARAMS, and answers its bytes: none of a refusal that no
- * history has. `room` is at least PIE_RECORD_ROOM. An event that can't be is told as one that is missing. */
+/* Writes the record of an event; `params` are the parameters of an event of kind PIE_EVENT_PARAMS. `room` is at least PIE_RECORD_ROOM.
+ * Returns the number of bytes; 0 for a refusal whose code histories do not contain.
+ * Notes: an event that cannot be written is reported as a missing one, by a `lost` record. */
 static inline size_t pie_text_event(struct pie_history *text, const struct pie_event *event, const struct pie_params *params,
                                     unsigned char *out, size_t room) {
     size_t count;
@@ -69,8 +70,8 @@ static inline size_t pie_text_event(struct pie_history *text, const struct pie_e
     return count;
 }
 
-/* Counts an event in the statistics, which begin with {0}: none that was refused. `bytes` are those that wait after it, and `waited` is what the
- * packet of a departure had waited, in ns. */
+/* Adds an event without error to the statistics. Initialize `stats` with {0}. `bytes` are the bytes in the queue after the event, `waited` is
+ * the waiting time of a departing packet, in ns. */
 static inline void pie_count_event(struct pie_stats *stats, const struct pie_event *event, uint64_t bytes, uint64_t waited) {
     uint64_t is_empty = event->answer == PIE_NONE;
     switch (event->kind) {

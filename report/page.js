@@ -1,17 +1,17 @@
 
 "use strict";
-// The page's script: it draws what stands as JSON in the element `data`. Each text of it reaches the page as text alone, never as markup.
+// The page's script. It draws the JSON of the element `data`. Every text of it is written to the page as text, never as markup.
 const DATA = JSON.parse(document.getElementById("data").textContent);
 const element = (id) => document.getElementById(id);
 
-// ----- Whose packets they were, where a file names flows: each period's record has the bytes of each flow behind its own fields.
+// ----- Flows, if a file names them: after its own fields, each period's record has the bytes of each flow.
 const FLOWS = DATA.flows ?? [];
 const flowField = (at) => `bytes of flow ${at}`;
 FLOWS.forEach((_, at) => DATA.fields.push(flowField(at)));
 DATA.periods.forEach((row, at) => FLOWS.length > 0 && row.push(...DATA.flow_bytes[at]));
 const flowName = (at) => (FLOWS[at][2] === "others" ? "all others" : DATA.flow_names[at] || FLOWS[at][2]);
 
-// ----- Numbers: counts and moments may be past what a JavaScript number holds exactly, so they are read as whole numbers where that matters.
+// ----- Numbers. Counts and moments may exceed the integers of a JavaScript number, so they are read as BigInt if the exact value matters.
 const column = new Map(DATA.fields.map((name, at) => [name, at]));
 const has = (name) => column.has(name);
 const whole = (name) => BigInt(DATA.summary[column.get(name)]);
@@ -49,14 +49,14 @@ function duration(ns) {
     return `${+(ns / length).toPrecision(6)} ${name}`;
 }
 
-// Returns the time of day at a moment, in ns since 1970, if the history has a record of it.
+// Returns the wall-clock time at a moment, in ns since 1970, if the history has a `clock` record.
 function unix(exact) {
     if (DATA.clock.length !== 2) return null;
     const time = BigInt(DATA.clock[1]) + exact - BigInt(DATA.clock[0]);
     return time < 0n ? 0n : time;
 }
 
-// Returns a time of day as YYYY-MM-DDTHH:MM:SS.mmmZ.
+// Returns a wall-clock time as YYYY-MM-DDTHH:MM:SS.mmmZ.
 const iso = (time) => new Date(Number(time / 1000000n)).toISOString();
 
 function wall(exact) {
@@ -73,7 +73,7 @@ function add(to, name, text, attributes = {}) {
     return made;
 }
 
-// Puts texts into an element; one in a list stands out, as does one in `code`.
+// Writes texts to an element. A text in a list is bold; one in `code` is code.
 function say(where, ...parts) {
     where.replaceChildren();
     for (const part of parts) {
@@ -86,20 +86,20 @@ function say(where, ...parts) {
 const within = (from, to) => `--from ${from}ns --to ${to}ns `;
 const asked = (DATA.from && `--from ${DATA.from} `) + (DATA.to && `--to ${DATA.to} `);
 
-// ----- What decided an arrival: field, class, what is said of it
+// ----- Causes of verdicts: field, class, words
 const CAUSES = [
-    ["burst_allowed", "burst-allowed", "let in: the burst allowance was above 0"],
-    ["low_delay", "low-delay", "let in: the old delay was below half the target, and the probability below 20 %"],
-    ["short_queue", "short-queue", "let in: at most two mean packets waited"],
-    ["no_probability", "no-probability", "let in: the probability was 0"],
-    ["inactive", "inactive", "let in: the controller was turned off"],
-    ["little_accumulated", "little", "let in: the accumulated probability was below 0.85"],
-    ["word_not_below", "not-below", "let in: the random word was not below the probability"],
+    ["burst_allowed", "burst-allowed", "queued: the burst allowance was above 0"],
+    ["low_delay", "low-delay", "queued: the old delay was below half the target, and the probability below 20 %"],
+    ["short_queue", "short-queue", "queued: at most two mean packets were in the queue"],
+    ["no_probability", "no-probability", "queued: the probability was 0"],
+    ["inactive", "inactive", "queued: the controller was inactive"],
+    ["little_accumulated", "little", "queued: the accumulated probability was below 0.85"],
+    ["word_not_below", "not-below", "queued: the random word was not below the probability"],
     ["picked_by_word", "mark", "marked: the random word was below the probability"],
     ["picked_by_sum", "mark-sum", "marked: the accumulated probability was at least 8.5"],
-    ["picked_by_word_not_capable", "capable", "dropped early by the random word: its endpoints do not understand a mark"],
+    ["picked_by_word_not_capable", "capable", "dropped early by the random word: the packet was not ECN-capable"],
     ["picked_by_word_not_below", "below", "dropped early by the random word: the probability was not below mark_ecnth"],
-    ["picked_by_sum_not_capable", "capable-sum", "dropped early by the accumulated probability: its endpoints do not understand a mark"],
+    ["picked_by_sum_not_capable", "capable-sum", "dropped early by the accumulated probability: the packet was not ECN-capable"],
     ["picked_by_sum_not_below", "below-sum", "dropped early by the accumulated probability, which was not below mark_ecnth"],
     ["no_room_in_bytes", "bytes", "dropped: no room in bytes"],
     ["no_room_in_packets", "packets", "dropped: no room in packets"],
@@ -124,7 +124,7 @@ function card(title, field, big, rows) {
     }
 }
 
-// Whether the delay and the waits were above the target for very different times, as `pie explain --summary` says it in words.
+// Returns true if delay and waits were above the target for very different times, as `pie explain --summary` reports in words.
 function disagree() {
     if (!has("time_waited_above_target")) return false;
     const [delay, waits] = [whole("time_above_target"), whole("time_waited_above_target")];
@@ -163,7 +163,7 @@ function headline() {
         ["last", ms(total("last_delay")), "last_delay"],
         ["target", ms(has("last_target") ? total("last_target") : DATA.target), "target"],
         more("time_above_target", "time above it", shareOfTime),
-        disagree() && ["not what packets waited", "", "disagree"],
+        disagree() && ["differs from the waits", "", "disagree"],
     ]);
     card("Greatest drop probability", "greatest_probability", probability(total("greatest_probability")), [
         ["last", probability(total("last_probability")), "last_probability"],
@@ -184,20 +184,20 @@ function heading() {
     const events = grouped(whole("events"));
     const last = whole("last_moment");
     const span = `${momentMillis(FIRST)} ms${wall(FIRST)} to ${momentMillis(last)} ms${wall(last)}`;
-    say(element("span"), `${events} events in ${duration(LENGTH)}, from ${span}. `, asked && `Asked for: ${asked}`);
+    say(element("span"), `${events} events in ${duration(LENGTH)}, from ${span}. `, asked && `Options: ${asked}`);
     if (DATA.status !== 0) {
         const what = DATA.status === 2 ? "An event of this history is not what the rules give: " : "This history has a fault: ";
-        say(element("fault"), [what], DATA.told, `. What follows is of the ${events} events before it.`);
+        say(element("fault"), [what], DATA.told, `. The page shows the ${events} events before it.`);
         element("fault").hidden = false;
     }
-    const point = `A point of the charts is ${duration(PERIOD)}. `;
-    const rest = "Shares of arrivals and rates are of columns of several points; the line above the charts says of how long a time.";
+    const point = `A point of the charts covers ${duration(PERIOD)}. `;
+    const rest = "Shares of arrivals and rates cover columns of several points; the line above the charts states the length of a column.";
     element("foot").textContent = point + rest;
 }
 
 function causes() {
     const where = element("causes");
-    add(where, "h2", "What decided the arrivals");
+    add(where, "h2", "Causes of verdicts");
     const list = add(where, "table");
     const head = add(list, "tr");
     for (const title of ["cause", "arrivals", "share", "what it means"]) add(head, "th", title);
@@ -221,7 +221,7 @@ function flows() {
     const all = (name) => FLOWS.reduce((sum, flow) => sum + of(flow, name), 0);
     const where = element("flows");
     where.hidden = false;
-    add(where, "h2", "Whose packets they were");
+    add(where, "h2", "Flows");
     const list = add(where, "table");
     const head = add(list, "tr");
     for (const title of ["flow", "arrivals", "of all bytes", "of the queue", "marked", "dropped", "mean wait"]) add(head, "th", title);
@@ -237,7 +237,7 @@ function flows() {
         for (const count of [of(flow, "mark"), dropped]) add(row, "td", grouped(count));
         add(row, "td", `${millis(of(flow, "mean_wait"))} ms`);
     });
-    add(where, "p", "Of all bytes that arrived; and of the queue: bytes times the time that they waited.", { class: "quiet" });
+    add(where, "p", "The shares are those of all arrived bytes, and of the queue: bytes times their wait.", { class: "quiet" });
 }
 
 // ----- The points over time: a record of each period that has events, which begins `at` ns after the first moment
@@ -251,7 +251,7 @@ let view = [...WHOLE];
 let reading = null; // the time of the reading line
 let chosen = null; // the packet whose words are shown
 
-// The value of a field in a period in which it says something, for charts of lines.
+// Returns the value of a field in a period, or null if the period has no event that sets it, for charts of lines.
 const when = (counts, field, scale) => (row) => (of(row, counts) > 0 ? of(row, field) / scale : null);
 const always = (field, scale) => (row) => of(row, field) / scale;
 const TARGET = has("last_target") ? always("last_target", 1e6) : () => DATA.target / 1e6;
@@ -260,7 +260,7 @@ const CHARTS = [
     {
         title: "Queueing delay and waits, ms", height: 210, least: 1, lines: [
             { name: "queueing delay at updates", color: "delay", value: when("updates", "greatest_delay", 1e6) },
-            { name: "mean wait of packets that left", color: "wait", value: when("left", "mean_wait", 1e6) },
+            { name: "mean wait of departed packets", color: "wait", value: when("left", "mean_wait", 1e6) },
             { name: "greatest wait", color: "longest", value: when("left", "greatest_wait", 1e6) },
             has("last_burst_allowance") && { name: "burst allowance", color: "burst", value: always("last_burst_allowance", 1e6), steps: true },
             { name: "target", color: "target", value: TARGET, steps: true, dashed: true },
@@ -280,7 +280,7 @@ const CHARTS = [
         ],
     },
     { title: "Lost and marked packets", height: 150, bars: FATES.map(([field, color, name]) => ({ name, color, field })) },
-    { title: "What decided the arrivals, per cent of them", height: 190, shares: SHARES },
+    { title: "Causes of verdicts, per cent of the arrivals", height: 190, shares: SHARES },
 ];
 const PIXELS = 6; // a column's width
 const MARGIN = { left: 52, right: 10, top: 8, bottom: 20 };
@@ -294,13 +294,13 @@ function draw(to, name, attributes, text) {
     return made;
 }
 
-// The least of 1, 2, 2.5 and 5 times a power of ten that is at least this.
+// Returns the least number of the form 1, 2, 2.5 or 5 times a power of ten that is at least this.
 function step(least) {
     const power = 10 ** Math.floor(Math.log10(least));
     return [1, 2, 2.5, 5, 10].map((times) => times * power).find((it) => it >= least * (1 - 1e-9));
 }
 
-// Each chart knows its lists of what is drawn, its element, and its size.
+// Each chart has its lists of points, its element and its size.
 for (const chart of CHARTS) {
     chart.kind = ["lines", "rates", "bars", "shares"].find((kind) => chart[kind]);
     chart.series = chart[chart.kind].filter((it) => it && (chart.kind !== "shares" || total(it.field) > 0));
@@ -308,7 +308,7 @@ for (const chart of CHARTS) {
     add(where, "h2", chart.title);
     const legend = add(where, "span", undefined, { class: "legend" });
     for (const it of chart.series) {
-        const button = add(legend, "button", undefined, { "aria-pressed": "true", title: "Show it or not" });
+        const button = add(legend, "button", undefined, { "aria-pressed": "true", title: "Show or hide" });
         add(button, "span", undefined, { class: `swatch c-${it.color}${it.dashed ? " dashed" : ""}` });
         button.append(it.name);
         button.addEventListener("click", () => {
@@ -325,14 +325,14 @@ const across = (time) => MARGIN.left + ((time - view[0]) / (view[1] - view[0])) 
 const timeAt = (x) => view[0] + ((x - MARGIN.left) / (width - MARGIN.left - MARGIN.right)) * (view[1] - view[0]);
 const round = (x) => Math.round(x * 10) / 10;
 
-// The periods in view, and one on each side.
+// Returns the periods in view, and one on each side.
 function inView() {
     const from = ROWS.findLastIndex((it) => it.at + PERIOD <= view[0]);
     const to = ROWS.findIndex((it) => it.at > view[1]);
     return ROWS.slice(Math.max(from, 0), to < 0 ? ROWS.length : to + 1);
 }
 
-// Periods in view put together, so that a column is some pixels wide: [{from, to, rows}]
+// Joins periods in view, so that a column is some pixels wide: [{from, to, rows}]
 function columns(pixels) {
     const many = Math.max(1, Math.ceil(pixels / (across(PERIOD) - across(0))));
     const made = new Map();
@@ -345,7 +345,7 @@ function columns(pixels) {
 }
 const sum = (held, field) => held.rows.reduce((all, row) => all + of(row, field), 0);
 
-// The grid and its numbers, each a multiple of `least` or a part of it where that is 0; answers where a value stands.
+// Draws the grid and its numbers, multiples of `least` or a fraction of it. Returns the function from a value to its height.
 function axes(chart, greatest, least) {
     const { svg, height } = chart;
     const bottom = height - MARGIN.bottom;
@@ -360,14 +360,14 @@ function axes(chart, greatest, least) {
     return up;
 }
 
-// Draws a place along the bottom, and its text.
+// Draws a mark at the bottom, and its text.
 function timeMark(svg, bottom, time, text) {
     const x = across(time);
     draw(svg, "line", { class: "grid", x1: x, x2: x, y1: MARGIN.top, y2: bottom });
     if (x < width - 45 - 3 * text.length) draw(svg, "text", { class: "time", x, y: bottom + 14, "text-anchor": "middle" }, text);
 }
 
-// The times along the bottom: of day, if the history tells them; else moments, or, if these are long, what has passed since the first.
+// Draws the times at the bottom: wall-clock times if the history has them; otherwise moments, or if these are long, times since the first.
 function timeAxis(svg, bottom) {
     const least = (view[1] - view[0]) / Math.max(3, width / 130);
     const unit = unix(FIRST) === null ? momentAxis(svg, bottom, least) : dayAxis(svg, bottom, least);
@@ -385,10 +385,10 @@ function momentAxis(svg, bottom, least) {
     return name;
 }
 
-// Lengths between two times of day from a second to a day, in seconds.
+// Distances of wall-clock marks, from a second to a day, in seconds.
 const SECONDS = [1, 2, 5, 10, 15, 30, 60, 120, 300, 600, 900, 1800, 3600, 7200, 10800, 21600, 43200, 86400];
 
-// Returns the length between two times of day, in whole ns: at least this one, and so that the times are round.
+// Returns a distance of wall-clock marks in ns: at least this one, and such that the times are round.
 function between(least) {
     if (least <= 5e8) return Math.max(1, Math.round(step(least)));
     const day = SECONDS.at(-1);
@@ -406,7 +406,7 @@ function dayAxis(svg, bottom, least) {
     return "UTC";
 }
 
-// A time of day with as many digits as the length between two of them needs.
+// Returns a wall-clock time with the digits that the distance of two marks needs.
 function dayText(time, each) {
     const [day, hours] = iso(time).replace("Z", "").split("T");
     if (each >= 86400e9) return day;
@@ -424,7 +424,7 @@ function drawLines(chart) {
     for (const it of [...shown].reverse()) {
         const list = points(it, ROWS);
         if (list.length === 0) continue;
-        // What lies outside the view is cut off where it is shown, so that a line goes on to its edges.
+        // The browser clips the parts outside the view, so a line reaches its edges.
         let path = "";
         for (const [time, value] of list) {
             const [x, y] = [round(across(time)), round(up(value))];
@@ -456,7 +456,7 @@ function drawRates(chart, held) {
     }
 }
 
-// Columns of one over the other: numbers of packets, or shares of all arrivals of the column.
+// Draws stacked columns: numbers of packets, or shares of all arrivals of the column.
 function drawStacks(chart, held, shares) {
     const shown = chart.series.filter((it) => !it.hidden);
     const height = (one) => shown.reduce((all, it) => all + sum(one, it.field), 0);
@@ -477,7 +477,7 @@ function drawStacks(chart, held, shares) {
     shown.forEach((it, at) => paths[at] && draw(chart.inside, "path", { class: `area c-${it.color}`, d: paths[at] }));
 }
 
-// A small line for each listed packet, above the columns of lost and marked packets.
+// Draws a small line for each listed packet, above the columns of lost and marked packets.
 function drawPackets(chart) {
     for (const [is, color, y] of [[false, "early", 2], [true, "mark", 10]]) {
         const at = PACKETS.filter((it) => it.marked === is && it.time >= view[0] && it.time <= view[1]).map((it) => round(across(it.time)));
@@ -508,11 +508,11 @@ function redraw() {
     const [from, to] = [moment(Math.max(0, view[0])), moment(view[1])];
     const finer = view[0] > WHOLE[0] || view[1] < WHOLE[1];
     const command = { code: `pie-report ${within(from, to)}${DATA.word} -o part.html` };
-    say(element("command"), ...(finer ? ["This time alone, in finer points: ", command] : []));
+    say(element("command"), ...(finer ? ["To see this time in finer points: ", command] : []));
     overlay();
 }
 
-// What lies over the charts: the reading line, the chosen packet, and the time that is dragged over.
+// Draws the marks over the charts: the reading line, the chosen packet, and the selected time.
 function overlay(drag) {
     for (const { over, height } of CHARTS) {
         over.replaceChildren();
@@ -529,7 +529,7 @@ function overlay(drag) {
     }
 }
 
-// ----- Reading a moment: the last numbers at or before it, and the sums of its column
+// ----- Values at a moment: the last numbers at or before it, and the sums of its column
 function read(time) {
     reading = Math.min(Math.max(time, WHOLE[0]), WHOLE[1]);
     const before = ROWS.filter((it) => it.at <= reading);
@@ -549,7 +549,7 @@ function read(time) {
         for (const [count, name] of counts) parts.push(", ", [`${count} ${name}`]);
         const decided = CAUSES.map(([field]) => [sum(one, field), field]).filter(([count]) => count > 0).sort((a, b) => b[0] - a[0]);
         const most = decided.slice(0, 3).map(([count, field]) => `${words(field)} ${percent(count, arrivals)}`);
-        if (arrivals > 0) parts.push("; decided by ", most.join(", "));
+        if (arrivals > 0) parts.push("; causes: ", most.join(", "));
     }
     say(element("read"), ...parts, ".");
     overlay();
@@ -583,14 +583,14 @@ function choose(packet) {
     chosen = packet;
     say(element("packet").querySelector("h2"), `${packet.marked ? "Why was it marked" : "Why was it lost"}? Packet ${packet.tag}`);
     element("words").textContent = packet.said;
-    say(element("explain"), "As said by ", { code: `pie explain --event ${packet.number} ${DATA.word}` });
+    say(element("explain"), "From ", { code: `pie explain --event ${packet.number} ${DATA.word}` });
     for (const row of element("list").tBodies[0].rows) row.classList.toggle("chosen", row.dataset.number === String(packet.number));
     if (packet.time < view[0] || packet.time > view[1]) show(packet.time - (view[1] - view[0]) / 2, packet.time + (view[1] - view[0]) / 2);
     read(packet.time);
     element("packet").scrollIntoView({ block: "nearest" });
 }
 
-// The listed packet nearest to a time, where it is less than some pixels away.
+// Returns the listed packet nearest to a time, if it is less than some pixels away.
 function chooseNear(time) {
     const far = timeAt(across(0) + 12) - timeAt(across(0));
     const near = PACKETS.reduce((best, it) => (!best || Math.abs(it.time - time) < Math.abs(best.time - time) ? it : best), null);
@@ -601,7 +601,7 @@ function chooseNear(time) {
     const which = lost.every(([field]) => field === "mark") ? "--marked" : "--lost";
     const from = moment(Math.max(0, one.from));
     chosen = null;
-    element("words").textContent = "Those of this time are not in the list, which was cut.";
+    element("words").textContent = "The list contains only the first packets, and none of this time.";
     say(element("explain"), "They are shown by ", { code: `pie explain ${which} ${within(from, moment(one.to))}${DATA.word}` });
 }
 
@@ -632,7 +632,7 @@ function fillRows() {
     element("list").hidden = matching.length === 0;
 }
 
-// What the list leaves out, with the commands that show it.
+// Describes the packets that the list omits, with the commands that show them.
 function cut() {
     const parts = [];
     for (const [name, [listed, there]] of [["lost", DATA.lost], ["marked", DATA.marked]]) {
@@ -709,7 +709,7 @@ function listen() {
     new ResizeObserver(() => Math.round(charts.clientWidth) !== width && redraw()).observe(charts);
 }
 
-// The next of the packets that the list shows, or the one before.
+// Selects the next or the previous packet of the list.
 function next(by) {
     if (matching.length === 0) return;
     const at = matching.indexOf(chosen);

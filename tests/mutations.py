@@ -1,16 +1,19 @@
 #!/usr/bin/env python3
-"""Tries mutations: the wrong bodies of crates/NAME/mutations/, each of which the prover has to refuse. Those of a crate that change other functions
-are made in one copy of it, where one check judges each function by itself: so a mutation costs some seconds, and not a crate's loading. What can't be
-judged so is tried alone: where an edit is outside functions, or its functions are still proved and a caller may refuse it, the whole crate is
-checked, or the functions that a line `check: NAME` of the edit has. A crate's checks go one after another, and take from those before what they
-proved of functions that no edit changes. The last line says how many were refused, in how long. Exit status 1 where one was not.
+"""Tries the mutations of crates/NAME/mutations.txt: wrong code that the prover must reject. The file has a block for each mutation, with a blank
+line between blocks: `name: NAME`, then `file: PATH` of the crate, and pairs of lines `old: TEXT` and `new: TEXT`, one replacement each. The line
+`check: FUNCTION` names a function to check in place of the changed one, if only a caller rejects the mutation.
 
-With --share it is part of the gate, after `rt ci`, whose libraries it takes: a fortieth of all, by the day of the commit, in shares that cost about
-the same. So 40 days try all, and the same commit tries the same. One that wants a whole crate that is not small is told there as
-NOT RUN.
+Mutations of a crate that change different functions are made in one copy of the crate, and one check judges each function: some seconds each, without
+the time to load a crate. The others are tried alone: a mutation outside functions, or one whose functions are still proved; then the whole crate is
+checked, or the functions of its `check:` lines. The checks of a crate run one after another and reuse proofs of unchanged functions. The last line
+gives the number of rejected mutations and the time. The exit status is 1 if a mutation was not rejected.
 
-usage: tests/mutations.py [--jobs N] [NAME | NAME/EDIT ..]      as pie_book, or pie_book/departs_half; all, where none is named
-       tests/mutations.py [--jobs N] --share [DAY]              DAY: in place of the commit's, as a number of days"""
+With --share, a part of the gate after `rt ci` whose libraries it uses, it tries one fortieth, chosen by the day of the commit; the shares cost about
+the same. So 40 days try all, and the same commit tries the same mutations. A mutation that needs a check of a whole crate that is not small is
+reported as NOT RUN.
+
+usage: tests/mutations.py [--jobs N] [CRATE | CRATE/NAME ..]    such as pie_book, or pie_book/departs_half; all by default
+       tests/mutations.py [--jobs N] --share [DAY]              DAY: a number of days, in place of the commit's day"""
 import argparse
 import functools
 import os
@@ -28,21 +31,22 @@ from pathlib import Path
 ROOT = Path(__file__).resolve().parent.parent
 ME = "tests/mutations.py"
 SHARES, DAY = 40, 24 * 60 * 60
-# What a check costs, in seconds of a processor: to load what the crate stands on, to prove a line of the functions that it reaches, to judge an
-# edit: where most searches go on long before they end in nothing, more.
+# The cost of a check in seconds of a processor: to load the crate's dependencies, to prove a line of the functions
+# that it reaches, and to judge a mutation; more in crates in which most searches run long before they fail.
 LOADING, LINE_PROVED, EDIT, DEAR = 13, 0.08, 2.5, {"pie_link": 6, "pie_book": 4}
-# A crate with at most so many lines of functions is small: in a share it is checked whole where an edit wants that.
+# A crate with at most this many lines of functions is small: in a share it is checked whole if a mutation needs
+# that.
 SMALL = 400
 # About as many a crate's checks take, one after another, that lie in one share.
 TOGETHER = 170
 # As many mutations are made in one copy at most, and of dear ones half as many: a check keeps all that it finds in memory.
 MOST = 16
 PARTS = ("src", "specs", "proofs")
-# A line of crates.txt: a crate, whether it is a static library, and what it stands on.
+# A line of crates.txt: a crate, its kind, and its dependencies.
 LINE = re.compile(r"(\w+)([\w= +]*):([^#]*)")
 FUNCTION = re.compile(r"( *)(?:pub(?:\(\w+\))? )?(?:unsafe )?(?:extern \"C\" )?fn (\w+)")
 CALLED = re.compile(r"\b(\w+)(?:::<[^()]*>)?\(")
-# What the prover says where it met a limit of its own, and where it could not read a text.
+# The prover's messages at a limit of its own, and for a text that it cannot read.
 LIMIT = re.compile(r"antt ran out of|outgrew the memory limit|stopped at the step limit")
 UNREAD = re.compile(r"error\[[\w-]+\]|src/\S+: error: (?!`)|(is not in scope|is no name|operand is missing|expected the end|cannot continue)")
 # A refusal that shows little: a proof file names what the edit took away.
@@ -50,7 +54,7 @@ NAMES = re.compile(r"(note: )?(\./)?proofs/.*(has no field|is not in scope|has n
 
 
 def crates():
-    """What each crate of the repository stands on, by its name, and whether it is a static library."""
+    """Returns the dependencies of each crate of the repository by its name, and whether it is a static library."""
     lines = (LINE.match(line) for line in (ROOT / "crates.txt").read_text().splitlines())
     return {line[1]: (line[3].split(), "staticlib" in line[2]) for line in lines if line}
 
@@ -59,7 +63,7 @@ CRATES = crates()
 
 
 def below(name):
-    """The repository's crates that this one reaches, each after those that it stands on."""
+    """Returns the repository's crates on which this one depends, each after its own dependencies."""
     found = []
     for it in CRATES[name][0]:
         if it in CRATES:
@@ -73,15 +77,16 @@ def library(name):
 
 @functools.cache
 def is_built(name):
-    """Whether a crate's library is there, and has been since its files were changed last: `rt ci` puts back what stood in out/ before it."""
+    """Returns true if a crate's library exists and is newer than its files: `rt ci` restores the earlier content of
+    out/."""
     files = (path for part in PARTS for path in (ROOT / "crates" / name / part).rglob("*") if path.is_file())
     return library(name).is_dir() and all(path.stat().st_mtime <= library(name).stat().st_mtime for path in files)
 
 
 class Mutation:
-    def __init__(self, path):
-        self.path, self.crate, self.folder = path, path.parent.parent.name, path.parent.parent
-        self.name = f"{self.crate}/{path.stem}"
+    def __init__(self, crate, name, lines):
+        self.lines, self.crate, self.folder = lines, crate, ROOT / "crates" / crate
+        self.name = f"{crate}/{name}"
         self.functions, self.checked, texts = [], [], {}
         for file, old, new in self.steps():
             text = texts.get(file) or (self.folder / file).read_text()
@@ -92,7 +97,7 @@ class Mutation:
 
     def steps(self):
         file = old = None
-        for line in self.path.read_text().splitlines():
+        for line in self.lines:
             word, _, text = line.partition(": ")
             if word == "file":
                 file = text.strip()
@@ -113,12 +118,12 @@ class Mutation:
 
 
 def type_of(text):
-    """The name of a type or a trait, without its path and what it takes."""
+    """Returns the name of a type or a trait, without its path and parameters."""
     return re.match(r"[&\s]*((?:\w+::)*)(\w+)", text)[2]
 
 
 def implemented(header):
-    """What the check calls a block of methods: its type, with the trait's name behind it where it has one."""
+    """Returns the prover's name of a block of methods: its type, followed by the trait's name if it has one."""
     text, depth = header.removeprefix("impl").strip(), 0
     for at, letter in enumerate(text) if text.startswith("<") else ():
         depth += (letter == "<") - (letter == ">" and text[at - 1] != "-")
@@ -130,7 +135,7 @@ def implemented(header):
 
 
 def function_at(file, text, at):
-    """The function that this place of a file is in, as the check calls it; none outside functions, and in what is no source."""
+    """Returns the function at this place of a file by the prover's name; None outside functions and outside src/."""
     lines = text[:at].split("\n")
     lines[-1] = text[text.rfind("\n", 0, at) + 1 :].partition("\n")[0]
     inside = None
@@ -149,13 +154,13 @@ def function_at(file, text, at):
     if not inside or not file.startswith("src/"):
         return None
     module = file.removeprefix("src/").removesuffix(".rt").replace("/", "::")
-    # (a method goes by its type, which may stand in another module)
+    # (a method is named by its type, which may be in another module)
     return inside if "::" in inside or module in ("lib", "main") else f"{module}::{inside}"
 
 
 @functools.cache
 def functions_of(crate):
-    """How many lines each function of a crate has, by its last name, and what is called in it."""
+    """Returns the number of lines of each function of a crate by its last name, and the names that it calls."""
     found = {}
     for path in (ROOT / "crates" / crate / "src").rglob("*.rt"):
         lines = path.read_text().splitlines()
@@ -197,7 +202,8 @@ def words(kit, crate, functions):
 
 
 def put(mutation, texts):
-    """These texts of the crate's files with a mutation made in them; none where it no longer stands in one of them once."""
+    """Returns these texts of the crate's files with a mutation applied; None if one of its texts does not occur
+    exactly once."""
     texts = dict(texts)
     for file, old, new in mutation.steps():
         text = texts.get(file) or (mutation.folder / file).read_text()
@@ -208,7 +214,8 @@ def put(mutation, texts):
 
 
 def checked(kit, kept, mutations, functions):
-    """What the prover answers where these mutations stand in a copy of their crate. kept: a folder for what it proves, or nothing."""
+    """Returns the prover's answer for a copy of the crate with these mutations. kept: a folder for its proofs, or
+    None."""
     texts = {}
     for it in mutations:
         texts = put(it, texts)
@@ -227,7 +234,7 @@ def checked(kit, kept, mutations, functions):
 
 
 def judged(done):
-    """Whether the prover refused what it checked, and what to say of it; none where it is still proved."""
+    """Returns whether the prover rejected the copy, and a message; None if the copy is still proved."""
     lines = done.stdout.rstrip("\n").split("\n")
     # (its name is no function's, or that of several)
     if done.returncode == 0 or done.returncode == 2 and "has no function" in done.stdout or "fits several" in done.stdout:
@@ -246,7 +253,7 @@ def judged(done):
 
 
 def tried_alone(kit, kept, mutation, is_share):
-    """Whether the prover refuses a mutation, and what to say of it."""
+    """Returns whether the prover rejects a mutation, and a message."""
     found = judged(checked(kit, kept, [mutation], mutation.goals())) if mutation.goals() else None
     if found is None and is_share and lines_reached(mutation.crate) > SMALL:
         return None, "NOT RUN: it wants its whole crate checked"
@@ -255,7 +262,8 @@ def tried_alone(kit, kept, mutation, is_share):
 
 
 def verdicts(done):
-    """What one check says of each function, by its whole name; nothing where it ended in no verdict."""
+    """Returns the verdict of one check for each function, by its whole name; empty if the check ended without a
+    verdict."""
     if done.returncode != 1 or not re.match(r"only=\d+ proved=", done.stdout.rstrip("\n").rpartition("\n")[2]):
         return {}
     return dict(re.findall(r"^fn (\S+): (proved|not proved|no proof)", done.stdout, re.MULTILINE))
@@ -278,7 +286,7 @@ def tried(kit, kept, batch, is_share):
 
 
 def tried_in_turn(kit, groups, is_share):
-    """What is said of each mutation of these batches of one crate."""
+    """Returns the results of each mutation of these batches of one crate."""
     with tempfile.TemporaryDirectory(prefix="pie-mutation-kept-") as kept:
         return [said for batch in groups for said in tried(kit, kept if len(groups) > 1 else None, batch, is_share)]
 
@@ -308,14 +316,26 @@ def batches(mutations):
     return [group["all"] for group in found]
 
 
+def blocks(text):
+    """Returns the blocks of a file of mutations: the name of each, and its other lines."""
+    for block in text.split("\n\n"):
+        first, *rest = [line for line in block.strip("\n").split("\n") if not line.startswith("#")] or [""]
+        if first:
+            yield first.removeprefix("name: "), rest
+
+
 def named(wanted):
-    """The mutations of these names, or with none all, in the order of their names."""
-    every = sorted(ROOT.glob("crates/*/mutations/*.edit"), key=lambda path: (path.parent.parent.name, path.name))
-    is_in = lambda path, word: word in (path.parent.parent.name, f"{path.parent.parent.name}/{path.stem}")
-    missing = [word for word in wanted if not any(is_in(path, word) for path in every)]
+    """Returns the mutations of these names, or all if no name is given, in the order of their names."""
+    every = {
+        f"{path.parent.name}/{name}": (path.parent.name, name, lines)
+        for path in ROOT.glob("crates/*/mutations.txt")
+        for name, lines in blocks(path.read_text())
+    }
+    is_in = lambda place, word: word in (place, place.partition("/")[0])
+    missing = [word for word in wanted if not any(is_in(place, word) for place in every)]
     if missing:
         sys.exit(f"{ME}: there is no mutation {', '.join(missing)}")
-    return [path for path in every if not wanted or any(is_in(path, word) for word in wanted)]
+    return [Mutation(*every[place]) for place in sorted(every) if not wanted or any(is_in(place, word) for word in wanted)]
 
 
 def cost(groups):
@@ -337,7 +357,7 @@ def by_crate(groups, limit=None):
 
 
 def shared(groups):
-    """The batches in as many shares as there are days, each of which costs about the same; those of one crate lie together."""
+    """Returns the batches in one share for each day, all of about the same cost; those of one crate stay together."""
     shares = [[] for _ in range(SHARES)]
     for part in by_crate(groups, TOGETHER):
         min(shares, key=lambda it: sum(map(cost, it))).append(part)
@@ -350,7 +370,7 @@ def commit_day():
 
 
 def build_below(mutations):
-    """Builds the libraries that these stand on, where they have changed."""
+    """Builds the libraries on which these depend, if they have changed."""
     for crate in sorted({it.crate for it in mutations}):
         if subprocess.run(["rt", "check", "--only", ""], cwd=ROOT / "crates" / crate, stdout=subprocess.DEVNULL, check=False).returncode:
             sys.exit(f"{ME}: rt check --only '' fails in crates/{crate}")
@@ -368,7 +388,7 @@ def main():
     parser.add_argument("names", nargs="*")
     given = parser.parse_args()
     rt = shutil.which("rt")
-    mutations = [Mutation(path) for path in named(given.names)]
+    mutations = named(given.names)
     if given.share is not None:
         day = commit_day() if given.share < 0 else given.share
         share = shared(batches(mutations))[day % SHARES] if day is not None else []

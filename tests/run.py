@@ -1,16 +1,16 @@
 #!/usr/bin/env python3
-"""Runs the scripts of tests/ and bindings/, side by side, and tells of each what it printed and how long it took. The last line says how many
-passed and failed; exit status 1 where one failed.
+"""Runs the scripts of tests/ and bindings/ concurrently, and prints the output and the time of each. The last line
+has the numbers of passed and failed scripts. The exit status is 1 if one failed.
 
-Each script says in its head what it needs, on a line `needs: WORD, WORD..`, and nothing else lists them:
-  nothing          nothing that is built: it runs before the proofs
+Each script lists its needs in its head, on a line `needs: WORD, WORD..`:
+  nothing          nothing built: it runs before the proofs
   program          crates/pie/out/pie, which `rt run` in crates/pie builds and the gate leaves there
   CRATE            the program of that crate
   library          the static libraries of pie_c and pie_link_c, which are built first
-  root             leave to make network namespaces; without it the script itself says what was NOT RUN
-  quiet            the machine to itself: it runs after the others, alone
+  root             permission to make network namespaces; without it the script itself prints NOT RUN
+  quiet            no other script at the same time: it runs last
   an early start   it takes longest
-  a request        it runs only where it is named
+  a request        it runs only if it is named
 
 usage: tests/run.py [--jobs N] [--unbuilt | --built | NAME..]
        NAME: a script by its path or its name, with or without its ending, or all of a folder: program, libraries, documents, bindings
@@ -79,7 +79,7 @@ def chosen(words):
 
 
 def run(name, words):
-    """Runs it, tells what it printed and how long it took, and says whether it passed."""
+    """Runs the script, prints its output and its time. Returns true if it passed."""
     begun = time.monotonic()
     done = subprocess.run(words, stdin=subprocess.DEVNULL, stdout=subprocess.PIPE, stderr=subprocess.STDOUT, check=False)
     passed = done.returncode == 0

@@ -1,12 +1,14 @@
 #!/usr/bin/env python3
-"""Shows that the laws of pie_guarantees are not the rules again. Each wrong rule of crates/pie_guarantees/wrong_rules/ replaces the right definition,
-and then a lemma on which the law rests has to be rejected, which is accepted with the right definition in the same place. Lines of such a file: `law:`
-a function, once or more often, `file:`, `old:` and `new:`, texts of one line, and `spec:` files of definitions that are copied beside these and the
-steps of a command.
+"""Shows that the laws of pie_guarantees are not a copy of the rules. Each wrong rule of
+crates/pie_guarantees/wrong_rules.txt replaces the right definition; then a lemma on which the law depends must be
+rejected, which is accepted with the right definition in the same place. The file has a block for each rule, with a
+blank line between blocks: `name:`, then `law:`, a function, once or more often, `file:`, `old:` and `new:`, texts
+of one line, and `spec:`, files of definitions that are copied beside these and the steps of a command.
 
-One check tries all rules, of a crate that contains for each rule, and for each right one, a copy of these definitions, of the lemmas on which the law
-rests, and of what these use of pie_guarantees. So no other crate is checked again, and what all use is loaded once. This is for whoever changes a
-law: forty rules take some four minutes of a processor.
+One check tries all rules, of a crate that contains, for each rule and for each right definition, a copy of these
+definitions, of the lemmas on which the law depends, and of what they use of pie_guarantees. So no other crate is
+checked again, and dependencies are loaded once. Run it after a change to a law: forty rules take about four minutes
+of a processor.
 
 usage: tests/wrong_rules.py [RULE ..]      such as picks_from_a_half_on; all by default
 needs: rt, and what `rt check` kept of the crates below pie_guarantees
@@ -20,7 +22,7 @@ from pathlib import Path
 
 ROOT = Path(__file__).resolve().parent.parent
 LAWS = ROOT / "crates/pie_guarantees"
-RULES = LAWS / "wrong_rules"
+RULES = LAWS / "wrong_rules.txt"
 # the definitions that say what a command does, which are copied for each rule
 STEPS = [ROOT / "crates" / path for path in ("pie_aqm/specs/Steps.antt", "pie_aqm/specs/Calls.antt", "pie_book/specs/Decision.antt", "pie_book/specs/Core.antt")]
 OWN = re.compile(r"Rattle\.pie_guarantees\.(specs|proofs)\.(\w+)")
@@ -33,13 +35,16 @@ NOT_COPIED = ("pie_audit", "pie_record", "pie_link", "pie_lock", "atomic_table")
 LEMMA = re.compile(r"^ *(?:abbrev )?(?:pub )?([^\s(){}]+) : ", re.M)
 
 
-def read(rule):
-    """Returns the laws, the copied files and the replacements of a rule."""
-    found = {"law": [], "spec": [], "file": [], "old": [], "new": []}
-    for line in rule.read_text().splitlines():
-        word, _, text = line.partition(": ")
-        found[word].append(text)
-    return found
+def read_rules():
+    """Returns each rule by its name: its laws, the copied files and the replacements."""
+    rules = {}
+    for block in RULES.read_text().strip("\n").split("\n\n"):
+        found = {"name": [], "law": [], "spec": [], "file": [], "old": [], "new": []}
+        for line in block.split("\n"):
+            word, _, text = line.partition(": ")
+            found[word].append(text)
+        rules[found["name"][0]] = found
+    return rules
 
 
 def below(lines):
@@ -79,7 +84,7 @@ def answers_of(law):
 
 
 def rests_on(law):
-    """Returns the lemmas on which a law rests, by the words of their proofs: each with its file."""
+    """Returns the lemmas on which a law depends, by the words of their proofs: each with its file."""
     texts = {}
     for path in used(answers_of(law)):
         starts = [*LEMMA.finditer(path.read_text())]
@@ -150,7 +155,7 @@ class Crate:
             text = text.replace("use Rattle.pie_event.specs.Types.", "use Rattle.pie_book.specs.Types.")
             text = re.sub(r"^(use Rattle\.pie_aqm\.specs\.Types\.\{.*), ArrivingPacket\b(.*)$",
                           r"\1\2\nuse Rattle.pie_aqm.specs.declared.verdict.ArrivingPacket.{ArrivingPacket}", text, flags=re.M)
-            # the copies share the types by cases with what is not copied
+            # the copies share the enumerations with the definitions that are not copied
             original = f"Rattle.{path.parts[-3]}.{path.parts[-2]}.{path.stem}"
             text = DATA.sub(lambda found: shared(original, found), text)
             kind, name = places[path]
@@ -158,7 +163,7 @@ class Crate:
             (self.folder / kind / f"{name}.antt").write_text(text)
 
     def refused(self):
-        """What the check refuses of the copies of each mark, and all that it said."""
+        """Returns the lemmas that the check rejects in the copies of each mark, and its whole output."""
         for kind, names in self.modules.items():
             (self.folder / kind / "Lib.antt").write_text("".join(f"pub mod {name}\n" for name in names))
         done = subprocess.run(["rt", "check", "--allow-holes"], cwd=self.folder, capture_output=True, text=True, check=False)
@@ -170,8 +175,9 @@ class Crate:
 
 
 def main():
-    names = sys.argv[1:] or sorted(path.stem for path in RULES.glob("*.rule"))
-    rules = [read(RULES / f"{name}.rule") for name in names]
+    known = read_rules()
+    names = sys.argv[1:] or sorted(known)
+    rules = [known[name] for name in names]
     with tempfile.TemporaryDirectory() as folder:
         crate, right = Crate(Path(folder)), {}
         for number, rule in enumerate(rules):

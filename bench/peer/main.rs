@@ -1,5 +1,5 @@
-//! What a user would write over crate `csv` in place of `pie run`: it reads the same trace of arrivals and departures, keeps
-//! a queue of packets within a byte limit, and writes each record again with an answer.
+//! A program over crate `csv` that a user might write in place of `pie run`: it reads the same trace of arrivals
+//! and departures, keeps a queue of packets within a byte limit, and writes each record again with an answer.
 use std::collections::VecDeque;
 use std::io;
 

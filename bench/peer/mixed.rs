@@ -1,6 +1,7 @@
-//! What a user would write over crates `csv` and `juniperbowls` (bindings/rust) in place of `pie run` for a trace of every kind of
-//! record, of version one and without refused records: it decides by the library for C, keeps the queue and the statistics, and
-//! writes each record again with its answer. It records no events, so nothing can be handed out, replayed or audited.
+//! A program over crates `csv` and `juniperbowls` (bindings/rust) that a user might write in place of `pie run` for
+//! a trace of every kind of record, of version one and without refused records: it decides with the C library,
+//! keeps the queue and the statistics, and writes each record again with its answer. It records no events, so it
+//! has no folds, replays or audits.
 use juniperbowls::{Ecn, Params, State, Verdict};
 use std::collections::VecDeque;
 use std::error::Error;

@@ -1,5 +1,6 @@
-/* Hands each step of histories by the departure rate to DPDK's own code, rte_pie.h of Debian's libdpdk-dev. Before each step DPDK's registers are
- * those of the history, but for the burst allowance, which DPDK keeps by itself. A cycle of its clock is a nanosecond here. */
+/* Passes each step of histories by the departure rate to DPDK's own code, rte_pie.h of Debian's libdpdk-dev. Before
+ * each step DPDK's registers are set to those of the history, except the burst allowance, which DPDK keeps itself.
+ * A cycle of its clock is a nanosecond here. */
 #include "steps.h"
 
 #include <rte_random.h>
@@ -19,7 +20,7 @@ static struct difference differences[] = {
     [UNSIGNED] = {"Delays are unsigned", 0},
     [CYCLES] = {"gains are per cycle of the clock", 0},
     [PACKETS] = {"packets times the time of a byte", 0},
-    [HALF] = {"decays where two delays are below half the target", 0},
+    [HALF] = {"decays if two delays are below half the target", 0},
 };
 
 static struct rte_pie_config config;
@@ -64,7 +65,7 @@ static bool decides_alike(unsigned set_of, const void *of) {
     pie.burst_allowance = set_of >> WRAPS & 1 ? (uint32_t)before->control.burst : it->burst;
     config.tailq_th = (uint16_t)before->most_packets;
     if (set_of >> TENTH & 1 && before->packets < before->most_packets) {
-        /* a queue of so many packets that it is below the tenth where this rule doesn't pick, and above it where it does */
+        /* a queue with a number of packets below the tenth if this rule does not pick, and above it if it does */
         pie.qlen = before->bytes <= 2 * before->params.mean_pkt ? 0 : config.tailq_th - 1;
     }
     bool is_full = set_of >> LIMIT & 1 && before->bytes + it->step->size > before->params.limit_bytes;

@@ -1,9 +1,10 @@
-/* Hands each step of histories by time stamps to Linux's own code: pie_drop_early, pie_qdisc_enqueue, pie_process_dequeue and
- * pie_calculate_probability, which run.sh cuts out of Debian's linux-source-6.1, over stand-ins for what they call of the kernel. Before each step
- * Linux's registers are those of the history, but for the two that Linux keeps otherwise: the delay and the burst allowance. */
+/* Passes each step of histories by time stamps to Linux's own code: pie_drop_early, pie_qdisc_enqueue,
+ * pie_process_dequeue and pie_calculate_probability, which run.sh cuts out of Debian's linux-source-6.1, with
+ * stand-ins for the kernel functions that they call. Before each step Linux's registers are set to those of the
+ * history, except two that Linux computes differently: the delay and the burst allowance. */
 #include "steps.h"
 
-/* What the cut functions call. */
+/* Kernel functions that the cut functions call. */
 typedef uint8_t u8;
 typedef uint32_t u32;
 typedef uint64_t u64;
@@ -64,16 +65,16 @@ enum { BURST, LAST_DELAY, SMALL, AT_TEN, LIMIT, STAYS, ARRIVAL_DIFFERENCES, FAR 
 
 static struct difference differences[] = {
     [BURST] = {"burst allowance falls by the time between two departures", 0},
-    [LAST_DELAY] = {"the one that departed last had waited less than half the target", 0},
+    [LAST_DELAY] = {"the packet that departed last had waited less than half the target", 0},
     [SMALL] = {"Fewer bytes than two MTUs are never picked from", 0},
-    [AT_TEN] = {"It marks at 10 per cent too", 0},
+    [AT_TEN] = {"It marks at exactly 10 per cent too", 0},
     [LIMIT] = {"`limit_bytes` | bytes | none", 0},
-    [STAYS] = {"stays at its upper bound where that packet is marked", 0},
-    [FAR] = {"2 percentage points more where a delay is above 250 ms", 0},
-    [DECAY] = {"decays by a 64th and not by a 50th", 0},
-    [HOLDS] = {"doesn't decay while packets wait", 0},
+    [STAYS] = {"stays at its upper bound if that packet is marked", 0},
+    [FAR] = {"2 percentage points more if a delay is above 250 ms", 0},
+    [DECAY] = {"decays by a 64th, not by a 50th", 0},
+    [HOLDS] = {"does not decay while packets are queued", 0},
     [BOUND] = {"has no upper bound", 0},
-    [ZERO] = {"decays at two delays of 0 alone", 0},
+    [ZERO] = {"decays only at two delays of 0", 0},
     [CALM] = {"accumulated probability is 0 once all is calm", 0},
 };
 

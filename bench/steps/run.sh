@@ -1,9 +1,8 @@
 #!/usr/bin/env bash
-# Decision by decision beside the real code: hands the steps of histories to sch_pie.c of Debian's linux-source-6.1 and to rte_pie.h of its
-# libdpdk-dev, with the same random words (linux.c, dpdk.c). Prints on how many steps each difference told that docs/PARAMETERS.md names. A step that
-# comes out otherwise by none of them, or a difference that isn't named there, is status 1. Neither code is kept in this repository: what is cut out
-# of linux-source-6.1 lies in out/.
-#
+# Compares each decision with the real code: passes the steps of histories to sch_pie.c of Debian's linux-source-6.1
+# and to rte_pie.h of its libdpdk-dev, with the same random words (linux.c, dpdk.c). Prints the number of steps for
+# each difference named in docs/PARAMETERS.md. The exit status is 1 if a step differs without a named difference.
+# Neither code is kept in this repository: the parts cut out of linux-source-6.1 are in out/.
 # usage: bench/steps/run.sh PIE [HISTORY..]      HISTORY: by time stamps for Linux, by the departure rate for DPDK, with the usual elements else;
 #                                                where none is given those of traces of trace.py. Status 3: a package is missing.
 set -eu

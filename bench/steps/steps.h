@@ -1,7 +1,9 @@
-/* A history's steps as this project's rule takes them (bench/pie_step.h), for linux.c and dpdk.c, which hand each step to other code: the registers
- * before it and after it, what was decided, and which of the named differences tell where the other code came to something else.
+/* The steps of a history by this project's rule (bench/pie_step.h), for linux.c and dpdk.c, which pass each step to
+ * other code: the registers before and after it, the decision, and the named differences that explain a different
+ * result of the other code.
  *
- * A history has the usual optional elements but for its delay and its decay, and no reset and no change of parameters. */
+ * A history has the default optional elements except the delay and the decay, and no reset and no change of
+ * parameters. */
 #ifndef STEPS_H
 #define STEPS_H
 
@@ -40,7 +42,7 @@ struct step {
     bool ecn;
 };
 
-/* A difference that docs/PARAMETERS.md names: by words that stand there. */
+/* A difference that docs/PARAMETERS.md names, by words on that page. */
 struct difference {
     const char *words;
     unsigned long steps;
@@ -69,7 +71,7 @@ static uint64_t number(const char *word) {
     return strtoull(word, NULL, 10);
 }
 
-/* An opening has 11 fields, 20 with parameters, and one more where it tells the decay. */
+/* An opening has 11 fields, 20 with parameters, and one more with the decay. */
 static bool open_registers(struct registers *registers, char **words, int count) {
     static const char *const usual[] = {"derandomized", "capped", "unscaled"};
     const bool tells_decay = count == 12 || count == 21;
@@ -126,7 +128,8 @@ static struct packet take_departure(struct registers *registers) {
     return packet;
 }
 
-/* Whether the probability decays after these delays: where both are 0, or by the other decay below half the target. */
+/* Returns true if the probability decays after these delays: if both are 0, or with the other decay below half the
+ * target. */
 static bool decays_after(const struct registers *registers, uint64_t delay, uint64_t old) {
     const uint64_t target = registers->params.target;
     return registers->decays_below_half ? 2 * delay < target && 2 * old < target : delay == 0 && old == 0;
@@ -151,7 +154,7 @@ static int fewest(int count, bool (*same)(unsigned set, const void *of), const v
     return found;
 }
 
-/* Counts a set of differences; false where there was none that told. */
+/* Counts a set of differences. Returns false if none of them explains the step. */
 static bool count_differences(struct difference *differences, int set) {
     if (set < 0)
         return false;
@@ -162,8 +165,8 @@ static bool count_differences(struct difference *differences, int set) {
     return true;
 }
 
-/* Reads one history, and calls `arrival`, `departure` and `update` with the registers before each step, which is then taken. What they answer is
- * why the other code's step can't be told from its named differences, NULL where it can. */
+/* Reads one history, and calls `arrival`, `departure` and `update` with the registers before each step, which is
+ * then performed. They return the reason why the named differences do not explain the other code's step, or NULL. */
 struct other {
     void (*open)(const struct registers *registers);
     const char *(*arrival)(const struct registers *before, const struct step *step, const struct registers *after);
@@ -218,7 +221,7 @@ static void read_history(const char *name, const struct other *other) {
     fclose(file);
 }
 
-/* What was found of all histories; a difference that never told is told too. */
+/* Prints the results for all histories, and the differences that never occurred. */
 static void tell(const char *whose, const struct difference *differences, int count) {
     printf("%s: %lu arrivals, %lu departures and %lu updates; %lu of these steps came out alike\n", whose, arrivals, departures, updates, alike);
     printf("the probability decays on %lu updates of the histories; there on %lu\n", decays, other_decays);

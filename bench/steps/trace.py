@@ -1,6 +1,6 @@
 #!/usr/bin/env python3
-"""Writes a trace of a link that is idle, hardly loaded, loaded beyond what it can carry, flooded and idle again, by turns: of small and full packets,
-with and without ECN, and with an update each 15 ms. The same bytes for the same words.
+"""Writes a trace of a link that is in turn idle, lightly loaded, overloaded, flooded and idle again: small and full
+packets, with and without ECN, and an update every 15 ms. The same arguments give the same bytes.
 
 usage: bench/steps/trace.py SEED DELAY MARK_ECNTH [TURNS [DECAY]]      DELAY: stamp or rate; MARK_ECNTH: in units of 10^-12; DECAY: zero or half"""
 import random

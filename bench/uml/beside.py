@@ -1,63 +1,66 @@
 #!/usr/bin/env python3
-"""Runs one scenario through a list of queues, this repository's link and queues of the kernel, one after the other and as often as is said, in a
-Linux in a process (run.sh). Prints one table; every history of the link is audited.
+"""Runs scenarios through a list of queues in a Linux in a process (run.sh): this repository's link and queues of the kernel. It audits every history
+of the link and adds a row for each part of a run to FOLDER/results.csv. Runs that are in this file are not made again, so a batch that was stopped
+continues.
 
-usage: bench/uml/beside.py PIE FOLDER [OPTIONS]
-  PIE        the built program, crates/pie/out/pie;  FOLDER: gets each run's history and what the programs said, and results.csv
-  --queues stamp,pie,fq_codel     of the link: tail, stamp, rate (where the delay is from), half (the other decay), mtu (so many bytes are the
-                                  mean packet, as at the kernel's), marks (whatever the probability); of the kernel: pfifo, pie, pie-rate (its
-                                  dq_rate_estimator), fq_codel, cake
-  --runs 3   of each queue, in turn;  --seconds 20: of each run
-  --rate 10mbit,10s:2mbit         and so on: moments count from the traffic's beginning
-  --flows 4:cubic:20ms ..         groups of TCP: how many, congestion control, round trip without a queue; 1:udp=12mbit:20ms is UDP at such a rate;
-                                  8:cubic:20ms:5s-10s: from the fifth to the tenth second alone
-  --short 14600x2,146000x0.5      short flows beside them: of so many bytes, so many a second
-  --limit 200ms                   of the queue: so long at the first rate, in bytes here and in packets of 1500 at the kernel's
-  --ecn      all TCP asks for ECN, and every queue marks that can;  --tupdate 15ms, --target 15ms: of all PIEs;  --grant 5ms: of the link alone
-  --offload  senders hand over up to 64 kB at once, as a network card's segmentation offload has them; else a packet at a time
-  --from 5   the table has the beginning of the run apart, until this second
-  --same A:B ..                   pairs that are tested for equivalence; stamp:pie, rate:pie-rate and half:stamp where nothing is said
-  --late     runs with late updates count too, for a look at a busy machine
-  --go-on    runs that are in the folder already are kept;  --again: runs nothing, and makes the tables of a folder anew
-UML_LINUX=FILE in the environment is another Linux than Debian's, as build.sh makes one whose time is simulated.
+usage: bench/uml/beside.py PIE FOLDER [--blocks FIRST-LAST] [--kept COUNT] [NAME..]     scenarios of scenarios.py; all if none is named
+       bench/uml/beside.py PIE FOLDER --queues stamp,pie [--blocks 1-2] OPTIONS         one scenario by options, as scenarios.py has them
+  PIE        the built program; build/pie is what make builds
+  --queues   of the link: tail, stamp, rate (the delay by the departure rate), half (the other decay), wide (a target of 20 ms), marks (ECN up to any
+             probability), slowwide (a target of 30 ms); of the kernel: pfifo, pie, pie-rate (dq_rate_estimator), pie-wide, fq_codel, cake
+  --blocks   the blocks of the scenario; all by default
+  --kept     the number of blocks of each scenario whose files stay in the folder; 1 by default
+  --late     also runs whose traffic began late: for a test in real time on a busy machine
+UML_LINUX=FILE in the environment is a Linux whose time is simulated (build.sh). Status 1: a run failed, or a history is not clean.
 
-A wait is from arrival to departure, in ms: by packet from histories, and for all queues by a ping each 20 ms, less the round trip. `settled`: the
-second from which packets wait at most twice the target and the receiver gets 85 per cent of what the link can carry, for two seconds; after each
-change of the rate anew. A run with late updates is told, and is in no mean. Status 1: a run failed, a history is not clean, or a queue carried
-nothing."""
+A wait is the time from arrival to departure in ms: of packets by the history, and of probes for all queues. A probe is a packet of UDP of 64 bytes.
+One clock measures its delay in one direction; the delay of the probes that crossed the empty queue before the traffic is subtracted."""
 import argparse
 import csv
+import fcntl
 import json
 import os
+import random
 import re
+import shutil
 import subprocess
 import sys
 from pathlib import Path
 from statistics import fmean, median
 
 HERE = Path(__file__).resolve().parent
-sys.path.insert(0, str(HERE.parent))
+sys.path.insert(0, str(HERE))
 sys.dont_write_bytecode = True
-from equivalence import compare  # noqa: E402
+from scenarios import SAME_BLOCKS, SCENARIOS  # noqa: E402
 
 OURS = {
     "tail": ["--queue", "tail"],
     "stamp": [],
     "rate": ["--delay", "rate"],
     "half": ["--decay", "half"],
-    "mtu": ["--mean_pkt", "1514b"],
+    "wide": ["--target", "20ms"],
+    "slowwide": ["--target", "30ms"],
     "marks": ["--mark_ecnth", "100%"],
 }
 THEIRS = {
     "pfifo": "pfifo limit {packets}",
-    "pie": "pie limit {packets} target TARGET tupdate TUPDATE",
-    "pie-rate": "pie limit {packets} target TARGET tupdate TUPDATE dq_rate_estimator",
+    "pie": "pie limit {packets} target 15ms tupdate 15ms",
+    "pie-rate": "pie limit {packets} target 15ms tupdate 15ms dq_rate_estimator",
+    "pie-wide": "pie limit {packets} target 20ms tupdate 15ms",
     "fq_codel": "fq_codel",
     "cake": "cake unlimited besteffort",
 }
 UNITS = {"ns": 1e-9, "us": 1e-6, "ms": 1e-3, "s": 1, "bit": 1, "kbit": 1e3, "mbit": 1e6, "gbit": 1e9}
-FIELDS = ["queue", "run", "from", "to", "goodput", "groups", "jain", "wait", "wait95", "wait99", "ping", "ping95", "ping99", "early", "tail", "marks",
-          "link_bytes", "settled", "late", "audit"]
+FIELDS = ["scenario", "queue", "block", "from", "to", "goodput", "groups", "jain", "wait", "wait95", "wait99", "probe", "probe95", "probe99",
+          "probes", "lost", "over150", "share", "voice", "voice99", "voice_lost", "dns", "dns99", "early", "tail", "marks", "sent", "prob", "base",
+          "late", "audit", "version"]
+SHORT_FIELDS = ["scenario", "queue", "block", "bytes", "since", "took"]
+MOST_DELAYS = 15            # bands of netem
+JITTER = 0.1                # of a round trip, up and down
+SPREAD = 0.5                # seconds in which the flows of a group start
+PROBE, BASE, SHORT, VOICE, DNS = 0, 1000, 500, 900, 950     # numbers of flows; groups have those from 1 on
+PROBE_BYTES = 36            # of payload: 64 with the headers of IP and UDP
+MTU_PAYLOAD = 1472
 
 
 def number(text, *units):
@@ -67,44 +70,152 @@ def number(text, *units):
     return float(found[1]) * UNITS[found[2]]
 
 
+def rate_of(text):
+    return int(number(text, "bit", "kbit", "mbit", "gbit"))
+
+
 def rates_of(text):
     parts = [part.split(":") for part in text.split(",")]
-    return [(number(part[0], "ms", "s") if len(part) == 2 else 0, int(number(part[-1], "bit", "kbit", "mbit", "gbit"))) for part in parts]
+    return [(number(part[0], "ms", "s") if len(part) == 2 else 0, rate_of(part[-1])) for part in parts]
 
 
 def group_of(text, seconds):
-    count, control, rtt, *lasts = text.split(":")
-    udp = int(number(control[4:], "kbit", "mbit")) if control.startswith("udp=") else 0
+    way = "back" if text.startswith("back:") else "there"
+    count, kind, rtt, *lasts = text.removeprefix("back:").split(":")
     since, until = (number(moment, "ms", "s") for moment in lasts[0].split("-")) if lasts else (0, seconds)
-    trip = round(number(rtt, "us", "ms", "s") * 1e6)
-    return {"count": int(count), "control": control, "rtt": trip, "udp": udp, "since": since, "until": until}
+    return {"way": way, "count": int(count), "kind": kind, "rtt": number(rtt, "us", "ms", "s"), "since": since, "until": until}
+
+
+def is_tcp(group):
+    return re.fullmatch("[a-z]+", group["kind"]) and group["kind"] != "voice"
+
+
+class Plan:
+    """The plan of a block's senders: each flow's start, round trip and address, drawn by the block's name."""
+
+    def __init__(self, scenario, block):
+        self.scenario, self.dice = scenario, random.Random(f"{scenario['seed']}-{block}")
+        self.delays, self.lines, self.groups, self.next = [], {"there": [], "back": []}, [], 1
+        groups = scenario["groups"]
+        share = max(1, MOST_DELAYS // max(1, len(groups)))
+        if scenario["reverse"]:
+            self.draw_delay(groups[0])
+        for group in groups:
+            places = [0] if scenario["reverse"] else [self.draw_delay(group) for _ in range(min(group["count"], share))]
+            self.groups.append([])
+            for it in range(group["count"]):
+                self.add_flow(group, places[it % len(places)])
+        self.add_short()
+        period = round(scenario["probe"] * 1e9)
+        since = self.dice.randrange(period)
+        self.lines["there"] += [f"probe {BASE} {-1_500_000_000} {-600_000_000} 10.1.0.1 100000000 {PROBE_BYTES} 0",
+                                f"probe {PROBE} {since} {self.ns(scenario['seconds'])} 10.1.0.1 {period} {PROBE_BYTES} 0"]
+
+    def draw_delay(self, group):
+        self.delays.append(round(group["rtt"] * 1e6 * self.dice.uniform(1 - JITTER, 1 + JITTER)))
+        return len(self.delays) - 1
+
+    def ns(self, seconds):
+        return round(seconds * 1e9)
+
+    def add_flow(self, group, place):
+        since = group["since"] + self.dice.uniform(0, SPREAD)
+        source = f"10.1.0.{place + 1}" if group["way"] == "there" else "10.2.0.1"
+        name, _, word = group["kind"].partition("=")
+        ends, lines = self.ns(group["until"]), self.lines[group["way"]]
+        flow, self.next = self.next, self.next + 1
+        self.groups[-1].append(flow)
+        if is_tcp(group):
+            lines.append(f"tcp {flow} {self.ns(since)} {ends} {source} {name}")
+        elif name in ("udp", "ect"):
+            period, tos = round(MTU_PAYLOAD * 8e9 / rate_of(word)), 2 * (name == "ect")
+            lines.append(f"udp {flow} {self.ns(since)} {ends} {source} {period} {MTU_PAYLOAD} {tos}")
+        elif name == "voice":
+            lines.append(f"probe {VOICE} {self.ns(since)} {ends} {source} 20000000 172 0")
+        elif name == "dns":
+            while (since := since + self.dice.expovariate(float(word))) < group["until"]:
+                lines.append(f"probe {DNS} {self.ns(since)} {self.ns(since) + 1} {source} 1000000000 {PROBE_BYTES} 0")
+        elif name == "burst":
+            packets, period = word.split("x")
+            while since < group["until"]:
+                lines.append(f"udp {flow} {self.ns(since)} {self.ns(since) + int(packets) * 1000} {source} 1000 {MTU_PAYLOAD} 0")
+                since += number(period, "ms", "s")
+        else:
+            sys.exit(f"bench/uml/beside.py: {group['kind']}: no kind of flow")
+
+    def add_short(self):
+        flow = SHORT
+        for part in self.scenario["short"].split(",") if self.scenario["short"] else []:
+            size, often = part.split("x")
+            moment = self.dice.expovariate(float(often))
+            while moment < self.scenario["seconds"] - 3:
+                self.lines["there"].append(f"short {flow} {self.ns(moment)} {size} 10.1.0.1 cubic")
+                flow, moment = flow + 1, moment + self.dice.expovariate(float(often))
 
 
 def queue_of(name, words):
     if name in OURS:
-        more = ["--target", words.target, "--tupdate", words.tupdate] + ["--ecn"] * words.ecn + (["--grant", words.grant] if words.grant else [])
-        return {"name": name, "kind": "ours", "words": OURS[name] + more}
+        more = ["--tupdate", "15ms"] + ["--ecn"] * words.ecn + (["--grant", words.grant] if words.grant else [])
+        return {"kind": "ours", "words": OURS[name] + more}
     if name not in THEIRS:
         sys.exit(f"bench/uml/beside.py: {name}: no queue of {', '.join([*OURS, *THEIRS])}")
-    text = THEIRS[name].replace("TARGET", words.target).replace("TUPDATE", words.tupdate)
+    text = THEIRS[name]
     if name.startswith("pie"):
         text += " ecn" * words.ecn
     if name == "fq_codel":
         text += " ecn" if words.ecn else " noecn"
-    return {"name": name, "kind": "theirs", "words": text.split()}
+    return {"kind": "theirs", "words": text.split()}
 
 
-def calm():
-    """What iperf3's clients are begun with where time is simulated."""
-    file = Path(os.environ.get("UML_LINUX", "/")).resolve().parent / "calm.so"
-    return str(file) if file.exists() else ""
+def options(words=None):
+    parser = argparse.ArgumentParser(usage=__doc__.split("usage: ")[1])
+    if words is None:
+        for name in ("program", "folder"):
+            parser.add_argument(name)
+        parser.add_argument("--blocks")
+        parser.add_argument("--kept", type=int, default=1)
+        parser.add_argument("--late", action="store_true")
+        parser.add_argument("names", nargs="*")
+    parser.add_argument("--queues")
+    parser.add_argument("--seconds", type=int, default=12)
+    parser.add_argument("--rate", default="10mbit")
+    parser.add_argument("--flows", nargs="+", default=["4:cubic:20ms"])
+    parser.add_argument("--limit", default="200ms")
+    parser.add_argument("--probe")
+    parser.add_argument("--reverse")
+    parser.add_argument("--bucket", type=int, default=1)
+    parser.add_argument("--grant")
+    parser.add_argument("--short")
+    parser.add_argument("--ecn", action="store_true")
+    parser.add_argument("--from", dest="beginning", type=float, default=4)
+    parser.add_argument("--offload", action="store_true")
+    return parser.parse_intermixed_args(words)
 
 
-def scenario_of(words):
-    rates = rates_of(words.rate)
-    return {"queues": [queue_of(name, words) for name in words.queues.split(",")], "runs": words.runs, "seconds": words.seconds, "rates": rates,
-            "groups": [group_of(text, words.seconds) for text in words.flows], "short": words.short, "ecn": int(words.ecn),
-            "offload": words.offload, "go_on": words.go_on, "preload": calm(), "limit": int(rates[0][1] / 8 * number(words.limit, "ms", "s"))}
+def scenario_of(name, words, queues, blocks):
+    rates, seconds = rates_of(words.rate), words.seconds
+    groups = [group_of(text, seconds) for text in words.flows]
+    bounds = {0, seconds} | {moment for moment, _ in rates} | {group[end] for group in groups for end in ("since", "until")}
+    bounds = sorted(bounds | ({words.beginning} if 0 < words.beginning < seconds else set()))
+    probe = number(words.probe, "ms", "s") if words.probe else 0.1 if rates[0][1] >= 10e6 and len(rates) == 1 else 0.2
+    found = {"name": name, "seed": SAME_BLOCKS.get(name, name),
+             "queues": {queue: queue_of(queue, words) for queue in queues}, "seconds": seconds, "rates": rates, "groups": groups,
+             "short": words.short, "ecn": int(words.ecn), "offload": words.offload, "bounds": bounds, "probe": probe, "bucket": words.bucket,
+             "reverse": rate_of(words.reverse) if words.reverse else 0,
+             "packets": max(1, int(rates[0][1] / 8 * number(words.limit, "ms", "s") / 1500))}
+    plans = {str(block): Plan(found, block) for block in blocks}
+    found["blocks"] = {block: {"delays": plan.delays, "plan": plan.lines, "groups": plan.groups} for block, plan in plans.items()}
+    return found
+
+
+def order_of(scenario, done):
+    """The runs that are not made yet: block by block, and in each block the queues in a random order."""
+    order = []
+    for block in scenario["blocks"]:
+        queues = sorted(scenario["queues"])
+        random.Random(f"{scenario['name']}-{block}-order").shuffle(queues)
+        order += [f"{block}-{queue}" for queue in queues if (scenario["name"], queue, block) not in done]
+    return order
 
 
 def last_of(values, share):
@@ -117,280 +228,228 @@ def three(values):
 
 
 class Found:
-    """What a run came to, by the moments of its traffic."""
+    """The measurements of a run, by the moments of its traffic in seconds."""
 
-    def __init__(self, scenario, folder, program):
-        self.scenario, self.folder = scenario, folder
+    def __init__(self, scenario, block, folder, program, may_be_late=False):
+        self.scenario, self.block = scenario, scenario["blocks"][block]
         about = json.loads((folder / "run.json").read_text())
-        self.pings = [(float(moment) - about["begun"], float(took) - scenario["groups"][0]["rtt"] / 1e3) for moment, took in
-                      re.findall(r"^\[([\d.]+)\].*time=([\d.]+) ms", (folder / "ping").read_text(), re.M)]
-        self.delays = [self.delay_of(place, about["begun"]) for place in range(len(scenario["groups"]))]
-        self.flows = []         # of each flow its group, and pairs of a moment and the bytes that its receiver got until then from the moment before
-        for place in range(len(scenario["groups"])):
-            self.read_server(place, folder / f"server{place}")
-        self.departures, self.ends, self.late, self.audit = [], [], None, "-"
-        if (folder / "history").exists():
-            self.read_history(about["lead"])
-            said = re.search(r"updates, (\d+) of them later", (folder / "link").read_text())
-            self.late = int(said[1]) if said else None
+        self.counts, self.probes = {}, {}
+        self.read_received(folder / "there.received")
+        if (folder / "back.received").exists():
+            self.read_received(folder / "back.received")
+        if not may_be_late and max(moment for moment, _ in self.probes.get(BASE, [(1, 0)])) > 0:
+            raise ValueError("the traffic began late: the machine is too busy for a Linux in real time")
+        self.base = median(delay for _, delay in self.probes.get(BASE, [(0, 0)]))
+        self.broken, self.took = [], []
+        self.read_sent(folder / "there.sent")
+        self.departures, self.ends, self.updates, self.late, self.audit, self.counters = [], [], [], None, "-", None
+        if (folder / "history").exists() and program:
+            self.read_history(folder / "history", about["begin"])
+            self.late = int(re.search(r"updates, (\d+) of them later", (folder / "link").read_text())[1])
             with open(folder / "history") as file:
                 self.audit = subprocess.run([program, "audit"], stdin=file, capture_output=True, text=True).stdout.strip()
-        self.queue = json.loads((folder / "queue.json").read_text()) if (folder / "queue.json").exists() else None
+        elif (folder / "queue.json").exists():
+            self.counters = {moment: self.queue_of(text) for moment, text in json.loads((folder / "queue.json").read_text())}
 
-    def delay_of(self, place, begun):
-        """How long after the traffic began a group's server began to count: a round trip before its client sent. Where the group begins with the
-        traffic, and the link is idle, that is the same in each run of a scenario."""
-        group = self.scenario["groups"][place]
-        noted = sorted(self.folder.parent.glob(f"*/begun{place}"))
-        own = self.folder / f"begun{place}"
-        if own in noted:
-            return float(own.read_text()) - begun - group["rtt"] / 1e6
-        for it in noted if not group["since"] else []:
-            return float(it.read_text()) - json.loads((it.parent / "run.json").read_text())["begun"] - group["rtt"] / 1e6
-        return group["since"]
+    def read_received(self, file):
+        for line in file.read_text().splitlines():
+            kind, flow, place, *words = line.split()
+            if kind == "bytes":
+                self.counts.setdefault(int(flow), {})[int(place)] = int(words[0])
+            else:
+                self.probes.setdefault(int(flow), []).append((int(words[0]) / 1e9, int(words[1]) / 1e6))
 
-    def read_server(self, place, file):
-        flows, since = {}, self.delays[place]
-        for interval in json.loads(file.read_text())["intervals"]:
-            for it in interval["streams"]:
-                flows.setdefault(it["socket"], []).append((since + it["start"], since + it["end"], it["bytes"]))
-        self.flows += [(place, parts) for parts in flows.values()]
+    def read_sent(self, file):
+        for line in file.read_text().splitlines():
+            kind, flow, *words = line.split()
+            if kind == "took":
+                self.took.append((int(words[0]), int(words[1]) / 1e9, None if words[2] == "-" else int(words[2]) / 1e6))
+            elif kind == "failed":
+                self.broken.append(flow)
 
-    def read_history(self, lead):
-        since = {}
-        for line in open(self.folder / "history"):
+    def read_history(self, file, begin):
+        """Departures as (moment, wait in ms, bytes), arrivals' answers and updates as (moment, answer)."""
+        since, lead = {}, None
+        for line in open(file):
             words = line.rstrip("\n").split(",")
             if words[0] == "arrive":
-                moment = int(words[2]) / 1e9
+                moment = int(words[2]) / 1e9 - lead
                 since[words[3]] = moment
-                self.ends.append((moment - lead, words[7]))
+                self.ends.append((moment, words[7]))
             elif words[0] == "depart" and words[3] == "left":
-                moment = int(words[2]) / 1e9
-                self.departures.append((moment - lead, (moment - since.pop(words[4])) * 1e3, int(words[5])))
+                moment = int(words[2]) / 1e9 - lead
+                self.departures.append((moment, (moment - since.pop(words[4])) * 1e3, int(words[5])))
+            elif words[0] == "update":
+                self.updates.append((int(words[2]) / 1e9 - lead, int(words[4]) / 1e12))
+            elif words[0] == "clock":
+                lead = (int(words[1]) + begin - int(words[2])) / 1e9
 
-    def bits(self, parts, begin, end):
-        """What a flow's receiver got from here to there: an interval that reaches beyond counts by its share."""
-        return 8 * sum(count * max(0, min(to, end) - max(since, begin)) / (to - since) for since, to, count in parts if to > since)
-
-    def goodput(self, begin, end, group=None):
-        return sum(self.bits(parts, begin, end) for place, parts in self.flows if group in (None, place)) / (end - begin) / 1e6
-
-    def jain(self, begin, end):
-        """Jain's index over the flows of TCP."""
-        got = [self.bits(parts, begin, end) for place, parts in self.flows if not self.scenario["groups"][place]["udp"]]
-        return sum(got) ** 2 / len(got) / sum(it * it for it in got) if got and any(got) else None
-
-    def rate_at(self, moment):
-        return [rate for since, rate in self.scenario["rates"] if since <= moment][-1]
-
-    def settled(self, begin, end, target):
-        moment = begin
-        while moment + 2 <= end:
-            waits = [wait for at, wait in self.pings if moment <= at < moment + 2]
-            if waits and fmean(waits) <= 2e3 * target and self.goodput(moment, moment + 2) >= 0.85 * self.rate_at(moment) / 1e6 * 1448 / 1500:
-                return moment - begin
-            moment += 0.25
-        return None
-
-    def dropped(self, begin, end):
-        """Early drops, tail drops and marks; of the kernel's queues over the whole run."""
-        if self.queue is None:
-            ends = [word for moment, word in self.ends if begin <= moment < end]
-            return [ends.count("early"), ends.count("bytes") + ends.count("packets"), ends.count("mark")]
-        it = next(it for it in self.queue if it["handle"] == "10:")
+    def queue_of(self, text):
+        """Early drops, tail drops, marks, bytes, packets and probability of a kernel's queue so far."""
+        it = next(it for it in text if it["handle"] == "10:")
         kind, drops = it["kind"], it["drops"]
+        ends = [0, drops, 0]
         if kind == "pie":
-            return [it["dropped"] - it["overlimit"], it["overlimit"], it["ecn_mark"]]
-        if kind == "fq_codel":
-            return [drops - it["drop_overlimit"], it["drop_overlimit"], it["ecn_mark"]]
-        if kind == "cake":
-            return [drops, 0, sum(tin["ecn_mark"] for tin in it["tins"])]
-        return [0, drops, 0]
+            ends = [it["dropped"] - it["overlimit"], it["overlimit"], it["ecn_mark"]]
+        elif kind == "fq_codel":
+            ends = [drops - it["drop_overlimit"], it["drop_overlimit"], it["ecn_mark"]]
+        elif kind == "cake":
+            ends = [drops, 0, sum(tin["ecn_mark"] for tin in it["tins"])]
+        return [*ends, it["bytes"], it["packets"]]
 
-    def link_bytes(self, begin, end):
-        if self.queue is None:
-            return sum(size for moment, _, size in self.departures if begin <= moment < end)
-        return next(it for it in self.queue if it["handle"] == "10:")["bytes"]
+    def counted(self, begin, end):
+        """Early drops, tail drops, marks, bytes and packets from here to there."""
+        if self.counters is not None:
+            return [last - first for first, last in zip(self.counters[begin], self.counters[end])]
+        ends = [word for moment, word in self.ends if begin <= moment < end]
+        sizes = [size for moment, _, size in self.departures if begin <= moment < end]
+        return [ends.count("early"), ends.count("bytes") + ends.count("packets"), ends.count("mark"), sum(sizes), len(sizes)]
 
-    def short(self):
-        """Completion times of short flows in ms, by size; those that didn't end count as a minute."""
-        took = {}
-        for line in (self.folder / "short").read_text().splitlines():
-            _, size, time = line.split()
-            took.setdefault(int(size), []).append(6e4 if time == "-" else float(time) * 1e3)
-        return took
+    def bits(self, flow, begin, end):
+        first, last = round(begin * 10), round(end * 10)
+        return 8 * sum(count for place, count in self.counts.get(flow, {}).items() if first <= place < last)
 
+    def delays(self, flow, begin, end):
+        return [delay - self.base for moment, delay in self.probes.get(flow, []) if begin <= moment < end]
 
-def phases(scenario, beginning):
-    seconds = scenario["seconds"]
-    moments = {moment for moment, _ in scenario["rates"]} | {group[end] for group in scenario["groups"] for end in ("since", "until")}
-    bounds = sorted({0, seconds} | ({beginning} if 0 < beginning < seconds else set()) | moments)
-    return list(zip(bounds, bounds[1:])) + ([(0, seconds)] if len(bounds) > 2 else [])
+    def planned(self, flow, begin, end):
+        """How many probes a flow sent from here to there."""
+        count = 0
+        for line in self.block["plan"]["there"]:
+            words = line.split()
+            if words[0] == "probe" and int(words[1]) == flow:
+                since, until, period = (int(words[it]) / 1e9 for it in (2, 3, 5))
+                moments = [since + it * period for it in range(max(1, -int(-(until - since) / period // 1)))]
+                count += sum(begin <= moment < end and moment < until for moment in moments)
+        return count
 
-
-def rows_of(found, scenario, words, queue, run):
-    steps = [moment for moment, _ in scenario["rates"]]
-    for begin, end in phases(scenario, words.beginning):
-        # (the first counts from when something is sent)
-        since = begin or min(found.delays)
-        waits = three([wait for moment, wait, _ in found.departures if since <= moment < end])
-        pings = three([wait for moment, wait in found.pings if since <= moment < end])
-        until = min([step for step in steps if step > begin], default=scenario["seconds"])
-        settled = found.settled(since, until, number(words.target, "ms", "us")) if begin in steps else None
-        groups = [found.goodput(since, end, place) for place in range(len(scenario["groups"]))]
-        yield dict(zip(FIELDS, [queue, run, begin, end, sum(groups), "/".join(f"{it:.3f}" for it in groups), found.jain(since, end), *waits, *pings,
-                                *found.dropped(begin, end), found.link_bytes(begin, end), settled, found.late, found.audit]))
-
-
-def values(rows, field):
-    return [row[field] for row in rows if row[field] is not None]
-
-
-def spread(rows, field, form="{:.1f}"):
-    """The mean over runs, and in brackets the least and the greatest."""
-    found = values(rows, field)
-    if not found:
-        return "-"
-    text = form.format(fmean(found))
-    return text if len(found) == 1 else f"{text} ({form.format(min(found))} to {form.format(max(found))})"
-
-
-def mean(rows, field, form="{:.0f}"):
-    found = values(rows, field)
-    return form.format(fmean(found)) if found else "-"
+    def row(self, begin, end):
+        groups = [sum(self.bits(flow, begin, end) for flow in flows) / (end - begin) / 1e6 for flows in self.block["groups"]]
+        about = list(zip(groups, self.scenario["groups"]))
+        flows = [self.bits(flow, begin, end) for group, numbers in zip(self.scenario["groups"], self.block["groups"]) if is_tcp(group)
+                 and group["since"] < end and group["until"] > begin for flow in numbers]
+        short = sum(self.bits(SHORT + it, begin, end) for it in range(VOICE - SHORT)) / (end - begin) / 1e6
+        probes, voice, dns = (self.delays(flow, begin, end) for flow in (PROBE, VOICE, DNS))
+        early, tail, marks, sent, packets = self.counted(begin, end)
+        planned, voices = self.planned(PROBE, begin, end), self.planned(VOICE, begin, end)
+        found = {
+            "goodput": sum(it for it, group in about if group["way"] == "there") + short, "groups": "/".join(f"{it:.3f}" for it in groups),
+            "jain": sum(flows) ** 2 / len(flows) / sum(it * it for it in flows) if any(flows) else None,
+            "probes": planned, "lost": planned - len(probes), "over150": sum(it > 150 for it in probes),
+            "share": len(probes) / packets if packets else None,
+            "early": early, "tail": tail, "marks": marks, "sent": sent, "base": self.base, "late": self.late, "audit": self.audit,
+            "voice": fmean(voice) if voice else None, "voice99": last_of(voice, 0.99) if voice else None,
+            "voice_lost": voices - len(voice) if voices else None,
+            "dns": fmean(dns) if dns else None, "dns99": last_of(dns, 0.99) if dns else None}
+        updates = [probability for moment, probability in self.updates if begin <= moment < end]
+        found["prob"] = fmean(updates) if updates else None
+        for name, values in (("wait", [wait for moment, wait, _ in self.departures if begin <= moment < end]), ("probe", probes)):
+            found |= zip((name, f"{name}95", f"{name}99"), three(values))
+        return found
 
 
-def settled_of(rows):
-    found = values(rows, "settled")
-    return (f"{fmean(found):.1f}" if found else "-") + f" ({len(found)} of {len(rows)})"
+def parts_of(scenario):
+    bounds = scenario["bounds"]
+    return list(zip(bounds, bounds[1:])) + ([(bounds[0], bounds[-1])] if len(bounds) > 2 else [])
 
 
-HEADS = ["seconds", "queue", "goodput", "by group", "Jain", "wait", "95th", "99th", "ping", "95th", "99th", "early", "tail", "marks", "MB sent",
-         "settled (runs)"]
+def short_form(value):
+    return round(value, 4) if isinstance(value, float) else value
 
 
-def tell(rows, scenario, names):
-    """The table. What the kernel counts of its queues is of the whole run."""
-    print("| " + " | ".join(HEADS) + " |")
-    print("|---" * len(HEADS) + "|")
-    for begin, end in dict.fromkeys((row["from"], row["to"]) for row in rows):
-        for name in names:
-            these = [row for row in rows if (row["queue"], row["from"], row["to"]) == (name, begin, end)]
-            if not these:
-                continue
-            groups = list(zip(*([float(it) for it in row["groups"].split("/")] for row in these)))
-            is_whole = name in OURS or (begin, end) == (0, scenario["seconds"])
-            counts = [mean(these, it) for it in ("early", "tail", "marks")] + [f"{fmean(values(these, 'link_bytes')) / 1e6:.2f}"]
-            cells = [f"{begin:g} to {end:g}", name, spread(these, "goodput", "{:.2f}"),
-                     "/".join(f"{fmean(it):.2f}" for it in groups) if len(groups) > 1 else "", mean(these, "jain", "{:.2f}"),
-                     spread(these, "wait"), mean(these, "wait95"), mean(these, "wait99"), spread(these, "ping"), mean(these, "ping95"),
-                     mean(these, "ping99"), *(counts if is_whole else [""] * 4),
-                     settled_of(these) if begin in [moment for moment, _ in scenario["rates"]] else ""]
-            print("| " + " | ".join(cells) + " |")
+def version_of():
+    """The trees of Git that made the runs: bench/uml, examples/link and dist. `git log --find-object=TREE` finds their commits."""
+    top = str(HERE.parents[1])
+    trees = [subprocess.run(["git", "-C", top, "rev-parse", f"HEAD:{name}"], capture_output=True, text=True).stdout[:8]
+             for name in ("bench/uml", "examples/link", "dist")]
+    changed = subprocess.run(["git", "-C", top, "diff", "--quiet", "HEAD", "--", "bench/uml", "examples/link", "dist"]).returncode
+    return ".".join(trees) + "+" * bool(changed)
 
 
-def tell_short(took):
-    """Completion times of short flows: of each queue and size how many ended, their median and 95th percentile."""
-    print("\n| queue | bytes | flows | median, ms | 95th | greatest |\n|---|---|---|---|---|---|")
-    for (name, size), times in took.items():
-        print(f"| {name} | {size} | {len(times)} | {median(times):.0f} | {last_of(times, 0.95):.0f} | {max(times):.0f} |")
+class Table:
+    """The file of rows: the runs that were made."""
+
+    def __init__(self, file, fields):
+        self.file, self.fields = file, fields
+        if not file.exists():
+            file.write_text(",".join(fields) + "\n")
+        with open(file, newline="") as text:
+            self.rows = list(csv.DictReader(text))
+
+    def add(self, rows):
+        with open(self.file, "a", newline="") as out:
+            fcntl.flock(out, fcntl.LOCK_EX)
+            csv.DictWriter(out, self.fields, lineterminator="\n").writerows({key: short_form(it) for key, it in row.items()} for row in rows)
 
 
-def tell_same(rows, pairs):
-    """The equivalence of pairs: goodput within 5 per cent of the second's, and waits of pings within 2 ms."""
-    lines = []
-    for begin, end in dict.fromkeys((row["from"], row["to"]) for row in rows):
-        for pair in pairs:
-            ours, theirs = ([row for row in rows if (row["queue"], row["from"], row["to"]) == (name, begin, end)] for name in pair.split(":"))
-            for field, unit in (("goodput", "Mbit/s"), ("ping", "ms")):
-                one, other = values(ours, field), values(theirs, field)
-                if min(len(one), len(other)) < 2:
-                    continue
-                margin = 0.05 * fmean(other) if field == "goodput" else 2.0
-                difference, least, most, verdict, power = compare(one, other, margin)
-                lines.append(f"| {begin:g} to {end:g} | {pair} | {field}, {unit} | {difference:.2f} ({least:.2f} to {most:.2f}) | {margin:.2f} | "
-                             f"{verdict} | {power:.2f} |")
-    if lines:
-        print("\n| seconds | pair | of | difference, 90 % interval | margin | verdict | power |", "|---|---|---|---|---|---|---|", *lines, sep="\n")
+def run(scenario, folder, program, results, short, words):
+    """Makes the runs that are not made yet, and adds their rows. Returns the failures."""
+    done = {(row["scenario"], row["queue"], row["block"]) for row in results.rows}
+    scenario["order"] = order_of(scenario, done)
+    if not scenario["order"]:
+        return []
+    folder.mkdir(parents=True, exist_ok=True)
+    (folder / "scenario.json").write_text(json.dumps(scenario))
+    linux = [str(HERE / "run.sh")] * (not os.environ.get("IN_USER_MODE_LINUX"))
+    with open(folder / "said", "w") as said:
+        subprocess.run([*linux, sys.executable, str(HERE / "network.py"), str(folder / "scenario.json")], stderr=said)
+    failed, version = [], version_of()
+    for place in scenario["order"]:
+        block, queue = place.split("-", 1)
+        try:
+            found = Found(scenario, block, folder / place, program, words.late)
+            same = {"scenario": scenario["name"], "queue": queue, "block": block}
+            rows = [same | {"from": begin, "to": end, "version": version} | found.row(begin, end) for begin, end in parts_of(scenario)]
+        except (OSError, ValueError, KeyError, StopIteration) as why:
+            failed.append(f"{scenario['name']}: {place}: {type(why).__name__}: {why}: {(folder / 'said').read_text()[-2000:]}")
+            continue
+        if found.audit != "-" and not found.audit.startswith("clean,"):
+            failed.append(f"{scenario['name']}: {place}: the history is not clean: {found.audit}")
+        if found.broken or not any(row["goodput"] for row in rows):
+            failed.append(f"{scenario['name']}: {place}: carried nothing, or flows broke: {found.broken}")
+        results.add(rows)
+        short.add([same | {"bytes": size, "since": since, "took": took} for size, since, took in found.took])
+        if int(block) > words.kept:
+            shutil.rmtree(folder / place)
+    return failed
 
 
-def options():
-    parser = argparse.ArgumentParser(usage=__doc__.split("usage: ")[1])
-    for name in ("program", "folder"):
-        parser.add_argument(name)
-    parser.add_argument("--queues", default="stamp,pie,fq_codel")
-    parser.add_argument("--runs", type=int, default=3)
-    parser.add_argument("--seconds", type=int, default=20)
-    parser.add_argument("--rate", default="10mbit")
-    parser.add_argument("--flows", nargs="+", default=["4:cubic:20ms"])
-    parser.add_argument("--limit", default="200ms")
-    parser.add_argument("--target", default="15ms")
-    parser.add_argument("--tupdate", default="15ms")
-    parser.add_argument("--grant")
-    parser.add_argument("--short")
-    parser.add_argument("--ecn", action="store_true")
-    parser.add_argument("--from", dest="beginning", type=float, default=5)
-    parser.add_argument("--same", nargs="*")
-    for flag in ("--offload", "--late", "--go-on", "--again"):
-        parser.add_argument(flag, action="store_true")
-    return parser.parse_args()
-
-
-def run_all(folder):
-    """All runs, by one Linux; what its kernel was is in the folder too."""
-    linux = [str(HERE / "run.sh"), sys.executable, str(HERE / "network.py"), str(folder / "scenario.json")]
-    if os.environ.get("IN_USER_MODE_LINUX"):
-        linux = linux[1:]
-    return subprocess.run(linux, stderr=open(folder / "said", "w")).returncode
+def tell(results, name):
+    """The rows of a scenario, of each queue the means over blocks."""
+    fields = ["goodput", "wait", "probe", "probe99", "early", "tail", "marks", "base"]
+    rows = [row for row in Table(results.file, FIELDS).rows if row["scenario"] == name]
+    print(f"| {name}: seconds | queue | blocks | " + " | ".join(fields) + " |\n" + "|---" * (3 + len(fields)) + "|")
+    for key in dict.fromkeys((row["from"], row["to"], row["queue"]) for row in rows):
+        these = [row for row in rows if (row["from"], row["to"], row["queue"]) == key]
+        cells = [[float(row[field]) for row in these if row[field]] for field in fields]
+        means = " | ".join(f"{fmean(it):.3f}" if it else "" for it in cells)
+        print(f"| {float(key[0]):g} to {float(key[1]):g} | {key[2]} | {len(these)} | {means} |")
 
 
 def main():
     words = options()
+    if subprocess.run(["make", "-s", "-C", HERE]).returncode or subprocess.run(["make", "-s", "-C", HERE.parents[1] / "examples/link"]).returncode:
+        sys.exit(1)
     program, folder = os.path.abspath(words.program), Path(words.folder).resolve()
     folder.mkdir(parents=True, exist_ok=True)
-    scenario = scenario_of(words)
-    places = [f"{run}-{queue['name']}" for queue in scenario["queues"] for run in range(1, scenario["runs"] + 1)]
-    if not words.again:
-        (folder / "scenario.json").write_text(json.dumps(scenario, indent=1))
-        if not (words.go_on and all((folder / it / "run.json").exists() for it in places)) and run_all(folder):
-            sys.exit((folder / "said").read_text())
-    rows, took, failed = [], {}, []
-    names = [queue["name"] for queue in scenario["queues"]]
-    for name in names:
-        for run in range(1, scenario["runs"] + 1):
-            place = folder / f"{run}-{name}"
-            try:
-                found = Found(scenario, place, program)
-            except (OSError, ValueError, KeyError) as why:
-                failed.append(f"{place.name}: {type(why).__name__}: {why}")
-                continue
-            if found.audit != "-" and not found.audit.startswith("clean,"):
-                failed.append(f"{place.name}: the history is not clean: {found.audit}")
-            if not any(found.bits(parts, 0, scenario["seconds"]) for _, parts in found.flows):
-                failed.append(f"{place.name}: carried nothing")
-            rows += rows_of(found, scenario, words, name, run)
-            if scenario["short"]:
-                for size, times in found.short().items():
-                    took.setdefault((name, size), []).extend(times)
-    with open(folder / "results.csv", "w", newline="") as file:
-        out = csv.DictWriter(file, FIELDS)
-        out.writeheader()
-        out.writerows({key: round(it, 4) if isinstance(it, float) else it for key, it in row.items()} for row in rows)
-    late = sorted({f"{row['run']}-{row['queue']}" for row in rows if row["late"]})
-    kept = [row for row in rows if words.late or not row["late"]]
-    flows = " and ".join(words.flows)
-    print(f"{words.rate}, {flows}{', ECN' * words.ecn}{', grants of ' + words.grant if words.grant else ''}"
-          f"{', short flows ' + words.short if words.short else ''}; {words.seconds} s, {words.runs} runs. Mbit/s at the receivers, ms.\n")
-    tell(kept, scenario, names)
-    if took:
-        tell_short(took)
-    pairs = words.same if words.same is not None else ["stamp:pie", "rate:pie-rate", "half:stamp"]
-    tell_same(kept, [pair for pair in pairs if set(pair.split(":")) <= set(names)])
-    if late:
-        print(f"\nlate updates{'' if words.late else ', so in no mean'}: {', '.join(late)}")
+    blocks = [int(it) for it in words.blocks.split("-")] if words.blocks else None
+    chosen = []
+    if words.queues:
+        numbers = range(blocks[0], blocks[-1] + 1) if blocks else range(1, 3)
+        chosen = [("own", lambda: scenario_of("own", words, words.queues.split(","), numbers))]
+    for name in words.names or ([] if words.queues else SCENARIOS):
+        it = SCENARIOS[name]
+        numbers = range(blocks[0], min(blocks[-1], it["blocks"]) + 1) if blocks else range(1, it["blocks"] + 1)
+        chosen.append((name, lambda it=it, numbers=numbers: scenario_of(it["name"], options(it["options"]), it["queues"], numbers)))
+    failed = []
+    for name, scenario in chosen:
+        results, short = Table(folder / "results.csv", FIELDS), Table(folder / "short.csv", SHORT_FIELDS)
+        failed += run(scenario(), folder / name, program, results, short, words)
+        tell(results, name)
     for it in failed:
         print(f"bench/uml/beside.py: {it}")
     sys.exit(1 if failed else 0)
 
 
-main()
+if __name__ == "__main__":
+    main()

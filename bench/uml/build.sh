@@ -3,7 +3,6 @@
 # measures doesn't depend on the machine's load, no update comes late, and 20 seconds take as long as their packets need. A tick is a millisecond, so
 # that the kernel's pie can update each 15 ms (Debian's Linux in a process has ticks of 10).
 #
-# usage: bench/uml/build.sh FOLDER      FOLDER gets `linux`, 6 MB, and calm.so (calm.c); 10 processor minutes, and 2 GB for as long as they take.
 #                                       UML_LINUX=FOLDER/linux in the environment has run.sh and beside.py take it
 set -eu
 if [ $# != 1 ] || [ "$1" = --help ]; then
@@ -18,7 +17,6 @@ done
 [ -e $source ] || { echo "bench/uml/build.sh: missing: $source; bench/steps/install.sh installs it" >&2; exit 1; }
 mkdir -p "$1"
 folder=$(realpath "$1")
-cc -O2 -shared -fPIC -o "$folder/calm.so" "$(dirname "$0")/calm.c" -ldl
 work=$(mktemp -d)
 trap 'rm -rf "$work"' EXIT
 xz --decompress --stdout --threads=0 $source | tar --extract --directory "$work" --strip-components=1 \

@@ -1,8 +1,9 @@
 #!/usr/bin/env bash
-# Builds the static library, and with it the worked rows, the traps that include/pie.h names, random events and the example in C, plainly and with
-# the address and undefined behaviour sanitizers; runs them; and compares the example's history with the stored one. Where python3 is
-# there, the library is asked for each number of the header's comments, and tests/shared/reference_texts.py computes the history again.
-# What cannot be run here, for want of a compiler say, is told on a line that begins with NOT RUN.
+# Builds the static library and, with it, the worked rows, the traps of docs/LIBRARY.md, random events and the
+# example in C, plainly, as position-independent executables with relro, now and -fcf-protection, and with the address
+# and undefined behaviour sanitizers; runs them, also under valgrind; and compares the example's history with the stored one. If python3 is installed, the library is called with each number of the
+# header's comments, and tests/shared/reference_texts.py computes the history again. Prints a line NOT RUN for a
+# missing program.
 # needs: library
 set -eu
 cd "$(dirname "$0")/../.."
@@ -37,6 +38,16 @@ check() {
 }
 
 check "plain" -O2
+if command -v valgrind > /dev/null; then
+    for program in rows "events 1 500" example; do
+        # shellcheck disable=SC2086
+        valgrind --quiet --leak-check=full --error-exitcode=1 "$work/"$program > "$work/output"
+    done
+    echo "bindings/c: rows, events and example pass (valgrind)"
+else
+    echo "NOT RUN: bindings/c: no valgrind here, so rows, events and example ran without"
+fi
+check "position-independent executables, relro, now, -fcf-protection" -O2 -fPIE -pie -fcf-protection=full -Wl,-z,relro -Wl,-z,now
 echo 'int main(void) { return 0; }' > "$work/empty.c"
 sanitizers="-O1 -g -fsanitize=address,undefined -fno-sanitize-recover=all"
 if "$cc" $sanitizers -o "$work/empty" "$work/empty.c" > "$work/empty.log" 2>&1; then

@@ -21,7 +21,7 @@
 
 enum { MOST = 64, EXCERPTS = 20 };
 
-/* What a caller was answered: how many calls, and a sum in which their order counts. */
+/* The results of a caller: the number of calls, and a sum that depends on their order. */
 struct sum {
     uint64_t count, order;
 };
@@ -37,7 +37,7 @@ static struct worker {
     uint64_t busy; /* times that another had the turn */
     pthread_t id;
 } workers[MOST];
-static atomic_ullong answered[MOST]; /* calls so far, for others to read */
+static atomic_ullong answered[MOST]; /* number of calls, for other threads to read */
 static atomic_int is_over, at_work;
 static struct pie_opening opening;
 static uint64_t start; /* the clock at the moment 0 */
@@ -127,7 +127,7 @@ static void *work(void *of) {
     return NULL;
 }
 
-/* Whether each of these has made a call since. */
+/* Returns true if each of these threads has made a call since. */
 static int have_gone_on(const unsigned long long *before, int threads) {
     int i;
     for (i = 1; i < threads; i++)
@@ -136,7 +136,7 @@ static int have_gone_on(const unsigned long long *before, int threads) {
     return 1;
 }
 
-/* Writes what the log holds, but no more than it has room for at once; whether it came to its end. */
+/* Writes the events of the log, at most what fits at once. Returns true if it reached the end of the log. */
 static int fold(void) {
     struct pie_event events[PIE_LINK_MOST];
     struct pie_params params;
@@ -204,7 +204,7 @@ static void run(int threads, double seconds, const char *sums) {
             for (i = 1; i < threads; i++)
                 before[i] = answered[i];
         }
-        /* (the others go on after the one that was cancelled, however long they wait for a processor) */
+        /* (the other threads continue after the cancelled one, however long they wait for a processor) */
         is_over = is_cancelled && now() > 2 * half && taken == EXCERPTS && have_gone_on(before, threads);
         CHECK(now() < 2 * half + UINT64_C(1200000000000));
         if (is_empty)
@@ -224,7 +224,7 @@ static void run(int threads, double seconds, const char *sums) {
     fprintf(stderr, "%llu calls without waiting found it busy\n", (unsigned long long)busy);
 }
 
-/* What an event's record comes to, at its number in the history. */
+/* Returns the sum of an event's record, at its number in the history. */
 static uint64_t sum_record(uint64_t number, const char *line) {
     for (; *line != 0; line++)
         number = (number ^ (unsigned char)*line) * UINT64_C(0x100000001b3);
@@ -240,7 +240,7 @@ static void add_record(uint64_t number, const char *line) {
     sums_so_far[number] = number == 0 ? 0 : sums_so_far[number - 1] + sum_record(number, line);
 }
 
-/* How many events an excerpt has: they are those of the text, from the number on that its first record tells. */
+/* Returns the number of events of an excerpt: they must be those of the text from the number in its first record on. */
 static uint64_t read_excerpt(const char *sums, int number, uint64_t events) {
     enum { COUNT = 29 }; /* the place of the number of events in a record that resumes */
     char line[2 * PIE_RESUME_ROOM], name[4096], *at = line;

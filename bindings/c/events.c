@@ -44,7 +44,7 @@ static uint64_t random_word(void) {
     return mixed ^ mixed >> 31;
 }
 
-/* What is written of an event, its parameters or a refusal, into this much room. */
+/* Writes an event, its parameters or a refusal into this much room. */
 static size_t write_into(const struct pie_event *event, const struct pie_params *params, unsigned char *out, size_t room) {
     if (event->answer > 100)
         return pie_write_refused(records, event->answer, out, room);
@@ -132,7 +132,7 @@ static void try_clock(uint64_t moment, uint64_t unix_time, const char *wanted) {
     }
 }
 
-/* .. at both ends of its numbers, at each other and at themselves. */
+/* Events with the least and greatest numbers, with each other's numbers and with their own. */
 static void try_clocks(void) {
     try_clock(0, 0, "clock,0,0\n");
     try_clock(0, UINT64_MAX, "clock,0,18446744073709551615\n");

@@ -31,13 +31,13 @@ struct link {
     struct pie_state pie;
 };
 
-/* How many records there are, and how many of them are events: the first are the opening and the time of day. */
+/* Number of records, and number of events among them: the first records are the opening and the clock. */
 static uint64_t records = 2, events;
 
-/* With the argument `trace` the records are printed as they are asked, without the answers. */
+/* With the argument `trace` the records are printed as commands, without the answers. */
 static int is_trace;
 
-/* A linear congruential generator, whose halves are mixed. It stands for the caller's entropy. */
+/* A linear congruential generator with mixed halves, in place of the caller's random words. */
 static uint64_t random_word(void) {
     static uint64_t last = 1;
     last = last * 6364136223846793005u + 1442695040888963407u;
@@ -154,7 +154,7 @@ int main(int count, char **words) {
             struct packet packet = {sent++, 0, 64, PIE_NOT_ECT};
             packet.size += (uint32_t)(random_word() % 1437);
             packet.ecn = (uint32_t)(random_word() % 4);
-            /* the sender's clock runs behind the others': the effective moment is the greatest so far */
+            /* the sender's clock is behind the others': the effective moment is the greatest so far */
             arrive(&link, packet, next_packet - 700);
             next_packet += sent < 80 ? 20 : packet.size * (BYTE_TIME * 2 / 3);
             if (next_packet > QUIET)

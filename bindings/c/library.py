@@ -33,7 +33,8 @@ def toolchain():
     return module
 
 
-# The toolchain's clang in front of which it stands: the call as it is, and then the same module as assembly. GNU's assembler has no .addrsig.
+# The toolchain's clang behind the wrapper: the call unchanged, then the same module as assembly. GNU's assembler
+# has no .addrsig.
 CLANG = """#!/bin/sh
 {keep}
 "{clang}" "$@" || exit
@@ -72,7 +73,8 @@ def compile_with_assembly(rtlib, crate):
 
 
 def with_memory():
-    """What the link asks memory by, which `rt lib` leaves to whoever links: the toolchain's few lines of C over malloc, realloc and free."""
+    """The link's allocation functions, which `rt lib` leaves to the linking program: the toolchain's few lines of C
+    over malloc, realloc and free."""
     archive = f"crates/{CRATE}/out/lib{CRATE}.a"
     if CRATE != "pie_link_c" or b"heap.pic.o" in subprocess.run(["ar", "t", archive], capture_output=True, check=True).stdout:
         return

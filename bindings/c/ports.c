@@ -63,7 +63,7 @@ static void folds(struct pie_port *port, uint64_t dq_threshold) {
     CHECK(pie_link_fold(port, events, PIE_LINK_MOST, &folded, &last, &params) == PIE_TOO_MANY && folded == 0 && last == 7 && events[0].tag == 10);
 }
 
-/* What calls() left behind: 7 events, of which a packet waits that arrived at 15000002. */
+/* The state after calls(): 7 events, and a queued packet that arrived at 15000002. */
 static void readings(struct pie_port *port, const struct pie_params *params) {
     struct pie_registers held;
     struct pie_totals totals;
@@ -112,7 +112,7 @@ static void calls(void) {
     CHECK(pie_link_gather(&port, &other) == PIE_APART && other.at != NULL);
     CHECK(pie_link_gather(&port, &third) == PIE_DONE && third.at == NULL && pie_link_gather(&port, &other) == PIE_DONE && other.at == NULL);
     CHECK(pie_link_share(&port, &other) == PIE_DONE);
-    /* packets: what is asked stays, the rest is filled in */
+    /* packets: the arguments stay, the results are filled in */
     event.prob = event.delay = event.burst = 5;
     event.reserved = 5;
     event.caller = 9;
@@ -301,7 +301,7 @@ static void bursts_of_several(void) {
     CHECK(pie_link_close(&ports[0]) == PIE_DONE);
 }
 
-/* The hint alone: one that is told of departures before their arrivals, and moments up to the greatest. */
+/* The hint alone: departures before their arrivals, and moments up to the greatest. */
 static void hints(void) {
     static struct pie_link_hint told;
     struct pie_event event = event_at(0, 1);
@@ -312,7 +312,7 @@ static void hints(void) {
     CHECK(pie_link_waiting(&told) == 0 && pie_link_due(&told) == 0);
     pie_link_tell_due(&told, 15000000);
     CHECK(pie_link_waiting(&told) == 0 && pie_link_due(&told) >= 15000000 && pie_link_due(&told) < 15000000 + (1 << 18));
-    pie_link_tell_due(&told, 14000000); /* told late: an earlier moment does not replace a later one */
+    pie_link_tell_due(&told, 14000000); /* a late call: an earlier moment does not replace a later one */
     CHECK(pie_link_due(&told) >= 15000000);
     event.kind = PIE_EVENT_ARRIVE;
     event.answer = PIE_MARK;
@@ -427,13 +427,14 @@ static void two_links(void) {
     CHECK(pie_link_arrive(&other, &event) == PIE_ENQUEUE && pie_link_close(&other) == PIE_DONE && pie_link_close(&other) == PIE_CLOSED);
 }
 
-/* Whether the next record of an excerpt is this text. */
+/* Returns true if the next record of an excerpt is this text. */
 static int is_next(struct pie_excerpt *excerpt, const unsigned char *text, size_t count) {
     unsigned char record[PIE_RESUME_ROOM];
     return pie_link_write_excerpt(excerpt, record, sizeof record) == count && memcmp(record, text, count) == 0;
 }
 
-/* The text of an excerpt of a link that was told these events: they wait in the order of their arrival, and nothing is missing from some event on. */
+/* Checks the text of an excerpt of a link with these events: they are in the order of their arrival, and none is
+ * missing after some event. */
 static void read_excerpt(struct pie_excerpt *excerpt, const struct pie_event *events, size_t count, size_t least) {
     unsigned char record[PIE_RESUME_ROOM + 1];
     char *at = (char *)record;
@@ -571,7 +572,7 @@ static void threads(void) {
     }
 }
 
-/* Each request for memory refused in turn: the linker lets these stand for malloc and realloc (-Wl,--wrap). */
+/* Each request for memory fails in turn: the linker replaces malloc and realloc by these (-Wl,--wrap). */
 #ifdef __cplusplus
 extern "C" {
 #endif
@@ -579,7 +580,7 @@ void *__real_malloc(size_t bytes);
 void *__real_realloc(void *at, size_t bytes);
 void *__wrap_malloc(size_t bytes);
 void *__wrap_realloc(void *at, size_t bytes);
-static long refused = -1; /* so many are granted before one is refused; -1: all */
+static long refused = -1; /* number of requests that succeed before one fails; -1: all */
 static int is_granted(void) {
     return refused < 0 || refused-- != 0;
 }

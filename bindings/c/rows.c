@@ -42,7 +42,7 @@ static struct pie_state opened(void) {
     return state;
 }
 
-/* The same with this probability and old delay, and no burst allowance. */
+/* A state with this probability and old delay, and no burst allowance. */
 static struct pie_state at(uint64_t prob, uint64_t old_delay) {
     struct pie_state state = opened();
     state.prob = prob;
@@ -62,7 +62,7 @@ static int same(const struct pie_state *a, const struct pie_state *b) {
     return memcmp(a, b, sizeof *a) == 0;
 }
 
-/* Texts with units: what tc(8) has of them, what is a byte and what a bit, what is refused. */
+/* Texts with units of tc(8): bytes and bits, and invalid texts. */
 static int texts(void) {
     static const struct {
         uint32_t (*read)(const char *, size_t, uint64_t *);
@@ -307,7 +307,7 @@ static int marks_and_drops(void) {
 /* Parameters under which 3072 bytes reach a third of the limit. */
 static const struct pie_params small = {2, 1, 5, 850000, 0, 1, 9000, ONE, 1024};
 
-/* Two packets of 1024 bytes arrive at a moment, where so many bytes wait. */
+/* Two packets of 1024 bytes arrive at a moment, with this many bytes in the queue. */
 static int two_more(struct pie_state *state, uint64_t queued, uint64_t moment) {
     CHECK(pie_arrive(state, queued, 1024, 7, PIE_NOT_ECT, 0, moment) == PIE_ENQUEUE);
     CHECK(pie_arrive(state, queued + 1024, 1024, 6, PIE_NOT_ECT, 0, moment) == PIE_ENQUEUE);
@@ -354,7 +354,7 @@ static int on_by_a_tail_drop(void) {
     return 0;
 }
 
-/* What comes in is looked at in one order, and a refused call changes nothing. */
+/* Arguments are checked in one order, and a refused call changes nothing. */
 static int refusals(void) {
     struct pie_state state = opened(), before = state;
     CHECK(pie_arrive(&state, UINT64_MAX, 0, 0, 4, 0, LATEST + 1) == PIE_BAD_MOMENT);
@@ -413,7 +413,7 @@ static int refusals(void) {
     return 0;
 }
 
-/* What no state stops: sums and a threshold at the greatest numbers, and numbers other than 1 that count as 0. */
+/* Any bits as a state: sums and a threshold at the greatest numbers, and numbers other than 1 that count as 0. */
 static int any_state(void) {
     struct pie_state state;
     memset(&state, 255, sizeof state);
@@ -530,7 +530,7 @@ static int what_stays(void) {
     return 0;
 }
 
-/* The choices: delays by time stamps, what is refused then, and each flag by what it does. */
+/* The choices: delays by time stamps with their errors, and the effect of each flag. */
 static int choices(void) {
     struct pie_params params;
     struct pie_state state;

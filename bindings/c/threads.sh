@@ -1,9 +1,10 @@
 #!/usr/bin/env bash
-# Several threads at one link by include/pie_link.h: the example in C (threads.c), the tests of the calls (ports.c, of the class in C++ ports.cc),
-# and a crowd of four and of eight threads (crowd.c) for two seconds each, or with --long for a minute; plainly and with the thread sanitizer, the
-# tests of the calls also with the address sanitizer, which finds memory that a closed port or excerpt keeps. What the crowd and the example fold, and
-# the excerpts that they take, are audited; in what the crowd folds each caller's calls stand once and in its order. C and C++ are also compiled with
-# more warnings, and linked together with -flto.
+# Runs several threads at one link by include/pie_link.h: the example in C (threads.c), the tests of the calls
+# (ports.c, and ports.cc for the C++ classes), and a crowd of four and of eight threads (crowd.c) for two seconds
+# each, or for a minute with --long; plainly and with the thread sanitizer. The tests of the calls also run with the
+# address sanitizer, which finds memory that a closed port or excerpt keeps. The folded events of the crowd and of
+# the example, and their excerpts, are audited; in the crowd's history each caller's calls must occur once and in
+# order. C and C++ are also compiled with more warnings, and linked together with -flto.
 # usage: bindings/c/threads.sh [--long] [PROGRAM]      PROGRAM: crates/pie/out/pie where none is given
 # needs: library, program
 set -euo pipefail

@@ -1,5 +1,5 @@
-/* What include/pie.h says of the clock, the timer, the random word, sizes, limits and parameters, tried over the library. Ends
- * with the status 1 where something is otherwise, and names its line. */
+/* Tests docs/LIBRARY.md over the library: the clock, the timer, the random word, sizes, limits and parameters.
+ * Exits with status 1 at the first statement that is not true, and prints its line. */
 #include "pie.h"
 
 #include <stdio.h>
@@ -142,7 +142,7 @@ static int limits_by_rate(void) {
     return 0;
 }
 
-/* The state's own parameters, handed in, do what a copy of them does. */
+/* The state's own parameters as an argument have the effect of a copy of them. */
 static int own_params(void) {
     struct pie_params copy = {14999999, 15000001, 150000002, 126, 1253, 1025, 262151, 100000000008, 32768};
     struct pie_state own = opened(3);
@@ -158,7 +158,7 @@ static int own_params(void) {
     return 0;
 }
 
-/* A link under overload: packets of 1000 bytes, six for each five that it can send, for so many of them. */
+/* A link under overload: packets of 1000 bytes, six for each five that it can send, this many in all. */
 struct outcome {
     uint64_t early, tail, most;
 };

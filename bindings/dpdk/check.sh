@@ -1,8 +1,9 @@
 #!/usr/bin/env bash
-# Builds the stage for DPDK and pie-fwd, and runs them without huge pages and cards: the tests of the stage, also with the sanitizers of
-# addresses and of threads; a slow link with overload beside rte_pie; null ports at full speed; pie-fwd, its files, its history, and its end by an
-# interrupt (fwd_test.py). In each of these no mbuf is lost, and each history is clean or tells its gaps. Where libdpdk is not installed, a line
-# that begins with NOT RUN says so. The flight recorder's texts, at full speed too, and each segment of a history that is cut are clean as well.
+# Builds the stage for DPDK and pie-fwd, and runs them without huge pages and network cards: the tests of the stage,
+# also with the address and thread sanitizers; a slow link under overload beside rte_pie; null ports at full speed;
+# pie-fwd with its files, its history, and its end by an interrupt (fwd_test.py). No mbuf may be lost, and each
+# history must be clean or report its gaps, also each segment and each text of the flight recorder. Prints a line
+# NOT RUN if libdpdk is not installed.
 # usage: bindings/dpdk/check.sh
 # needs: program, library, an early start
 set -u
@@ -29,7 +30,8 @@ step() {
     exit 1
 }
 
-# A history is clean up to its last event, or its audit ends at the first line that tells a gap. One that resumes says how many events came before.
+# A history is clean up to its last event, or its audit ends at the first line that reports a gap. An excerpt
+# contains the number of events before it.
 audited() {
     local gap found wanted
     gap=$(grep -n -m 1 '^lost,' "$1" | cut -d: -f1)
@@ -41,8 +43,9 @@ audited() {
     return 1
 }
 
-# The records of periods that a stage wrote are those of its history, whose parts after the first begin with what they resume from; or a line says how
-# many are missing, and these alone are. NAME.records has its periods' length in its name.
+# The interval records of a stage are those of its history, whose parts after the first begin with a preamble; or a
+# line has the number of missing records, and only these are missing. The name NAME.records contains the length of
+# an interval.
 summed() {
     local base=${1%.records} every part=0
     every=$(grep -oE '[0-9]{4,}' <<< "${base##*/}" | head -1)

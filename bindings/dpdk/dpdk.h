@@ -1,4 +1,4 @@
-/* What the files here take of DPDK, which the Makefile has the compiler read once. */
+/* The parts of DPDK that the files here use, compiled once as a precompiled header. */
 #include <rte_cycles.h>
 #include <rte_eal.h>
 #include <rte_errno.h>

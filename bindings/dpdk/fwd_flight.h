@@ -1,4 +1,4 @@
-/* What a stage's flight recorder holds, written to a file. */
+/* Writes the text of a stage's flight recorder to a file. */
 #ifndef FWD_FLIGHT_H
 #define FWD_FLIGHT_H
 

@@ -1,4 +1,4 @@
-/* Whose the packets are that come, told in a file for all queues (examples/shared/flow.h). */
+/* Flows of arriving packets, listed in a file for all queues (examples/shared/flow.h). */
 #ifndef FWD_FLOWS_H
 #define FWD_FLOWS_H
 
@@ -15,7 +15,8 @@ struct fwd_flows {
 /* Opens the file, NULL for none; false where that fails, with errno. */
 bool fwd_flows_open(struct fwd_flows *flows, const char *path);
 
-/* A packet's flow, for a stage: its number, which the file tells from then on; 0 of one without an IP header. `user` is the struct fwd_flows. */
+/* Returns the number of a packet's flow for a stage, which the file lists from then on; 0 without an IP header.
+ * `user` is the struct fwd_flows. */
 uint32_t fwd_flow_of(void *user, const struct rte_mbuf *mbuf);
 
 /* Writes the rest, and closes the file; false where not all could be written. */

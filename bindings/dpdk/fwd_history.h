@@ -1,4 +1,4 @@
-/* The history of a stage, written to a file, or to segments of which each stands alone. */
+/* Writes the history of a stage to a file, or to segments, each of which can be audited alone. */
 #ifndef FWD_HISTORY_H
 #define FWD_HISTORY_H
 
@@ -11,7 +11,7 @@ struct fwd_history {
     FILE *file;            /* NULL where none is written, or no more */
     char path[PATH_MAX];
     char name[PATH_MAX];   /* of the file: the path, or PATH.<segment> */
-    uint64_t rotate;       /* bytes, after which a segment ends; 0: it is one text */
+    uint64_t rotate;       /* bytes after which a segment ends; 0: one text */
     uint64_t segments;     /* that are kept, the last ones; 0: all */
     uint64_t segment;      /* the number of this one, from 1 on */
     uint64_t bytes, lost;  /* in this segment; events lost to the history when it was begun */
@@ -22,8 +22,9 @@ struct fwd_history {
 /* Opens the file of a queue (fwd_queue_name), NULL for none; false where that fails, with errno. */
 bool fwd_history_open(struct fwd_history *history, const char *path, uint32_t queue, uint64_t rotate, uint64_t segments);
 
-/* Writes some of what waits, and answers whether there was anything; a segment that is long enough, or that tells a gap, is the last of its file.
- * Where the file takes no more, it says so once on stderr and writes nothing from then on: the stage counts as lost what is not taken out. */
+/* Writes a part of the pending text. Returns true if there was any. A segment that is long enough, or that reports
+ * a gap, is the last of its file. If the file cannot be written, prints an error once and writes nothing from then
+ * on: the stage counts the events that are not taken out as lost. */
 bool fwd_history_write(struct fwd_history *history, struct pie_stage *stage);
 
 /* Writes the rest when no lcore calls the stage any more, and closes the file; false where not all could be written. */

@@ -47,7 +47,7 @@ static const char more_help[] =
     "  pie-fwd --no-huge -m 512 --no-pci --no-shconf --vdev=net_null0,size=1000 --vdev=net_ring0 --lcores '(0-2)@(0-3)' -- \\\n"
     "      --rate 100mbit --receive 120mbit --for 5s\n";
 
-/* Whether a rate of bits a second can be shaped. */
+/* Returns true if a rate in bits per second can be shaped. */
 static bool is_rate(uint64_t rate) {
     return rate >= 1000 && rate <= MOST_RATE;
 }

@@ -8,7 +8,7 @@
 struct fwd_options {
     struct pie_stage_params stage;
     uint64_t rate;         /* bits a second */
-    uint64_t received;     /* bits a second that are received at the most, 0: no bound */
+    uint64_t received;     /* the most bits per second that are received; 0: no limit */
     uint64_t lasts;        /* nanoseconds, 0: until a signal */
     uint64_t mbufs;        /* in the pool */
     uint64_t queues;       /* of the link, 1 to FWD_QUEUES */
@@ -19,7 +19,7 @@ struct fwd_options {
     uint64_t rotate;       /* bytes of a segment of the history, 0: it is one text */
     uint64_t segments;     /* that are kept, 0: all */
     const char *flight;    /* where the flight recorder's text goes, never NULL */
-    const char *flows;     /* the file that tells flows, or NULL */
+    const char *flows;     /* the file that lists flows, or NULL */
     const char *records;   /* of the records of periods, or NULL */
 };
 

@@ -1,5 +1,5 @@
-/* A pace: no more than so many bytes a second. What was not moved in time is made up for, but of a pause 10 ms at the most: as a link that was
- * held up, and not as one that saved up time. */
+/* A pace: a limit in bytes per second. Time during which too little was sent is made up for, but at most 10 ms of a
+ * pause, like a link that was delayed and not like one that accumulated credit. */
 #ifndef FWD_PACE_H
 #define FWD_PACE_H
 

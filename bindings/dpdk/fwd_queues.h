@@ -16,7 +16,8 @@ struct fwd_queues {
     uint32_t turn;
 };
 
-/* Makes so many stages with these parameters, `name` and behind it -1, -2 and so on; false where that fails, with rte_errno. */
+/* Makes `count` stages with these parameters, with the names `name`-1, `name`-2 and so on. Returns false with
+ * rte_errno if that fails. */
 bool fwd_queues_create(struct fwd_queues *queues, uint32_t count, const char *name, const struct pie_stage_params *params);
 
 void fwd_queues_free(struct fwd_queues *queues);
@@ -24,14 +25,15 @@ void fwd_queues_free(struct fwd_queues *queues);
 /* A file's name for a queue: that of the first as it is, and of the others with -1, -2 and so on behind it; false where it is too long, with errno. */
 bool fwd_queue_name(char name[PATH_MAX], const char *path, uint32_t queue);
 
-/* The queue of a packet among so many: by the three highest bits of its DS field (the class selector of RFC 2474, section 4.2.2), the eight classes
- * in equal parts; the first without an IP header. */
+/* Returns the queue of a packet among `count`: by the three highest bits of its DS field (the class selector of RFC
+ * 2474, section 4.2.2), the eight classes in equal parts; the first queue without an IP header. */
 uint32_t fwd_queue_of(const struct rte_mbuf *mbuf, uint32_t count);
 
 /* Enqueues a burst, each packet to its queue; those that are dropped are freed. At most 32 packets. */
 void fwd_queues_enqueue(struct fwd_queues *queues, struct rte_mbuf **mbufs, uint32_t count, uint64_t now);
 
-/* Hands out up to `count` packets as long as fewer than `bytes` were; answers how many. By the one lcore that sends. */
+/* Dequeues up to `count` packets while fewer than `bytes` were dequeued. Returns their number. Only the sending
+ * lcore may call it. */
 uint32_t fwd_queues_dequeue(struct fwd_queues *queues, struct rte_mbuf **mbufs, uint32_t count, uint64_t bytes, uint64_t now);
 
 /* Makes the updates that are due. */

@@ -1,8 +1,9 @@
 #!/usr/bin/env python3
-"""Runs pie-fwd between a null port and a ring, several at once: what it refuses, its end by an interrupt, its files, its telemetry, by which
-parameters are set, its history, at full speed and by a device that is full, in segments, and of the last events alone, its records of periods beside
-that history, and flows of a capture; no mbuf is lost. How fast the machine is plays no part: what takes its time is waited for. With --real-time it
-runs nothing else than one that holds its target in real time, at raised priority, for which a processor has to be free.
+"""Runs pie-fwd between a null port and a ring, several instances at once, and tests errors, its end by an
+interrupt, its files, its telemetry with changes of parameters, its history (at full speed, on a full device, in
+segments, and of the last events), its interval records compared with that history, and the flows of a capture. No
+mbuf may be lost. The tests do not depend on the machine's speed: they wait for conditions. With --real-time it runs
+only one instance that must hold its target in real time, at raised priority, and needs a free processor.
 
 usage: bindings/dpdk/fwd_test.py PIE_FWD PIE [--real-time]"""
 import contextlib
@@ -62,7 +63,7 @@ def running(ports, *words):
 
 
 def interrupted(process):
-    """Ends it, and answers its status, and what it printed since."""
+    """Ends the program. Returns its status, and its output since the last call."""
     process.send_signal(signal.SIGINT)
     printed, errors = process.communicate(timeout=PATIENCE)
     return process.returncode, printed, errors
@@ -77,7 +78,7 @@ def told(printed):
 
 def refused():
     for ports, words, said in (
-        (RING, ["--rate", "5"], "--rate 5: refused: no number with a unit"),
+        (RING, ["--rate", "5"], "--rate 5: refused: not a number with a unit"),
         (RING, ["--history", "/nowhere/history"], "the file of --history: No such file"),
         (RING, ["--history", "/dev/null", "--total-num-mbufs", "4194304", "--limit", "1048577p"], "--limit: out of its range"),
         (RING, ["--limit", "4097p"], "--limit: out of its range"),
@@ -90,7 +91,7 @@ def refused():
         (RING, ["--records", "/nowhere/records"], "the file of --records: No such file"),
         (RING, ["--records", "/dev/null", "--every", "0s"], "--every: out of its range"),
         (RING, ["--flows", "/nowhere/flows"], "the file of --flows: No such file"),
-        (RING, ["--flight-wait", "5"], "--flight-wait 5: refused: no number with a unit"),
+        (RING, ["--flight-wait", "5"], "--flight-wait 5: refused: not a number with a unit"),
         (RING[:1], [], "there are 1 ports"),
     ):
         status, _, errors = run(ports, *words)
@@ -101,7 +102,7 @@ def refused():
 
 
 def interrupt():
-    """Its files while it runs, and its end, after which that of the metrics is gone."""
+    """Checks its files while it runs, and its end, after which the metrics file is gone."""
     with tempfile.TemporaryDirectory() as work:
         words = ["--total-num-mbufs", "8192", "--rate=100mbit", "--limit", "100p", "--metrics", f"{work}/pie.prom", "--json", f"{work}/json"]
         process = subprocess.Popen(command(RING, *words), stdout=subprocess.PIPE, text=True)
@@ -152,15 +153,15 @@ def files(metrics, queues):
 
 
 def lint(metrics):
-    """What node_exporter's textfile collector would say of the metrics: promtool finds nothing wrong with them."""
+    """Checks the metrics as node_exporter's textfile collector would: promtool must accept them."""
     if shutil.which("promtool") is not None:
         done = subprocess.run(["promtool", "check", "metrics"], input=metrics, capture_output=True, text=True, check=False)
         assert (done.returncode, done.stdout, done.stderr) == (0, "", ""), done
 
 
 def audited(path):
-    """What an audit says of a history: of one with gaps the record of the first of them, which is what it has to say. Answers the number of the
-    event before the text, and of its last."""
+    """Audits a history; one with gaps must end with a fault at the first of them. Returns the number of the event
+    before the text, and of its last event."""
     text = Path(path).read_bytes()
     first = text.split(NEWLINE, 1)[0].split(b",")
     before = int(first[-31]) if first[0] == b"resume" else 0
@@ -177,7 +178,8 @@ def now():
 
 
 def tells_time(path, since):
-    """Each event of a text is told by a time of day that isn't earlier than this one, nor later than now; each text has one record of it."""
+    """Checks that each event of a text has a wall-clock time between this one and now, and that each text has one
+    clock record."""
     done = subprocess.run([PIE, "explain", "--all", "--csv", "--wall", path], stdout=subprocess.PIPE, text=True, check=True)
     times = [line.rpartition(",")[2] for line in done.stdout.splitlines()[1:]]
     assert times and since <= min(times) and max(times) <= now(), (since, min(times), max(times), now())
@@ -185,7 +187,8 @@ def tells_time(path, since):
 
 
 def holds_records(records, history, every):
-    """The records are those of the history, or a line tells how many periods are missing, and these alone are."""
+    """Checks that the records are those of the history, or that a line has the number of missing intervals, and
+    that only these are missing."""
     done = subprocess.run([PIE, "explain", "--every", every, "--csv", "--wall", history], stdout=subprocess.PIPE, text=True, check=True)
     wanted = iter(done.stdout.splitlines())
     found = Path(records).read_text().splitlines()
@@ -230,7 +233,8 @@ def ask(telemetry, command):
 
 
 def telemetry():
-    """What it tells of the stage while that runs, and new parameters, which are in force from then on and stand in the history."""
+    """Checks the telemetry of a running stage, and new parameters, which must be in force from then on and be in
+    the history."""
     with tempfile.TemporaryDirectory() as work:
         path = f"{work}/history"
         words = ("--rate", "20mbit", "--receive", "24mbit", "--history", path, "--records", f"{work}/records", "--every", "100ms")
@@ -264,13 +268,14 @@ def telemetry():
 
 
 def is_updated_within(path, time_between):
-    """Whether two updates behind new parameters were made in less time than this."""
+    """Returns true if two updates after new parameters took less time than this."""
     moments = [int(moment) for moment in re.findall(r"^update,\d+,(\d+),", Path(path).read_text().partition("\nparams,")[2], re.M)]
     return any(other - one < time_between for one, other in zip(moments, moments[1:]))
 
 
 def full_speed():
-    """Null ports at full speed with a history: each event stands in it or is told as lost, and what comes before a gap is clean."""
+    """Runs null ports at full speed with a history: each event is in it or counted as lost, and the text before a
+    gap is clean."""
     with tempfile.TemporaryDirectory() as work:
         pipe, first = f"{work}/history", Path(work, "first")
         os.mkfifo(pipe)
@@ -295,7 +300,7 @@ def full_speed():
 
 
 def history_lines(history):
-    """What is read, in whole lines."""
+    """Returns the output read so far, in whole lines."""
     rest = b""
     while chunk := history.read(1 << 20):
         whole, newline, after = (rest + chunk).rpartition(NEWLINE)
@@ -306,7 +311,8 @@ def history_lines(history):
 
 
 def queues():
-    """Two queues, of which packets without an IP header take the first: lines, metrics, JSON, histories and flight recorders of each."""
+    """Runs two queues; packets without an IP header use the first: lines, metrics, JSON, histories and flight
+    recorders of each."""
     with tempfile.TemporaryDirectory() as work:
         words = ["--rate", "20mbit", "--receive", "24mbit", "--queues", "2", "--limit", "400p", "--history", f"{work}/history", "--flight", f"{work}/flight",
                  "--metrics", f"{work}/pie.prom", "--json", f"{work}/json", "--records", f"{work}/records", "--every", "150ms", "--profile", "2"]
@@ -397,7 +403,8 @@ def flows():
 
 
 def device_full():
-    """It goes on, says it once, and ends with status 1. One whose lines nobody reads any more ends, with everything freed."""
+    """Checks that the program continues, reports the error once, and ends with status 1; and that it ends with
+    everything freed if its output is closed."""
     status, printed, errors = run(PACED, "--total-num-mbufs=2048", "--receive", "20mbit", "--for", "1s", "--history", "/dev/full")
     assert status == 1 and errors.count("--history /dev/full: No space left on device") == 1, (status, errors)
     told(printed)
@@ -423,7 +430,8 @@ def paced():
 
 
 def flight():
-    """Null ports at full speed with the flight recorder, whose text is asked for by signals; and one that is asked for by a wait."""
+    """Runs null ports at full speed with the flight recorder, whose text is requested by signals; and with one that
+    is requested by a long wait."""
     with tempfile.TemporaryDirectory() as work:
         path, kept = f"{work}/flight", 30000
         process = subprocess.Popen(command(RING, "--total-num-mbufs=8192", "--rate", "10gbit", "--flight", path, "--flight-events", str(kept)),
@@ -457,7 +465,8 @@ def flight():
 
 
 def segments():
-    """A history in segments, of which the last ones are kept: each stands alone, and begins where the one before ends."""
+    """Checks a history in segments, the last of which are kept: each can be audited alone, and begins where the one
+    before ends."""
     with tempfile.TemporaryDirectory() as work:
         path, since = Path(work, "history"), now()
         words = ["--rate", "100mbit", "--receive", "120mbit", "--history", str(path), "--rotate", "64kb", "--segments", "3"]

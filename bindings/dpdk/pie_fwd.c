@@ -27,7 +27,7 @@
 
 #define BURST 32
 #define DESCRIPTORS 512
-#define DRAIN 1000 /* polls of a port without a packet, after which it is empty */
+#define DRAIN 1000 /* polls without a packet after which a port counts as empty */
 
 enum { IN, OUT }; /* the ports, by their numbers */
 

@@ -1,5 +1,5 @@
-/* The sorts by which waits and probabilities are counted, for histograms: a sort has those up to its bound, and above that of the sort before. The
- * last has no bound. */
+/* Buckets of waiting times and probabilities for histograms: a bucket counts values up to its bound and above the
+ * bound of the one before. The last has no bound. */
 #ifndef PIE_SORTS_H
 #define PIE_SORTS_H
 

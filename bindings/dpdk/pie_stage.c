@@ -17,20 +17,20 @@
 #define SMALLEST 64u /* bytes of an Ethernet frame */
 #define AHEAD 12u /* events ahead whose places are fetched */
 
-/* What was seen of a packet that arrives. */
+/* The properties of an arriving packet. */
 struct seen {
     struct stage_packet packet; /* its ECN field as the controller gets it: PIE_NOT_ECT of what cannot be marked */
     uint32_t size;
 };
 
-/* What was seen of those of a burst that cannot be marked. */
+/* The numbers of packets of a burst that cannot be marked. */
 struct unmarkable {
     uint32_t no_ip, shared;
 };
 
 /* A turn at the lock. */
 struct turn {
-    uint64_t moment;  /* as it was handed in */
+    uint64_t moment;  /* the caller's moment */
     uint64_t reached; /* the controller's moment from here on: the greatest so far */
     uint16_t caller;  /* of a stage that records */
 };
@@ -85,7 +85,7 @@ static int open_periods(struct pie_stage *stage, const struct pie_stage_params *
     return is_open ? 0 : EINVAL;
 }
 
-/* Takes the memory for flows, which stand in events alone; 0, or what rte_errno becomes. */
+/* Allocates the memory for flows, which only events contain. Returns 0, or the value for rte_errno. */
 static int open_flows(struct pie_stage *stage, const struct pie_stage_params *params, int socket) {
     if (params->flow == NULL || stage->memory == NULL)
         return 0;

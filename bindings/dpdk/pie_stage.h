@@ -72,19 +72,21 @@ struct pie_stage_params {
     struct pie_opening opening; /* of the controller, by the stage's clock, which begins at 0; its `packets` are what the queue has room for */
     bool ecn;                   /* mark packets whose ECN field allows it; else they are dropped, as others */
     bool hands_back;            /* dropped mbufs are handed back to whoever enqueued them; else the stage frees them */
-    uint32_t flight;            /* how many of the last events the flight recorder keeps at the least, up to 2^24, each of some 100 bytes with the
-                                   memory for a copy; 0: its text is not asked for */
-    uint64_t flight_wait;       /* a packet that waited longer than so many nanoseconds asks for the flight recorder's text; 0: none does */
-    uint32_t events;            /* how many events at the least may wait for who writes the whole history, up to 2^24, each of some 50 bytes, in the
-                                   flight recorder's memory; 0: nobody does */
-    pie_stage_flow flow;        /* asked by the lcore that enqueues, before it takes the lock, for each packet of a stage that keeps events; NULL:
-                                   tags tell no flows */
+    uint32_t flight;            /* the least number of events that the flight recorder keeps, up to 2^24, each of
+                                   about 100 bytes with the memory for a copy; 0: its text is never requested */
+    uint64_t flight_wait;       /* a packet that waited longer than this many nanoseconds requests the flight
+                                   recorder's text; 0: none does */
+    uint32_t events;            /* the least number of events that may be pending for the writer of the whole
+                                   history, up to 2^24, each of about 50 bytes, in the flight recorder's memory; 0:
+                                   no history is written */
+    pie_stage_flow flow;        /* called by the lcore that enqueues, before it takes the lock, for each packet of a
+                                   stage that keeps events; NULL: tags contain no flows */
     void *flow_user;
     uint64_t every;             /* how long a period lasts whose events are summed up, 1 to 2^60 - 1 ns; 0: none are */
 };
 
-/* What a stage counted since it was made, and what it holds now. Each packet that was enqueued is counted once as queued (of these some are
- * marked), early, bytes, full, oversized or refused. */
+/* The statistics of a stage since it was created, and its present state. Each enqueued packet is counted once, as
+ * queued (some of these are marked), early, bytes, full, oversized or refused. */
 struct pie_stage_stats {
     uint64_t queued;         /* packets taken in */
     uint64_t marked;         /* of these, packets marked */
@@ -96,19 +98,20 @@ struct pie_stage_stats {
     uint64_t refused;        /* dropped since the controller refused the arrival: 0 in a sound program */
     uint64_t no_ip;          /* packets without an IP header where the stage looked for it: they are never marked. It looks at headers while the
                                 probability is above 0, and of a recorded stage always */
-    uint64_t shared;         /* packets that could be marked but for a header that others hold too (reference count above 1, a clone): never marked;
-                                of those whose header it looked at */
+    uint64_t shared;         /* packets that could be marked but share their header with others (reference count
+                                above 1, a clone) and are never marked; only packets whose header was read are
+                                counted */
     uint64_t departed;       /* packets handed to the sender */
     uint64_t departed_bytes; /* their bytes */
     uint64_t waited;         /* nanoseconds that they waited, all together: the low 64 bits */
-    uint64_t waited_high;    /* .. and the high 64 bits */
+    uint64_t waited_high;    /* the upper 64 bits of that sum */
     uint64_t longest;        /* nanoseconds that the longest of these waits took */
     uint64_t waits[PIE_WAIT_SORTS]; /* packets by the sorts of their waits (pie_sorts.h) */
     uint64_t updates;        /* updates made */
     uint64_t late;           /* of these, updates made more than t_update after they were due */
     uint64_t probs[PIE_PROB_SORTS]; /* updates by the sorts of the probability after them */
     uint64_t probs_sum;      /* these probabilities, all together: the low 64 bits */
-    uint64_t probs_high;     /* .. and the high 64 bits */
+    uint64_t probs_high;     /* the upper 64 bits of that sum */
     uint64_t changes;        /* changes of the parameters */
     uint64_t earlier;        /* calls with packets whose `now` was earlier than one before it */
     uint64_t most;           /* packets, the most that the queue held */
@@ -135,14 +138,15 @@ struct pie_stage *pie_stage_create(const char *name, const struct pie_stage_para
 /* Frees a stage and the mbufs that wait in it. NULL is fine. */
 void pie_stage_free(struct pie_stage *stage);
 
-/* Enqueues a burst in its order, and makes an update first where one is due. Answers how many were queued. `mbufs` is put in order: first those
- * that were queued, which are the stage's now, then those that were dropped: the caller's again with hands_back, and else freed. */
+/* Enqueues a burst in order, after an update if one is due. Returns the number of queued packets. `mbufs` is
+ * reordered: first the queued packets, which the stage now owns, then the dropped ones, which the caller owns with
+ * hands_back and which are freed otherwise. */
 uint32_t pie_stage_enqueue(struct pie_stage *stage, struct rte_mbuf **mbufs, uint32_t count, uint64_t now);
 
 /* Hands out up to `count` of the packets that have waited longest, and answers how many. */
 uint32_t pie_stage_dequeue(struct pie_stage *stage, struct rte_mbuf **mbufs, uint32_t count, uint64_t now);
 
-/* The same as long as fewer than `bytes` were handed out in this call: the last packet may exceed it. */
+/* Dequeues as pie_stage_dequeue, while fewer than `bytes` were dequeued in this call: the last packet may exceed it. */
 uint32_t pie_stage_dequeue_bytes(struct pie_stage *stage, struct rte_mbuf **mbufs, uint32_t count, uint64_t bytes, uint64_t now);
 
 /* Makes an update where one is due, and answers whether it did. Enqueuing and dequeuing packets does so too; a timer is for the times without. */
@@ -158,33 +162,37 @@ void pie_stage_read_params(struct pie_stage *stage, struct pie_params *params);
 /* Reads the statistics, all at one moment. */
 void pie_stage_read(struct pie_stage *stage, struct pie_stage_stats *stats);
 
-/* Writes what the flight recorder holds, as pie_flight_dump: at least the last `flight` events, if no more than an eighth of these came while it was
- * copied. One thread at a time; it holds the lock for 256 packets of the queue at once, and not while it writes. PIE_FLIGHT_NONE where the stage
- * has no flight recorder. */
+/* Writes the text of the flight recorder, as pie_flight_dump: at least the last `flight` events, if at most an
+ * eighth of these arrived during the copy. One thread at a time; it holds the lock for 256 packets of the queue at
+ * once, and not while it writes. Returns PIE_FLIGHT_NONE if the stage has no flight recorder. */
 int pie_stage_flight(struct pie_stage *stage, pie_flight_write write, void *user);
 
-/* Whether a packet waited longer than flight_wait since this was asked last. */
+/* Returns true if a packet waited longer than flight_wait since the last call. */
 bool pie_stage_flight_is_asked(struct pie_stage *stage);
 
-/* Writes the history as text: what came since the last call, whole lines, from the history's first record on. Answers how many bytes there are, 0
- * where there is nothing now or `events` is 0; once it answers 0 when no other thread calls the stage any more, the history is whole. `room` is at
- * least PIE_RECORD_ROOM, after a cut PIE_RESUME_ROOM. One thread at a time; it takes no lock and holds up no other call. Where it came too late, a
- * line `lost,<count>` stands for so many events, where an audit ends; a text that stands alone begins with the next cut. */
+/* Writes the history as text: the events since the last call, in whole lines, from the first record on. Returns the
+ * number of bytes; 0 if there is nothing now or `events` is 0. When it returns 0 after the last call of any other
+ * thread, the history is complete. `room` is at least PIE_RECORD_ROOM, after a cut PIE_RESUME_ROOM. One thread at a
+ * time; it takes no lock and delays no other call. If it was called too late, a line `lost,<count>` has the number
+ * of missing events, and an audit ends there; an excerpt begins with the next cut. */
 size_t pie_stage_history(struct pie_stage *stage, unsigned char *text, size_t room);
 
-/* Cuts the history here: pie_stage_history writes the text up to this moment, answers 0 once where it is whole, and from then on writes a new
- * text, which resumes (docs/FORMATS.md) and stands alone. A gap stays in the text before the cut. By the thread that writes the history. Answers
- * false, and cuts nothing, where `events` is 0, nothing was written yet, or the text before the last cut is not yet whole. The lock is held
- * for 256 of the packets that wait at once; for more only while packets come as quickly as they are copied. */
+/* Cuts the history: pie_stage_history writes the text up to this moment, returns 0 once when it is complete, and
+ * from then on writes a new excerpt (docs/FORMATS.md). A gap stays in the text before the cut. The thread that
+ * writes the history calls it. Returns false and cuts nothing if `events` is 0, if nothing was written yet, or if
+ * the text before the last cut is not complete. The lock is held for 256 queued packets at once; for more only
+ * while packets arrive as fast as they are copied. */
 bool pie_stage_history_cut(struct pie_stage *stage);
 
-/* Writes the header row, or the record of the next period that is over: as `pie explain --every --csv --wall` writes them of the history. Answers
- * how many bytes it has, 0 where there is none now or `every` is 0. `is_over`: no other thread calls the stage any more, and the last period is over
- * too. `room` is at least PIE_RESUME_ROOM. One thread at a time; it holds up no other call but once, for the header. Eight periods wait for who
- * writes; where it came too late, a line `lost,<count>` stands for so many. */
+/* Writes the header row, or the record of the next complete interval, as `pie explain --every --csv --wall` writes
+ * them for the history. Returns the number of bytes; 0 if there is none now or `every` is 0. `is_over`: no other
+ * thread calls the stage any more, and the last interval is complete too. `room` is at least PIE_RESUME_ROOM. One
+ * thread at a time; it delays no other call except once, for the header. Eight intervals may be pending; if it was
+ * called too late, a line `lost,<count>` has the number of missing intervals. */
 size_t pie_stage_record(struct pie_stage *stage, bool is_over, unsigned char *text, size_t room);
 
-/* Nanoseconds in so many cycles of the TSC, by the clock of the stage. It rounds down, and is exact to 10^-13. */
+/* Converts cycles of the TSC to nanoseconds by the clock of the stage. The result is rounded down, and exact to
+ * 10^-13. */
 uint64_t pie_stage_nanoseconds(const struct pie_stage *stage, uint64_t cycles);
 
 #ifdef __cplusplus

@@ -87,7 +87,7 @@ static bool write_record(FILE *file) {
     return size != 0;
 }
 
-/* The same load for each: sizes and spaces from a seed. */
+/* Generates the same load for each: sizes and gaps from a seed. */
 static uint64_t next_random(uint64_t *state) {
     *state ^= *state << 13;
     *state ^= *state >> 7;

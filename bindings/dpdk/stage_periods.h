@@ -8,14 +8,14 @@
 #include <rte_memory.h>
 #include <stdbool.h>
 
-#define STAGE_PERIODS 8 /* that are over and wait to be written, at the most */
+#define STAGE_PERIODS 8 /* the most complete intervals that may be pending */
 
 struct stage_periods {
     struct pie_period current;
     uint64_t handed; /* the number of the last one that is over: it was handed to the writer, or lost */
     uint64_t over;   /* how many were handed to the writer */
     uint64_t written __rte_cache_aligned; /* how many of those the writer has written .. */
-    uint64_t number;                      /* .. and the number of the last, with those that were lost before it */
+    uint64_t number;                      /* the number of the last one, with those lost before it */
     bool is_begun;                        /* the text has its header row */
     struct pie_period ended[STAGE_PERIODS];
 };
@@ -35,7 +35,8 @@ static inline bool stage_periods_is_over(const struct stage_periods *periods, ui
     return moment >= periods->current.end && periods->current.begun != periods->handed;
 }
 
-/* By the writer: the next record, or a line that tells how many are missing before it. Answers the bytes, 0 where there is none. */
+/* Writes the next record, or a line with the number of records missing before it. Returns the number of bytes; 0 if
+ * there is none. The writer calls it. */
 static inline size_t stage_periods_write(struct stage_periods *periods, unsigned char *text, size_t room) {
     const struct pie_period *next = &periods->ended[periods->written % STAGE_PERIODS];
     if (periods->written == __atomic_load_n(&periods->over, __ATOMIC_ACQUIRE))

@@ -1,4 +1,4 @@
-/* What the parts of the stage share: pie_stage.c decides, and stage_texts.c writes what was decided as text. */
+/* Shared by the parts of the stage: pie_stage.c decides, and stage_texts.c writes the decisions as text. */
 #ifndef STAGE_STATE_H
 #define STAGE_STATE_H
 
@@ -30,25 +30,26 @@ struct clock {
     uint64_t moment, unix_time; /* nanoseconds since 1970 */
 };
 
-/* Where the text of a history is cut, and what the next text begins with. */
+/* The place of a cut in the text of a history, and the preamble of the next text. */
 struct cut {
-    enum { NONE, AHEAD_OF_US, REACHED, BEGUN } state; /* of its writer: none; the old text goes on; 0 was answered; the new text begins */
+    enum { NONE, AHEAD_OF_US, REACHED, BEGUN } state; /* the writer's phase: no cut; the old text continues; 0 was
+                                                         returned; the new text begins */
     uint64_t at;                                     /* the old text ends before the event of this number */
     struct pie_state pie;
     struct pie_stats stats;
-    uint64_t count, bytes;  /* events so far, bytes that wait */
+    uint64_t count, bytes;  /* number of events, bytes in the queue */
     uint64_t first;         /* the number of the oldest packet that waits */
-    uint32_t packets, told; /* packets that wait, and those of them that are told */
+    uint32_t packets, told; /* queued packets, and those of them already written */
     struct waiting *queue;  /* memory for those: number n is at the place n modulo the queue's room .. */
-    uint32_t *flows;        /* .. and for their flows, NULL where nobody asks for them */
-    struct clock clock;     /* by which the events from there on are told */
+    uint32_t *flows;        /* for their flows; NULL if no flows are used */
+    struct clock clock;     /* for the events from there on */
 };
 
-/* What a stage records. */
+/* The recorder of a stage. */
 enum record {
     NOTHING,
     FLIGHT, /* the last events */
-    MORE    /* what is asked for of these, sums of periods, and flows: this is looked up for each packet */
+    MORE    /* true if events, interval sums or flows are requested: checked for each packet */
 };
 
 struct pie_stage {
@@ -56,23 +57,23 @@ struct pie_stage {
     uint64_t start;  /* cycles of the TSC at moment 0 */
     uint64_t factor; /* nanoseconds in a cycle, times 2^SHIFT */
     void *memory;            /* of the flight recorder, NULL with none */
-    void *scratch;           /* for its text, NULL where none is asked for */
+    void *scratch;           /* for its text; NULL if none is requested */
     bool is_followed;        /* the history is written */
     size_t memory_bytes;
     uint64_t longest; /* a wait above this many nanoseconds asks for the flight recorder's text */
     enum record record;
-    struct stage_periods *periods; /* NULL where no records of periods are asked for */
+    struct stage_periods *periods; /* NULL if no interval records are requested */
     pie_stage_flow flow;           /* NULL where flows are not asked for */
     void *flow_user;
     uint32_t *flows;               /* of the packets that wait: number n's is at the place n modulo the queue's room */
     uint32_t room;
     bool ecn, hands_back;
 
-    struct pie_flight_follower follower __rte_cache_aligned; /* of who writes the history */
+    struct pie_flight_follower follower __rte_cache_aligned; /* of the history's writer */
     uint64_t reached, missed;                                /* the number of its next event, and how many it missed, for all to read */
     struct pie_history text;
     struct clock clock;
-    bool is_timed; /* the text has told it */
+    bool is_timed; /* the text contains it */
     struct pie_opening opening;
     struct cut cut;
 
@@ -107,7 +108,7 @@ static inline struct clock read_clock(const struct pie_stage *stage) {
     return (struct clock){moment, (uint64_t)now.tv_sec * 1000000000u + (uint64_t)now.tv_nsec};
 }
 
-/* Under the lock, the statistics of the history so far. */
+/* Returns the statistics of the history. The lock is held. */
 static inline struct pie_stats history_stats(const struct pie_stage *stage) {
     const struct pie_stage_stats *stats = &stage->stats;
     return (struct pie_stats){
@@ -128,7 +129,8 @@ static inline struct pie_stats history_stats(const struct pie_stage *stage) {
     };
 }
 
-/* A packet's tag: its number among the arrivals, of which the lower 32 bits are left where its flow's number stands above them. */
+/* Returns a packet's tag: its number among the arrivals; with a flow the lower 32 bits of it, and the flow's number
+ * above them. */
 static __rte_always_inline uint64_t tag_of(const struct pie_stage *stage, uint64_t number, uint32_t flow) {
     return stage->flow == NULL ? number : (uint64_t)flow << 32 | (uint32_t)number;
 }

@@ -75,7 +75,8 @@ static bool read_number(const char *text, size_t length, uint64_t *number) {
     return errno == 0;
 }
 
-/* Under the lock, the place of the stage whose number the words begin with, and what is behind the number and its comma; -1 where there is none. */
+/* Returns the place of the stage whose number the words begin with, and the words after the number and its comma;
+ * -1 if there is none. The lock is held. */
 static int place_of(const char *words, const char **rest) {
     uint64_t place;
     size_t length = words != NULL ? strcspn(words, ",") : 0;

@@ -1,7 +1,7 @@
-/* Tests the stage without a port: marks in frames of every shape, the clock, the random words, and what the stage does with a full queue, want of
- * memory, a clock that jumps back, packets of no IP and oversized ones; many threads at once; and no mbuf is lost. `now` is made up, so
- * nothing depends on the time that it takes. Prints a line for each group; ends with status 1 at the first fault.
- *
+/* Tests the stage without a port: marks in frames of every shape, the clock, the random words, a full queue, out of
+ * memory, a clock that goes back, packets without IP and oversized ones; many threads at once. No mbuf may be lost.
+ * `now` is simulated, so nothing depends on the machine's speed. Prints a line for each group; exits with status 1
+ * at the first fault.
  * usage: stage_test [EAL options] -- FOLDER [threads]     FOLDER: histories come to it, for pie audit; threads: the threads alone, for a sanitizer
  */
 #include "stage_test.h"

@@ -1,6 +1,7 @@
-/* What the parts of the stage's test share: stage_test.c begins, stage_test_frames.c makes frames and tries marks in them, stage_test_texts.c takes
- * histories and the flight recorder's texts out, stage_test_records.c has records of periods and flows, stage_test_queues.c several queues, and
- * stage_test_threads.c many threads at once. */
+/* Shared by the parts of the stage's test: stage_test.c starts them, stage_test_frames.c makes frames and tests
+ * marks in them, stage_test_texts.c takes out histories and texts of the flight recorder, stage_test_records.c
+ * tests interval records and flows, stage_test_queues.c several queues, and stage_test_threads.c many threads at
+ * once. */
 #ifndef STAGE_TEST_H
 #define STAGE_TEST_H
 
@@ -20,7 +21,7 @@
     } while (0)
 
 extern struct rte_mempool *pool;
-extern const char *folder; /* histories come to it */
+extern const char *folder; /* the folder of histories */
 
 struct rte_mbuf *alloc(void);
 
@@ -37,9 +38,10 @@ void unrecorded(struct pie_stage_params *params);
 
 struct pie_stage *stage_of(struct pie_stage_params *params);
 
-/* What a history has. */
+/* The content of a history. */
 struct told {
-    uint64_t lines, lost, gaps; /* lines but that of the time of day; events that its lines `lost` tell, and these lines */
+    uint64_t lines, lost, gaps; /* lines except clock records; events that its lines `lost` report, and the number
+                                   of these lines */
     uint64_t clocks;            /* lines of the time of day */
 };
 
@@ -51,35 +53,36 @@ FILE *open_text(const char *name, const char *ending);
 
 FILE *open_history(const char *name);
 
-/* What a stage counted is so many events. */
+/* Returns the number of events that a stage counted. */
 uint64_t events_of(const struct pie_stage_stats *stats);
 
 int write_to(void *user, const unsigned char *bytes, size_t count);
 
-/* Of a text that resumes: the events before it, the packets that wait then, its lines of the time of day, and its events. */
+/* An excerpt: the events before it, the packets queued then, its clock records, and its events. */
 struct resumed {
     uint64_t before, queued, clocks, events;
 };
 
 struct resumed read_resumed(const char *name);
 
-/* Writes what the flight recorder holds, of a stage that stands still: all events, or at least so many, to the last. */
+/* Writes the text of the flight recorder of an idle stage: all events, or at least this many, up to the last. */
 struct resumed expect_flight(struct pie_stage *stage, const char *name, uint64_t least);
 
-/* Each decision of a recorded stage stands in its history, or is told as lost. */
+/* Checks that each decision of a recorded stage is in its history, or counted as lost. */
 void expect_told(struct pie_stage *stage, const struct told *told);
 
-/* What records of periods tell. */
+/* The content of interval records. */
 struct summed {
-    uint64_t records, gaps, lost;                 /* records; lines that tell a gap, and the periods that these tell */
+    uint64_t records, gaps, lost;                 /* records; lines that report a gap, and the number of missing
+                                                     intervals */
     uint64_t arrivals, left, updates, turned_off; /* of all records together .. */
-    int places[4];                                /* .. and where they stand in each */
+    int places[4];                                /* their positions in a record */
 };
 
 /* Takes out the records that there are now, or to the last, into a file. */
 void take_records(struct pie_stage *stage, bool is_over, FILE *file, struct summed *summed);
 
-/* The records tell what the stage counted, or that some are missing. */
+/* Checks that the records contain the stage's counts, or report missing records. */
 void expect_summed(struct pie_stage *stage, const struct summed *summed);
 
 void test_records(void);
@@ -92,12 +95,12 @@ void test_marks(void);
 void test_no_ip(void);
 void test_shared(void);
 
-/* A history that is cut while packets come and go, of a queue that is copied in many turns: each text stands alone, and begins where the one before
- * ends. */
+/* Cuts a history while packets arrive and depart, with a queue that is copied in many turns: each text can be
+ * audited alone, and begins where the one before ends. */
 void test_cut_beside(int cuts);
 
-/* With `events` above 0 one more thread writes the history, with `flight` one writes what the flight recorder holds, and with `every` one the records
- * of periods, and tags tell flows. */
+/* With `events` above 0 one more thread writes the history, with `flight` one writes the text of the flight
+ * recorder, and with `every` one the interval records; tags contain flows. */
 void test_threads(uint32_t rounds, uint32_t events, uint32_t flight, uint64_t every);
 
 #endif

@@ -67,8 +67,9 @@ static FILE *next_part(struct pie_stage *stage, FILE *history, struct told *told
     return open_history(next);
 }
 
-/* A queue that fills and drains, whose events are summed up in periods of `every` ns, while parameters change, the clock stands still, goes back and
- * jumps, and the history, where there is one, is cut. For `silent` rounds nobody writes the records. Files: those of the name, the history in parts. */
+/* Fills and drains a queue whose events are summed in intervals of `every` ns, while parameters change, the clock
+ * stops, goes back and jumps, and the history, if there is one, is cut. For `silent` rounds no thread writes the
+ * records. Writes files with this name, and the history in parts. */
 static void sum_up(const char *kind, uint64_t every, uint64_t profile, uint32_t events, int silent) {
     struct pie_stage_params params;
     struct told told = {0};

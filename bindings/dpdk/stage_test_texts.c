@@ -52,7 +52,7 @@ int write_to(void *user, const unsigned char *bytes, size_t count) {
     return fwrite(bytes, 1, count, user) == count ? 0 : 1;
 }
 
-/* Whether a line `clock,<moment>,<unix>` was written in the last minutes. */
+/* Returns true if a line `clock,<moment>,<unix>` was written in the last minutes. */
 static bool is_now(const char *line) {
     const char *time_of_day = strchr(strchr(line, ',') + 1, ',') + 1;
     uint64_t seconds = strtoull(time_of_day, NULL, 10) / 1000000000u, now = (uint64_t)time(NULL);

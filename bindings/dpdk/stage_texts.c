@@ -3,9 +3,9 @@
 #include <rte_ring_elem.h>
 #include <rte_ring_peek_zc.h>
 
-#define HANDED_OVER 256u /* packets that wait of which a text is told in one turn at the lock */
+#define HANDED_OVER 256u /* queued packets that are copied in one turn at the lock */
 
-/* Writes some of what a new text begins with: the record that resumes, and those of the packets that wait. */
+/* Writes a part of the preamble of a new text: the record `resume`, and those of the queued packets. */
 static size_t begin_text(struct pie_stage *stage, unsigned char *text, size_t room) {
     struct cut *cut = &stage->cut;
     size_t size = 0;
@@ -29,8 +29,9 @@ static size_t begin_text(struct pie_stage *stage, unsigned char *text, size_t ro
     return size;
 }
 
-/* Under the lock, hands over the packets that wait from the number `next` on and below `end`, `most` of them at the most, and answers the next
- * number. They are numbered from 0 on, as they were queued; of those that have departed nothing is handed over. */
+/* Copies the queued packets from the number `next` on and below `end`, at most `most`. Returns the next number.
+ * They are numbered from 0 in the order in which they were queued; packets that departed are skipped. The lock is
+ * held. */
 static uint64_t hand_turn(struct pie_stage *stage, uint64_t next, uint64_t end, uint64_t most,
                           void take(void *to, uint64_t number, const struct waiting *packet), void *to) {
     struct rte_ring_zc_data data = {0};
@@ -70,8 +71,8 @@ static void cut_here(struct pie_stage *stage) {
         pie_period_clock(&stage->periods->current, cut->clock.moment, cut->clock.unix_time);
 }
 
-/* The packets that wait are copied first, some in each turn at the lock, and the cut is in the turn that comes to the last of them. Where as many
- * came meanwhile as were copied, the next turn is twice as long. */
+/* The queued packets are copied first, some in each turn at the lock, and the history is cut in the turn that
+ * reaches the last of them. If as many packets arrived meanwhile as were copied, the next turn is twice as long. */
 static void cut_history(struct pie_stage *stage) {
     uint64_t next = 0, most = HANDED_OVER, left = UINT64_MAX, before;
     do {
@@ -163,7 +164,8 @@ static void tell_packet(void *to, uint64_t number, const struct waiting *packet)
     pie_flight_waits(handed->queued, handed->places, number, tag, packet->size, packet->ecn, packet->arrived);
 }
 
-/* Hands over the packets that wait, some in each turn at the lock: those that leave meanwhile are told by their departures. */
+/* Passes the queued packets to the recorder, some in each turn at the lock: packets that depart meanwhile are in
+ * the events of their departures. */
 static void hand_over(void *owner, PIE_WORD *queued, uint64_t places) {
     struct pie_stage *stage = owner;
     struct handed handed = {stage, queued, places};

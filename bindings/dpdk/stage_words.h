@@ -1,5 +1,6 @@
-/* Random words that no sender can guess: the key stream of ChaCha with 12 rounds under a key of the system's random bits. DPDK's rte_rand
- * is no choice here: it is a linear generator, whose state can be computed from what it gave out. */
+/* Random words that no sender can predict: the key stream of ChaCha with 12 rounds, with a key of the system's
+ * random bits. DPDK's rte_rand is not suitable: it is a linear generator, whose state can be computed from its
+ * output. */
 #ifndef STAGE_WORDS_H
 #define STAGE_WORDS_H
 
@@ -77,7 +78,7 @@ static inline bool stage_words_seed(struct stage_words *words) {
     return getrandom(words->key, sizeof words->key, 0) == sizeof words->key;
 }
 
-/* Makes the next words. (The order in which the stream's bits are handed out plays no part.) */
+/* Computes the next words. (The order in which the bits of the stream are used does not matter.) */
 __attribute__((noinline)) static void stage_words_fill(struct stage_words *words) {
     stage_lanes blocks[16];
     stage_blocks(blocks, words->key, words->counter, 0, STAGE_ROUNDS);

@@ -6,7 +6,6 @@ $box mkdir -p /etc
 $box mount -t proc proc /proc
 $box mount -t sysfs sys /sys
 $box mount -t devtmpfs dev /dev
-$box mount -t debugfs debug /sys/kernel/debug
 $box mount -t tmpfs run /run
 exec > /dev/console 2>&1
 for name in veth sch_htb sch_tbf sch_netem; do
@@ -17,7 +16,7 @@ for name in a r b; do
     /bin/ip -n $name link set lo up
 done
 /bin/ip link add a0 netns a type veth peer name ra netns r
-/bin/ip link add b0 netns b type veth peer name rb netns r
+/bin/ip link add b0 netns b type veth peer name rb numtxqueues 2 numrxqueues 2 netns r
 /bin/ip -n a addr add 10.0.1.1/24 dev a0
 /bin/ip -n r addr add 10.0.1.2/24 dev ra
 /bin/ip -n b addr add 10.0.2.1/24 dev b0
@@ -30,61 +29,181 @@ done
 /bin/ip netns exec r $box sysctl -q -w net.ipv4.ip_forward=1
 /bin/tc -n b qdisc add dev b0 root netem delay 20ms limit 10000
 /bin/ip netns exec b /bin/iperf3 -s -D
+/bin/ip netns exec b /bin/iperf3 -s -D -p 5202
 $box sleep 1
 
-# ends NAME: keeps the record and what tc says of the leaf 2:, and removes the queue
-ends() {
-    $box cat /sys/kernel/debug/pie_recorded/* > /tmp/$1.record
-    /bin/tc -n r -s qdisc show dev rb | $box grep -A 4 ' 2: ' > /tmp/$1.tc
-    /bin/tc -n r -s qdisc show dev rb
-    echo $($box grep -o 'Sent.*requeues 0)' /tmp/$1.tc) $($box grep -o 'ecn_mark [0-9]*' /tmp/$1.tc) > /tmp/$1.told
-    /bin/tc -n r qdisc del dev rb root
-    $box rmmod sch_pie_recorded || echo "FAILED rmmod"
+# received NAME.WHEN: keeps the receiver's counters
+received() {
+    /bin/ip netns exec b $box cat /proc/net/netstat > /tmp/$1
 }
 
-# four flows through htb, by the name pie_recorded
-$box insmod /mods/sch_pie_recorded.ko events=200000 || echo "FAILED insmod"
+# tap WORDS..: pie-tap in the namespace of the queue
+tap() {
+    /bin/ip netns exec r /bin/pie-tap "$@"
+}
+
+# sends SECONDS [WORDS..]: four flows of TCP for so long; prints the receiver's rate
+sends() {
+    $box echo "TOLD $(/bin/ip netns exec a /bin/iperf3 -c 10.0.2.1 -P 4 -t "$@" -f m | $box grep 'SUM.*receiver')"
+}
+
+# pings NAME: pings for three seconds, in the background
+pings() {
+    (/bin/ip netns exec a $box ping -i 0.1 -c 30 -q 10.0.2.1 > /tmp/ping; $box echo "TOLD $1: $($box tail -n 1 /tmp/ping)") &
+}
+
+# ends NAME: keeps the record, the statistics of the leaf 2: and the receiver's counters, at a moment when no packet comes, and removes the queue
+ends() {
+    /bin/ip -n r link set ra down
+    $box sleep 0.5
+    until /bin/tc -n r -s -j qdisc show dev rb > /tmp/earlier &&
+        { tap dump rb > /tmp/$1.history || echo "FAILED pie-tap dump $1"; } &&
+        /bin/tc -n r -s -j qdisc show dev rb > /tmp/$1.json &&
+        [ "$($box grep -o '"packets":[0-9]*' /tmp/earlier)" = "$($box grep -o '"packets":[0-9]*' /tmp/$1.json)" ]; do
+        $box sleep 0.1
+    done
+    received $1.after
+    /bin/ip -n r link set ra up
+    /bin/tc -n r qdisc del dev rb root
+    wait
+}
+
+# link_down_and_up: purges the queue while senders send
+link_down_and_up() {
+    /bin/ip -n r link set rb down
+    /bin/ip -n r link set rb up
+    /bin/ip -n r route replace 10.0.2.0/24 dev rb
+}
+
+# refuses WORDS..: the change of the leaf 2: is refused; prints tc's text
+refuses() {
+    if /bin/tc -n r qdisc change dev rb parent 1:1 handle 2: "$@" 2> /tmp/refused; then
+        echo "FAILED: not refused: $*"
+    fi
+    $box echo "TOLD refused: $* ($($box sed -n 's/^Error: //p' /tmp/refused))"
+}
+
+# four flows through htb, by the name pie_recorded; the record is followed, and summed up
+$box insmod /mods/sch_pie_recorded.ko || echo "FAILED insmod"
+received flows.before
 /bin/tc -n r qdisc add dev rb root handle 1: htb default 1
 /bin/tc -n r class add dev rb parent 1: classid 1:1 htb rate 10mbit
 /bin/tc -n r qdisc add dev rb parent 1:1 handle 2: pie_recorded || echo "FAILED tc pie_recorded"
-/bin/ip netns exec a $box ping -i 0.2 -c 30 -q 10.0.2.1 > /tmp/ping &
-/bin/ip netns exec a /bin/iperf3 -c 10.0.2.1 -P 4 -t 6 -f m | $box grep 'SUM.*receiver'
-$box sleep 1
-echo "PING $($box tail -n 1 /tmp/ping)"
+tap follow rb > /tmp/flows.followed &
+tap record rb > /tmp/flows.periods &
+pings flows
+sends 4
+tap list
+/bin/tc -n r -s qdisc show dev rb
 ends flows
 
-# ECN through tbf, which peeks, by the name pie; each option changes while traffic flows, and the link goes down and up
-$box insmod /mods/sch_pie_recorded.ko events=200000 kind=pie || echo "FAILED insmod kind=pie"
+# each option, by the plugin of tc
+for words in "limit 100" "target 5ms" "tupdate 1ms" "alpha 4 beta 30" "ecn bytemode" "dq_rate_estimator" "max_burst 50ms mark_ecnth 20%" "decay_half" \
+    "events 1000 noflows" "events 0"; do
+    /bin/tc -n r qdisc add dev rb root handle 2: pie_recorded $words || echo "FAILED tc $words"
+    echo "$words: $(/bin/tc -n r qdisc show dev rb)"
+    /bin/tc -n r qdisc del dev rb root
+done
+for words in "limit 0" "limit 2000000" "target 20s" "tupdate 1us" "tupdate 11s" "alpha 20000" "max_burst 1001s" "events 20000000" "events 10000000"; do
+    /bin/tc -n r qdisc add dev rb root handle 2: pie_recorded $words 2> /tmp/refused && echo "FAILED: not refused: $words"
+    $box echo "TOLD refused: $words ($($box sed -n 's/^Error: //p' /tmp/refused))"
+done
+
+# one record for each queue of mq, with numbers of their own after a replacement
+/bin/tc -n r qdisc add dev rb root handle 8: mq
+for queue in 8:1 8:2 8:2; do
+    /bin/tc -n r qdisc replace dev rb parent $queue pie_recorded events 5000 || echo "FAILED tc mq"
+done
+sends 1 -b 1M > /dev/null
+tap list
+number=0
+for file in $(tap list | $box grep -o '/proc/net/pie_recorded/.*'); do
+    number=$((number + 1))
+    tap dump $file > /tmp/mq_$number.excerpt || echo "FAILED pie-tap dump $file"
+done
+[ $number = 2 ] || echo "FAILED: mq has $number records"
+/bin/tc -n r qdisc del dev rb root
+$box rmmod sch_pie_recorded || echo "FAILED rmmod"
+
+# the kernel's queues in the same place
+if [ "$all" = 1 ]; then
+    $box insmod /mods/sch_pie.ko || echo "FAILED insmod sch_pie"
+    for words in "pfifo limit 1000" "fq_codel" "pie"; do
+        /bin/tc -n r qdisc add dev rb root handle 1: htb default 1
+        /bin/tc -n r class add dev rb parent 1: classid 1:1 htb rate 10mbit
+        /bin/tc -n r qdisc add dev rb parent 1:1 handle 2: $words || echo "FAILED tc $words"
+        pings "${words%% *}"
+        sends 3
+        wait
+        /bin/tc -n r qdisc del dev rb root
+    done
+    $box rmmod sch_pie || echo "FAILED rmmod sch_pie"
+fi
+
+# ECN through tbf, which peeks, by the name pie, with a flood of UDP; each option changes while traffic flows, and the link goes down and up
+$box insmod /mods/sch_pie_recorded.ko kind=pie || echo "FAILED insmod kind=pie"
 for name in a b; do
     /bin/ip netns exec $name $box sysctl -q -w net.ipv4.tcp_ecn=1
 done
+received changes.before
 /bin/tc -n r qdisc add dev rb root handle 1: tbf rate 10mbit burst 10kb latency 10s
 /bin/tc -n r qdisc add dev rb parent 1:1 handle 2: pie limit 500 ecn || echo "FAILED tc pie"
-/bin/ip netns exec a /bin/iperf3 -c 10.0.2.1 -P 4 -t 8 -f m > /tmp/iperf &
-$box sleep 3
+sends 5 &
+$box sleep 2
 /bin/tc -n r qdisc change dev rb parent 1:1 handle 2: pie target 5ms || echo "FAILED change target"
+/bin/ip netns exec a /bin/iperf3 -c 10.0.2.1 -p 5202 -u -b 40M -t 10 > /dev/null 2>&1 &
+flood=$!
 $box sleep 1
+$box kill $flood
 /bin/tc -n r qdisc change dev rb parent 1:1 handle 2: pie tupdate 8ms alpha 4 beta 30 noecn || echo "FAILED change"
-/bin/tc -n r qdisc change dev rb parent 1:1 handle 2: pie limit 100 && echo "FAILED: limit was changed"
-/bin/tc -n r qdisc change dev rb parent 1:1 handle 2: pie bytemode && echo "FAILED: bytemode was changed"
-/bin/tc -n r qdisc change dev rb parent 1:1 handle 2: pie target 20s && echo "FAILED: a target of 20s"
+refuses pie limit 100
+refuses pie bytemode
+refuses pie dq_rate_estimator
+refuses pie target 20s
 $box sleep 1
-/bin/ip -n r link set rb down
-/bin/ip -n r link set rb up
-/bin/ip -n r route replace 10.0.2.0/24 dev rb
+link_down_and_up
 wait
-$box grep 'SUM.*receiver' /tmp/iperf
 ends changes
+$box rmmod sch_pie_recorded || echo "FAILED rmmod"
 
+# each module with a fault: ECN through tbf with a limit that is reached, the link down and up, and traffic again
+for module in /mods/mutants/*.ko; do
+    [ -e $module ] || continue
+    name=${module##*/}
+    name=mutant_${name%.ko}
+    $box insmod $module kind=pie || echo "FAILED insmod $module"
+    received $name.before
+    /bin/tc -n r qdisc add dev rb root handle 1: tbf rate 10mbit burst 10kb latency 10s
+    /bin/tc -n r qdisc add dev rb parent 1:1 handle 2: pie limit 60 target 2ms tupdate 10ms ecn || echo "FAILED tc $name"
+    sends 2 > /dev/null &
+    $box sleep 1.3
+    link_down_and_up
+    wait
+    ends $name
+    $box rmmod sch_pie_recorded || echo "FAILED rmmod $name"
+done
+
+# the namespace of the queue is deleted while senders send and its record is mapped
+$box insmod /mods/sch_pie_recorded.ko || echo "FAILED insmod"
+/bin/tc -n r qdisc add dev rb root handle 1: tbf rate 10mbit burst 10kb latency 10s
+/bin/tc -n r qdisc add dev rb parent 1:1 handle 2: pie_recorded || echo "FAILED tc"
+tap follow rb > /tmp/deleted.excerpt &
+/bin/ip netns exec a /bin/iperf3 -c 10.0.2.1 -P 4 -t 1 > /dev/null 2>&1 &
+sender=$!
+$box sleep 0.5
+/bin/ip netns del r
+$box sleep 1
 $box killall iperf3
-for name in a r b; do
+wait $sender
+for name in a b; do
     /bin/ip netns del $name
 done
 $box sleep 1
+$box rmmod sch_pie_recorded || echo "FAILED rmmod after the namespace"
 $box dmesg | $box grep -E 'WARNING|BUG|Oops|Call Trace'
 $box stty -F /dev/ttyS1 raw
 cd /tmp
-$box tar -cf - *.record *.told | $box gzip -c > /dev/ttyS1
+$box tar -cf - *.history *.followed *.periods *.excerpt *.json *.before *.after | $box gzip -c > /dev/ttyS1
 echo ended
 $box sleep 1
 $box poweroff -f

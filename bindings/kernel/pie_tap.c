@@ -1,41 +1,394 @@
-/* Writes the record of a queue discipline pie_recorded, /sys/kernel/debug/pie_recorded/NAME or a copy of it, as a history (docs/FORMATS.md).
- *
- * usage: pie_tap < RECORD > HISTORY */
-#include "pie.h"
+/* pie-tap: reads the records of the queue discipline pie_recorded (bindings/kernel/README.md). Each record is the memory of a flight recorder
+ * (pie_flight.h), a file below /proc/net/pie_recorded that this program maps read-only. `pie-tap --help` has the commands. */
+#include "pie_follow.h"
 
+#include <dirent.h>
+#include <errno.h>
+#include <fcntl.h>
+#include <net/if.h>
+#include <signal.h>
 #include <stdio.h>
-#include <string.h>
+#include <stdlib.h>
+#include <sys/mman.h>
+#include <sys/stat.h>
+#include <time.h>
+#include <unistd.h>
 
-/* Reads one record of memory; returns 0 at the end of the input. */
-static int take(void *to, size_t size) {
-    return fread(to, 1, size, stdin) == size;
+#define FOLDER "/proc/net/pie_recorded"
+#define CLOCK_STEP UINT64_C(1000000) /* ns: a smaller change of the time of day is not written */
+
+static const char usage[] =
+    "Reads the records of queues of pie_recorded\n"
+    "\n"
+    "Usage: pie-tap list\n"
+    "       pie-tap dump QUEUE\n"
+    "       pie-tap follow QUEUE\n"
+    "       pie-tap record QUEUE [EVERY]\n"
+    "\n"
+    "  list     Print the records of this network namespace: number, device, handle, parent, events so far, file\n"
+    "  dump     Write the last events as an excerpt that `pie audit` and `pie explain` read\n"
+    "  follow   Write a history from the last snapshot on, of a new queue from its opening on, until the queue is removed or a signal\n"
+    "           ends it. If events were overwritten before they were read, a record `lost,N` says how many, and an excerpt follows\n"
+    "  record   Decide each event again, and write a CSV record for each period of EVERY (1s), as `pie explain --every EVERY --csv\n"
+    "           --wall` does. Standard error names an event that was decided differently, and the status is 2\n"
+    "\n"
+    "QUEUE is the number of a record (tc -s qdisc show prints it), a device that has one record, or a file.\n";
+
+/* A record that is mapped. */
+struct tap {
+    const char *path;
+    void *memory;
+    size_t bytes;
+    void *scratch; /* memory for a copy */
+};
+
+/* A name in the folder. */
+struct entry {
+    unsigned index, handle[2], parent[2], serial;
+    char path[sizeof FOLDER + 256];
+};
+
+static volatile sig_atomic_t is_ended;
+
+static void end(int number) {
+    (void)number;
+    is_ended = 1;
 }
 
-int main(void) {
-    struct pie_opening opening;
-    struct pie_event event, places[2];
-    struct pie_params params;
-    unsigned char text[PIE_RECORD_ROOM];
-    size_t count;
-    if (!take(&opening, sizeof opening) || (count = pie_write_opening(&opening, text, sizeof text)) == 0) {
-        fprintf(stderr, "pie_tap: the input does not begin with an opening\n");
-        return 1;
-    }
-    fwrite(text, 1, count, stdout);
-    while (take(&event, sizeof event)) {
-        if (event.kind != PIE_EVENT_PARAMS) {
-            count = pie_write_event(&event, text, sizeof text);
-        } else if (take(places, sizeof places)) {
-            memcpy(&params, places, sizeof params);
-            count = pie_write_params(&event, &params, text, sizeof text);
-        } else {
-            count = 0;
-        }
-        if (count == 0) {
-            fprintf(stderr, "pie_tap: an event cannot be written\n");
+static void fail(const char *what, const char *about) {
+    fprintf(stderr, "pie-tap: %s%s\n", what, about);
+    exit(1);
+}
+
+/* Reads the next entry of the folder; returns 0 at its end. */
+static int next_entry(DIR *folder, struct entry *entry) {
+    struct dirent *it;
+    while ((it = readdir(folder)) != NULL) {
+        if (sscanf(it->d_name, "%u-%x:%x-%x:%x-%u", &entry->index, &entry->handle[0], &entry->handle[1], &entry->parent[0], &entry->parent[1],
+                   &entry->serial) == 6) {
+            snprintf(entry->path, sizeof entry->path, FOLDER "/%.200s", it->d_name);
             return 1;
         }
-        fwrite(text, 1, count, stdout);
     }
-    return fflush(stdout) != 0;
+    return 0;
+}
+
+static DIR *open_folder(void) {
+    DIR *folder = opendir(FOLDER);
+    if (folder == NULL)
+        fail("the module sch_pie_recorded is not loaded: no folder ", FOLDER);
+    return folder;
+}
+
+/* Returns the file of a queue, by its number or its device. */
+static const char *find(const char *queue) {
+    static struct entry found;
+    struct entry entry;
+    unsigned count = 0, index = if_nametoindex(queue);
+    char *rest;
+    unsigned long serial = strtoul(queue, &rest, 10);
+    DIR *folder;
+    if (strchr(queue, '/') != NULL)
+        return queue;
+    folder = open_folder();
+    while (next_entry(folder, &entry)) {
+        if (index != 0 ? entry.index == index : *rest == 0 && entry.serial == serial) {
+            found = entry;
+            count++;
+        }
+    }
+    closedir(folder);
+    if (count == 0)
+        fail("no queue of pie_recorded has a record here: ", queue);
+    if (count > 1)
+        fail("there are several records; choose a number of `pie-tap list` for ", queue);
+    return found.path;
+}
+
+static void map(struct tap *tap, const char *path) {
+    struct stat about;
+    int file = open(path, O_RDONLY | O_CLOEXEC);
+    if (file < 0 || fstat(file, &about) != 0)
+        fail(errno == EACCES ? "only root reads a record: " : "the record cannot be opened: ", path);
+    tap->path = path;
+    tap->bytes = (size_t)about.st_size;
+    tap->memory = mmap(NULL, tap->bytes, PROT_READ, MAP_SHARED, file, 0);
+    close(file);
+    if (tap->memory == MAP_FAILED)
+        fail("the record cannot be mapped: ", path);
+    if ((tap->scratch = aligned_alloc(64, (tap->bytes + 63) / 64 * 64)) == NULL)
+        fail("out of memory for a copy of ", path);
+}
+
+static void list(void) {
+    struct entry entry;
+    char name[IF_NAMESIZE];
+    DIR *folder = open_folder();
+    printf("%-7s %-15s %-9s %-9s %12s  %s\n", "record", "device", "handle", "parent", "events", "file");
+    while (next_entry(folder, &entry)) {
+        struct tap tap;
+        char handle[16] = "-", parent[16] = "root";
+        if (access(entry.path, R_OK) != 0)
+            fail("only root reads a record: ", entry.path);
+        map(&tap, entry.path);
+        if (entry.handle[0] != 0)
+            snprintf(handle, sizeof handle, "%x:", entry.handle[0]);
+        if (entry.parent[0] != 0xffff || entry.parent[1] != 0xffff)
+            snprintf(parent, sizeof parent, "%x:%x", entry.parent[0], entry.parent[1]);
+        printf("%-7u %-15s %-9s %-9s %12llu  %s\n", entry.serial, if_indextoname(entry.index, name) != NULL ? name : "-", handle, parent,
+               (unsigned long long)PIE_LOAD(((PIE_WORD *)tap.memory)[PIE_FLIGHT_KEPT]), entry.path);
+        munmap(tap.memory, tap.bytes);
+        free(tap.scratch);
+    }
+    closedir(folder);
+}
+
+static int write_out(void *user, const unsigned char *bytes, size_t count) {
+    (void)user;
+    return fwrite(bytes, 1, count, stdout) != count;
+}
+
+static void flush(void) {
+    if (fflush(stdout) != 0 || ferror(stdout))
+        fail("the output cannot be written", "");
+}
+
+static int dump(struct tap *tap) {
+    int answer;
+    do
+        answer = pie_flight_dump(tap->memory, tap->bytes, tap->scratch, write_out, NULL);
+    while (answer == PIE_FLIGHT_GONE);
+    if (answer == PIE_FLIGHT_NONE)
+        fail("this is no record: ", tap->path);
+    if (answer == PIE_FLIGHT_BROKEN)
+        fail("a record contains an event that cannot be: ", tap->path);
+    flush();
+    return 0;
+}
+
+/* Waits for events; returns 0 when the queue is gone or a signal came. */
+static int pause_for(const struct tap *tap, unsigned *turns) {
+    struct timespec five = {0, 5000000};
+    nanosleep(&five, NULL);
+    return !is_ended && (++*turns % 50 != 0 || access(tap->path, F_OK) == 0);
+}
+
+/* Copies the memory, and returns its latest snapshot. */
+static PIE_WORD *latest(struct tap *tap, const struct pie_flight_layout *layout) {
+    PIE_WORD *snapshot, *later;
+    uint64_t begun;
+    do {
+        begun = pie_flight_copy((PIE_WORD *)tap->scratch, (PIE_WORD *)tap->memory, layout, NULL, NULL);
+        snapshot = pie_flight_oldest((PIE_WORD *)tap->scratch, layout, begun, 0);
+    } while (snapshot == NULL);
+    while ((later = pie_flight_oldest((PIE_WORD *)tap->scratch, layout, begun, PIE_LOAD(snapshot[PIE_FLIGHT_COUNT]) + 1)) != NULL)
+        snapshot = later;
+    return snapshot;
+}
+
+/* Writes the time of day again if it was set. */
+static void follow_clock(const struct tap *tap, uint64_t *told) {
+    uint64_t now = PIE_LOAD(((PIE_WORD *)tap->memory)[PIE_FLIGHT_CLOCK]);
+    unsigned char out[PIE_RECORD_ROOM];
+    if (now - *told + CLOCK_STEP > 2 * CLOCK_STEP) {
+        fwrite(out, 1, pie_write_clock(0, now, out, sizeof out), stdout);
+        *told = now;
+    }
+}
+
+static int follow(struct tap *tap) {
+    static struct pie_flight_follower follower;
+    struct pie_flight_text text;
+    PIE_WORD *snapshot;
+    uint64_t told;
+    unsigned turns = 0;
+    int goes_on = 1, answer;
+    if (!pie_flight_follow_open(&follower, tap->memory, tap->bytes))
+        fail("this is no record: ", tap->path);
+    snapshot = latest(tap, &follower.layout);
+    told = PIE_LOAD(((PIE_WORD *)tap->scratch)[PIE_FLIGHT_CLOCK]);
+    follower.next = PIE_LOAD(snapshot[PIE_FLIGHT_COUNT]);
+    if (follower.next != 0) { /* else the text begins with the opening */
+        pie_flight_text_to(&text, write_out, NULL);
+        pie_flight_text_begin(&text, (PIE_WORD *)tap->scratch, &follower.layout, snapshot);
+        pie_flight_flush(&text);
+        follower.is_begun = 1;
+    }
+    for (;;) {
+        answer = pie_flight_follow_text(&follower, tap->scratch, write_out, NULL);
+        if (answer == PIE_FLIGHT_BROKEN)
+            fail("a record contains an event that cannot be: ", tap->path);
+        flush();
+        if (!goes_on)
+            return 0;
+        follow_clock(tap, &told);
+        goes_on = pause_for(tap, &turns);
+    }
+}
+
+/* ---- interval records: each event is decided again */
+
+/* A packet that waits. */
+struct waiting {
+    uint64_t tag, since;
+    uint32_t size;
+};
+
+/* A controller that decides the events of a record again. */
+struct again {
+    struct pie_state state;
+    struct pie_period period;
+    struct waiting *queue; /* a ring of `room` places */
+    uint64_t room, head, packets, bytes;
+    int differs;
+};
+
+static void push(struct again *it, uint64_t tag, uint64_t since, uint32_t size) {
+    struct waiting *to = &it->queue[(it->head + it->packets++) % it->room];
+    to->tag = tag;
+    to->since = since;
+    to->size = size;
+}
+
+/* Begins at a snapshot of the copy: its state, and the packets that waited. */
+static void again_begin(struct again *it, struct tap *tap, const struct pie_flight_layout *layout, PIE_WORD *snapshot, uint64_t every) {
+    PIE_WORD *words = (PIE_WORD *)tap->scratch;
+    struct pie_opening opening;
+    uint64_t came = PIE_LOAD(snapshot[PIE_FLIGHT_CAME]), left = PIE_LOAD(snapshot[PIE_FLIGHT_LEFT]);
+    uint64_t number = PIE_LOAD(snapshot[PIE_FLIGHT_COUNT]), kept = PIE_LOAD(words[PIE_FLIGHT_KEPT]);
+    pie_flight_load(&opening, words + PIE_FLIGHT_OPENING, sizeof opening / 8);
+    pie_flight_load(&it->state, snapshot + PIE_FLIGHT_STATE, sizeof it->state / 8);
+    it->room = opening.packets;
+    if (it->queue == NULL && (it->queue = malloc(it->room * sizeof *it->queue)) == NULL)
+        fail("out of memory for the packets of ", tap->path);
+    it->head = it->packets = 0;
+    it->bytes = PIE_LOAD(snapshot[PIE_FLIGHT_BYTES]);
+    for (; number != kept && left != came; number++) {
+        PIE_WORD *from = words + layout->events_at + number % layout->events * PIE_FLIGHT_EVENT;
+        if (PIE_LOAD(from[0]) >> PIE_FLIGHT_KIND == PIE_EVENT_DEPART) {
+            push(it, PIE_LOAD(from[2]), PIE_LOAD(from[3]), (uint32_t)(PIE_LOAD(from[1]) >> 16 & 0xffff));
+            left++;
+        }
+    }
+    for (; left != came; left++) {
+        PIE_WORD *from = words + layout->queued_at + left % layout->queued * PIE_FLIGHT_PACKET;
+        push(it, PIE_LOAD(from[0]), PIE_LOAD(from[1]), (uint32_t)PIE_LOAD(from[2]));
+    }
+    pie_open_period(&it->period, every, 1);
+    pie_period_clock(&it->period, 0, PIE_LOAD(words[PIE_FLIGHT_CLOCK]));
+}
+
+/* Decides an event again. */
+static void again_step(struct again *it, struct pie_event *event, const struct pie_params *params) {
+    struct waiting *oldest = &it->queue[it->head % it->room];
+    switch (event->kind) {
+    case PIE_EVENT_ARRIVE:
+        if (pie_arrive_summed(&it->state, it->bytes, (uint32_t)(it->room - it->packets), event, &it->period) <= PIE_MARK) {
+            push(it, event->tag, it->state.moment, event->size);
+            it->bytes += event->size;
+        }
+        break;
+    case PIE_EVENT_DEPART:
+        if (it->packets == 0 || oldest->tag != event->tag || oldest->size != event->size) {
+            it->differs = 1;
+            break;
+        }
+        it->head++;
+        it->packets--;
+        it->bytes -= event->size;
+        pie_depart_summed(&it->state, it->bytes, oldest->since, event, &it->period);
+        break;
+    case PIE_EVENT_UPDATE:
+        pie_update_summed(&it->state, it->bytes, event, &it->period);
+        break;
+    case PIE_EVENT_RESET:
+        pie_reset_summed(&it->state, event, &it->period);
+        break;
+    default:
+        pie_set_params_summed(&it->state, params, event, &it->period);
+    }
+}
+
+/* Writes the record of the period that a step ended, and compares what it decided. */
+static void record_event(struct again *it, const struct pie_event *event, const struct pie_params *params, uint64_t number) {
+    unsigned char out[PIE_RESUME_ROOM];
+    struct pie_event decided = *event;
+    uint64_t begun = it->period.begun;
+    size_t size = event->moment >= it->period.end ? pie_write_period(&it->period, out, sizeof out) : 0;
+    again_step(it, &decided, params);
+    if (it->period.begun != begun)
+        fwrite(out, 1, size, stdout);
+    if (it->differs || memcmp(&decided, event, sizeof decided) != 0) {
+        fprintf(stderr, "pie-tap: event %llu was decided differently\n", (unsigned long long)number);
+        it->differs = 1;
+    }
+}
+
+static int record(struct tap *tap, const char *words) {
+    static struct pie_flight_follower follower;
+    static struct again it;
+    struct pie_event event;
+    struct pie_params params;
+    PIE_WORD *snapshot;
+    unsigned char out[PIE_RESUME_ROOM];
+    uint64_t every;
+    unsigned turns = 0;
+    int goes_on = 1, is_begun = 0;
+    if (pie_read_time(words, strlen(words), &every) != PIE_DONE || pie_open_period(&it.period, every, 1) != PIE_DONE)
+        fail("EVERY is no time, such as 100ms: ", words);
+    if (!pie_flight_follow_open(&follower, tap->memory, tap->bytes))
+        fail("this is no record: ", tap->path);
+    fwrite(out, 1, pie_write_period_header(&it.period, out, sizeof out), stdout);
+    for (;;) {
+        if (!is_begun) {
+            snapshot = latest(tap, &follower.layout);
+            again_begin(&it, tap, &follower.layout, snapshot, every);
+            follower.next = PIE_LOAD(snapshot[PIE_FLIGHT_COUNT]);
+            follower.at = follower.count = 0;
+            is_begun = 1;
+        }
+        while (!it.differs && pie_flight_follow(&follower, &event, &params)) {
+            if (event.kind == PIE_EVENT_LOST) {
+                fprintf(stderr, "pie-tap: at least %llu events were overwritten before they were read\n", (unsigned long long)event.tag);
+                fwrite(out, 1, pie_write_period(&it.period, out, sizeof out), stdout);
+                is_begun = 0;
+                break;
+            }
+            record_event(&it, &event, &params, follower.next);
+        }
+        if (!goes_on || it.differs)
+            break;
+        flush();
+        goes_on = pause_for(tap, &turns);
+    }
+    fwrite(out, 1, pie_write_period(&it.period, out, sizeof out), stdout);
+    flush();
+    return it.differs ? 2 : 0;
+}
+
+int main(int count, char **words) {
+    struct tap tap;
+    signal(SIGINT, end);
+    signal(SIGTERM, end);
+    if (count == 2 && strcmp(words[1], "--help") == 0) {
+        fputs(usage, stdout);
+        return 0;
+    }
+    if (count == 2 && strcmp(words[1], "list") == 0) {
+        list();
+        return 0;
+    }
+    if (count < 3 || count > 4 || (count == 4 && strcmp(words[1], "record") != 0)) {
+        fputs(usage, stderr);
+        return 2;
+    }
+    map(&tap, find(words[2]));
+    if (strcmp(words[1], "dump") == 0)
+        return dump(&tap);
+    if (strcmp(words[1], "follow") == 0)
+        return follow(&tap);
+    if (strcmp(words[1], "record") == 0)
+        return record(&tap, count == 4 ? words[3] : "1s");
+    fputs(usage, stderr);
+    return 2;
 }

@@ -1,68 +1,97 @@
 // SPDX-License-Identifier: GPL-2.0 OR MIT
 /*
- * The queue discipline pie_recorded: PIE (RFC 8033), decided by the calls of
- * pie.h, which are proved. This file has no rule of PIE. It has the packets,
- * the clock, the random words and the timer, and writes each event to a
- * record, which user space reads from debugfs.
+ * The queue discipline pie_recorded: PIE (RFC 8033), decided by the calls of pie.h, which are
+ * proved. This file contains no rule of PIE. It has the packets, the clock, the random words and
+ * the timer, and writes each event to a flight recorder (pie_flight.h), which user space maps.
  */
 
-#include <linux/debugfs.h>
+#include <linux/atomic.h>
 #include <linux/hrtimer.h>
 #include <linux/math64.h>
+#include <linux/mm.h>
 #include <linux/module.h>
+#include <linux/proc_fs.h>
 #include <linux/random.h>
 #include <linux/skbuff.h>
 #include <linux/string.h>
 #include <linux/version.h>
 #include <linux/vmalloc.h>
 #include <net/inet_ecn.h>
+#include <net/net_namespace.h>
 #include <net/netlink.h>
+#include <net/netns/generic.h>
 #include <net/pkt_sched.h>
 #if LINUX_VERSION_CODE >= KERNEL_VERSION(6, 4, 10)
 #include <net/gso.h>
 #endif
 
-#include "pie.h"
+#include "pie_flight.h"
+#include "pie_random.h"
+#include "pie_recorded.h"
 
 /* The callers of the events. */
 enum { PR_ENQUEUE = 1, PR_DEQUEUE = 2, PR_TIMER = 3, PR_PURGE = 4, PR_CHANGE = 5 };
 
 #define PR_TUPDATE_MIN 100 /* us; a shorter period would only load the timer */
+#define PR_EVENTS_MAX BIT(24)
+#define PR_BILLIONTH (PIE_ONE / NSEC_PER_SEC) /* a probability of 10^-9 */
 
 static char *kind = "pie_recorded";
 module_param(kind, charp, 0444);
 MODULE_PARM_DESC(kind, "name of the queue discipline: pie_recorded, or pie in place of sch_pie");
 
-static unsigned int events;
+static unsigned int events = 1 << 16;
 module_param(events, uint, 0644);
-MODULE_PARM_DESC(events, "events that each new queue records, 64 bytes each, at most 2^24 (0: no record)");
+MODULE_PARM_DESC(events, "events that a new queue records, at most 2^24 (0: no record)");
 
-static struct dentry *pr_folder;
+static unsigned int memory = 256;
+module_param(memory, uint, 0644);
+MODULE_PARM_DESC(memory, "MiB that all records may take together");
 
-/* Memory that user space reads: the opening, and events from the first one on. */
-struct pr_record {
-	struct pie_opening opening;
-	struct pie_event event[];
+static atomic_long_t pr_pages = ATOMIC_LONG_INIT(0);
+static atomic_t pr_serial = ATOMIC_INIT(0);
+
+/* The folder /proc/net/pie_recorded of each network namespace. */
+static unsigned int pr_net_id __read_mostly;
+
+struct pr_net {
+	struct proc_dir_entry *folder;
 };
 
+/* The memory of a record, which user space maps, and its file. */
+struct pr_record {
+	void *words;
+	size_t bytes;
+	struct proc_dir_entry *file;
+};
+
+/*
+ * The private part of a queue. The packets and bytes that wait are flight.packets and
+ * flight.bytes: qstats.backlog also counts a packet that a parent peeked at, which has departed.
+ * The statistics are flight.stats. Both are used without a record too.
+ */
 struct pr_sched {
 	struct pie_state pie;
-	u64 bytes;	/* queued; qstats.backlog also has a packet that a parent peeked at */
-	u32 packets;
-	u32 room;	/* the most packets */
-	u64 next_tag;
-	struct pr_record *record;
-	u32 kept;	/* events in the record */
-	u32 places;
-	u64 lost;	/* events after the last place */
-	struct dentry *file;
+	struct pie_flight flight;
+	/* the events of the call under way: on the stack they would be zeroed first */
+	struct pie_event arrival;
+	struct pie_event departure;
+	struct pie_event other;
+	struct pr_random random;
+	u32 room;		/* the most packets */
+	u32 next_tag;
+	bool ecn;
+	bool flows;
+	u64 purged;
+	u32 refused;	/* packets that a call refused */
+	u32 maxq;
 	struct hrtimer timer;
 	struct Qdisc *sch;
-	struct tc_pie_xstats stats;
-	u32 refused;	/* packets that a call refused */
-	u32 alpha;	/* the options as tc gave them */
+	struct pr_record *record;
+	u32 events;	/* the options as tc gave them */
+	u32 serial;
+	u32 alpha;
 	u32 beta;
-	bool ecn;
 	bool is_open;
 };
 
@@ -80,34 +109,75 @@ static struct pr_cb *pr_cb(const struct sk_buff *skb)
 	return (struct pr_cb *)qdisc_skb_cb(skb)->data;
 }
 
-/* Records an event; that of new parameters is followed by the parameters, in two places. */
-static void pr_keep(struct pr_sched *q, const struct pie_event *event)
+/* Takes a snapshot, with the statistics that are not counted at each event. */
+static noinline void pr_snapshot(struct pr_sched *q)
 {
-	u32 places = event->kind == PIE_EVENT_PARAMS ? 3 : 1;
+	struct pie_stats *stats = &q->flight.stats;
 
-	if (event->answer > 100 || !q->record)
+	stats->arrivals = stats->enqueued + stats->marked + stats->early + stats->over_bytes +
+			  stats->over_packets;
+	pie_flight_snapshot(&q->flight, &q->pie);
+}
+
+/* Ends the recording of an event. */
+static void pr_kept(struct pr_sched *q, const struct pie_flight_burst *burst)
+{
+	pie_flight_end(&q->flight, burst);
+	if (unlikely(pie_flight_is_due(&q->flight)))
+		pr_snapshot(q);
+}
+
+/* Records q->arrival. */
+static void pr_keep_arrival(struct pr_sched *q)
+{
+	const struct pie_event *event = &q->arrival;
+	struct pie_flight_burst burst;
+
+	burst = pie_flight_begin(&q->flight);
+	pie_flight_arrive(&burst, event->moment, event->tag, event->word, event->size, event->ecn,
+			  event->answer, PR_ENQUEUE);
+	pr_kept(q, &burst);
+}
+
+/* Records q->departure, of a packet that arrived at `since`. */
+static void pr_keep_departure(struct pr_sched *q, u64 since)
+{
+	const struct pie_event *event = &q->departure;
+	struct pie_stats *stats = &q->flight.stats;
+	struct pie_flight_burst burst;
+	u64 waited = q->pie.moment - since;
+
+	stats->left++;
+	stats->left_bytes += event->size;
+	stats->waited += waited;
+	stats->waited_high += stats->waited < waited;
+	burst = pie_flight_begin(&q->flight);
+	pie_flight_depart(&burst, event->moment, event->tag, since, event->size, event->ecn,
+			  event->caller);
+	pr_kept(q, &burst);
+}
+
+/* Counts and records q->other, which is no packet's: an update, a reset or new parameters. */
+static noinline void pr_keep_other(struct pr_sched *q)
+{
+	struct pie_flight_burst burst;
+
+	if (q->other.answer > 100)
 		return;
-	if (q->lost || q->places - q->kept < places) {
-		q->lost++;
+	pie_count_event(&q->flight.stats, &q->other, q->flight.bytes, 0);
+	if (!q->record)
 		return;
-	}
-	q->record->event[q->kept] = *event;
-	if (places > 1) {
-		memset(&q->record->event[q->kept + 1], 0, 2 * sizeof(*event));
-		memcpy(&q->record->event[q->kept + 1], &q->pie.params, sizeof(q->pie.params));
-	}
-	/* a reader of the record reads no event before it is whole */
-	smp_store_release(&q->kept, q->kept + places);
+	burst = pie_flight_begin(&q->flight);
+	pie_flight_other(&burst, &q->pie, &q->other);
+	pr_kept(q, &burst);
 }
 
 /* Returns the packet's ECN field; not-ECT if it has none or could not be marked. */
-static u32 pr_ecn(const struct pr_sched *q, struct sk_buff *skb)
+static noinline u32 pr_ecn(struct sk_buff *skb)
 {
 	unsigned int end = skb_network_offset(skb);
 	u32 ecn;
 
-	if (!q->ecn)
-		return PIE_NOT_ECT;
 	switch (skb_protocol(skb, true)) {
 	case htons(ETH_P_IP):
 		end += sizeof(struct iphdr);
@@ -127,54 +197,87 @@ static u32 pr_ecn(const struct pr_sched *q, struct sk_buff *skb)
 	return ecn != PIE_NOT_ECT && skb_try_make_writable(skb, end) ? PIE_NOT_ECT : ecn;
 }
 
-static int pr_enqueue_one(struct sk_buff *skb, struct Qdisc *sch, struct sk_buff **to_free)
+/* Marks a packet, which can be marked. */
+static noinline void pr_mark(struct sk_buff *skb)
 {
-	struct pr_sched *q = qdisc_priv(sch);
-	struct pie_event event = {
-		.moment = ktime_get_ns(),
-		.tag = q->next_tag,
-		.word = get_random_u64(),
-		.size = qdisc_pkt_len(skb),
-		.caller = PR_ENQUEUE,
-		.ecn = pr_ecn(q, skb),
-	};
-	u32 verdict = pie_arrive_event(&q->pie, q->bytes, q->room - q->packets, &event);
-	u64 ecn = event.ecn;
+	INET_ECN_set_ce(skb);
+}
 
-	pr_keep(q, &event);
+/* Counts and records an arrival whose packet is dropped. */
+static noinline void pr_dropped(struct pr_sched *q, u32 verdict)
+{
+	struct pie_stats *stats = &q->flight.stats;
+
 	switch (verdict) {
-	case PIE_MARK:
-		INET_ECN_set_ce(skb);
-		q->stats.ecn_mark++;
-		ecn = PIE_CE;
-		fallthrough;
-	case PIE_ENQUEUE:
+	case PIE_EARLY:
+		stats->early++;
 		break;
 	case PIE_BYTES:
+		stats->over_bytes++;
+		break;
 	case PIE_PACKETS:
-		q->stats.overlimit++;
-		fallthrough;
-	case PIE_EARLY:
-		q->next_tag++;
-		q->stats.dropped++;
-		return qdisc_drop(skb, sch, to_free);
+		stats->over_packets++;
+		break;
 	default:
 		/* nothing was decided: a size above 65535, as a stab can make */
 		q->refused++;
-		q->stats.dropped++;
+		return;
+	}
+	q->next_tag++;
+	if (q->record)
+		pr_keep_arrival(q);
+}
+
+/* Enqueues or drops a packet that needs no segmentation. */
+static __always_inline int pr_enqueue_one(struct sk_buff *skb, struct Qdisc *sch,
+					  struct sk_buff **to_free)
+{
+	struct pr_sched *q = qdisc_priv(sch);
+	struct pie_event *event = &q->arrival;
+	struct pie_stats *stats = &q->flight.stats;
+	u64 ecn, since;
+	u32 verdict;
+
+	event->moment = ktime_get_ns();
+	event->tag = q->next_tag;
+	if (q->flows)
+		event->tag |= (u64)skb_get_hash(skb) << 32;
+	event->word = pr_word(&q->random, event->moment);
+	event->size = qdisc_pkt_len(skb);
+	ecn = q->ecn ? pr_ecn(skb) : PIE_NOT_ECT;
+	event->ecn = ecn;
+	verdict = pie_arrive_event(&q->pie, q->flight.bytes, q->room - (u32)q->flight.packets,
+				   event);
+	if (likely(verdict == PIE_ENQUEUE)) {
+		stats->enqueued++;
+	} else if (verdict == PIE_MARK) {
+		pr_mark(skb);
+		ecn = PIE_CE;
+		stats->marked++;
+	} else {
+		pr_dropped(q, verdict);
 		return qdisc_drop(skb, sch, to_free);
 	}
-	pr_cb(skb)->tag = q->next_tag++;
-	pr_cb(skb)->since = q->pie.moment | ecn << PR_ECN_SHIFT;
-	q->bytes += event.size;
-	q->packets++;
-	q->stats.packets_in++;
-	q->stats.maxq = max(q->stats.maxq, q->packets);
+	q->next_tag++;
+	since = q->pie.moment;
+	pr_cb(skb)->tag = event->tag;
+	pr_cb(skb)->since = since | ecn << PR_ECN_SHIFT;
+	if (q->record) {
+		pie_flight_came(&q->flight, event, since, ecn);
+		if (q->flight.bytes > stats->largest_queue)
+			stats->largest_queue = q->flight.bytes;
+		pr_keep_arrival(q);
+	} else {
+		q->flight.packets++;
+		q->flight.bytes += event->size;
+	}
+	if (q->flight.packets > q->maxq)
+		q->maxq = q->flight.packets;
 	return qdisc_enqueue_tail(skb, sch);
 }
 
 /* Enqueues the segments of a GSO packet, each decided by itself. */
-static int pr_enqueue_gso(struct sk_buff *skb, struct Qdisc *sch, struct sk_buff **to_free)
+static noinline int pr_enqueue_gso(struct sk_buff *skb, struct Qdisc *sch, struct sk_buff **to_free)
 {
 	netdev_features_t features = netif_skb_features(skb);
 	unsigned int before = qdisc_pkt_len(skb), after = 0;
@@ -204,39 +307,40 @@ static int pr_enqueue_gso(struct sk_buff *skb, struct Qdisc *sch, struct sk_buff
 
 static int pr_enqueue(struct sk_buff *skb, struct Qdisc *sch, struct sk_buff **to_free)
 {
-	if (skb_is_gso(skb))
+	if (unlikely(skb_is_gso(skb)))
 		return pr_enqueue_gso(skb, sch, to_free);
 	return pr_enqueue_one(skb, sch, to_free);
 }
 
-/* A packet has left the queue. */
-static void pr_left(struct pr_sched *q, const struct sk_buff *skb, u32 caller)
+/* A packet has left the queue, by q->departure.caller. */
+static __always_inline void pr_left(struct pr_sched *q, const struct sk_buff *skb)
 {
 	struct pr_cb *cb = pr_cb(skb);
-	struct pie_event event = {
-		.moment = ktime_get_ns(),
-		.tag = cb->tag,
-		.size = qdisc_pkt_len(skb),
-		.caller = caller,
-		.ecn = cb->since >> PR_ECN_SHIFT,
-	};
+	struct pie_event *event = &q->departure;
+	u64 since = cb->since & (BIT_ULL(PR_ECN_SHIFT) - 1);
+	u32 answer;
 
-	q->packets--;
-	q->bytes -= event.size;
-	pie_depart_event(&q->pie, q->bytes, cb->since & (BIT_ULL(PR_ECN_SHIFT) - 1), &event);
-	pr_keep(q, &event);
+	event->moment = ktime_get_ns();
+	event->tag = cb->tag;
+	event->size = qdisc_pkt_len(skb);
+	event->ecn = cb->since >> PR_ECN_SHIFT;
+	q->flight.packets--;
+	q->flight.bytes -= event->size;
+	answer = pie_depart_event(&q->pie, q->flight.bytes, since, event);
+	if (likely(answer == PIE_DONE) && q->record)
+		pr_keep_departure(q, since);
 }
 
 static struct sk_buff *pr_dequeue(struct Qdisc *sch)
 {
 	struct sk_buff *skb = qdisc_dequeue_head(sch);
 
-	if (skb)
-		pr_left(qdisc_priv(sch), skb, PR_DEQUEUE);
+	if (likely(skb))
+		pr_left(qdisc_priv(sch), skb);
 	return skb;
 }
 
-/* Arms the timer for the next update. A moment that is not due within the longest t_update is none. */
+/* Arms the timer for the next update. No t_update is above ten seconds. */
 static void pr_arm(struct pr_sched *q)
 {
 	u64 most = ktime_get_ns() + 10 * (u64)NSEC_PER_SEC;
@@ -249,22 +353,27 @@ static void pr_arm(struct pr_sched *q)
 static enum hrtimer_restart pr_timer(struct hrtimer *timer)
 {
 	struct pr_sched *q = container_of(timer, struct pr_sched, timer);
-	struct pie_event event = { .caller = PR_TIMER };
-	spinlock_t *root_lock;
+	struct pie_event *event = &q->other;
+	u64 fresh = get_random_u64();
+	spinlock_t *root_lock; /* of the tree of queues */
 
 	rcu_read_lock();
 	root_lock = qdisc_lock(qdisc_root_sleeping(q->sch));
 	spin_lock(root_lock);
-	event.moment = ktime_get_ns();
-	pie_update_event(&q->pie, q->bytes, &event);
-	pr_keep(q, &event);
+	event->moment = ktime_get_ns();
+	event->caller = PR_TIMER;
+	pie_update_event(&q->pie, q->flight.bytes, event);
+	pr_keep_other(q);
+	q->random.v[q->flight.stats.updates % 4] ^= fresh;
+	if (q->record)
+		pie_flight_clock(q->record->words, event->moment, ktime_get_real_ns());
 	pr_arm(q);
 	spin_unlock(root_lock);
 	rcu_read_unlock();
 	return HRTIMER_NORESTART;
 }
 
-static const struct nla_policy pr_policy[TCA_PIE_MAX + 1] = {
+static const struct nla_policy pr_policy[TCA_PIE_RECORDED_MAX + 1] = {
 	[TCA_PIE_TARGET] = { .type = NLA_U32 },
 	[TCA_PIE_LIMIT] = { .type = NLA_U32 },
 	[TCA_PIE_TUPDATE] = { .type = NLA_U32 },
@@ -273,19 +382,27 @@ static const struct nla_policy pr_policy[TCA_PIE_MAX + 1] = {
 	[TCA_PIE_ECN] = { .type = NLA_U32 },
 	[TCA_PIE_BYTEMODE] = { .type = NLA_U32 },
 	[TCA_PIE_DQ_RATE_ESTIMATOR] = { .type = NLA_U32 },
+	[TCA_PIE_RECORDED_MAX_BURST] = { .type = NLA_U32 },
+	[TCA_PIE_RECORDED_MARK_ECNTH] = { .type = NLA_U32 },
+	[TCA_PIE_RECORDED_DECAY] = { .type = NLA_U32 },
+	[TCA_PIE_RECORDED_EVENTS] = { .type = NLA_U32 },
+	[TCA_PIE_RECORDED_FLOWS] = { .type = NLA_U32 },
 };
 
 /* Reads the options that may change at any time. tc's alpha and beta are sixteenths per second. */
-static int pr_params(struct nlattr **tb, struct pie_params *params, u32 *alpha, u32 *beta, struct netlink_ext_ack *extack)
+static int pr_params(struct nlattr **tb, struct pie_params *params, u32 *alpha, u32 *beta,
+		     struct netlink_ext_ack *extack)
 {
+	const struct nlattr *attr;
+
 	if (tb[TCA_PIE_TARGET])
-		params->target = (u64)nla_get_u32(tb[TCA_PIE_TARGET]) * NSEC_PER_USEC;
+		params->target = nla_get_u32(tb[TCA_PIE_TARGET]) * (u64)NSEC_PER_USEC;
 	if (tb[TCA_PIE_TUPDATE]) {
 		if (nla_get_u32(tb[TCA_PIE_TUPDATE]) < PR_TUPDATE_MIN) {
 			NL_SET_ERR_MSG_ATTR(extack, tb[TCA_PIE_TUPDATE], "tupdate is below 100us");
 			return -EINVAL;
 		}
-		params->t_update = (u64)nla_get_u32(tb[TCA_PIE_TUPDATE]) * NSEC_PER_USEC;
+		params->t_update = nla_get_u32(tb[TCA_PIE_TUPDATE]) * (u64)NSEC_PER_USEC;
 	}
 	if (tb[TCA_PIE_ALPHA])
 		*alpha = nla_get_u32(tb[TCA_PIE_ALPHA]);
@@ -293,18 +410,30 @@ static int pr_params(struct nlattr **tb, struct pie_params *params, u32 *alpha, 
 		*beta = nla_get_u32(tb[TCA_PIE_BETA]);
 	params->alpha = *alpha * 1000ULL / 16;
 	params->beta = *beta * 1000ULL / 16;
+	attr = tb[TCA_PIE_RECORDED_MAX_BURST];
+	if (attr)
+		params->max_burst = nla_get_u32(attr) * (u64)NSEC_PER_USEC;
+	attr = tb[TCA_PIE_RECORDED_MARK_ECNTH];
+	if (attr)
+		params->mark_ecnth = nla_get_u32(attr) * PR_BILLIONTH;
 	switch (pie_check_params(params)) {
 	case 0:
 		return 0;
 	case 1:
-		NL_SET_ERR_MSG(extack, "target is outside 2ns to 10s");
+		NL_SET_ERR_MSG(extack, "target is outside 1us to 10s");
 		return -EINVAL;
 	case 2:
 		NL_SET_ERR_MSG(extack, "tupdate is above 10s");
 		return -EINVAL;
+	case 3:
+		NL_SET_ERR_MSG(extack, "max_burst is above 1000s");
+		return -EINVAL;
 	case 4:
 	case 5:
 		NL_SET_ERR_MSG(extack, "alpha or beta is above 16000");
+		return -EINVAL;
+	case 8:
+		NL_SET_ERR_MSG(extack, "mark_ecnth is above 100%");
 		return -EINVAL;
 	default:
 		NL_SET_ERR_MSG(extack, "a parameter is out of its range");
@@ -312,38 +441,54 @@ static int pr_params(struct nlattr **tb, struct pie_params *params, u32 *alpha, 
 	}
 }
 
-static bool pr_flag(struct nlattr *attr, bool otherwise)
+static u32 pr_number(const struct nlattr *attr, u32 otherwise)
+{
+	return attr ? nla_get_u32(attr) : otherwise;
+}
+
+static bool pr_flag(const struct nlattr *attr, bool otherwise)
 {
 	return attr ? nla_get_u32(attr) != 0 : otherwise;
+}
+
+/* Refuses a change of what belongs to the opening. Its present value is no change. */
+static int pr_check_opening(const struct pr_sched *q, struct nlattr **tb,
+			    struct netlink_ext_ack *extack)
+{
+	bool is_scaled = q->pie.choices & PIE_SIZE_SCALED;
+	bool is_rate = !(q->pie.choices & PIE_DELAY_STAMP);
+	bool is_half = q->pie.choices & PIE_DECAY_HALF;
+
+	if (pr_number(tb[TCA_PIE_LIMIT], q->room) != q->room)
+		NL_SET_ERR_MSG(extack, "limit belongs to the opening: replace the qdisc");
+	else if (pr_flag(tb[TCA_PIE_BYTEMODE], is_scaled) != is_scaled)
+		NL_SET_ERR_MSG(extack, "bytemode belongs to the opening: replace the qdisc");
+	else if (pr_flag(tb[TCA_PIE_DQ_RATE_ESTIMATOR], is_rate) != is_rate)
+		NL_SET_ERR_MSG(extack, "dq_rate_estimator belongs to the opening: replace qdisc");
+	else if (pr_flag(tb[TCA_PIE_RECORDED_DECAY], is_half) != is_half)
+		NL_SET_ERR_MSG(extack, "decay belongs to the opening: replace the qdisc");
+	else if (pr_number(tb[TCA_PIE_RECORDED_EVENTS], q->events) != q->events)
+		NL_SET_ERR_MSG(extack, "events belongs to the opening: replace the qdisc");
+	else
+		return 0;
+	return -EOPNOTSUPP;
 }
 
 static int pr_change(struct Qdisc *sch, struct nlattr *opt, struct netlink_ext_ack *extack)
 {
 	struct pr_sched *q = qdisc_priv(sch);
-	struct pie_event event = { .caller = PR_CHANGE };
-	bool is_scaled = q->pie.choices & PIE_SIZE_SCALED;
-	bool is_rate = !(q->pie.choices & PIE_DELAY_STAMP);
-	struct nlattr *tb[TCA_PIE_MAX + 1];
+	struct nlattr *tb[TCA_PIE_RECORDED_MAX + 1];
+	struct pie_event *event = &q->other;
 	struct pie_params params;
 	u32 alpha, beta;
 	int err;
 
-	err = nla_parse_nested_deprecated(tb, TCA_PIE_MAX, opt, pr_policy, extack);
+	err = nla_parse_nested_deprecated(tb, TCA_PIE_RECORDED_MAX, opt, pr_policy, extack);
 	if (err < 0)
 		return err;
-	if (tb[TCA_PIE_LIMIT] && nla_get_u32(tb[TCA_PIE_LIMIT]) != q->room) {
-		NL_SET_ERR_MSG_ATTR(extack, tb[TCA_PIE_LIMIT], "limit belongs to the opening: replace the qdisc");
-		return -EOPNOTSUPP;
-	}
-	if (pr_flag(tb[TCA_PIE_BYTEMODE], is_scaled) != is_scaled) {
-		NL_SET_ERR_MSG_ATTR(extack, tb[TCA_PIE_BYTEMODE], "bytemode belongs to the opening: replace the qdisc");
-		return -EOPNOTSUPP;
-	}
-	if (pr_flag(tb[TCA_PIE_DQ_RATE_ESTIMATOR], is_rate) != is_rate) {
-		NL_SET_ERR_MSG_ATTR(extack, tb[TCA_PIE_DQ_RATE_ESTIMATOR],
-				    "dq_rate_estimator belongs to the opening: replace the qdisc");
-		return -EOPNOTSUPP;
-	}
+	err = pr_check_opening(q, tb, extack);
+	if (err)
+		return err;
 
 	sch_tree_lock(sch);
 	params = q->pie.params;
@@ -351,66 +496,106 @@ static int pr_change(struct Qdisc *sch, struct nlattr *opt, struct netlink_ext_a
 	beta = q->beta;
 	err = pr_params(tb, &params, &alpha, &beta, extack);
 	if (!err) {
-		event.moment = ktime_get_ns();
-		if (pie_set_params_event(&q->pie, &params, &event) != PIE_DONE) {
+		event->moment = ktime_get_ns();
+		event->caller = PR_CHANGE;
+		if (pie_set_params_event(&q->pie, &params, event) != PIE_DONE) {
 			NL_SET_ERR_MSG(extack, "the controller refused the parameters");
 			err = -EINVAL;
 		}
 	}
 	if (!err) {
-		pr_keep(q, &event);
+		pr_keep_other(q);
 		q->alpha = alpha;
 		q->beta = beta;
 		q->ecn = pr_flag(tb[TCA_PIE_ECN], q->ecn);
+		q->flows = pr_flag(tb[TCA_PIE_RECORDED_FLOWS], q->flows);
 		pr_arm(q);
 	}
 	sch_tree_unlock(sch);
 	return err;
 }
 
-static ssize_t pr_read(struct file *file, char __user *to, size_t count, loff_t *at)
+/* Maps a record. Its pages stay as long as a mapping has them, also when the queue is gone. */
+static int pr_mmap(struct file *file, struct vm_area_struct *vma)
 {
-	struct pr_sched *q = file->private_data;
-	/* with the release in pr_keep: the events that are counted are whole, and stay as they are */
-	u32 kept = smp_load_acquire(&q->kept);
+	struct pr_record *record = pde_data(file_inode(file));
 
-	return simple_read_from_buffer(to, count, at, q->record, struct_size(q->record, event, kept));
+	if (vma->vm_flags & (VM_WRITE | VM_EXEC))
+		return -EPERM;
+#if LINUX_VERSION_CODE >= KERNEL_VERSION(6, 3, 0)
+	vm_flags_clear(vma, VM_MAYWRITE | VM_MAYEXEC);
+#else
+	vma->vm_flags &= ~(VM_MAYWRITE | VM_MAYEXEC);
+#endif
+	return remap_vmalloc_range(vma, record->words, vma->vm_pgoff);
 }
 
-static const struct file_operations pr_file_ops = {
-	.owner = THIS_MODULE,
-	.open = simple_open,
-	.read = pr_read,
-	.llseek = default_llseek,
+static const struct proc_ops pr_file_ops = {
+	.proc_lseek = noop_llseek,
+	.proc_mmap = pr_mmap,
 };
 
-/* Gives the queue a record, if events are asked for. */
-static int pr_record_open(struct pr_sched *q, const struct pie_opening *opening, struct netlink_ext_ack *extack)
+static void pr_record_free(struct pr_record *record)
 {
-	u32 places = READ_ONCE(events);
-	char name[IFNAMSIZ + 32];
+	if (!record)
+		return;
+	proc_remove(record->file);
+	vfree(record->words);
+	atomic_long_sub(record->bytes >> PAGE_SHIFT, &pr_pages);
+	kfree(record);
+}
 
-	if (!places)
+/* Gives the queue a record, if events are asked for. */
+static int pr_record_open(struct pr_sched *q, const struct pie_opening *opening,
+			  struct netlink_ext_ack *extack)
+{
+	struct net_device *dev = qdisc_dev(q->sch);
+	struct pr_net *net = net_generic(dev_net(dev), pr_net_id);
+	struct pr_record *record;
+	char name[64];
+	long most;
+
+	if (!q->events)
 		return 0;
-	if (places > 1 << 24) {
-		NL_SET_ERR_MSG(extack, "the module's parameter events is above 2^24");
+	if (q->events > PR_EVENTS_MAX) {
+		NL_SET_ERR_MSG(extack, "events is above 2^24");
 		return -EINVAL;
 	}
-	q->record = vzalloc(struct_size(q->record, event, places));
-	if (!q->record)
+	record = kzalloc(sizeof(*record), GFP_KERNEL);
+	if (!record)
 		return -ENOMEM;
-	q->record->opening = *opening;
-	q->places = places;
-	snprintf(name, sizeof(name), "%u-%s-%x-%x", dev_net(qdisc_dev(q->sch))->ns.inum, qdisc_dev(q->sch)->name,
-		 TC_H_MAJ(q->sch->handle) >> 16, q->sch->parent);
-	q->file = debugfs_create_file(name, 0400, pr_folder, q, &pr_file_ops);
+	record->bytes = PAGE_ALIGN(pie_flight_bytes(q->events, opening->packets));
+	most = (long)READ_ONCE(memory) << (20 - PAGE_SHIFT);
+	if (atomic_long_add_return(record->bytes >> PAGE_SHIFT, &pr_pages) > most) {
+		NL_SET_ERR_MSG(extack, "records would exceed the module's parameter memory");
+		pr_record_free(record);
+		return -ENOMEM;
+	}
+	record->words = vmalloc_user(record->bytes);
+	if (!record->words || !pie_flight_open(&q->flight, record->words, record->bytes, q->events,
+					       opening, &q->pie)) {
+		pr_record_free(record);
+		return -ENOMEM;
+	}
+	pie_flight_clock(record->words, opening->moment, ktime_get_real_ns());
+	q->serial = (u32)atomic_inc_return(&pr_serial);
+	snprintf(name, sizeof(name), "%u-%x:%x-%x:%x-%u", dev->ifindex,
+		 TC_H_MAJ(q->sch->handle) >> 16, TC_H_MIN(q->sch->handle),
+		 TC_H_MAJ(q->sch->parent) >> 16, TC_H_MIN(q->sch->parent), q->serial);
+	record->file = proc_create_data(name, 0400, net->folder, &pr_file_ops, record);
+	if (!record->file) {
+		pr_record_free(record);
+		return -ENOMEM;
+	}
+	proc_set_size(record->file, record->bytes);
+	q->record = record;
 	return 0;
 }
 
 static int pr_init(struct Qdisc *sch, struct nlattr *opt, struct netlink_ext_ack *extack)
 {
 	struct pr_sched *q = qdisc_priv(sch);
-	struct nlattr *tb[TCA_PIE_MAX + 1] = {};
+	struct nlattr *tb[TCA_PIE_RECORDED_MAX + 1] = {};
 	struct pie_opening opening;
 	int err;
 
@@ -423,14 +608,14 @@ static int pr_init(struct Qdisc *sch, struct nlattr *opt, struct netlink_ext_ack
 	q->timer.function = pr_timer;
 #endif
 	if (opt) {
-		err = nla_parse_nested_deprecated(tb, TCA_PIE_MAX, opt, pr_policy, extack);
+		err = nla_parse_nested_deprecated(tb, TCA_PIE_RECORDED_MAX, opt, pr_policy, extack);
 		if (err < 0)
 			return err;
 	}
 	pie_default_opening(&opening, 0);
 	opening.choices = PIE_DELAY_STAMP;
 	opening.moment = ktime_get_ns();
-	opening.packets = tb[TCA_PIE_LIMIT] ? nla_get_u32(tb[TCA_PIE_LIMIT]) : 1000;
+	opening.packets = pr_number(tb[TCA_PIE_LIMIT], 1000);
 	opening.params.mean_pkt = clamp_t(u32, psched_mtu(qdisc_dev(sch)), 1, PIE_MAX_SIZE);
 	/* no limit in bytes below the one in packets */
 	opening.params.limit_bytes = min_t(u64, opening.packets * PIE_MAX_SIZE, PIE_MAX_BYTES);
@@ -439,9 +624,13 @@ static int pr_init(struct Qdisc *sch, struct nlattr *opt, struct netlink_ext_ack
 		opening.choices &= ~(u64)PIE_DELAY_STAMP;
 	if (pr_flag(tb[TCA_PIE_BYTEMODE], false))
 		opening.choices |= PIE_SIZE_SCALED;
+	if (pr_flag(tb[TCA_PIE_RECORDED_DECAY], false))
+		opening.choices |= PIE_DECAY_HALF;
 	q->alpha = 2;
 	q->beta = 20;
+	q->events = pr_number(tb[TCA_PIE_RECORDED_EVENTS], READ_ONCE(events));
 	q->ecn = pr_flag(tb[TCA_PIE_ECN], false);
+	q->flows = pr_flag(tb[TCA_PIE_RECORDED_FLOWS], q->events != 0);
 	if (opening.packets < 1 || opening.packets > 1 << 20) {
 		NL_SET_ERR_MSG(extack, "limit is outside 1 to 1048576 packets");
 		return -EINVAL;
@@ -455,6 +644,9 @@ static int pr_init(struct Qdisc *sch, struct nlattr *opt, struct netlink_ext_ack
 	}
 	q->room = opening.packets;
 	sch->limit = q->room;
+	q->arrival.caller = PR_ENQUEUE;
+	q->departure.caller = PR_DEQUEUE;
+	get_random_bytes(&q->random, sizeof(q->random));
 	err = pr_record_open(q, &opening, extack);
 	if (err)
 		return err;
@@ -463,19 +655,25 @@ static int pr_init(struct Qdisc *sch, struct nlattr *opt, struct netlink_ext_ack
 	return 0;
 }
 
-/* Drops all packets: the history has their departures by a caller of their own, and then a reset. */
+/*
+ * Drops all packets. The history has their departures, by a caller of their own, and then a reset.
+ */
 static void pr_reset(struct Qdisc *sch)
 {
 	struct pr_sched *q = qdisc_priv(sch);
-	struct pie_event event = { .caller = PR_PURGE };
 	struct sk_buff *skb;
 
 	if (q->is_open) {
-		for (skb = sch->q.head; skb; skb = skb->next)
-			pr_left(q, skb, PR_PURGE);
-		event.moment = ktime_get_ns();
-		pie_reset_event(&q->pie, &event);
-		pr_keep(q, &event);
+		q->departure.caller = PR_PURGE;
+		for (skb = sch->q.head; skb; skb = skb->next) {
+			pr_left(q, skb);
+			q->purged++;
+		}
+		q->departure.caller = PR_DEQUEUE;
+		q->other.moment = ktime_get_ns();
+		q->other.caller = PR_PURGE;
+		pie_reset_event(&q->pie, &q->other);
+		pr_keep_other(q);
 	}
 	qdisc_reset_queue(sch);
 }
@@ -485,25 +683,32 @@ static void pr_destroy(struct Qdisc *sch)
 	struct pr_sched *q = qdisc_priv(sch);
 
 	hrtimer_cancel(&q->timer);
-	debugfs_remove(q->file);
-	vfree(q->record);
+	pr_record_free(q->record);
 }
 
 static int pr_dump(struct Qdisc *sch, struct sk_buff *skb)
 {
 	struct pr_sched *q = qdisc_priv(sch);
+	const struct pie_params *params = &q->pie.params;
 	struct nlattr *opts = nla_nest_start_noflag(skb, TCA_OPTIONS);
 
 	if (!opts)
 		return -1;
-	if (nla_put_u32(skb, TCA_PIE_TARGET, div_u64(q->pie.params.target, NSEC_PER_USEC)) ||
+	if (nla_put_u32(skb, TCA_PIE_TARGET, div_u64(params->target, NSEC_PER_USEC)) ||
 	    nla_put_u32(skb, TCA_PIE_LIMIT, q->room) ||
-	    nla_put_u32(skb, TCA_PIE_TUPDATE, div_u64(q->pie.params.t_update, NSEC_PER_USEC)) ||
+	    nla_put_u32(skb, TCA_PIE_TUPDATE, div_u64(params->t_update, NSEC_PER_USEC)) ||
 	    nla_put_u32(skb, TCA_PIE_ALPHA, q->alpha) ||
 	    nla_put_u32(skb, TCA_PIE_BETA, q->beta) ||
 	    nla_put_u32(skb, TCA_PIE_ECN, q->ecn) ||
 	    nla_put_u32(skb, TCA_PIE_BYTEMODE, !!(q->pie.choices & PIE_SIZE_SCALED)) ||
-	    nla_put_u32(skb, TCA_PIE_DQ_RATE_ESTIMATOR, !(q->pie.choices & PIE_DELAY_STAMP))) {
+	    nla_put_u32(skb, TCA_PIE_DQ_RATE_ESTIMATOR, !(q->pie.choices & PIE_DELAY_STAMP)) ||
+	    nla_put_u32(skb, TCA_PIE_RECORDED_MAX_BURST,
+			div_u64(params->max_burst, NSEC_PER_USEC)) ||
+	    nla_put_u32(skb, TCA_PIE_RECORDED_MARK_ECNTH,
+			div_u64(params->mark_ecnth, PR_BILLIONTH)) ||
+	    nla_put_u32(skb, TCA_PIE_RECORDED_DECAY, !!(q->pie.choices & PIE_DECAY_HALF)) ||
+	    nla_put_u32(skb, TCA_PIE_RECORDED_EVENTS, q->events) ||
+	    nla_put_u32(skb, TCA_PIE_RECORDED_FLOWS, q->flows)) {
 		nla_nest_cancel(skb, opts);
 		return -1;
 	}
@@ -513,15 +718,36 @@ static int pr_dump(struct Qdisc *sch, struct sk_buff *skb)
 static int pr_dump_stats(struct Qdisc *sch, struct gnet_dump *d)
 {
 	struct pr_sched *q = qdisc_priv(sch);
-	struct tc_pie_xstats stats = q->stats;
+	const struct pie_stats *stats = &q->flight.stats;
+	struct tc_pie_recorded_xstats told = {};
 
-	stats.prob = mul_u64_u64_div_u64(q->pie.prob, U64_MAX, PIE_ONE);
-	stats.delay = min_t(u64, div_u64(q->pie.old_delay, NSEC_PER_USEC), U32_MAX);
-	stats.dq_rate_estimating = !(q->pie.choices & PIE_DELAY_STAMP);
-	if (q->pie.average)
-		stats.avg_dq_rate = min_t(u64, div64_u64(q->pie.params.dq_threshold * NSEC_PER_SEC, q->pie.average),
-					  U32_MAX);
-	return gnet_stats_copy_app(d, &stats, sizeof(stats));
+	sch_tree_lock(sch);
+	told.pie.prob = mul_u64_u64_div_u64(q->pie.prob, U64_MAX, PIE_ONE);
+	told.pie.delay = min_t(u64, div_u64(q->pie.old_delay, NSEC_PER_USEC), U32_MAX);
+	told.pie.dq_rate_estimating = !(q->pie.choices & PIE_DELAY_STAMP);
+	if (q->pie.average) {
+		u64 rate = div64_u64(q->pie.params.dq_threshold * NSEC_PER_SEC, q->pie.average);
+
+		told.pie.avg_dq_rate = min_t(u64, rate, U32_MAX);
+	}
+	told.pie.packets_in = stats->enqueued + stats->marked;
+	told.pie.dropped = stats->early + stats->over_bytes + stats->over_packets + q->refused;
+	told.pie.overlimit = stats->over_bytes + stats->over_packets;
+	told.pie.maxq = q->maxq;
+	told.pie.ecn_mark = stats->marked;
+	told.burst = q->pie.burst;
+	told.early = stats->early;
+	told.over_bytes = stats->over_bytes;
+	told.over_packets = stats->over_packets;
+	told.refused = q->refused;
+	told.purged = q->purged;
+	told.updates = stats->updates;
+	told.resets = stats->resets;
+	told.changes = stats->changes;
+	told.recorded = q->flight.count;
+	told.serial = q->serial;
+	sch_tree_unlock(sch);
+	return gnet_stats_copy_app(d, &told, sizeof(told));
 }
 
 static struct Qdisc_ops pr_ops __read_mostly = {
@@ -539,6 +765,28 @@ static struct Qdisc_ops pr_ops __read_mostly = {
 	.owner = THIS_MODULE,
 };
 
+static int __net_init pr_net_init(struct net *net)
+{
+	struct pr_net *mine = net_generic(net, pr_net_id);
+
+	mine->folder = proc_net_mkdir(net, "pie_recorded", net->proc_net);
+	return mine->folder ? 0 : -ENOMEM;
+}
+
+static void __net_exit pr_net_exit(struct net *net)
+{
+	struct pr_net *mine = net_generic(net, pr_net_id);
+
+	proc_remove(mine->folder);
+}
+
+static struct pernet_operations pr_net_ops = {
+	.init = pr_net_init,
+	.exit = pr_net_exit,
+	.id = &pr_net_id,
+	.size = sizeof(struct pr_net),
+};
+
 static int __init pr_module_init(void)
 {
 	int err;
@@ -546,21 +794,24 @@ static int __init pr_module_init(void)
 	if (strcmp(kind, "pie") && strcmp(kind, "pie_recorded"))
 		return -EINVAL;
 	strscpy(pr_ops.id, kind, sizeof(pr_ops.id));
-	pr_folder = debugfs_create_dir("pie_recorded", NULL);
+	err = register_pernet_subsys(&pr_net_ops);
+	if (err)
+		return err;
 	err = register_qdisc(&pr_ops);
 	if (err)
-		debugfs_remove(pr_folder);
+		unregister_pernet_subsys(&pr_net_ops);
 	return err;
 }
 
 static void __exit pr_module_exit(void)
 {
 	unregister_qdisc(&pr_ops);
-	debugfs_remove(pr_folder);
+	unregister_pernet_subsys(&pr_net_ops);
 }
 
 module_init(pr_module_init);
 module_exit(pr_module_exit);
 
 MODULE_DESCRIPTION("PIE (RFC 8033), decided by proved code, with every decision on record");
+MODULE_ALIAS("net-sch-pie_recorded");
 MODULE_LICENSE("Dual MIT/GPL");

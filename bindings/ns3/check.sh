@@ -57,7 +57,7 @@ runs() {
 }
 runs recorded
 runs recorded-all
-# with Flows each flow of the history stands in the file, by its addresses, and no other
+# with Flows each flow of the history is in the file, by its addresses, and no other
 "$here/out/dumbbell" --queue=recorded --seconds=1 --warm-up=0 --udp=0.5 --history="$work/history" --flows-file="$work/flows" > /dev/null || exit 1
 told=$(sed 1d "$work/flows" | cut -d , -f 1 | sort)
 found=$("$program" explain --flows 1000 --csv "$work/history" | sed 1d | cut -d , -f 3 | sort)

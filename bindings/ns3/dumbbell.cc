@@ -32,7 +32,7 @@ struct Scenario
     double udp = 0; /* rate of a UDP burst in the middle fifth of the run, in parts of the link's */
     uint32_t seed = 1;
     double seconds = 20;
-    double warmUp = 5; /* seconds of which steady figures take no account */
+    double warmUp = 5; /* seconds that steady figures exclude */
     double buffer = 0; /* send buffer of each flow, in kB; 0: as SendBufferBytes says */
     std::string history;
     std::string flowsFile;
@@ -41,12 +41,12 @@ struct Scenario
 };
 
 constexpr uint32_t SEGMENT = 1448;   /* with 52 bytes of headers a packet of 1500 */
-constexpr uint32_t MEAN_PKT = 1500;  /* for all that are asked, so that ns-3's scaling by size changes nothing */
+constexpr uint32_t MEAN_PKT = 1500;  /* for all queues, so that ns-3's scaling by size changes nothing */
 constexpr uint16_t PORT = 5000;
 constexpr int64_t STARTS = 1;        /* the random streams: of the flows' starts, */
 constexpr int64_t WORDS = 2;         /* and of the queue's words */
 
-/* What is counted while the run goes on. */
+/* Counters of a run. */
 struct Counts
 {
     std::vector<double> waits; /* ms, of each packet that left after the warm-up */

@@ -23,7 +23,7 @@ NS_OBJECT_ENSURE_REGISTERED(RecordedPieQueueDisc);
 namespace
 {
 
-/* Who acts, in the history: the senders, the link, the timer. */
+/* The callers in the history: the senders, the link, the timer. */
 constexpr uint16_t SENDERS = 1;
 constexpr uint16_t LINK = 2;
 constexpr uint16_t TIMER = 3;

@@ -1,9 +1,9 @@
 #!/usr/bin/env bash
-# Runs the scenarios over the dumbbell, each with every queue and several seeds, and appends a record of each run to FOLDER/results.csv.
-# All scenarios of one seed come before those of the next, so that a batch that is stopped has the same number of runs of each.
-# Runs whose history exists already are left out, so a batch that was stopped can go on. The histories stay in FOLDER/histories; audit.sh
-# audits them, table.py makes tables. A run has 60 simulated seconds, of which the first 10 are the start. Tail drop, whose runs differ little, has
-# three seeds.
+# Runs the scenarios over the dumbbell, each with every queue and several seeds, and appends a record of each run to
+# FOLDER/results.csv. All scenarios of one seed come before those of the next, so that a stopped batch has the same
+# number of runs of each. Runs with a history are skipped, so a stopped batch can be continued. The histories are in
+# FOLDER/histories; audit.sh audits them, table.py makes tables. A run has 60 simulated seconds, of which the first
+# 10 are the start. Tail drop, whose runs differ little, has three seeds.
 # usage: bindings/ns3/scenarios.sh FOLDER [FIRST_SEED] [LAST_SEED] [PROCESSES] [RATES] [QUEUES] [SCENARIO]
 #   RATES in Mbit/s, '10 50' where none are given; QUEUES: 'recorded-stamp pie-stamp'; recorded and pie also with -random, -uncapped or -all behind
 #   them, the optional elements of RFC 8033, or with nothing, by the departure rate; pie-mark-stamp, which is pie-stamp with its marks changed, and

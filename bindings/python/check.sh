@@ -1,7 +1,7 @@
 #!/usr/bin/env bash
-# Makes a wheel of the module for Python, installs it into a folder of its own, and runs its tests over that: worked traces by single calls and as
-# arrays, refusals, histories that `pie audit` finds clean, frames beside what `pie explain` prints, the notebook. mypy reads its types. What is
-# missing here is told on a line that begins with NOT RUN.
+# Builds a wheel of the Python module, installs it into a folder of its own, and runs its tests: worked traces by
+# single calls and as arrays, errors, histories that `pie audit` must find clean, frames compared with the output of
+# `pie explain`, the notebook. mypy checks its types. Prints a line NOT RUN for a missing program.
 # needs: library, program
 set -eu
 cd "$(dirname "$0")/../.."

@@ -1,6 +1,7 @@
-"""Makes libpie.so for the wheel, from the assembly of the proved code, by the Makefile at the top of the repository: it takes make and a C compiler.
-An sdist contains what that takes, in library/. The wheel is for this processor and this system's C library, and for any Python 3: the module reaches
-the library by ctypes. The rest stands in pyproject.toml."""
+"""Builds libpie.so for the wheel from the assembly of the proved code, with the Makefile at the top of the
+repository, make and a C compiler. An sdist contains the needed files in library/. The wheel is for this processor
+and this system's C library, and for any Python 3, because the module calls the library through ctypes.
+pyproject.toml has the other settings."""
 import shutil
 import subprocess
 import tempfile

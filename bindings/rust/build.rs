@@ -11,9 +11,9 @@ use std::process::Command;
 struct Library {
     /// Its name below a prefix.
     name: &'static str,
-    /// Its crate in the repository, after which it is named there.
+    /// Its crate in the repository, which names its file there.
     crate_name: &'static str,
-    /// What it is built from, beside the assembly of that crate.
+    /// Its sources, beside the assembly of that crate.
     sources: &'static [&'static str],
 }
 
@@ -24,7 +24,7 @@ fn main() {
     for name in ["PIE_C_PREFIX", "CC", "AR"] {
         println!("cargo:rerun-if-env-changed={name}");
     }
-    // (in the order in which they are linked: the link calls the other library)
+    // (in link order: the link calls the other library)
     if env::var_os("CARGO_FEATURE_LINK").is_some() {
         link(&LINK);
     }
@@ -49,7 +49,7 @@ fn folder(name: &str) -> PathBuf {
     PathBuf::from(env::var_os(name).unwrap_or_default())
 }
 
-/// A file of the assembly, or of what it calls: of the package, or else of the repository.
+/// Returns a file of the assembly, or of its helpers: from the package, otherwise from the repository.
 fn source(name: &str) -> PathBuf {
     let here = folder("CARGO_MANIFEST_DIR");
     let places = ["assembly", "../../dist/x86_64", "../../dist"];

@@ -51,7 +51,8 @@ for caller in 1 2; do
 done
 echo "bindings/rust: four threads at a link: the audit finds their history clean ($events events)"
 
-# clean TEXT: audits a text that resumes, and sets found to the number of its last event; it tells the time of day
+# clean TEXT: audits an excerpt and sets `found` to the number of its last event; each event must have a wall-clock
+# time
 clean() {
     [ "$(grep -c '^clock,0,1795550400000000000$' "$1")" = 1 ] || { echo "bindings/rust/check.sh: a text without the time of day" && exit 1; }
     found=$("$program" audit < "$1")

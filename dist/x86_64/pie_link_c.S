@@ -916,10 +916,10 @@
 .Lfunc_end4:
 	.size	"pie_link::pie_link++kept_book++KeptBook+Destruct::drop", .Lfunc_end4-"pie_link::pie_link++kept_book++KeptBook+Destruct::drop"
 
-	.section	".text.pie_book::book::Book::take_snapshot","ax",@progbits
+	.section	".text.pie_book::book::Book::copy_running","ax",@progbits
 	.p2align	4
-	.type	"pie_book::book::Book::take_snapshot",@function
-"pie_book::book::Book::take_snapshot":
+	.type	"pie_book::book::Book::copy_running",@function
+"pie_book::book::Book::copy_running":
 	pushq	%r15
 	pushq	%r14
 	pushq	%r12
@@ -969,7 +969,7 @@
 	popq	%r15
 	jmp	"pie_book::deciding_core::Core::copy_from"
 .Lfunc_end5:
-	.size	"pie_book::book::Book::take_snapshot", .Lfunc_end5-"pie_book::book::Book::take_snapshot"
+	.size	"pie_book::book::Book::copy_running", .Lfunc_end5-"pie_book::book::Book::copy_running"
 
 	.section	".text.pie_early::decision::scaled","ax",@progbits
 	.p2align	4
@@ -1303,202 +1303,252 @@
 	.p2align	4
 	.type	"pie_aqm::controller::Controller::update",@function
 "pie_aqm::controller::Controller::update":
-	pushq	%r15
 	pushq	%r14
-	pushq	%r13
-	pushq	%r12
 	pushq	%rbx
-	movq	%rdi, %rbx
-	movq	80(%rdi), %r15
-	cmpq	%r15, %rdx
-	cmovaq	%rdx, %r15
-	movq	%r15, 80(%rdi)
+	pushq	%rax
+	movq	80(%rdi), %rbx
+	cmpq	%rbx, %rdx
+	cmovaq	%rdx, %rbx
+	movq	%rbx, 80(%rdi)
 	cmpb	$0, 88(%rdi)
 	je	.LBB12_1
-	cmpb	$0, 1(%rbx)
+	cmpb	$0, 1(%rdi)
 	je	.LBB12_3
-	movq	128(%rbx), %r14
-	jmp	.LBB12_6
+	movq	128(%rdi), %rax
+	jmp	.LBB12_18
 .LBB12_1:
-	movq	%r15, 160(%rbx)
-	xorl	%r14d, %r14d
-	jmp	.LBB12_28
+	movq	%rbx, 160(%rdi)
+	xorl	%eax, %eax
+	addq	$8, %rsp
+	popq	%rbx
+	popq	%r14
+	retq
 .LBB12_3:
-	movq	72(%rbx), %rcx
-	testq	%rcx, %rcx
-	je	.LBB12_29
+	movq	72(%rdi), %rcx
 	movq	%rsi, %rax
-	mulq	96(%rbx)
+	mulq	96(%rdi)
+	xorl	%esi, %esi
+	popcntq	%rcx, %rsi
+	cmpl	$1, %esi
+	jne	.LBB12_12
+	rep		bsfq	%rcx, %rsi
+	addq	$-10, %rsi
+	cmpq	$6, %rsi
+	ja	.LBB12_13
+	leaq	.LJTI12_0(%rip), %rcx
+	movslq	(%rcx,%rsi,4), %rsi
+	addq	%rcx, %rsi
+	jmpq	*%rsi
+.LBB12_15:
+	shrdq	$10, %rdx, %rax
+	shrq	$10, %rdx
+	jmp	.LBB12_16
+.LBB12_12:
+	testq	%rcx, %rcx
+	je	.LBB12_14
+.LBB12_13:
+	movq	%rdi, %r14
 	movq	%rax, %rdi
 	movq	%rdx, %rsi
 	movq	%rcx, %rdx
 	xorl	%ecx, %ecx
 	callq	__udivti3@PLT
-	movq	%rax, %r14
-	movabsq	$1099511627776, %rax
-	cmpq	%rax, %r14
-	cmovaeq	%rax, %r14
+	movq	%r14, %rdi
+.LBB12_16:
+	movabsq	$1099511627776, %rcx
+	cmpq	%rcx, %rax
+	cmovaeq	%rcx, %rax
 	testq	%rdx, %rdx
-	cmovneq	%rax, %r14
-.LBB12_6:
-	movzbl	5(%rbx), %esi
-	movq	144(%rbx), %r12
-	movq	8(%rbx), %r13
-	movq	%r14, %rdx
-	subq	%r13, %rdx
-	imulq	32(%rbx), %rdx
-	movq	%r14, %rax
-	subq	%r12, %rax
-	imulq	40(%rbx), %rax
-	movq	136(%rbx), %rcx
-	addq	%rdx, %rax
-	movl	$2048, %edi
-	cmpq	$1000000, %rcx
-	jb	.LBB12_11
-	movl	$512, %edi
-	cmpq	$10000000, %rcx
-	jb	.LBB12_11
-	movl	$128, %edi
-	cmpq	$100000000, %rcx
-	jb	.LBB12_11
-	movl	$32, %edi
-	cmpq	$1000000000, %rcx
-	jb	.LBB12_11
-	movq	%rcx, %rdx
-	shrq	$10, %rdx
-	movl	$8, %edi
-	cmpq	$9765624, %rdx
-	ja	.LBB12_14
-.LBB12_11:
+	cmovneq	%rcx, %rax
+.LBB12_18:
+	movzbl	5(%rdi), %r9d
+	movq	136(%rdi), %rcx
+	movq	144(%rdi), %rsi
+	movq	8(%rdi), %r8
+	movq	%rax, %r10
+	subq	%r8, %r10
+	imulq	32(%rdi), %r10
 	movq	%rax, %rdx
-	shrq	$32, %rdx
-	je	.LBB12_12
-	cqto
-	idivq	%rdi
-	jmp	.LBB12_19
-.LBB12_12:
-	xorl	%edx, %edx
-	divl	%edi
-.LBB12_19:
-	testb	%sil, %sil
-	je	.LBB12_20
-	leaq	(%r14,%r14), %rdx
-	cmpq	%r13, %rdx
-	setae	%dl
-	leaq	(%r12,%r12), %rsi
-	cmpq	%r13, %rsi
-	setae	%dil
-	movq	%rax, %rsi
-	sarq	$63, %rsi
-	addq	%rax, %rcx
-	adcq	$0, %rsi
-	orb	%dl, %dil
-	jne	.LBB12_23
+	subq	%rsi, %rdx
+	imulq	40(%rdi), %rdx
+	addq	%r10, %rdx
+	cmpq	$999999, %rcx
+	ja	.LBB12_20
+	leaq	2047(%rdx), %r10
+	testq	%rdx, %rdx
+	cmovnsq	%rdx, %r10
+	sarq	$11, %r10
+	movq	%r10, %rdx
+	jmp	.LBB12_32
+.LBB12_20:
+	cmpq	$9999999, %rcx
+	ja	.LBB12_22
+	leaq	511(%rdx), %r10
+	testq	%rdx, %rdx
+	cmovnsq	%rdx, %r10
+	sarq	$9, %r10
+	movq	%r10, %rdx
+	jmp	.LBB12_32
 .LBB12_22:
-	movl	$98, %edx
+	cmpq	$99999999, %rcx
+	ja	.LBB12_24
+	leaq	127(%rdx), %r10
+	testq	%rdx, %rdx
+	cmovnsq	%rdx, %r10
+	sarq	$7, %r10
+	movq	%r10, %rdx
+	jmp	.LBB12_32
+.LBB12_24:
+	cmpq	$999999999, %rcx
+	ja	.LBB12_26
+	leaq	31(%rdx), %r10
+	testq	%rdx, %rdx
+	cmovnsq	%rdx, %r10
+	sarq	$5, %r10
+	movq	%r10, %rdx
+	jmp	.LBB12_32
+.LBB12_26:
+	movq	%rcx, %r10
+	shrq	$10, %r10
+	cmpq	$9765624, %r10
+	ja	.LBB12_28
+	leaq	7(%rdx), %r10
+	testq	%rdx, %rdx
+	cmovnsq	%rdx, %r10
+	sarq	$3, %r10
+	movq	%r10, %rdx
+	jmp	.LBB12_32
+.LBB12_28:
+	movq	%rcx, %r10
+	shrq	$11, %r10
+	cmpq	$48828124, %r10
+	ja	.LBB12_30
+	movq	%rdx, %r10
+	shrq	$63, %r10
+	addq	%rdx, %r10
+	sarq	%r10
+	movq	%r10, %rdx
+	jmp	.LBB12_32
+.LBB12_9:
+	shrdq	$14, %rdx, %rax
+	shrq	$14, %rdx
+	jmp	.LBB12_16
+.LBB12_7:
+	shrdq	$12, %rdx, %rax
+	shrq	$12, %rdx
+	jmp	.LBB12_16
+.LBB12_8:
+	shrdq	$13, %rdx, %rax
+	shrq	$13, %rdx
+	jmp	.LBB12_16
+.LBB12_6:
+	shrdq	$11, %rdx, %rax
+	shrq	$11, %rdx
+	jmp	.LBB12_16
+.LBB12_10:
+	shrdq	$15, %rdx, %rax
+	shrq	$15, %rdx
+	jmp	.LBB12_16
+.LBB12_11:
+	shrdq	$16, %rdx, %rax
+	shrq	$16, %rdx
+	jmp	.LBB12_16
+.LBB12_30:
+	cmpb	$0, 3(%rdi)
+	jne	.LBB12_32
+	movabsq	$20000000000, %r10
+	cmpq	%r10, %rdx
+	cmovgeq	%r10, %rdx
+.LBB12_32:
+	testb	%r9b, %r9b
+	je	.LBB12_33
+	leaq	(%rax,%rax), %r9
+	cmpq	%r8, %r9
+	setae	%r9b
+	leaq	(%rsi,%rsi), %r10
+	cmpq	%r8, %r10
+	setae	%r10b
+	addq	%rcx, %rdx
+	orb	%r9b, %r10b
+	jne	.LBB12_36
+.LBB12_35:
+	xorl	%ecx, %ecx
+	testq	%rdx, %rdx
+	cmovgq	%rdx, %rcx
+	movabsq	$2000000000000, %rdx
+	cmpq	%rdx, %rcx
+	cmovgeq	%rdx, %rcx
+	imulq	$98, %rcx, %rcx
+	movabsq	$184467440737095517, %rdx
+	movq	%rax, %r9
 	movq	%rcx, %rax
 	mulq	%rdx
-	imulq	$98, %rsi, %rsi
-	addq	%rdx, %rsi
-	movl	$100, %edx
-	movq	%rax, %rdi
+	movq	%r9, %rax
+.LBB12_36:
 	xorl	%ecx, %ecx
-	callq	__divti3@PLT
-	movq	%rax, %rcx
-	movq	%rdx, %rsi
-.LBB12_23:
-	movabsq	$1000000000000, %rax
-	cmpq	%rax, %rcx
-	movq	%rax, %rdx
-	cmovbq	%rcx, %rdx
-	testq	%rsi, %rsi
-	cmovneq	%rax, %rdx
-	xorl	%eax, %eax
-	cmpq	$1, %rcx
-	sbbq	$0, %rsi
-	cmovgeq	%rdx, %rax
-	testq	%rax, %rax
-	je	.LBB12_25
-	movq	152(%rbx), %rdx
-	xorl	%ecx, %ecx
-	subq	16(%rbx), %rdx
-	cmovaeq	%rdx, %rcx
-	movb	$1, %dl
-	jmp	.LBB12_27
-.LBB12_20:
-	movq	%rax, %rsi
-	sarq	$63, %rsi
-	addq	%rax, %rcx
-	adcq	$0, %rsi
-	movq	%r12, %rax
-	orq	%r14, %rax
-	jne	.LBB12_23
-	jmp	.LBB12_22
-.LBB12_25:
-	leaq	(%r14,%r14), %rcx
-	cmpq	%r13, %rcx
-	setae	%sil
-	addq	%r12, %r12
-	cmpq	%r13, %r12
-	setae	%dil
-	movq	152(%rbx), %rdx
-	xorl	%ecx, %ecx
-	subq	16(%rbx), %rdx
-	cmovaeq	%rdx, %rcx
-	movb	$1, %dl
-	orb	%sil, %dil
-	jne	.LBB12_27
-	movq	24(%rbx), %rcx
+	testq	%rdx, %rdx
+	cmovgq	%rdx, %rcx
+	movabsq	$1000000000000, %r9
+	cmpq	%r9, %rcx
+	cmovgeq	%r9, %rcx
+	testq	%rdx, %rdx
+	jle	.LBB12_38
+	movq	152(%rdi), %rsi
 	xorl	%edx, %edx
-.LBB12_27:
-	movq	%rax, 136(%rbx)
-	movq	%r14, 144(%rbx)
-	movq	%rcx, 152(%rbx)
-	movq	%r15, 160(%rbx)
-	cmpb	$0, (%rbx)
-	movzbl	%dl, %eax
-	movl	$1, %ecx
-	cmovnel	%eax, %ecx
-	movb	%cl, 88(%rbx)
-.LBB12_28:
-	movq	%r14, %rax
+	subq	16(%rdi), %rsi
+	cmovaeq	%rsi, %rdx
+	movb	$1, %sil
+	jmp	.LBB12_40
+.LBB12_33:
+	addq	%rcx, %rdx
+	movq	%rsi, %rcx
+	orq	%rax, %rcx
+	jne	.LBB12_36
+	jmp	.LBB12_35
+.LBB12_38:
+	leaq	(%rax,%rax), %rdx
+	cmpq	%r8, %rdx
+	setae	%r9b
+	addq	%rsi, %rsi
+	cmpq	%r8, %rsi
+	setae	%r8b
+	movq	152(%rdi), %rsi
+	xorl	%edx, %edx
+	subq	16(%rdi), %rsi
+	cmovaeq	%rsi, %rdx
+	movb	$1, %sil
+	orb	%r9b, %r8b
+	jne	.LBB12_40
+	movq	24(%rdi), %rdx
+	xorl	%esi, %esi
+.LBB12_40:
+	movq	%rcx, 136(%rdi)
+	movq	%rax, 144(%rdi)
+	movq	%rdx, 152(%rdi)
+	movq	%rbx, 160(%rdi)
+	cmpb	$0, (%rdi)
+	movzbl	%sil, %ecx
+	movl	$1, %edx
+	cmovnel	%ecx, %edx
+	movb	%dl, 88(%rdi)
+	addq	$8, %rsp
 	popq	%rbx
-	popq	%r12
-	popq	%r13
 	popq	%r14
-	popq	%r15
 	retq
 .LBB12_14:
-	movzbl	3(%rbx), %r8d
-	movabsq	$99999999999, %rdi
-	leaq	1(%rdi), %rdx
-	xorl	%r9d, %r9d
-	cmpq	%rdx, %rcx
-	adcq	$1, %r9
-	movq	%rax, %rdx
-	shrq	$32, %rdx
-	je	.LBB12_15
-	cqto
-	idivq	%r9
-	jmp	.LBB12_17
-.LBB12_15:
-	xorl	%edx, %edx
-	divl	%r9d
-.LBB12_17:
-	testb	%r8b, %r8b
-	setne	%dl
-	cmpq	%rdi, %rcx
-	setbe	%dil
-	orb	%dl, %dil
-	jne	.LBB12_19
-	movabsq	$20000000000, %rdx
-	cmpq	%rdx, %rax
-	cmovgeq	%rdx, %rax
-	jmp	.LBB12_19
-.LBB12_29:
 	ud2
 .Lfunc_end12:
 	.size	"pie_aqm::controller::Controller::update", .Lfunc_end12-"pie_aqm::controller::Controller::update"
+	.section	".rodata.pie_aqm::controller::Controller::update","a",@progbits
+	.p2align	2, 0x0
+.LJTI12_0:
+	.long	.LBB12_15-.LJTI12_0
+	.long	.LBB12_6-.LJTI12_0
+	.long	.LBB12_7-.LJTI12_0
+	.long	.LBB12_8-.LJTI12_0
+	.long	.LBB12_9-.LJTI12_0
+	.long	.LBB12_10-.LJTI12_0
+	.long	.LBB12_11-.LJTI12_0
 
 	.section	".text.pie_book::deciding_core::RawCore::set","ax",@progbits
 	.p2align	4
@@ -1707,7 +1757,7 @@
 	movq	%r13, 120(%rsp)
 	movl	%ebp, %r13d
 	movq	%r11, %rbp
-	callq	"pie_book::book::Book::take_snapshot"
+	callq	"pie_book::book::Book::copy_running"
 	movq	%rbp, %r11
 	movl	%r13d, %ebp
 	movq	120(%rsp), %r13
@@ -4602,7 +4652,7 @@ pie_link_try_arrive:
 	movq	%rdx, %rdi
 	movq	%rsi, %r12
 	movq	%r8, 40(%rsp)
-	callq	"pie_book::book::Book::take_snapshot"
+	callq	"pie_book::book::Book::copy_running"
 	movq	40(%rsp), %r8
 	movq	16(%rsp), %rdx
 	movq	48(%rsp), %r9
@@ -5032,7 +5082,7 @@ pie_link_try_arrive_all:
 	jne	.LBB25_29
 	movq	%rbx, %rdi
 	movq	%rdx, %rbp
-	callq	"pie_book::book::Book::take_snapshot"
+	callq	"pie_book::book::Book::copy_running"
 	movq	%rbp, %rdx
 	movzwl	22(%rsp), %ebp
 	movq	56(%rsp), %rdi
@@ -5701,7 +5751,7 @@ pie_link_try_depart:
 	movq	%rbx, %rdi
 	movq	%rsi, %r14
 	movw	%r9w, 10(%rsp)
-	callq	"pie_book::book::Book::take_snapshot"
+	callq	"pie_book::book::Book::copy_running"
 	movzwl	10(%rsp), %r9d
 	movq	%r14, %rsi
 	movq	16(%rsp), %rdi
@@ -6137,7 +6187,7 @@ pie_link_try_depart_all:
 	cmpq	1240(%r14), %rax
 	jne	.LBB27_29
 	movq	%r14, %rdi
-	callq	"pie_book::book::Book::take_snapshot"
+	callq	"pie_book::book::Book::copy_running"
 	movq	48(%rsp), %rsi
 	movq	56(%rsp), %rdi
 .LBB27_29:

@@ -33,27 +33,28 @@
 #define AT_ONCE 64         /* packets read from one device before the link is looked at again */
 #define BACK_PACKETS 65536 /* that may be on the way back */
 #define WORDS 128          /* random words taken at once */
-#define LOOK_TIME 1000000  /* ns that the history's thread waits before it looks again */
+#define LOOK_TIME 10000000 /* ns that the history's thread waits before it looks again */
 
 struct bottleneck {
     const struct options *options;
     int from, to;          /* the devices */
+    bool from_has, to_has; /* whether there is something to read */
     struct pie_state pie;  /* the controller in front of the queue */
     struct packets queue;  /* wait for the link */
-    struct packets there;  /* on the link: go on at the end of their transmission */
-    struct packets back;   /* on the way back: go on after the delay */
+    struct packets there;  /* packets on the link, until the end of their transmission */
+    struct packets back;   /* packets on the way back, until the delay has passed */
     uint64_t start;        /* of the run, by CLOCK_MONOTONIC */
-    uint64_t free_at;      /* the moment from which the link is free; with grants the next grant's */
+    uint64_t free_at;      /* the moment from which the link is free; with grants the moment of the next grant */
     uint64_t granted;      /* bits that a grant's last packet had beyond it */
     size_t step;           /* of the rate, the one in force */
     uint64_t next_update;  /* the moment from which an update is not too soon */
     struct flight_file flight;
     struct pie_flight_follower follower;
     FILE *history;         /* NULL where none is written */
-    _Atomic uint64_t missed; /* events that are missing in it so far */
+    _Atomic uint64_t missed; /* missing events so far */
     struct records records;
     struct flows flows;
-    struct flow_top top;   /* the last period that ended with packets, until it is told; by `telling` */
+    struct flow_top top;   /* the last complete period with packets, until it is reported; protected by `telling` */
     pthread_mutex_t telling;
     pthread_t writer;      /* of the history, of flows, of the metrics, and of the flight recorder's text */
     atomic_bool is_closed; /* whether the writer has to end */
@@ -124,7 +125,7 @@ static int open_device(const char *name) {
 
 /* Hands a packet to a device. One that the device does not take, since it is down or full, is lost, as on a wire. */
 static void send_packet(struct bottleneck *link, int device, struct packet *packet) {
-    if (write(device, packet->bytes, packet->size) != (ssize_t)packet->size)
+    if (write(device, packet->bytes, packet->length) != (ssize_t)packet->length)
         link->lost++;
     free(packet);
 }
@@ -135,10 +136,11 @@ static void release(struct bottleneck *link, struct packets *packets, int device
         send_packet(link, device, pop(packets));
 }
 
-/* The packet's tag: its number among the arrivals, and with --flows its flow's above it. What came in a period that ended goes to the writer. */
+/* Returns the packet's tag: its number among the arrivals, and with --flows its flow's number above it. A period
+ * that ended is passed to the writer. */
 static uint64_t tag_of(struct bottleneck *link, const struct packet *packet, uint64_t now) {
     struct flow_top ended;
-    uint64_t tag = note_flow(&link->flows, packet->bytes, packet->size, packet->size, now, link->counted.arrived + 1, &ended);
+    uint64_t tag = note_flow(&link->flows, packet->bytes, packet->length, packet->size, now, link->counted.arrived + 1, &ended);
     if (ended.total != 0) {
         pthread_mutex_lock(&link->telling);
         link->top = ended;
@@ -151,9 +153,10 @@ static uint64_t tag_of(struct bottleneck *link, const struct packet *packet, uin
 static void arrive(struct bottleneck *link, struct packet *packet, uint64_t now) {
     struct pie_event event = {.moment = now, .word = random_word(), .caller = SENDER};
     uint32_t room = (uint32_t)link->options->control.opening.packets - link->queue.count;
+    packet->size = size_on_link(&link->options->layer, packet->length);
     packet->tag = tag_of(link, packet, now);
     packet->moment = now;
-    packet->ecn = ecn_of(packet->bytes, packet->size);
+    packet->ecn = ecn_of(packet->bytes, packet->length);
     event.tag = packet->tag;
     event.size = packet->size;
     event.ecn = (uint8_t)packet->ecn;
@@ -164,7 +167,7 @@ static void arrive(struct bottleneck *link, struct packet *packet, uint64_t now)
     count_event(&link->counted, &event, 0);
     packet->arrived = link->pie.moment;
     if (verdict == PIE_MARK) {
-        set_ce(packet->bytes, packet->size);
+        set_ce(packet->bytes, packet->length);
         packet->ecn = PIE_CE;
     }
     if (verdict == PIE_ENQUEUE || verdict == PIE_MARK)
@@ -173,10 +176,12 @@ static void arrive(struct bottleneck *link, struct packet *packet, uint64_t now)
         free(packet);
 }
 
-/* What comes from the other side is delayed, and nothing else. */
+/* Delays the packets from the other side. */
 static void turn_back(struct bottleneck *link, struct packet *packet, uint64_t now) {
     packet->moment = now + link->options->rtt;
-    if (link->back.count < BACK_PACKETS) {
+    if (link->options->rtt == 0) {
+        send_packet(link, link->from, packet);
+    } else if (link->back.count < BACK_PACKETS) {
         push(&link->back, packet);
     } else {
         link->lost++;
@@ -222,8 +227,9 @@ static void depart(struct bottleneck *link, uint64_t now, uint64_t until) {
     push(&link->there, packet);
 }
 
-/* The grants that have come: at each the packets that wait then leave at once, as many as the rate allows in the time between two grants. What a
- * packet has beyond that the next grant has less; what nobody used is lost. */
+/* Processes the grants that are due: at each, queued packets leave at once, as many as the rate allows in the time
+ * between two grants. A packet may exceed the grant; the next grant is reduced by the excess. An unused rest is
+ * lost. */
 static void serve_grants(struct bottleneck *link, uint64_t now) {
     const uint64_t period = link->options->grant;
     for (; link->free_at <= now; link->free_at += period) {
@@ -236,8 +242,8 @@ static void serve_grants(struct bottleneck *link, uint64_t now) {
     }
 }
 
-/* The link takes each packet that it has come to. Where this program was late, it catches up: a transmission begins when the
- * one before it ended, or when the packet arrived if that is later. */
+/* Sends each packet that is due. If this program was late, it catches up: a transmission begins when the one before
+ * it ended, or when the packet arrived if that is later. */
 static void serve(struct bottleneck *link, uint64_t now) {
     if (link->options->grant != 0) {
         serve_grants(link, now);
@@ -247,7 +253,7 @@ static void serve(struct bottleneck *link, uint64_t now) {
         const struct packet *packet = link->queue.first;
         uint64_t start = packet->moment > link->free_at ? packet->moment : link->free_at;
         link->free_at = start + (uint64_t)packet->size * 8 * 1000000000u / rate_at(link, start);
-        depart(link, now, link->free_at);
+        depart(link, now, link->options->at_start ? start : link->free_at);
     }
 }
 
@@ -279,8 +285,11 @@ static void wait_for_work(struct bottleneck *link, const sigset_t *signals) {
     uint64_t now = moment_of(link);
     uint64_t time = next > now ? next - now : 0;
     struct timespec timeout = {.tv_sec = (time_t)(time / 1000000000u), .tv_nsec = (long)(time % 1000000000u)};
-    if (ppoll(devices, 2, &timeout, signals) < 0 && errno != EINTR)
+    int ready = ppoll(devices, 2, &timeout, signals);
+    if (ready < 0 && errno != EINTR)
         die("ppoll");
+    link->from_has = ready > 0 && devices[0].revents != 0;
+    link->to_has = ready > 0 && devices[1].revents != 0;
 }
 
 /* Hands what was counted to the thread that writes, once a second. */
@@ -305,9 +314,12 @@ static void step(struct bottleneck *link) {
     release(link, &link->there, link->to, now);
     release(link, &link->back, link->from, now);
     update(link, now);
-    receive(link, link->from, arrive);
-    receive(link, link->to, turn_back);
-    serve(link, moment_of(link));
+    if (link->from_has) {
+        receive(link, link->from, arrive);
+        serve(link, moment_of(link));
+    }
+    if (link->to_has)
+        receive(link, link->to, turn_back);
     tell(link, now);
 }
 
@@ -321,7 +333,7 @@ static void write_if_asked(const struct bottleneck *link) {
     fprintf(stderr, "link: %s.history: %s\n", flight->name, flight_text(answer));
 }
 
-/* Writes the flows that are new, and tells the one with the most bytes of the last period that ended. */
+/* Writes the new flows, and reports the flow with the most bytes of the last complete period. */
 static void tell_flows(struct bottleneck *link) {
     char words[LONGEST_FLOW];
     write_flows(&link->flows);

@@ -61,6 +61,8 @@ is_listening() {
 
 # set_up_end NAME DEVICE ADDRESS PEER: moves a device of the link into a namespace of its own, with a route to the other end
 set_up_end() {
+    # (the kernel's own packets of IPv6 would come before the traffic)
+    [ "${LINK_FAMILY:-4}" = 6 ] || ip netns exec "$1" sysctl -q -w net.ipv6.conf.default.disable_ipv6=1 2> /dev/null
     ip -n "${names[1]}" link set "$2" netns "$1"
     ip -n "$1" addr add "$3" peer "$4" dev "$2"
     ip -n "$1" link set lo up

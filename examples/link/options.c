@@ -18,6 +18,11 @@ static const char help_of_link[] =
     "                       a rate that changes: from 20 s on 2 Mbit/s, from 40 s on 10 Mbit/s; a limit by the rate is by the greatest\n"
     "  --rtt 20ms           delay of the way back: the round trip without a queue\n"
     "  --grant 5ms          send only each 5 ms, and then at once what the rate allows in so much time, as a cable modem or Wi-Fi does\n"
+    "  --delivery end       when a packet is handed on: at the end of its transmission, as by a cable (end), or at its start, as htb does\n"
+    "                       (start)\n"
+    "  --overhead 40, --mpu 64, --linklayer atm\n"
+    "                       what a packet takes on the link, in bytes, as tc stab says it: so many more, at the least so many, and in\n"
+    "                       cells of ATM (atm, adsl; else ethernet). Delays, limits and the history count these sizes\n"
     "  --history FILE       write every decision, for pie audit and pie explain\n"
     "  --flight FILE        keep the last 100000 events at the least in this file, also if the program is killed: flight_text FILE\n"
     "                       writes them as such a text, and SIGUSR1 has the link write them to FILE.history while it runs\n"
@@ -71,6 +76,11 @@ static const char *read_rates(const char *text, void *to) {
     }
 }
 
+static const char *read_delivery(const char *text, void *to) {
+    *(bool *)to = strcmp(text, "start") == 0;
+    return *(bool *)to || strcmp(text, "end") == 0 ? NULL : "not a value of this option";
+}
+
 int read_options(int count, char **words, struct options *options) {
     const struct option own[] = {
         {"--from", option_text, &options->from},       {"--to", option_text, &options->to},
@@ -80,6 +90,10 @@ int read_options(int count, char **words, struct options *options) {
         {"--metrics", option_text, &options->metrics},
         {"--flows", option_text, &options->flows},
         {"--records", option_text, &options->records}, {"--every", option_time, &options->every},
+        {"--delivery", read_delivery, &options->at_start},
+        {"--overhead", layer_overhead, &options->layer},
+        {"--mpu", layer_mpu, &options->layer},
+        {"--linklayer", layer_kind, &options->layer},
     };
     const struct command command = {"link", {help_of_use, help_of_link}, own, sizeof own / sizeof own[0], MOST_PACKETS};
     *options = (struct options){.rtt = 20000000, .lasts = 60000000000, .every = 1000000000};

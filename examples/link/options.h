@@ -1,8 +1,9 @@
-/* What the command line says. */
+/* The command line. */
 #ifndef LINK_OPTIONS_H
 #define LINK_OPTIONS_H
 
 #include "control.h"
+#include "layer.h"
 
 #include <stdint.h>
 
@@ -18,18 +19,20 @@ struct options {
     const char *history;    /* the file for the history; NULL with none */
     const char *flight;     /* the file of the flight recorder; NULL with none */
     const char *metrics;    /* the file of the metrics; NULL with none */
-    const char *flows;      /* the file that tells flows; NULL with none */
+    const char *flows;      /* the file that lists flows; NULL if there is none */
     const char *records;    /* the file for the records of periods; NULL with none */
     uint64_t every;         /* ns that a period lasts */
     uint64_t rtt;           /* ns on the way back */
     uint64_t grant;         /* ns from one grant to the next; 0: the link sends whenever it is free */
+    bool at_start;          /* a packet is handed on when its transmission begins, not when it ends */
+    struct layer layer;     /* what a packet takes on the link beside its bytes */
     struct rate_step rates[MOST_STEPS]; /* by their moments; the first is 0 */
     size_t steps;
     uint64_t lasts;         /* ns until the program ends by itself */
     struct control control; /* the link and its queue */
 };
 
-/* What read_options answers. */
+/* The results of read_options. */
 enum { OPTIONS_READ, OPTIONS_HELP, OPTIONS_WRONG };
 
 /* Reads the words; what is wrong with them, and the help that was asked for, is printed. */

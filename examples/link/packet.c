@@ -8,11 +8,11 @@
 #define CHECKSUM 10 /* its place in an IPv4 header */
 #define CE 3u
 
-struct packet *packet_of(const uint8_t *bytes, uint32_t size) {
-    struct packet *packet = calloc(1, sizeof *packet + size);
+struct packet *packet_of(const uint8_t *bytes, uint32_t length) {
+    struct packet *packet = calloc(1, sizeof *packet + length);
     if (packet != NULL) {
-        packet->size = size;
-        memcpy(packet->bytes, bytes, size);
+        packet->length = packet->size = length;
+        memcpy(packet->bytes, bytes, length);
     }
     return packet;
 }

@@ -8,10 +8,11 @@
 struct packet {
     struct packet *next;
     uint64_t tag;    /* its number among the arrivals, and above it its flow's */
-    uint64_t moment; /* when it arrived, and later when it may go on; ns */
+    uint64_t moment; /* moment of the arrival, later the moment of its departure; ns */
     uint64_t arrived; /* the controller's moment right after its arrival */
-    uint32_t size;
-    uint32_t ecn; /* as the controller was told */
+    uint32_t length; /* bytes that it has */
+    uint32_t size;   /* bytes that it takes on the link */
+    uint32_t ecn; /* size that was passed to the controller */
     uint8_t bytes[];
 };
 
@@ -22,8 +23,8 @@ struct packets {
     uint64_t bytes;
 };
 
-/* A packet with a copy of these bytes; NULL for want of memory. */
-struct packet *packet_of(const uint8_t *bytes, uint32_t size);
+/* A packet with a copy of these bytes, which takes as many on the link; NULL for want of memory. */
+struct packet *packet_of(const uint8_t *bytes, uint32_t length);
 
 void push(struct packets *packets, struct packet *packet);
 

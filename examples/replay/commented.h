@@ -9,7 +9,8 @@
 
 #define LONGEST_COMMENT 1024 /* bytes */
 
-/* Writes what stands before the frames: one section, one interface of this link type (DLT_ of libpcap), times in nanoseconds. */
+/* Writes the header before the frames: one section, one interface of this link type (DLT_ of libpcap), times in
+ * nanoseconds. */
 bool write_interface(FILE *file, int link, uint32_t longest);
 
 /* Writes a frame of this moment, in ns since 1970, with a comment; empty: with none. */

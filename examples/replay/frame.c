@@ -6,7 +6,7 @@ enum { TYPE_IPV4 = 0x0800, TYPE_IPV6 = 0x86dd, TYPE_VLAN = 0x8100, TYPE_SERVICE_
 enum { PROTOCOL_TCP = 6, PROTOCOL_UDP = 17 };
 enum { IPV4_HEADER = 20, IPV6_HEADER = 40, TCP_HEADER = 20, UDP_HEADER = 8, VLAN_TAG = 4 };
 
-/* Of each link type: where the type of what it carries stands, and how long its header is. */
+/* For each link type: the position of the type of its payload, and the length of its header. */
 static const struct link_header {
     int link;
     size_t type_at, size;
@@ -34,7 +34,7 @@ static bool is_vlan(uint32_t type) {
     return type == TYPE_VLAN || type == TYPE_SERVICE_VLAN || type == TYPE_OLD_VLAN;
 }
 
-/* The bytes of the header behind the IP header: TCP tells its own, where it was captured. */
+/* Returns the bytes of the header after the IP header; of TCP its own length field, if it was captured. */
 static uint32_t transport_header(uint32_t protocol, const uint8_t *bytes, size_t caught) {
     if (protocol == PROTOCOL_UDP)
         return UDP_HEADER;

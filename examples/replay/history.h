@@ -1,4 +1,4 @@
-/* The history of a run as it goes on, in the format of docs/FORMATS.md: the library writes the text of each event. */
+/* The history of a run, in the format of docs/FORMATS.md: the library writes the text of each event. */
 #ifndef REPLAY_HISTORY_H
 #define REPLAY_HISTORY_H
 

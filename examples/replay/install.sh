@@ -1,4 +1,4 @@
 #!/usr/bin/env bash
-# for: a capture that is replayed through the controller (tests/program/replay.py, examples/replay)
+# for: a capture that is replayed through the controller, and comments in captures (tests/program/replay.py and comments.sh, examples/replay)
 . "$(dirname "$0")/../../tests/shared/packages.sh"
-packages gcc libc6-dev make libpcap-dev python3
+packages gcc libc6-dev make libpcap-dev python3 tcpdump tshark

@@ -1,4 +1,4 @@
-/* What the command line says. */
+/* The command line. */
 #ifndef REPLAY_OPTIONS_H
 #define REPLAY_OPTIONS_H
 
@@ -9,13 +9,13 @@ struct options {
     char *filter;           /* in libpcap's language; empty: every packet */
     const char *history;    /* the file for the history; "-": standard output */
     const char *commented;  /* the file for the capture with comments; NULL with none */
-    const char *flows;      /* the file that tells flows; NULL with none */
+    const char *flows;      /* the file that lists flows; NULL if there is none */
     uint64_t seed;          /* of the random words */
-    uint64_t split;         /* super-packets are split into packets of at most so many bytes; 0: they are not */
+    uint64_t split;         /* super-packets are split into packets of at most this many bytes; 0: they are not split */
     struct control control; /* the link and its queue */
 };
 
-/* What read_options answers. */
+/* The results of read_options. */
 enum { OPTIONS_READ, OPTIONS_HELP, OPTIONS_WRONG };
 
 /* Reads the words; what is wrong with them, and the help that was asked for, is printed. */

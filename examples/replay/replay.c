@@ -13,7 +13,7 @@
 
 #define SECOND UINT64_C(1000000000)
 #define LONGEST_GAP (86400 * SECOND) /* between two frames: a day; more is a time stamp that is broken */
-#define USUAL_MTU 1500               /* bytes: larger packets are told of */
+#define USUAL_MTU 1500               /* bytes: larger packets are reported */
 
 struct waiting {
     uint64_t tag, arrived; /* the frame's number, and above it the flow's; the controller's moment right after the arrival */
@@ -35,7 +35,8 @@ struct replay {
     struct waiting queue[MOST_PACKETS];
     uint64_t first, packets, bytes; /* the queue's: of its first packet the place, and how many packets and bytes wait */
     uint64_t now;                   /* the greatest moment of an arrival */
-    uint64_t free_at, rest;         /* when the link is free; and what its last transmission took of a ns more, times the rate */
+    uint64_t free_at, rest;         /* the moment at which the link is free; and the rest of its last transmission
+                                       below a ns, times the rate */
     uint64_t word;                  /* the random generator's state */
     struct counts counts;
 };
@@ -93,7 +94,7 @@ static void update(struct replay *replay) {
     write_event(&replay->history, &event);
 }
 
-/* What comes before an arrival at this moment. */
+/* Processes the events before an arrival at this moment. */
 static void go_on(struct replay *replay, uint64_t until) {
     for (;;) {
         uint64_t due = pie_due(&replay->pie);
@@ -221,7 +222,7 @@ static void open_capture(struct capture *capture, const struct options *options)
         die(options->commented, strerror(errno));
 }
 
-/* Takes in all frames; false where the capture is broken, which is told. */
+/* Processes all frames. Returns false if the capture is broken, after an error message. */
 static bool read_capture(struct replay *replay, struct capture *capture) {
     struct pcap_pkthdr *header;
     const uint8_t *bytes;

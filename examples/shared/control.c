@@ -23,7 +23,7 @@ const char control_help[] =
     "  --max_burst 150ms, --mean_pkt 1024b, --mark_ecnth 10%, --dq_threshold 16kb\n"
     "                       the parameters of pie.h for which tc has no word\n";
 
-/* What was said, beside what is in the control already. */
+/* The options that were given, in addition to those in the control. */
 struct said {
     uint64_t alpha, beta, mtu, mean_pkt, packets, bytes, mark_ecnth;
     bool is_rate, bytemode, no_derandomization, no_cap, is_half, is_tail;
@@ -68,7 +68,7 @@ static const char *read_gain(const char *text, void *to) {
     return NULL;
 }
 
-/* A limit, whose unit says of what it is. */
+/* A limit, whose unit shows what it limits. */
 static const char *read_limit(const char *text, void *to) {
     struct said *said = to;
     char last = text[strlen(text) - 1];
@@ -112,7 +112,8 @@ int refuse_word(const struct command *command, const char *name, const char *tex
     return WORDS_WRONG;
 }
 
-/* What was said makes the choices and the parameters; the first option that is out of its range, NULL where none is. */
+/* Computes the choices and the parameters from the options. Returns the first option that is out of its range, or
+ * NULL. */
 static const char *finish(const struct command *command, struct control *control, const struct said *said) {
     static const char *const names[] = {"--target", "--tupdate", "--max_burst", "--alpha", "--beta", "--mean_pkt or --mtu", "--limit",
                                         "--mark_ecnth", "--dq_threshold"};

@@ -36,8 +36,8 @@ struct option {
     void *to;
 };
 
-/* A program: its name in what it says; its help, in parts, between which control_help stands; and its options beside those of the link, which
- * come before these where they have the same name. */
+/* A program: its name in messages; its help, in parts around control_help; and its options in addition to those of
+ * the link, which take precedence over the link's with the same name. */
 struct command {
     const char *program;
     const char *help[2];
@@ -49,11 +49,11 @@ struct command {
 /* The help of the link's options, a line each. */
 extern const char control_help[];
 
-/* What read_words answers beside the place of a word. */
+/* The results of read_words other than the position of a word. */
 enum { WORDS_HELP = -1, WORDS_WRONG = -2 };
 
-/* Reads the words from 1 on, as `--name text` and `--name=text`, up to the first that is no option, and answers its place. The help that was asked
- * for, and what is wrong, is printed. */
+/* Reads the words from 1 on, as `--name text` and `--name=text`, up to the first that is no option. Returns its
+ * position. Prints the help if it is requested, and errors. */
 int read_words(const struct command *command, int count, char **words, struct control *control);
 
 /* Tells what is wrong, and answers WORDS_WRONG. */

@@ -11,7 +11,7 @@
 
 #define LONGEST_NAME 4096
 
-/* A file of so many bytes in memory; NULL where that cannot be. */
+/* Maps a file of this many bytes. Returns NULL if that fails. */
 static void *new_file(const char *name, size_t bytes) {
     char before[LONGEST_NAME];
     if (snprintf(before, sizeof before, "%s.before", name) >= (int)sizeof before || (rename(name, before) != 0 && errno != ENOENT))

@@ -7,13 +7,13 @@
 #include <stdbool.h>
 #include <stdio.h>
 
-#define FLIGHT_EVENTS 100000 /* that it keeps at the least */
+#define FLIGHT_EVENTS 100000 /* the least number of events that it keeps */
 
 struct flight_file {
     const char *name; /* NULL where it lies in no file */
     struct pie_flight flight;
     void *memory;     /* NULL where none is kept */
-    void *scratch;    /* for a dump while the recorder goes on */
+    void *scratch;    /* for a dump while the recorder continues */
     size_t bytes;
 };
 
@@ -40,7 +40,7 @@ int write_flight(const struct flight_file *file);
  * read. */
 int write_flight_of(const char *name, FILE *to);
 
-/* What an answer of pie_flight_dump means, for a log. */
+/* Returns a description of a result of pie_flight_dump, for a log. */
 const char *flight_text(int answer);
 
 #endif

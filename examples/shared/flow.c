@@ -82,7 +82,8 @@ static uint32_t hashed(uint32_t hash, const uint8_t *bytes, size_t count) {
     return hash;
 }
 
-/* MurmurHash3 of both addresses and, where there are some, both ports, as they stand in the packet; the protocol is its seed. */
+/* MurmurHash3 of both addresses and, if there are ports, both ports, in the packet's byte order; the protocol is
+ * its seed. */
 uint32_t flow_number(const struct flow *flow) {
     const uint32_t address = flow->version == 4 ? 4 : 16, size = 2 * address + (flow->has_ports ? PORTS : 0);
     const uint8_t ports[PORTS] = {(uint8_t)(flow->source_port >> 8), (uint8_t)flow->source_port, (uint8_t)(flow->destination_port >> 8),
@@ -153,7 +154,7 @@ static struct flow_row *row_of(struct flows *flows, const struct flow *flow, uin
     return &flows->rows[count];
 }
 
-/* Counts so many bytes of this flow in its period. */
+/* Adds bytes to this flow in its period. */
 static void count_bytes(struct flows *flows, struct flow_row *row, uint32_t size, uint64_t period, struct flow_top *ended) {
     struct flow_top *top = &flows->top;
     if (period != top->period) {

@@ -1,5 +1,6 @@
-/* Whose a packet is: its flow's number, which stands in the upper 32 bits of its tag, and a file that tells each number's flow, in the format of
- * docs/FORMATS.md. A flow is told by addresses, protocol and ports; fragments, and protocols without ports, by addresses and protocol. */
+/* Flows of packets: a flow's number, which is in the upper 32 bits of a packet's tag, and a file that lists the
+ * flow of each number, in the format of docs/FORMATS.md. A flow is identified by addresses, protocol and ports;
+ * fragments, and protocols without ports, by addresses and protocol. */
 #ifndef SHARED_FLOW_H
 #define SHARED_FLOW_H
 
@@ -12,10 +13,11 @@
 extern "C" {
 #endif
 
-#define MOST_FLOWS 262144         /* that the file tells */
+#define MOST_FLOWS 262144         /* the most flows in the file */
 #define FLOW_PLACES 524288        /* of their table: a power of two */
-#define FLOW_PERIOD 500000000     /* ns after which the flow with the most bytes is told */
-#define FLOW_BYTES 256            /* of a packet, that are enough to tell its flow, but of rare ones with long extension headers */
+#define FLOW_PERIOD 500000000     /* ns after which the flow with the most bytes is reported */
+#define FLOW_BYTES 256            /* bytes of a packet that are enough to identify its flow, except with rare long
+                                     extension headers */
 #define LONGEST_FLOW 128          /* bytes of its words, with the end */
 
 struct flow {
@@ -28,13 +30,13 @@ struct flow {
 /* Reads a packet that begins with its IP header, as far as it is there; false where it is none. */
 bool read_flow(const uint8_t *bytes, size_t size, struct flow *flow);
 
-/* A flow's number: a hash of what tells it. Two flows may have the same. */
+/* Returns a flow's number: a hash of its identification. Two flows may have the same number. */
 uint32_t flow_number(const struct flow *flow);
 
 /* The flow in words, as udp 192.0.2.1:53 > 198.51.100.7:4242. */
 void flow_words(const struct flow *flow, char words[LONGEST_FLOW]);
 
-/* What arrived of a flow, in one period. */
+/* The arrivals of a flow in one period. */
 struct flow_top {
     uint64_t period;       /* its number, from 0 on */
     uint32_t place;        /* of the flow with the most bytes */
@@ -44,7 +46,7 @@ struct flow_top {
 struct flow_row {
     struct flow flow;
     uint32_t number;
-    uint64_t period, bytes; /* the last in which a packet came, and the bytes since its begin */
+    uint64_t period, bytes; /* the last period with a packet of it, and the bytes since its begin */
 };
 
 /* All flows that were seen. One thread notes them, and the same or another one writes them. */
@@ -61,9 +63,10 @@ struct flows {
 /* Opens the file (NULL: none), and writes its header; false where that cannot be done. */
 bool open_flows(struct flows *flows, const char *name);
 
-/* Notes the flow of a packet of so many bytes on the wire, which arrives at this moment in ns and begins with its IP header. Answers the tag: the
- * flow's number, 0 where it is no IP packet, above the lower 32 bits of the counter. Without a file the counter is the tag. Where a period ended
- * before this packet, in which some came, `ended` is what came in it, and else its total is 0. */
+/* Counts a packet of this many bytes on the wire, which arrives at this moment in ns and begins with its IP header.
+ * Returns the tag: the flow's number, 0 without an IP header, above the lower 32 bits of the counter. Without a
+ * file the counter is the tag. If a period with packets ended before this packet, `ended` receives its arrivals;
+ * otherwise its total is 0. */
 uint64_t note_flow(struct flows *flows, const uint8_t *bytes, size_t caught, uint32_t size, uint64_t moment, uint64_t counter,
                    struct flow_top *ended);
 

@@ -9,7 +9,7 @@
 #include <stdlib.h>
 #include <string.h>
 
-/* A counter or gauge: its name behind pie_, what it says, where it is, and in which parts of its unit that is. */
+/* A counter or gauge: its name after pie_, its help, its field, and the parts of its unit in that field. */
 struct family {
     const char *name, *what;
     size_t at;
@@ -19,27 +19,27 @@ struct family {
 #define AT(field) offsetof(struct metrics, field)
 
 static const struct family counters[] = {
-    {"arrived_packets_total", "Packets that arrived.", AT(arrived), 1},
-    {"arrived_bytes_total", "Bytes that arrived.", AT(arrived_bytes), 1},
-    {"enqueued_packets_total", "Packets that were enqueued without a mark.", AT(enqueued), 1},
-    {"marked_packets_total", "Packets that were enqueued with a mark (CE).", AT(marked), 1},
-    {"early_drops_total", "Packets that early drop dropped.", AT(early), 1},
-    {"byte_limit_drops_total", "Packets that were dropped by the limit in bytes.", AT(over_bytes), 1},
-    {"packet_limit_drops_total", "Packets that were dropped by the limit in packets.", AT(over_packets), 1},
-    {"oversized_drops_total", "Packets that were dropped for a size outside 1 to 65535 bytes.", AT(oversized), 1},
-    {"refused_drops_total", "Packets that were dropped since the controller refused them.", AT(refused), 1},
-    {"departed_packets_total", "Packets that left the queue.", AT(departed), 1},
-    {"departed_bytes_total", "Bytes that left the queue.", AT(departed_bytes), 1},
+    {"arrived_packets_total", "Arrived packets.", AT(arrived), 1},
+    {"arrived_bytes_total", "Arrived bytes.", AT(arrived_bytes), 1},
+    {"enqueued_packets_total", "Packets queued without a mark.", AT(enqueued), 1},
+    {"marked_packets_total", "Packets queued with a mark (CE).", AT(marked), 1},
+    {"early_drops_total", "Packets dropped early.", AT(early), 1},
+    {"byte_limit_drops_total", "Packets dropped by the limit in bytes.", AT(over_bytes), 1},
+    {"packet_limit_drops_total", "Packets dropped by the limit in packets.", AT(over_packets), 1},
+    {"oversized_drops_total", "Packets dropped for a size outside 1 to 65535 bytes.", AT(oversized), 1},
+    {"refused_drops_total", "Packets dropped because the controller refused them.", AT(refused), 1},
+    {"departed_packets_total", "Departed packets.", AT(departed), 1},
+    {"departed_bytes_total", "Departed bytes.", AT(departed_bytes), 1},
     {"updates_total", "Updates of the probability.", AT(updates), 1},
-    {"late_updates_total", "Updates that were later than by a whole period.", AT(late), 1},
-    {"lost_events_total", "Events that the history lacks.", AT(lost), 1},
+    {"late_updates_total", "Updates late by more than one update interval.", AT(late), 1},
+    {"lost_events_total", "Events missing in the history.", AT(lost), 1},
 };
 
 static const struct family gauges[] = {
     {"probability_ratio", "Probability of a drop or a mark.", AT(prob), PIE_ONE},
-    {"delay_seconds", "Queueing delay that the last update took.", AT(delay), 1000000000},
-    {"target_seconds", "Queueing delay that is wanted.", AT(target), 1000000000},
-    {"burst_allowance_seconds", "Burst allowance that is left.", AT(burst), 1000000000},
+    {"delay_seconds", "Queueing delay of the last update.", AT(delay), 1000000000},
+    {"target_seconds", "Target of the queueing delay.", AT(target), 1000000000},
+    {"burst_allowance_seconds", "Remaining burst allowance.", AT(burst), 1000000000},
     {"queue_packets", "Packets in the queue.", AT(packets), 1},
     {"queue_bytes", "Bytes in the queue.", AT(bytes), 1},
 };

@@ -11,7 +11,7 @@
 #include <stddef.h>
 #include <stdint.h>
 
-/* A queue: what was counted since it was opened, which never falls, and what it holds now. */
+/* The metrics of a queue: counters since it was opened, which never fall, and its present state. */
 struct metrics {
     uint64_t arrived, arrived_bytes; /* that the controller decided on; by its verdicts: */
     uint64_t enqueued;               /* without a mark */
@@ -24,9 +24,9 @@ struct metrics {
     uint64_t updates, late;          /* and of these, later than by a whole period */
     uint64_t lost;                   /* events that the history lacks */
     uint64_t waits[PIE_WAIT_SORTS];  /* packets that departed, by the sorts of their waits .. */
-    unsigned __int128 waited;        /* .. and these together, in nanoseconds: 64 bits would wrap in days */
+    unsigned __int128 waited;        /* their sum in nanoseconds: 64 bits would overflow within days */
     uint64_t probs[PIE_PROB_SORTS];  /* updates, by those of the probability after them .. */
-    unsigned __int128 probs_sum;     /* .. and these together, in 10^-12 */
+    unsigned __int128 probs_sum;     /* their sum in 10^-12 */
     uint64_t prob, delay, target, burst; /* the probability in 10^-12, and nanoseconds */
     uint64_t packets, bytes;         /* in the queue */
 };
@@ -34,15 +34,16 @@ struct metrics {
 /* Counts a call that ends in _event, but not one that was refused; `waited`: of a departure, how long its packet had waited, in nanoseconds. */
 void count_event(struct metrics *metrics, const struct pie_event *event, uint64_t waited);
 
-/* A queue by its labels: of which link it is, and which queue of that. */
+/* The labels of a queue: its link, and the queue of that link. */
 struct metrics_queue {
     const char *link;
     unsigned int queue;
     const struct metrics *metrics;
 };
 
-/* Writes the metrics of `count` queues beside a file and moves them there, so that a reader finds the old text or the new one; false where that
- * fails, with errno. When the program ends by exit the file goes, since there is no queue any more of which it tells. One file a program. */
+/* Writes the metrics of `count` queues to a temporary file and renames it, so that a reader finds the old text or
+ * the new one. Returns false with errno if that fails. When the program exits, the file is removed, because the
+ * queues no longer exist. One file for each program. */
 bool write_metrics(const char *path, const struct metrics_queue *queues, size_t count);
 
 /* Takes the file away, for who wants to know whether it went; false where that fails, with errno. */
@@ -53,7 +54,7 @@ struct metrics_file {
     const char *path; /* NULL where none are written */
     struct metrics_queue queue;
     struct metrics told;
-    uint64_t due;            /* the moment from which they are told again */
+    uint64_t due;            /* the moment from which they are written again */
     atomic_bool is_told;     /* `told` is the writer's; else the other's */
     bool is_refused;         /* it was said that the file cannot be written */
 };
@@ -63,7 +64,7 @@ struct metrics_file {
 /* Names the file (NULL: none), and the link of the one queue. */
 void open_metrics(struct metrics_file *file, const char *path, const char *link);
 
-/* By the thread that decides: whether a second has passed, and the metrics before it were written. */
+/* Returns true if a second has passed and the metrics before it were written. The deciding thread calls it. */
 static inline bool is_metrics_due(const struct metrics_file *file, uint64_t moment) {
     return file->path != NULL && moment >= file->due && !atomic_load_explicit(&file->is_told, memory_order_acquire);
 }
@@ -71,7 +72,7 @@ static inline bool is_metrics_due(const struct metrics_file *file, uint64_t mome
 /* Hands the metrics over, where they are due. */
 void tell_metrics(struct metrics_file *file, const struct metrics *metrics, uint64_t moment);
 
-/* By the thread that writes: writes what was told; says once, for `program`, where that cannot be done. */
+/* Writes the metrics, and reports an error once for `program`. The writing thread calls it. */
 void write_told_metrics(struct metrics_file *file, const char *program);
 
 #endif

@@ -19,8 +19,9 @@ struct records {
     unsigned char line[PIE_RESUME_ROOM]; /* the record of the period that the event at hand may end */
 };
 
-/* Opens the file (NULL: none, "-": standard output) for periods of `every` ns, and writes the header row; it was `unix_time` (nanoseconds since 1970)
- * at this moment, or NULL where no times of day are told. False where that cannot be done. */
+/* Opens the file (NULL: none, "-": standard output) for intervals of `every` ns, and writes the header row.
+ * `unix_time` is the wall-clock time (nanoseconds since 1970) at this moment, or NULL without wall-clock times.
+ * Returns false if that fails. */
 bool open_records(struct records *records, const char *name, uint64_t every, uint64_t moment, const uint64_t *unix_time);
 
 /* Makes the record of the period under way. */

@@ -1,4 +1,4 @@
-"""pie-fleet: audits and sums up the histories of many links, and writes one table of them."""
+"""pie-fleet: audits and summarizes the histories of many links, and writes one table."""
 import argparse
 import gc
 import os
@@ -8,26 +8,26 @@ import sys
 from . import changes, page, table, work
 from .journal import Journal
 
-HELP = """The status is 1 where a history could not be audited, else 2 where one differs, else 3 where, with --since, a link became worse
-than a bound of --worse lets it, and else 0."""
+HELP = """The status is the first that applies: 1 if a history could not be audited; 2 if one differs; 3 if, with --since, a column of a link
+rose by more than its bound of --worse; otherwise 0."""
 
 
 def arguments(words):
     parser = argparse.ArgumentParser(prog="pie-fleet", description=__doc__, epilog=HELP)
-    parser.add_argument("histories", nargs="*", metavar="PATTERN", help="histories on storage that all workers see, as shells name files ('**' too)")
-    parser.add_argument("--list", metavar="FILE", help="histories that lie on machines of their own: lines 'host: path'")
-    parser.add_argument("--scheduler", metavar="ADDRESS", help="the Dask scheduler, such as tcp://10.0.0.1:8786; without it all is done here")
-    parser.add_argument("-o", "--output", metavar="TABLE", required=True, help="the table, as CSV; rows are kept in TABLE.journal until it is whole")
-    parser.add_argument("--force", action="store_true", help="replace a table that is there")
-    parser.add_argument("--since", metavar="TABLE", help="an earlier table: only files that are new or changed are audited, and changes are told")
+    parser.add_argument("histories", nargs="*", metavar="PATTERN", help="histories on storage that all workers see, as shell patterns ('**' too)")
+    parser.add_argument("--list", metavar="FILE", help="a file with histories that only one machine has, as lines 'host: path'")
+    parser.add_argument("--scheduler", metavar="ADDRESS", help="the Dask scheduler, such as tcp://10.0.0.1:8786 (default: run in this process)")
+    parser.add_argument("-o", "--output", metavar="TABLE", required=True, help="the table, as CSV; finished rows are in TABLE.journal until it is complete")
+    parser.add_argument("--force", action="store_true", help="replace an existing table")
+    parser.add_argument("--since", metavar="TABLE", help="an earlier table: audit only new and changed files, and print the changes")
     parser.add_argument("--worse", metavar="COLUMN=BY", action="append", default=[], type=changes.Bound,
-                        help="with --since: tell a link whose column rose by more than so many of its units, or per cent ('mean_wait=20%%')")
-    parser.add_argument("--worst", metavar="COLUMN", action="append", default=[], help="print the ten links with the greatest numbers of a column")
-    parser.add_argument("--page", metavar="HTML", help="the table as a page, with links to the reports of the links")
-    parser.add_argument("--reports", metavar="FOLDER", default="reports", help="where the page looks for reports (reports)")
-    parser.add_argument("--pie", metavar="PROGRAM", default="pie", help="the program on the workers (pie)")
-    parser.add_argument("--patience", metavar="SECONDS", type=int, default=60, help="how long a file waits for a worker of its host (60)")
-    parser.add_argument("--quiet", action="store_true", help="no progress bar")
+                        help="with --since: print each link with a column that rose by more than this, in its unit or in per cent ('mean_wait=20%%')")
+    parser.add_argument("--worst", metavar="COLUMN", action="append", default=[], help="print the ten links with the greatest values of a column")
+    parser.add_argument("--page", metavar="HTML", help="also write the table as a page, with links to the reports")
+    parser.add_argument("--reports", metavar="FOLDER", default="reports", help="the folder with the reports (default: reports)")
+    parser.add_argument("--pie", metavar="PROGRAM", default="pie", help="the program on the workers (default: pie)")
+    parser.add_argument("--patience", metavar="SECONDS", type=int, default=60, help="the time that a history waits for a worker of its host (default: 60)")
+    parser.add_argument("--quiet", action="store_true", help="show no progress bar")
     asked = parser.parse_args(words)
     if not asked.histories and not asked.list:
         parser.error("no histories: name patterns, or a list")
@@ -37,7 +37,7 @@ def arguments(words):
 
 
 class Bar:
-    """How far the work is, on the error stream, where that is a terminal."""
+    """Shows the progress on standard error, if it is a terminal."""
 
     def __init__(self, of, quiet):
         self.of, self.done, self.shows = of, 0, not quiet and sys.stderr.isatty()
@@ -77,8 +77,8 @@ def known_of(row):
 
 
 def client_of(scheduler):
-    """A client of the scheduler. The reading of Dask's modules is most of what a run takes to begin: no garbage is looked for meanwhile, and what
-    they made is not looked through later, nor at the end."""
+    """Returns a client of the scheduler. Importing Dask takes most of a run's start: garbage collection is off
+    meanwhile, and the imported objects are not scanned later."""
     gc.disable()
     from distributed import Client
     gc.freeze()

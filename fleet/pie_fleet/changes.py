@@ -1,11 +1,11 @@
-"""What changed since an earlier table."""
+"""The changes since an earlier table."""
 import re
 
 from .table import number
 
 
 class Bound:
-    """By how much a column may rise: 'COLUMN=5' by five of its units, 'COLUMN=20%' by a fifth."""
+    """The bound for the rise of a column: 'COLUMN=5' is five of its units, 'COLUMN=20%' a fifth."""
 
     def __init__(self, words):
         found = re.fullmatch(r"(\w+)=(\d+(?:\.\d+)?)(%?)", words)
@@ -19,7 +19,7 @@ class Bound:
 
 
 def changes(before, rows, bounds):
-    """A line for each link that differs for the first time, and for each column of one that became worse than a bound lets it."""
+    """Yields a line for each link that differs for the first time, and for each column of a link that rose by more than its bound."""
     lines = []
     for row in rows:
         old = before.get(row["link"])

@@ -1,4 +1,4 @@
-"""The work on a Dask cluster: batches of histories go to workers that have the right `pie`, and their rows come back as they are made."""
+"""The work on a Dask cluster: batches of histories go to workers with the right `pie`, and their rows return as they are finished."""
 import queue
 import time
 from collections import Counter, defaultdict, namedtuple
@@ -7,18 +7,18 @@ import cloudpickle
 
 from . import work
 
-# The functions of `work` go to the workers whole, so that these need no file of this package.
+# The functions of `work` are sent to the workers, which therefore need no file of this package.
 cloudpickle.register_pickle_by_value(work)
 
-# Some histories for one task: `host` is the machine that they lie on, or None where every worker sees them.
+# Some histories for one task. `host` is the machine that has them, or None if every worker sees them.
 Batch = namedtuple("Batch", "host files")
 TRIES = 3
-# What a batch has at most: it costs some milliseconds beside its histories, and its rows come together.
+# The limits of a batch. A batch costs some milliseconds beside its histories, and its rows return together.
 MOST_FILES, MOST_BYTES = 64, 2 ** 25
 
 
 class Workers:
-    """The workers of a cluster: which there are, on which host, and with which `pie`."""
+    """The workers of a cluster, with their hosts and versions of `pie`."""
 
     def __init__(self, client, pie, tell):
         self.client, self.pie, self.tell = client, pie, tell
@@ -29,7 +29,7 @@ class Workers:
         self.tell_wrong()
 
     def look(self):
-        """Looks at workers that have come, and forgets those that have gone."""
+        """Adds new workers, and removes those that are gone."""
         live = self.client.scheduler_info()["workers"]
         self.threads = {at: worker["nthreads"] for at, worker in live.items()}
         self.names = {at: names for at, names in self.names.items() if at in live}
@@ -41,7 +41,7 @@ class Workers:
                 self.versions[at] = version
 
     def look_again(self):
-        """Looks at all workers anew: one has another `pie` than it had."""
+        """Examines all workers again, because one has another `pie` than before."""
         self.names.clear()
         self.look()
         self.tell_wrong()
@@ -54,19 +54,19 @@ class Workers:
                 self.tell(f"worker {at} gets no work: it has {has}, and not {self.wanted}")
 
     def fit(self, host):
-        """The workers that a batch may go to."""
+        """Returns the workers that a batch may be sent to."""
         return [at for at, names in self.names.items() if self.versions.get(at) == self.wanted and (host is None or host in names)]
 
 
 def run(client, workers, files, sizes, add, patience):
-    """Makes the rows of all files, and hands each batch's rows to `add`. `sizes` has the bytes of those links whose are known. Of a file whose
-    machine has no fit worker for `patience` seconds, and of one whose workers died, the row says so."""
+    """Makes the rows of all files, and passes the rows of each batch to `add`. `sizes` has the known sizes of links. If the machine of a file has no
+    suitable worker for `patience` seconds, or its workers died, the row reports that."""
     Run(client, workers, sizes, add, patience).make(files)
 
 
 class Run:
-    """Of each host (None: of any) the files that wait, the first of them last, and how many batches workers have; how often a history was tried by
-    itself, and which have to be."""
+    """For each host (None: any host) the waiting files, the first one last, and the number of batches at workers; how often a history was tried alone,
+    and which have to be tried alone."""
 
     def __init__(self, client, workers, sizes, add, patience):
         self.client, self.workers, self.sizes, self.add, self.patience = client, workers, sizes, add, patience
@@ -89,7 +89,7 @@ class Run:
             self.submit()
 
     def submit(self):
-        """Hands out batches, so many that each thread of a host has one behind its own."""
+        """Sends batches, such that each thread of a host has one more after its own."""
         for host, waiting in self.waiting.items():
             fit = self.workers.fit(host)
             threads = sum(self.workers.threads[at] for at in fit)
@@ -102,8 +102,8 @@ class Run:
                 future.add_done_callback(self.ended.put)
 
     def cut(self, waiting, threads):
-        """Takes the files of the next batch: a quarter of a thread's share of those that wait, so that batches get smaller and the workers end
-        together; or one that has to be tried by itself."""
+        """Takes the files of the next batch: a quarter of a thread's share of the waiting files, so that batches become smaller and the workers end
+        together; or one file that has to be tried alone."""
         most, files, held = min(MOST_FILES, max(1, len(waiting) // (4 * threads))), [], 0
         while waiting and len(files) < most:
             link = waiting[-1][0]
@@ -116,7 +116,7 @@ class Run:
         return files
 
     def take(self, future):
-        """Takes what came of a batch."""
+        """Takes the result of a batch."""
         if future.key not in self.under_way:
             return
         _, batch, _ = self.under_way.pop(future.key)
@@ -135,7 +135,7 @@ class Run:
             self.again(batch, f"its worker died, or failed: {type(fault).__name__}: {fault}".split("\n")[0])
 
     def again(self, batch, why):
-        """A batch that failed with its worker: its histories one by one, and each so often."""
+        """Repeats the histories of a batch whose worker died, one at a time, and each at most a few times."""
         link = batch.files[0][0]
         self.tries[link] += len(batch.files) == 1
         if self.tries[link] < TRIES:
@@ -149,7 +149,7 @@ class Run:
                   for link, path, host, _ in files])
 
     def look(self):
-        """Looks which workers there are. What workers had that are gone is handed out anew, and what no worker fits for long is given up."""
+        """Examines the workers. Batches of lost workers are sent again, and files without a suitable worker for too long are given up."""
         self.workers.look()
         self.workers.tell_wrong()
         for key, (future, batch, fit) in list(self.under_way.items()):

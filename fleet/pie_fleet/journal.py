@@ -1,10 +1,10 @@
-"""Rows as they come, kept beside the table until it is whole, so that a run that was stopped goes on where it was."""
+"""Finished rows, stored beside the table until it is complete, so that an interrupted run can continue."""
 import json
 import os
 
 
 class Journal:
-    """One line of JSON a row. A line that was cut by what stopped the run is left out."""
+    """A file with one line of JSON for each row. An incomplete last line is ignored."""
 
     def __init__(self, path):
         self.path = path
@@ -27,6 +27,6 @@ class Journal:
         self.file.flush()
 
     def end(self):
-        """The table is written: the journal is needed no more."""
+        """Removes the journal, after the table was written."""
         self.file.close()
         os.unlink(self.path)

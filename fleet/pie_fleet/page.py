@@ -19,7 +19,8 @@ tr.bad td { background: #4a2020 } a { color: #8ab4f8 } code { color: #aaa } }
 
 
 def report_name(link):
-    """The name of a link's report: its own, with all that a file's name can't have as one mark, and told apart by a number of its letters."""
+    """Returns the name of a link's report: its own name, with characters that a file name cannot contain replaced,
+    and a number of its letters that makes it unique."""
     mark = 0
     for letter in link:
         mark = (mark * 1_000_003 + ord(letter)) % 2 ** 32
@@ -34,12 +35,13 @@ def _shown(row, column):
 
 
 def write(path, rows, reports):
-    """Writes the page. A row is linked to its report where the folder `reports` has it, and else shows the command that makes it."""
+    """Writes the page. A row links to its report if the folder `reports` has it, and otherwise shows the command
+    that makes it."""
     columns = [column for column in SHOWN if any(row.get(column, "") != "" for row in rows)]
     lines = ["<!DOCTYPE html>", '<html lang="en"><head><meta charset="utf-8">',
              "<meta http-equiv=\"Content-Security-Policy\" content=\"default-src 'none'; style-src 'unsafe-inline'\">",
              f"<title>{len(rows)} links</title><style>{STYLE}</style></head><body>", f"<h1>{len(rows)} links</h1>",
-             "<p>Waits and times are in milliseconds, of the greatest probability 10<sup>12</sup> is 1.</p><table><tr><th>link</th>"]
+             "<p>Waits and times are in milliseconds. Probabilities are in units of 10<sup>-12</sup>.</p><table><tr><th>link</th>"]
     lines += [f"<th>{column.replace('_', ' ')}</th>" for column in columns] + ["<th>report</th></tr>"]
     for row in rows:
         name = report_name(row["link"])

@@ -1,4 +1,4 @@
-"""The table: a row a link. Beside what is known of the file it has the fields of `pie explain --summary --csv`, under their names, and shares."""
+"""The table: one row for each link, with the columns of the file, percentages, and the fields of `pie explain --summary --csv` under their names."""
 import csv
 import os
 
@@ -8,7 +8,7 @@ SHARES = ["loss_percent", "marks_percent"]
 
 
 def number(row, field):
-    """A field as a number, or None where it is empty or none."""
+    """Returns a field as a number, or None if it is empty or not a number."""
     try:
         return float(row.get(field, ""))
     except (TypeError, ValueError):
@@ -16,7 +16,7 @@ def number(row, field):
 
 
 def with_shares(row):
-    """The row with the shares of its arrivals that were lost and marked, in per cent."""
+    """Adds the percentages of lost and marked arrivals to a row."""
     arrivals = number(row, "arrivals")
     if arrivals:
         lost = sum(number(row, verdict) or 0 for verdict in ("early", "bytes", "packets"))
@@ -26,7 +26,7 @@ def with_shares(row):
 
 
 def columns(rows):
-    """The names of all columns: what is known, the shares, and the summary's fields in the order in which it has them."""
+    """Returns the names of all columns: those of the file, the percentages, and the summary's fields in its order."""
     summary = {}
     for row in rows:
         for name in row:
@@ -36,8 +36,7 @@ def columns(rows):
 
 
 def write(path, rows, force=False):
-    """Writes the table under another name, and moves it onto its own when all of it is on the disk. A table that is there is replaced only where
-    `force` says so."""
+    """Writes the table under another name, and renames it when all of it is on the disk. An existing table is replaced only with `force`."""
     part = f"{path}.part"
     with open(part, "w", newline="") as out:
         to = csv.DictWriter(out, columns(rows), restval="", lineterminator="\n")
@@ -53,18 +52,18 @@ def write(path, rows, force=False):
 
 
 def read(path):
-    """The rows of a table, by link."""
+    """Returns the rows of a table, by link."""
     with open(path, newline="") as table:
         return {row["link"]: row for row in csv.DictReader(table)}
 
 
 def worst(rows, column, most=10):
-    """The rows with the greatest numbers in a column, the greatest first."""
+    """Returns the rows with the greatest values in a column, the greatest first."""
     told = [row for row in rows if number(row, column) is not None]
     return sorted(told, key=lambda row: (-number(row, column), row["link"]))[:most]
 
 
 def status_of(rows):
-    """The status of the whole, as `pie audit` has it: 1 where a history could not be audited, else 2 where one differs, and else 0."""
+    """Returns the status of the whole, as `pie audit` does: 1 if a history could not be audited; otherwise 2 if one differs; otherwise 0."""
     met = {int(row["status"]) for row in rows}
     return 1 if met - {0, 2} else 2 if 2 in met else 0

@@ -1,19 +1,19 @@
-"""What is done with one history, on the machine that has it: `pie audit` and `pie explain --summary --csv` are run there, and of the history itself
-nothing is read here. Only the standard library is used, so that this file is all that a worker needs beside `pie`."""
+"""The work on one history, on the machine that has it: it runs `pie audit` and `pie explain --summary --csv`, and does not read the history itself.
+It uses only the standard library, so a worker needs only this file and `pie`."""
 import glob
 import os
 import re
 import socket
 import subprocess
 
-# What is known of a file beside the summary's fields. `status` is that of `pie audit`: 0 clean, 2 differs, 1 all else. `finding` is clean, differs
-# or fault as `pie` found it, or, of a file that it could not find anything of, missing, unread, or unreached.
+# The columns of a file before the summary's fields. `status` is that of `pie audit`: 0 clean, 2 differs, 1 otherwise. `finding` is clean, differs
+# or fault, the finding of `pie`; or missing, unread or unreached, if there is no finding.
 FOUND = ("clean", "differs", "fault")
 KNOWN = ["link", "path", "host", "size", "changed", "status", "finding", "event", "note"]
 
 
 def version_of(pie):
-    """The version that `pie --version` tells here, or None."""
+    """Returns the version of `pie` on this machine, or None."""
     try:
         told = _call([pie, "--version"])
     except OSError:
@@ -22,7 +22,7 @@ def version_of(pie):
 
 
 def host_and_version(pie):
-    """This machine's name, and the version that `pie` has here."""
+    """Returns the name of this machine, and its version of `pie`."""
     return socket.gethostname(), version_of(pie)
 
 
@@ -36,8 +36,8 @@ def _call(words):
 
 
 def row_of(link, path, host, known, pie):
-    """The row of one history: a dictionary of the fields of KNOWN and of the summary. Where `known` is the size and time of change that the file
-    still has, the row says only that it is the same."""
+    """Returns the row of one history: a dictionary of the fields of KNOWN and of the summary. If `known` is the size and modification time that the
+    file still has, the row states only that it is unchanged."""
     row = {"link": link, "path": path, "host": host, "size": "", "changed": "", "status": 1, "finding": "", "event": "", "note": ""}
     try:
         size, changed = _stamp(path)
@@ -71,7 +71,7 @@ def row_of(link, path, host, known, pie):
 
 
 def _reason(ended, path):
-    """One line of why a call of `pie` failed: its first line of faults, without the file's name."""
+    """Returns one line with the reason why `pie` failed: its first line of faults, without the file's name."""
     if ended.returncode < 0:
         return f"pie was ended by signal {-ended.returncode}"
     told = ended.stderr.strip().split("\n")[0]
@@ -82,8 +82,8 @@ def _reason(ended, path):
 
 
 def rows_of(files, pie, wanted):
-    """The rows of some histories, one after another; `files` has of each its link, path, host and what is known of it. Where this machine's `pie` is
-    not of the version that is wanted, what it has instead."""
+    """Yields the rows of some histories; `files` has the link, path, host and known row of each. If this machine's `pie` is not of the wanted version,
+    it returns that version instead."""
     has = version_of(pie)
     if has != wanted:
         return f"{socket.gethostname()} has {has or f'no program {pie}'}"
@@ -91,7 +91,7 @@ def rows_of(files, pie, wanted):
 
 
 def expand(patterns):
-    """The files here that patterns name, each once, in order, with their sizes; and the patterns that name none."""
+    """Returns the files that the patterns match, each once, in order, with sizes; and the patterns without a match."""
     found, missing = {}, []
     for pattern in patterns:
         names = [name for name in sorted(glob.glob(pattern, recursive=True)) if os.path.isfile(name)]

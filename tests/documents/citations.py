@@ -1,6 +1,7 @@
 #!/usr/bin/env python3
-"""Holds that no crate cites another's proofs: what is wanted above is a clause or a law there. LEFT has how many lines of a crate still do; their sum may
-only shrink, and no crate may come to it. Exit status 1 where one has more.
+"""Checks that no crate cites another crate's proofs: the lower crate should have a clause or a law. LEFT has the
+number of lines of a crate that still do; their sum may only shrink, and no crate may be added. The exit status is 1
+if a crate has more.
 
 usage: tests/documents/citations.py
 needs: nothing

@@ -25,7 +25,7 @@ EQUALITY = re.compile(r"^\s*(?:unsafe )?impl\b[^{;]*\b(?:PartialEq|Eq)\b[^{;]*\b
 
 
 def crates():
-    """Of each crate of crates.txt what it stands on."""
+    """Returns the dependencies of each crate of crates.txt."""
     lines = (ROOT / "crates.txt").read_text().splitlines()
     pairs = [line.partition("#")[0].split(":") for line in lines if ":" in line.partition("#")[0]]
     return {head.split()[0]: below.split() for head, below in pairs}
@@ -67,7 +67,7 @@ def missing_definitions(model):
 
 
 def missing_of_rules(model):
-    """What the table of rules names and the repository does not have."""
+    """Yields the names in the table of rules that the repository does not have."""
     table = model[model.index("| rule | RFC 8033") :].split("\n\n")[0]
     code = "\n".join(path.read_text() for path in (ROOT / "crates").glob("*/src/*.rt"))
     defined = {name for crate in crates() for name in definitions(crate)}
@@ -80,14 +80,14 @@ def missing_of_rules(model):
             if name not in defined:
                 yield f"docs/MODEL.md: {rule}: no definition {name}"
         crate, name = edit.replace("`", "").split()
-        if not (ROOT / "crates" / crate / "mutations" / f"{name}.edit").exists():
+        if f"name: {name}" not in (ROOT / "crates" / crate / "mutations.txt").read_text().splitlines():
             yield f"docs/MODEL.md: {rule}: no wrong body {name}"
 
 
 def missing_words():
-    """What the pages that stand nearest to the code name, and the code doesn't have."""
+    """Yields the names on the pages closest to the code that the code does not have."""
     files = [path for kind in ("rt", "antt") for path in (ROOT / "crates").glob(f"*/s*/**/*.{kind}")]
-    words = {word for path in [*files, ROOT / "crates.txt", *(ROOT / "include").glob("*.h")] for word in re.findall(r"\w+", path.read_text())}
+    words = {word for path in [*files, ROOT / "crates.txt", *(ROOT / "include").glob("*.h"), ROOT / "bindings/kernel/Kbuild"] for word in re.findall(r"\w+", path.read_text())}
     for page in ("PROMISES.md", "ARCHITECTURE.md", "GUARANTEES.md"):
         for name in QUOTED.findall((ROOT / "docs" / page).read_text()):
             if re.fullmatch(r"[A-Za-z_][\w:]*", name) and name.split("::")[-1] not in words:

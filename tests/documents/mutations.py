@@ -1,7 +1,7 @@
 #!/usr/bin/env python3
-"""Holds the wrong bodies to the code: what each mutation replaces (`old:`, by `new:`, one after another) stands in its file
-once. So none is passed over when the code has changed: whether the prover refuses it, tests/mutations.py and the gate try. Exit status 1
-where a text isn't there, or more than once.
+"""Checks that each `old:` text of crates/NAME/mutations.txt stands exactly once in its file, after the replacements before it, and that each name of a
+mutation is used once in its crate. So no mutation is passed over when the code has changed. tests/mutations.py tries whether the prover rejects them.
+The exit status is 1 if a text is missing or stands more than once.
 
 usage: tests/documents/mutations.py
 needs: nothing
@@ -14,34 +14,36 @@ ROOT = Path(__file__).resolve().parent.parent.parent
 NAME = os.path.relpath(__file__, ROOT)
 
 
-def steps(edit):
-    """The replacements of an edit: the file, the text and what takes its place."""
-    path, old = None, None
-    for line in edit.read_text().splitlines():
+def stale(path):
+    """Yields what is wrong in a file of mutations, a line for each fault."""
+    texts, file, old, name, names = {}, None, None, "", set()
+    for number, line in enumerate(path.read_text().splitlines(), 1):
+        where = f"{path.relative_to(ROOT)}:{number}"
         word, _, text = line.partition(": ")
-        if word == "file":
-            path = edit.parent.parent / text.strip()
+        if word == "name":
+            if text in names:
+                yield f"{where}: a second mutation with the name {text}"
+            names.add(text)
+            texts, file, old, name = {}, None, None, text
+        elif word == "file":
+            file = path.parent / text.strip()
+            texts.setdefault(file, file.read_text())
         elif word == "old":
             old = text
         elif line.startswith("new:"):
-            yield path, old, text
-
-
-def stale(edit):
-    """The texts of an edit that don't stand in their file once, where the replacements before have been made."""
-    texts = {}
-    for path, old, new in steps(edit):
-        text = texts.get(path) or path.read_text()
-        if text.count(old) != 1:
-            yield f"{edit.relative_to(ROOT)}: {text.count(old)} times in {path.relative_to(ROOT)}: {old.strip()}"
-        texts[path] = text.replace(old, new, 1)
+            if texts[file].count(old) != 1:
+                yield f"{where}: {name}: {texts[file].count(old)} times in {file.relative_to(ROOT)}: {old.strip()}"
+            texts[file] = texts[file].replace(old, text, 1)
+        elif line and word != "check" and not line.startswith("#"):
+            yield f"{where}: unknown line: {line}"
 
 
 def main():
-    edits = sorted(ROOT.glob("crates/*/mutations/*.edit"))
-    found = [line for edit in edits for line in stale(edit)]
-    print("\n".join(found) or f"{NAME}: {len(edits)} wrong bodies stand in the code as it is")
-    sys.exit(bool(found) or not edits)
+    files = sorted(ROOT.glob("crates/*/mutations.txt"))
+    found = [line for path in files for line in stale(path)]
+    count = sum(path.read_text().count("\nname: ") + path.read_text().startswith("name: ") for path in files)
+    print("\n".join(found) or f"{NAME}: {count} mutations stand in the code as it is")
+    sys.exit(bool(found) or not count)
 
 
 main()

@@ -1,15 +1,16 @@
 #!/usr/bin/env python3
-"""Runs the pages: each command of README.md and of the pages of bindings/ and examples/ as it stands there, in a fresh copy of the repository,
-and follows each link of every page.
+"""Runs each command of README.md and of the pages of bindings/ and examples/ in a fresh copy of the repository, and
+follows each link of every page.
 
-An indented block is one script of bash, which begins at the top of the copy, with the files that the blocks above it on its page left. Where a
-block begins with `$ `, so does each of its commands, a script of its own, and the lines below one are what it prints. A block that begins with a
-comment of a file's name, as /* queue.c */, is that file. What stands in fences is shown alone.
+An indented block is one bash script. It starts at the top of the copy, with the files that earlier blocks of its
+page left. If a block begins with `$ `, each line with `$ ` is a script of its own, and the lines below it are its
+expected output. A block that begins with a comment of a file's name, such as /* queue.c */, is that file. Text in
+fences is not run.
 
-The copy has the program and the library that are built here, what make builds over it in bindings/dpdk and bindings/ns3, as their check.sh does, and
-stand-ins for `rt` and the gate, which are tried by the gate anyway: `rt try` and `rt run` run the built program, `rt lib` looks for the built library,
-`.ci/run` does nothing. With --rt it is the real `rt`. A command that isn't there on this machine, and one of a folder whose missing.sh says that
-something is, are told as NOT RUN.
+The copy contains the built program and library, the files that make builds over them in bindings/dpdk and
+bindings/ns3, and stand-ins for `rt` and the gate, which the gate tries anyway: `rt try` and `rt run` run the built
+program, `rt lib` checks the built library, `.ci/run` does nothing. With --rt the real `rt` is used. A command that
+is not installed, or whose folder's missing.sh reports a missing program, is printed as NOT RUN.
 
 usage: tests/documents/pages.py [--rt] [PAGE..]
 needs: program, library
@@ -26,12 +27,12 @@ sys.path.insert(0, f"{os.path.dirname(os.path.abspath(__file__))}/../shared")
 from checks import NAME, ROOT, check, finish  # noqa: E402
 
 BUILT = ["crates/pie/out/pie", "crates/pie_c/out/libpie_c.a", "crates/pie_link_c/out/libpie_link_c.a"]
-# folders in which make takes long: once here, for their check.sh (by the same lock) and for the copies
+# folders in which make takes long: built once here for their check.sh (with the same lock) and for the copies
 MADE = ["bindings/dpdk", "bindings/ns3"]
 RUN = ["README.md", "bindings/**/*.md", "examples/**/*.md"]
 LINKED = [*RUN, "*.md", "docs/*.md", "bench/*.md"]
 LINK = re.compile(r"\]\(([^)\s]+)\)")
-# a stand-in for rt: in the folder of a crate whose program or library was built
+# a stand-in for rt, in the folder of a crate whose program or library was built
 RT = """#!/usr/bin/env bash
 word=$1
 while [ $# -gt 0 ] && [ "$1" != -- ]; do shift; done
@@ -49,7 +50,7 @@ def pages(patterns):
 
 
 def anchor(heading):
-    """What a link calls a heading."""
+    """Returns the name of a heading in a link."""
     return re.sub(r"[^\w\- ]", "", heading.lower()).strip().replace(" ", "-")
 
 
@@ -87,7 +88,8 @@ def has_numpy(python):
 
 
 def fresh(copy, page, real):
-    """A copy of the repository's own files, with what was built, and the environment of its commands."""
+    """Makes a copy of the repository's own files and of the built ones. Returns it, and the environment of its
+    commands."""
     listed = subprocess.run(["git", "ls-files", "-co", "--exclude-standard"], cwd=ROOT, capture_output=True, text=True, check=True).stdout
     for name in listed.splitlines():
         if (ROOT / name).is_file():
@@ -118,7 +120,7 @@ def fresh(copy, page, real):
 
 
 def commands(block):
-    """Of a block of commands each with what it has to print, None where the page doesn't say."""
+    """Returns the commands of a block, each with its expected output, or None if the page does not show it."""
     if not block.startswith("$ "):
         return [(block, None)]
     parts = re.split(r"^\$ ", block, flags=re.M)[1:]
@@ -126,7 +128,8 @@ def commands(block):
 
 
 def missing(command, copy, words):
-    """What this machine lacks of what a command calls, or nothing: by the missing.sh of a folder that it names, and of other commands by `type`."""
+    """Returns the programs missing for a command: by the missing.sh of a folder that it names, for other commands
+    by `type`."""
     for word in re.sub(r"#.*", "", command).split():
         place = copy / word.strip("()")
         for folder in (place, place.parent):

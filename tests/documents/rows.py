@@ -1,13 +1,14 @@
 #!/usr/bin/env python3
-"""Holds the table of worked rows to the tests: each row says in plain words what was worked out by hand, and where it runs. Every place has to exist
-and to be run by the gate. Exit status 1 where one is missing, or where a row of tests/rows or a test of pie_library_tests is in no line.
+"""Compares the table of worked rows with the tests: each row describes an example that was computed by hand, and
+lists where it runs. Every place must exist and be run by the gate. The exit status is 1 if a place is missing, or
+if a row of tests/rows or a test of pie_library_tests is not listed.
 
 A place is one of these:
   rows NAME           tests/rows/NAME.in with its history, or NAME.history with its finding, which tests/program/rows.sh runs
   library NAME        a test of pie_library_tests, whose output the gate compares
   c FILE FUNCTION     a function of bindings/c/FILE.c, which FILE's main calls and a script there builds and runs
   proof CRATE NAME    a theorem that computes, in a file of crates/CRATE/proofs that its Lib.antt lists
-  script PATH TEXT    a text that stands in a script, which the gate runs without a request
+  script PATH TEXT    a text in a script that the gate runs without a request
 
 usage: tests/documents/rows.py
 needs: nothing
@@ -63,7 +64,7 @@ ROWS = {
     "a history without an end": ["library a_history_without_an_end_is_read"],
     "marks and drops audited, with a changed verdict, and with a cut record": [
         f"script {TEXTS} changed clean,14 99 ''", f"script {TEXTS} changed differs,4 5 ", f"script {TEXTS} changed \"record 13: $fields\" 13 "],
-    "a fault after a changed verdict": [f"script {TEXTS} # a fault is told where an earlier event differs as well"],
+    "a fault after a changed verdict": [f"script {TEXTS} # a fault is reported even if an earlier event differs"],
     "a history without events, an update too soon, and parameters that cannot be set": [
         f"script {TEXTS} after clean,0 ''", f"script {TEXTS} after differs,1 'update,1,14999999,0,0,150000000\\n'",
         f"script {TEXTS} after differs,1 \"$bad\\n\""],
@@ -116,7 +117,7 @@ def read(path):
 
 
 def is_run(path):
-    """Whether the gate runs a script: it can be run, and says what it needs, which is no request."""
+    """Returns true if the gate runs a script: it is executable, and its needs do not include a request."""
     needs = NEEDS.search(read(path)[:4000])
     return bool(needs) and "a request" not in needs[1] and os.access(path, os.X_OK)
 

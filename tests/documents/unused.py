@@ -1,11 +1,12 @@
 #!/usr/bin/env python3
-"""Says which public function nobody calls: each `pub fn` of a library in crates/ that others can name (functions, methods and those that C calls),
-whose name no other crate calls, and no test, measure, binding or example. A law, which does nothing and takes nothing, has no caller: it counts where docs/PROMISES.md or
-docs/MODEL.md name it. Exit status 1 where there is one.
+"""Reports public functions without a caller: each `pub fn` of a library in crates/ that other crates can name
+(functions, methods and exports for C), whose name no other crate, test, measure, binding or example uses. A law,
+which does nothing and takes nothing, has no caller; it is used if docs/PROMISES.md or docs/MODEL.md names it. The
+exit status is 1 if a function is unused.
 
-It goes by names. A function is called where a crate that stands on its own names it outside contracts; one of a type with no `self`
-where the type stands before it, a method where a dot does, or its type. Of two types with a method of one name it cannot see whose is called,
-nor whether code that calls one is itself reached.
+The script compares names. A function is called if a crate that depends on its own names it outside contracts; a
+function of a type without `self` if the type stands before it; a method if a dot or its type does. The script
+cannot distinguish two methods of one name, nor see whether the code that calls one is itself reached.
 
 usage: tests/documents/unused.py
 needs: nothing
@@ -19,14 +20,14 @@ from checks import NAME, ROOT  # noqa: E402
 
 FUNCTION = re.compile(r'^( *)pub (?:const )?(?:unsafe )?(extern "C" )?fn (\w+)')
 OWNER = re.compile(r"^(?:unsafe )?(?:impl|pub trait|trait)\b(?:<[^{]*?>)? ?(?:[\w:<>', ]+ for )?(\w+)")
-# what a contract says, a comment, and what is imported for contracts or by a `use`
+# contracts, comments, and imports for contracts or by a `use`
 CLAUSE = re.compile(r"^ *(?:requires|ensures|invariant|ghost)\b|^ *(?:pub )?use ")
 OUTSIDE = ("bench", "bindings", "examples", "include", "tests", "fleet", "report")
 ENDINGS = {".c", ".h", ".cc", ".cpp", ".hpp", ".rs", ".py", ".sh"}
 
 
 def stood_on():
-    """Of each crate all on which it stands."""
+    """Returns all crates on which each crate depends."""
     lines = [line.partition("#")[0] for line in (ROOT / "crates.txt").read_text().splitlines()]
     below = {line.partition(":")[0].split()[0]: set(line.partition(":")[2].split()) for line in lines if ":" in line}
     for crate in below:
@@ -36,7 +37,7 @@ def stood_on():
 
 
 def blocks(line):
-    """How many braces a line opens beyond those that it closes."""
+    """Returns the number of braces that a line opens, less those that it closes."""
     return line.count("{") - line.count("}")
 
 
@@ -72,7 +73,8 @@ class Function:
 
 
 def named_outside(crate, texts):
-    """Which functions and types of a crate others can name: those of its public modules, and those that it hands on."""
+    """Returns the functions and types of a crate that others can name: those of its public modules, and those that
+    it re-exports."""
     root = texts[ROOT / "crates" / crate / "src/lib.rt"]
     modules = set(re.findall(r"^pub mod (\w+);", root, re.M))
     handed_on = {name for uses in re.findall(r"^pub use ([^;]*);", root, re.M) for name in re.findall(r"\w+", uses)}

@@ -1,8 +1,9 @@
 #!/usr/bin/env python3
-"""A fleet on this machine: a Dask scheduler and three workers, 300 histories of storms and examples, some damaged, some that differ. The table is
-what one process makes of the same files, also where a worker is killed in the middle; a second run takes only what changed, and says what did; a
-worker with another `pie` gets no work; files that vanish, hosts without a worker and a run that was stopped are told, and nothing is counted twice.
-Then the way over SSH of docs/OPERATING.md: three servers on loopback addresses, by GNU parallel.
+"""Runs a fleet on this machine: a Dask scheduler and three workers over 300 histories of storms and examples, some
+damaged, some that differ. The table must be that of one process over the same files, also if a worker is killed in
+between. A second run must take only the changed files, and list them. A worker with another `pie` must get no work.
+Files that vanish, hosts without a worker and a stopped run must be reported, and no file counted twice. Then the
+script tries the commands over SSH of docs/OPERATING.md: three servers on loopback addresses, with GNU parallel.
 
 usage: tests/fleet/fleet.py [PROGRAM [HISTORIES]]      PROGRAM: crates/pie/out/pie where none is named; of HISTORIES (300) a tenth is damaged
 needs: program
@@ -24,7 +25,7 @@ HERE = os.path.dirname(os.path.abspath(__file__))
 TOP = os.path.dirname(os.path.dirname(HERE))
 PROGRAM = os.path.abspath(sys.argv[1]) if len(sys.argv) > 1 else f"{TOP}/crates/pie/out/pie"
 MANY = int(sys.argv[2]) if len(sys.argv) > 2 else 300
-# How many seconds anything may take: on a busy machine all of it takes long.
+# The most seconds for any step: on a busy machine each step takes long.
 PATIENCE = 900
 failures = []
 
@@ -47,8 +48,8 @@ def check(what, holds, told=""):
 
 
 def storm(seed, packets, load):
-    """The history of a storm. Its threads wait for one another, so on a busy machine it takes seconds, and only some are made. What it lost is the
-    machine's choice too: where senders take turns no packet is dropped."""
+    """Returns the history of a storm. Its threads wait for each other, so that on a busy machine it takes seconds,
+    and only some are made. Its losses depend on the machine too: if senders take turns, no packet is dropped."""
     words = [PROGRAM, "storm", "--senders", "2", "--seed", str(seed), "--packets", str(packets), "--load", str(load)]
     ended = subprocess.run(words, capture_output=True, text=True)
     check(f"{' '.join(words)}: status", ended.returncode == 0, f"{ended.returncode}: {ended.stderr}")
@@ -95,7 +96,8 @@ expected_rows = {}
 
 
 def expected(name):
-    """What one process finds of a file, by the program's own words; a file that has not changed is not looked at again."""
+    """Returns the finding of one process for a file, by the program's own output; an unchanged file is not read
+    again."""
     stamp = (name, os.stat(name).st_mtime_ns, os.stat(name).st_size)
     if stamp not in expected_rows:
         expected_rows[stamp] = find(name)
@@ -122,7 +124,7 @@ def table(path):
 
 
 def same(what, path, names, links=None):
-    """Whether a table has a row of each file, and in it what one process finds."""
+    """Checks that a table has a row for each file with the finding of one process."""
     rows = table(path)
     links = links or names
     check(f"{what}: the links", sorted(rows) == sorted(links), f"{len(rows)} of {len(links)}")
@@ -194,7 +196,7 @@ class Cluster:
         self.workers[name] = self.begin(words, env={**os.environ, "PATH": path, "DASK_CONFIG": f"{TOP}/fleet/dask.yaml"})
 
     def wait_for_workers(self, *names):
-        """Waits until the scheduler has told of each of these workers that it came."""
+        """Waits until the scheduler has reported the arrival of each of these workers."""
         for name in names:
             self.wait_for(f"worker {name}", lambda: any(f"name: {name}," in line for line in self.log(0).splitlines() if "Register worker" in line))
 
@@ -203,12 +205,13 @@ class Cluster:
         return self.begin([PYTHON, "-m", "pie_fleet", *words], cwd=f"{TOP}/fleet", env=os.environ), len(self.processes) - 1
 
     def wait_for_row(self, begun, log, journal):
-        """Waits until a run that goes on has written a row, and looks that it goes on still: it has to, where a history is held."""
+        """Waits until a running run has written a row, and checks that it still runs: it must, while a history is
+        held back."""
         self.wait_for(f"row in {journal}", lambda: begun.poll() is not None or os.path.exists(journal) and os.path.getsize(journal))
         check(f"{journal}: the run goes on", begun.poll() is None, f"{begun.returncode}: {self.log(log)[-2000:]}")
 
     def tell(self):
-        """What scheduler, workers and runs said last."""
+        """Returns the last output of scheduler, workers and runs."""
         for number, process in enumerate(self.processes):
             print(f"tests/fleet/fleet.py: {' '.join(process.args)} ({process.poll()}):\n{self.log(number)[-3000:]}", flush=True)
 
@@ -289,8 +292,9 @@ def run_cluster(cluster, work, names):
     for name in ("two", "three"):
         cluster.worker(name, nanny=False)
     cluster.wait_for_workers("one", "two", "three")
-    # Each worker comes to a history that is held, for there are more of these than two workers have at once. So the third one is killed with a
-    # history in its hands, behind others that were made; it has no nanny to start it again.
+    # Each worker receives a history that is held back, because there are more of these than two workers have at
+    # once. So the third worker is killed with a history in progress, after others that were finished; it has no
+    # nanny to restart it.
     held = names[MANY // 3:]
     hold(held)
     begun, log = cluster.fleet(pattern, *where, "-o", f"{work}/table.csv")
@@ -331,7 +335,8 @@ def change_ten(clean, quiet):
 
 
 def with_notes(work):
-    """The table as first.csv, with a mark in the notes of its rows: of what is not read again it stays."""
+    """Returns the table as first.csv, with a mark in the notes of its rows: a row that is not read again keeps the
+    mark."""
     with open(f"{work}/table.csv") as text:
         rows = list(csv.DictReader(text))
     for row in rows:
@@ -343,7 +348,7 @@ def with_notes(work):
 
 
 def rises(before, names):
-    """The lines that tell which of these lost more than before, by more than one of a hundred packets."""
+    """Returns the lines that report which of these lost more than before, by more than one of a hundred packets."""
     lines = []
     for name in names:
         was, now = before.get(name, {}).get("loss_percent"), expected(name)["loss_percent"]
@@ -383,7 +388,8 @@ def run_changed(work, names, where):
 
 
 def run_stopped(cluster, work, names, where):
-    """A run of a hundred that is stopped leaves its journal, and the same command goes on; a line of the journal that was cut is made again."""
+    """A stopped run of a hundred files leaves its journal, and the same command continues; a truncated line of the
+    journal is made again."""
     some = [name for name in names if "/link0" in name]
     words = [f"{work}/histories/link0*.history", *where, "-o", f"{work}/third.csv"]
     held, journal = some[len(some) // 2:], f"{work}/third.csv.journal"
@@ -491,7 +497,8 @@ def run_ssh(work, names):
 
 
 def by_parallel(what, work, folder, hosts, words, names):
-    """Whether a command of GNU parallel finds of some histories what one process finds, both within a folder, and each host had a part."""
+    """Returns true if a command of GNU parallel has the findings of one process for some histories, within a
+    folder, and each host took part."""
     alone = subprocess.run([PROGRAM, "audit", *names], capture_output=True, text=True, cwd=folder)
     ended = subprocess.run([*words, ":::", *names], capture_output=True, text=True, cwd=folder, stdin=subprocess.DEVNULL, timeout=PATIENCE)
     check(f"{what}: the findings", sorted(ended.stdout.splitlines()) == sorted(alone.stdout.splitlines()), ended.stderr[-2000:])

@@ -1,11 +1,12 @@
 #!/usr/bin/env python3
-"""Holds dist/ to the proofs. The checksums of dist/MANIFEST hold, and its commit has its tree of crates/. dist/'s assembly of the libraries is byte for
-byte what bindings/c/library.py wrote from the crates that were just proved; assembled by the toolchain, dist/'s program is the object file that `rt ci`
-built. If crates/ is no longer the manifest's tree, a difference is printed, with the number of commits by which dist/ is older, and is no failure. Then
-`make check` runs over what make builds from dist/ in a new folder; with clang too if it is here.
+"""Compares dist/ with the proved code. The checksums of dist/MANIFEST must hold, and its commit must have its tree
+of crates/. dist/'s assembly of the libraries must be byte for byte the output of bindings/c/library.py from the
+proved crates; assembled by the toolchain, dist/'s program must be the object file that `rt ci` built. If crates/ is
+no longer the manifest's tree, a difference is printed, with the number of commits by which dist/ is older, and is
+no failure. Then `make check` runs in a new folder, with clang too if it is installed.
 
-The assembly has one meaning for every assembler: it consists of labels, instructions, and directives of a short list, without macros, conditions,
-included files or preprocessor lines.
+The assembly must have one meaning for every assembler: it consists of labels, instructions, and directives of a
+short list, without macros, conditions, included files or preprocessor lines.
 
 usage: tests/libraries/dist.py                holds dist/ to the proofs
        tests/libraries/dist.py --read FILE..  reads assembly, and prints the stack that each exported function uses, with all that it calls
@@ -120,7 +121,7 @@ def git(*words):
 
 
 def tree_of_crates():
-    """The tree of crates/ as it stands in the folder, committed or not."""
+    """Returns the tree of crates/ in the folder, committed or not."""
     with tempfile.TemporaryDirectory() as work:
         index = {**os.environ, "GIT_INDEX_FILE": f"{work}/index"}
         for words in (["read-tree", "HEAD"], ["add", "-A", "crates"]):
@@ -131,13 +132,14 @@ def tree_of_crates():
 
 
 def plain(made, work):
-    """An object file's bytes without the table by which LLVM's linker folds functions, which dist/ leaves out."""
+    """Returns an object file's bytes without the table by which LLVM's linker merges functions, which dist/ omits."""
     subprocess.run(["objcopy", "--remove-section=.llvm_addrsig", made, f"{work}/plain.o"], check=True)
     return Path(f"{work}/plain.o").read_bytes()
 
 
 def differs(name, text, work):
-    """What of the proved code is not as in dist/, or nothing; None, and a line, if it cannot be compared."""
+    """Returns the parts of the proved code that differ from dist/; prints a line and returns None if they cannot be
+    compared."""
     made = ROOT / f"crates/{name}/out/{name}.S"
     if name != "pie":
         if not made.exists():
@@ -175,7 +177,8 @@ def compare(manifest, work):
 
 
 def stated(texts):
-    """Compares the stack that pie.h states with what the calls use: `A call uses at most N bytes of stack, pie_x at most M, pie_y_* at most L.`"""
+    """Compares the stack in pie.h with the use of the calls: `A call uses at most N bytes of stack, pie_x at most
+    M, pie_y_* at most L.`"""
     text = re.sub(r"\n \* ?", " ", (ROOT / "include/pie.h").read_text())
     sentence = re.search(r"A call uses at most (\d+) bytes of stack([^.]*)\.", text)
     check(sentence, "include/pie.h does not state the stack of the calls")

@@ -128,7 +128,7 @@ def audit(text, work):
 
 
 def is_found(queue, records, number, words, count, work):
-    """Whether an event with one byte of its answer changed can't be written, or is found by the audit."""
+    """Returns true if an event with one changed byte of its answer cannot be written, or is found by the audit."""
     event, params = queue.events[number]
     changed = Event.from_buffer_copy(event)
     place = getattr(Event, words.choice(ANSWERED.get(event.kind, ["answer", "kind"])))

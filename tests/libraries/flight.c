@@ -1,9 +1,9 @@
-/* Tries include/pie_flight.h: random events through the library's calls, one at a time and in bursts, with dumps at random places, each of which is
- * decided again by the same calls; a dumping thread beside a writer; a process that is killed; damaged memory. Built as C and as C++, and with
- * sanitizers.
- * usage: flight SEED EVENTS          all of these, with so many events each
- *        flight texts SEED FOLDER    writes twenty texts there, for an audit: N.history, and N.changed where an answer differs
- *        flight decide FILE          decides a text again, and prints `clean,` and the number of its last event, or `differs` */
+/* Tests include/pie_flight.h: random events through the library's calls, one at a time and in bursts, with dumps at
+ * random places, each of which the same calls decide again; a dumping thread beside a writer; a killed process;
+ * damaged memory. Built as C and as C++, and with sanitizers.
+ * usage: flight SEED EVENTS          all of these, with EVENTS events each
+ *        flight texts SEED FOLDER    writes twenty texts to FOLDER for an audit: N.history, and N.changed with a changed answer
+ *        flight decide FILE          decides a text again; prints `clean,` and the number of its last event, or `differs` */
 #define _DEFAULT_SOURCE
 #include "flight_again.h"
 
@@ -19,9 +19,9 @@
 
 static struct text text;
 static uint64_t dumps, changes; /* that were tried */
-static uint64_t unix_time;      /* that the recorder was told last, at the moment 0; 0: none */
+static uint64_t unix_time;      /* the recorder's last wall-clock time at moment 0; 0: none */
 
-/* Tells a recorder the time of day, or what it doesn't take. */
+/* Sets the wall-clock time of a recorder, or tries one that it rejects. */
 static void tell_time(void *memory, uint64_t *seed) {
     uint64_t moment = below(seed, PIE_MAX_MOMENT + 1), wanted = 1 + below(seed, UINT64_MAX - PIE_MAX_MOMENT);
     expect(!pie_flight_clock(memory, moment, moment), "a time that is its moment", moment);
@@ -34,7 +34,7 @@ static void tell_time(void *memory, uint64_t *seed) {
     unix_time = wanted;
 }
 
-/* Who has the packets that wait, of a recorder of bursts: so many left so far. */
+/* The owner of the queued packets, for a recorder of bursts: this many departed so far. */
 struct owner {
     const struct queue *queue;
     uint64_t left;
@@ -49,7 +49,7 @@ static void hand_over(void *user, PIE_WORD *queued, uint64_t places) {
     }
 }
 
-/* Whether the text has no event: the record that resumes, and the time of day or nothing. */
+/* Returns true if the text has no event: the record `resume`, and a clock record or nothing. */
 static int has_no_event(void) {
     const char *end = text.bytes + text.count, *at = (const char *)memchr(text.bytes, '\n', text.count);
     if (at != NULL && end - at > 7 && strncmp(at + 1, "clock,", 6) == 0)
@@ -82,7 +82,7 @@ static uint64_t dump(const void *memory, size_t bytes, void *scratch, struct own
     return last;
 }
 
-/* The text tells the packets that wait at its end as they are. */
+/* Checks that the packets queued at the end of the text are those of the queue. */
 static void expect_ended(const struct queue *queue) {
     uint64_t i;
     expect(ended_count == queue->count, "as many packets that wait", ended_count);
@@ -100,7 +100,7 @@ static void *aligned(size_t bytes) {
     return memory;
 }
 
-/* A text differs where the last byte of an event's record is changed, which is of what was answered. */
+/* Checks that a text differs after a change of the last byte of an event's record, which belongs to the answer. */
 static void change_a_byte(uint64_t *seed) {
     uint64_t at = below(seed, text.count), start, first;
     char was;
@@ -165,7 +165,7 @@ static void put(struct pie_flight_burst *burst, const struct queue *queue, const
     }
 }
 
-/* The same in bursts of up to so many events, of a queue of its owner's. */
+/* Tests bursts of up to this many events, with a queue of the owner's. */
 static void random_bursts(uint64_t seed, uint64_t events) {
     struct queue queue;
     struct owner owner;
@@ -214,7 +214,7 @@ static void random_bursts(uint64_t seed, uint64_t events) {
     free(scratch);
 }
 
-/* What is refused, and what a writer answers that stops. */
+/* Tests rejected arguments, and a writer that stops. */
 static void refusals(void) {
     struct queue queue;
     struct pie_flight flight;

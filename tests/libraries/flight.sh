@@ -1,10 +1,9 @@
 #!/usr/bin/env bash
-# Builds the tests of include/pie_flight.h (flight.c and flight_steps.c beside this) as C11, C++11 and C++17 with warnings as errors, and with the
-# thread sanitizer and the address and undefined behaviour sanitizers, and runs them: random events through the library's calls, also in bursts, with
-# dumps at random places, each of which is decided again; dumps beside a writer; processes that are killed; damaged memory; a copy and a writer that
-# are stopped between two words. Then sixteen wrong recorders, each of which is found.
-# What cannot be tried here is told on a line that begins with NOT RUN.
-#
+# Builds the tests of include/pie_flight.h (flight.c and flight_steps.c) as C11, C++11 and C++17 with warnings as
+# errors, and with the thread sanitizer and the address and undefined behaviour sanitizers, and runs them: random
+# events through the library's calls, also in bursts, with dumps at random places, each of which is decided again;
+# dumps during writes; killed processes; damaged memory; a copy and a writer that are stopped between two words.
+# Then it builds sixteen wrong recorders, each of which a test must find. Prints a line NOT RUN for a missing tool.
 # usage: tests/libraries/flight.sh [EVENTS]      EVENTS: 50000 where none are given
 # needs: library
 set -u

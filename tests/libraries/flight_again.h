@@ -1,4 +1,4 @@
-/* A queue with random events, and a text of what its recorder kept, which is decided again by the same calls: for the tests of
+/* A queue with random events, and a text of its recorder that the same calls decide again: for the tests of
  * include/pie_flight.h. */
 #ifndef FLIGHT_AGAIN_H
 #define FLIGHT_AGAIN_H
@@ -116,7 +116,7 @@ static uint32_t change(struct queue *queue, struct pie_event *event) {
     return pie_set_params_event(&queue->pie, &params, event);
 }
 
-/* One call, and what it was asked and answered. */
+/* One call with its arguments and its result. */
 static void step(struct queue *queue, struct pie_event *event) {
     uint64_t kind = below(&queue->seed, 1000), burst = queue->moment / 40000000 % 2;
     uint32_t answer;
@@ -146,7 +146,7 @@ static void step(struct queue *queue, struct pie_event *event) {
 struct text {
     char *bytes;
     size_t count;
-    int stop_at; /* writes until it answers that it cannot go on */
+    int stop_at; /* writes until it returns that it must stop */
 };
 
 static int take(void *user, const unsigned char *bytes, size_t count) {
@@ -298,7 +298,7 @@ static int is_next(struct again *again, const struct row *row, const char *line)
 static struct packet ended[MOST_WAITING];
 static uint64_t ended_count;
 
-/* The time of day at the moment 0 that the text told behind the packets that wait, 0 where it told none. */
+/* The wall-clock time at moment 0 in the text after the queued packets; 0 if there is none. */
 static uint64_t told_unix;
 
 /* Decides a text again: answers the number of the last event, and 0 where an event differs or the text is none; `first` is the number of events

@@ -1,5 +1,6 @@
-/* Tries include/pie_flight.h with a copy and a writer of which each is stopped between two words while the other goes on: what the copy then has is
- * decided again, or it was made too late. One thread does both, so a seed makes the same steps again.
+/* Tests include/pie_flight.h with a copy and a writer, each of which stops between two words while the other
+ * continues: the copy must be decided again, or must report that it was too late. One thread does both, so that a
+ * seed makes the same steps again.
  * usage: flight_steps SEED ROUNDS */
 #define _DEFAULT_SOURCE
 #include <stdint.h>
@@ -35,9 +36,9 @@ static inline void store_word(PIE_WORD *word, uint64_t value) {
 #include <setjmp.h>
 
 #define MOST_WORDS 4096 /* of a recorder's memory here */
-#define STOPS 3         /* of a copy, at the most */
+#define STOPS 3         /* the most words of a copy */
 
-/* Who puts events, as it stands between two of them. */
+/* The writer, between two events. */
 struct writer {
     struct queue queue;
     struct pie_flight flight;
@@ -49,13 +50,13 @@ static struct {
     enum who goes;                      /* and may be stopped */
     const PIE_WORD *begin, *end;        /* of the recorder's memory */
     const PIE_WORD *at;                 /* where the copy is stopped next, NULL where no word says it */
-    uint64_t loads;                     /* .. and with none, behind so many loads from here on */
-    uint64_t stores;                    /* the writer is stopped behind so many stores from here on */
+    uint64_t loads;                     /* the copy is stopped after this many loads from here on */
+    uint64_t stores;                    /* the writer is stopped after this many stores from here on */
     uint64_t stops, seed;
     jmp_buf stopped;
 } steps;
 
-static struct writer writer, before; /* `before`: as it was before the event in which it was stopped */
+static struct writer writer, before; /* `before`: its state before the event in which it was stopped */
 static int is_within;                /* it was stopped in an event */
 static uint64_t meanwhile;           /* events that it kept since the copy began */
 static struct text text;
@@ -67,7 +68,8 @@ static void keep_one(void) {
     pie_flight_keep(&writer.flight, &writer.queue.pie, &event);
 }
 
-/* Ends the event in which the writer was stopped, and keeps so many more events, or refused calls. (What it had stored it stores again, the same.) */
+/* Ends the event in which the writer was stopped, and keeps this many more events or refused calls. (Words that it
+ * had stored are stored again, unchanged.) */
 static void keep_events(uint64_t events) {
     uint64_t kept;
     if (is_within) {
@@ -81,7 +83,7 @@ static void keep_events(uint64_t events) {
     meanwhile += writer.flight.count - kept;
 }
 
-/* Begins one more event, which is stopped behind so many stores if it has more. */
+/* Begins one more event, and stops after this many stores if it has more. */
 static void keep_part(uint64_t stores) {
     before = writer;
     steps.stores = stores;
@@ -102,7 +104,7 @@ static const PIE_WORD *up_to_a_snapshot(void) {
     return writer.flight.words + PIE_FLIGHT_HEAD + writer.flight.taken % writer.flight.snapshots * PIE_FLIGHT_SNAPSHOT;
 }
 
-/* The copy is stopped: the writer goes on for a while. */
+/* The copy is stopped: the writer continues for a while. */
 static void change_over(void) {
     int is_directed = steps.at != NULL;
     steps.goes = NOBODY;
@@ -126,7 +128,7 @@ static void after_word(const PIE_WORD *word, int is_stored) {
     }
 }
 
-/* A dump while the writer goes on; answers whether it was made in time. */
+/* Dumps while the writer continues. Returns true if the dump was in time. */
 static int one_dump(void *memory, size_t bytes, void *scratch, uint64_t wanted, int is_directed) {
     uint64_t first = 0, last, started;
     int answer;

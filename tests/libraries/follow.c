@@ -1,6 +1,7 @@
-/* Tries include/pie_follow.h, and with it include/pie_text.h: random events that are followed at random times, in the same thread and in another;
- * what is followed is what was kept, event by event, or told as missed; a text that begins anew is decided again. And a writer at full speed, whose
- * events name themselves. Built as C and as C++, and with sanitizers.
+/* Tests include/pie_follow.h and include/pie_text.h: random events that are followed at random times, in the same
+ * thread and in another. Each event must be read as it was kept, or be reported as missed; the text after a loss is
+ * decided again. Then a writer at full speed, whose events contain their numbers. Built as C and as C++, and with
+ * sanitizers.
  * usage: follow SEED EVENTS */
 #define _DEFAULT_SOURCE
 #include "flight_again.h"
@@ -28,7 +29,7 @@ static void *aligned(size_t bytes) {
     return memory;
 }
 
-/* Opens a queue and its recorder of so many events, and both texts. */
+/* Opens a queue, its recorder of this many events, and both texts. */
 static void *open_all(uint64_t seed, uint64_t wanted, size_t *bytes) {
     void *memory;
     memset(&history, 0, sizeof history);
@@ -59,7 +60,7 @@ static void keep_one(void) {
     ends[flight.count] = kept.count;
 }
 
-/* The first line from here on that tells a loss, or the end. */
+/* Returns the first line from here on that reports a loss, or the end. */
 static const char *next_loss(const char *at, const char *end) {
     while (at < end && (end - at < 5 || memcmp(at, "lost,", 5) != 0)) {
         at = (const char *)memchr(at, '\n', (size_t)(end - at));
@@ -69,7 +70,8 @@ static const char *next_loss(const char *at, const char *end) {
     return at;
 }
 
-/* A text that began anew behind so many events: it is decided again, and its events are those that were kept. Answers the number of the last. */
+/* Checks a text that began after this many events: it is decided again, and its events are those that were kept.
+ * Returns the number of the last event. */
 static uint64_t part_anew(const char *from, const char *to, uint64_t number) {
     struct text part;
     uint64_t first = 0, last;
@@ -85,7 +87,8 @@ static uint64_t part_anew(const char *from, const char *to, uint64_t number) {
     return last;
 }
 
-/* What was followed is what was kept, or tells how many events are missing; answers how many those are. */
+/* Checks that the followed events are the kept ones, or that the number of missing events is reported. Returns that
+ * number. */
 static uint64_t compare(void) {
     const char *at = followed.bytes, *end = followed.bytes + followed.count, *to = next_loss(at, end);
     uint64_t number = 0, lost = 0, missing;
@@ -113,7 +116,8 @@ static int look(struct pie_flight_follower *follower, void *scratch) {
     return answer == PIE_FLIGHT_DONE;
 }
 
-/* Random events, and looks at random times: all is followed by who comes in time, and what is missing is told of who doesn't. */
+/* Tests random events and readings at random times: a reader in time misses none, and a late one receives the
+ * number of missing events. */
 static void random_looks(uint64_t seed, uint64_t events) {
     uint64_t wanted = 1 + below(&seed, 300), every = 1 + below(&seed, below(&seed, 2) == 0 ? 20 : 2000), i, lost;
     size_t bytes;
@@ -181,7 +185,7 @@ static void *put_all(void *events) {
     return NULL;
 }
 
-/* Events that name themselves, as fast as they can be put: none is torn, and the numbers that are missing are told. */
+/* Tests events that contain their numbers, at full speed: none is torn, and the missing numbers are reported. */
 static void at_full_speed(uint64_t events, uint64_t wanted) {
     struct pie_flight_follower follower;
     struct pie_event event;

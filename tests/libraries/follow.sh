@@ -1,9 +1,9 @@
 #!/usr/bin/env bash
-# Builds the test of include/pie_follow.h and include/pie_text.h (follow.c beside this) as C11, C++11 and C++17 with warnings as errors, and with the
-# thread sanitizer and the address and undefined behaviour sanitizers, and runs it: random events that are followed at random times and by another
-# thread, and a writer at full speed, whose events are read whole or told as missed. Then six wrong followers, each of which is found.
-# What cannot be tried here is told on a line that begins with NOT RUN.
-#
+# Builds the test of include/pie_follow.h and include/pie_text.h (follow.c) as C11, C++11 and C++17 with warnings as
+# errors, and with the thread sanitizer and the address and undefined behaviour sanitizers, and runs it: random
+# events, followed at random times and by another thread, and a writer at full speed, whose events must be read
+# whole or reported as missed. Then it builds six wrong followers, each of which the test must find. Prints a line
+# NOT RUN for a missing tool.
 # usage: tests/libraries/follow.sh [EVENTS]      EVENTS: 20000 where none are given
 # needs: library
 set -u

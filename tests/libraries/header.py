@@ -1,9 +1,10 @@
 #!/usr/bin/env python3
-"""Holds include/pie.h, include/pie_link.h and the Rust declarations (bindings/rust/src) to the source of the libraries (crates/pie_abi/src,
-crates/pie_c/src, crates/pie_port/src, crates/pie_link_c/src): structs with the order, names and widths of their fields; functions with the order,
-names and widths of their parameters; codes, ECN fields, the version.
-The ranges, defaults and tables of rates that comments tell are compared with one another, docs/FORMATS.md and docs/PARAMETERS.md, the orders in which
-calls refuse with the source; the words of a flight recorder's memory are those of include/pie_flight.h. Exit status 1 where something differs.
+"""Compares include/pie.h, include/pie_link.h and the Rust declarations (bindings/rust/src) with the source of the
+libraries (crates/pie_abi/src, crates/pie_c/src, crates/pie_port/src, crates/pie_link_c/src): structs with the
+order, names and widths of their fields; functions with the order, names and widths of their parameters; codes, ECN
+fields, the version. Ranges, defaults and tables of rates in comments are compared with each other, docs/FORMATS.md,
+docs/LIBRARY.md and docs/PARAMETERS.md; the orders of errors with the source; the words of a flight recorder's
+memory with include/pie_flight.h. The exit status is 1 if something differs.
 
 usage: tests/libraries/header.py [ROOT]           compares, in this repository or in another folder
        tests/libraries/header.py --probes [ROOT]  writes a program in C that asks the library for each number of the header's comments
@@ -52,7 +53,7 @@ def numbers(text):
 
 
 def bound(text):
-    """What a comment says of a number's range: the least and the greatest, None where it says none."""
+    """Returns the least and the greatest value in a comment, or None if it has no range."""
     for pattern, found in ((rf"({NUMBER}) to ({NUMBER})", lambda a, b: (value(a), value(b))),
                            (rf"a power of two from ({NUMBER}) to ({NUMBER})", lambda a, b: (value(a), value(b))),
                            (rf"at most ({NUMBER})", lambda a: (0, value(a))),
@@ -64,7 +65,7 @@ def bound(text):
 
 
 def default(text):
-    """The default in a comment's brackets, in nanoseconds where it is told in milliseconds."""
+    """Returns the default in a comment's parentheses, converted from milliseconds to nanoseconds."""
     match = re.search(rf"\(({NUMBER})( ms)?[;)]", text)
     return value(match[1]) * (10**6 if match[2] else 1) if match else None
 
@@ -74,13 +75,13 @@ def one_line(text):
 
 
 def commented(text, pattern):
-    """Of each line by this pattern its groups, and the comment that follows in the line or goes on below it."""
+    """Returns the groups of each line that matches this pattern, and the comment in the line or below it."""
     whole = re.compile(pattern + r",?;?\s*(?:/\*(.*?)\*/)?", re.S)
     return [(*match.groups()[:-1], one_line(match[match.lastindex] if match.groups()[-1] else "")) for match in whole.finditer(text)]
 
 
 class Header:
-    """What include/pie.h declares."""
+    """The declarations of include/pie.h."""
 
     def __init__(self, text):
         self.text = text
@@ -107,7 +108,7 @@ def declaration_of_c(text):
 
 
 def plain_c(text):
-    """A type of C in the form in which all are compared."""
+    """Returns a type of C in the form in which types are compared."""
     text = re.sub(r"uint(\d+)_t", r"u\1", one_line(text).replace("struct ", ""))
     if text.endswith("*"):
         text = text.rstrip("* ")
@@ -123,13 +124,13 @@ def plain_rust(text, names):
 
 
 class Rust:
-    """What a source in Rust or Rattle declares for C."""
+    """The declarations for C in a source in Rust or Rattle."""
 
     def __init__(self, text, names, exported):
         self.text = text
         self.structs, self.docs = {}, {}
         for name, body in re.findall(r"#\[repr\(C\)\]\s*(?:#\[[^\]]*\]\s*)*(?:pub(?:\(crate\))? )?struct (\w+) \{(.*?)\n\}", text, re.S):
-            # (an array's length stands behind its name, as in C)
+            # (the length of an array comes after its name, as in C)
             body = re.sub(r"(\w+): \[(\w+); (\w+)\],", lambda it: f"{it[1]}[{'PIE_' * (it[3] == 'RANGES')}{it[3]}]: {it[2]},", body)
             fields = re.findall(r"((?:\s*///[^\n]*\n)*)\s*(?:pub(?:\(crate\))? )?(\w+(?:\[\w+\])?): (\w+),", body)
             self.structs[names.get(name, name)] = [(plain_rust(kind, names), field) for _, field, kind in fields]
@@ -144,7 +145,7 @@ class Rust:
 
 
 def shown(it):
-    """A value in the form in which a difference is told."""
+    """Returns a value in the form in which a difference is printed."""
     if isinstance(it, dict):
         return "; ".join(f"{name} {shown(inner)}" for name, inner in it.items())
     if isinstance(it, (tuple, list)):
@@ -197,7 +198,7 @@ def compare_rust_enums(rust, header):
 
 
 def compare_methods(rust, source):
-    """The names of the parameters of each safe method in Rust, and those that it hands on."""
+    """Compares the names of the parameters of each safe method in Rust, and the arguments that it passes on."""
     for name, (_, parameters) in source.functions.items():
         wanted = [field for _, field in parameters]
         method = re.search(rf"pub fn {name[4:]}\(\s*&mut self,(.*?)\)", rust, re.S)
@@ -244,7 +245,8 @@ def compare_limits(header):
 
 
 def refusals_in(source):
-    """Of each call the codes that it refuses by, in the order of its body: pie_arrive's stand in `arrive`, an opening's in `checked`."""
+    """Returns the errors of each call, in the order of its body: those of pie_arrive are in `arrive`, those of an
+    opening in `checked`."""
     codes = {}
     for name, body in re.findall(r"^(?:pub extern \"C\" |pub\(crate\) |pub )?fn (\w+)\(.*?^\{\n(.*?)^\}", source.text, re.S | re.M):
         codes[name] = ["PIE_" + code for code in dict.fromkeys(re.findall(r"\b(BAD_\w+|TOO_SOON|NOT_WAITED)\b", body))]
@@ -254,11 +256,11 @@ def refusals_in(source):
 
 
 def compare_refusals(header, rust, source):
-    """The order of refusals that comments and documentation tell, beside that of the source."""
+    """Compares the order of errors in comments and documentation with the source."""
     orders = {name: codes for name, codes in refusals_in(source).items() if codes and name != "pie_check_state"}
     told = {}
     for comment, name in re.findall(r"/\*((?:(?!\*/).)*?)\*/\n(?:uint32_t|struct \w+|void) (pie_\w+)\(", header.text, re.S):
-        listed = re.search(r"Refused(?:, in this order)?: ([A-Z_, ]+)\.", one_line(comment.replace("\n *", "\n")))
+        listed = re.search(r"Errors(?: \(its `code`\))?(?:, in this order)?: ([A-Z_, ]+)\.", one_line(comment.replace("\n *", "\n")))
         if listed:
             told[name] = listed[1].split(", ")
     yield from same("include/pie.h: the order of refusals", told, orders)
@@ -280,8 +282,8 @@ def compare_numbers(header, source):
 
 
 def compare_link(root):
-    """include/pie_link.h, beside crates/pie_link_c, its calls with their parameters, and crates/pie_port: its codes, the words for them, and port and
-    excerpt, of which C sees a pointer."""
+    """Compares include/pie_link.h with crates/pie_link_c, its calls with their parameters, and with
+    crates/pie_port: its codes, their descriptions, and port and excerpt, which C sees as a pointer."""
     header = Header((root / "include/pie_link.h").read_text())
     names = {**TYPES, "PiePort": "pie_port", "PieExcerpt": "pie_excerpt", "PieRegisters": "pie_registers", "PieTotals": "pie_totals"}
     text = "\n".join(read_source(root / f"crates/{it}/src", "*.rt") for it in ("pie_port", "pie_link_c"))
@@ -327,7 +329,7 @@ def compare_classes(text, calls, waits):
 
 
 def compare_rust_link(root, header):
-    """The declarations in Rust of the calls of include/pie_link.h, the codes of its refusals and the orders in which they are told."""
+    """Compares the Rust declarations of the calls of include/pie_link.h, the codes of its errors, and their order."""
     text = read_source(root / "bindings/rust/src", "link*.rs")
     rust = Rust(text, {**RUST_TYPES, "RawPort": "pie_port", "RawExcerpt": "pie_excerpt", "Registers": "pie_registers", "Totals": "pie_totals"}, r"(?<!pub )")
     for name in ("pie_registers", "pie_totals"):
@@ -338,7 +340,7 @@ def compare_rust_link(root, header):
     yield from same("bindings/rust: refusals of a link", found, {it: codes.get(it) for it in LINK_REFUSALS.values()}, "in include/pie_link.h")
     orders = {}
     for comment, name in re.findall(r"/\*((?:(?!\*/).)*?)\*/\n(?:static inline )?uint32_t pie_link_(\w+)\(", header.text, re.S):
-        listed = re.search(r"Refused, in this order: ([^.]*)\.", one_line(comment.replace("\n *", "\n")))
+        listed = re.search(r"Errors(?:, in this order)?: ([^.]*)\.", one_line(comment.replace("\n *", "\n")))
         # (a closed port, and an ECN field out of its range, can't be said in Rust)
         if listed:
             orders[name] = [it for it in re.findall(r"PIE_\w+", listed[1]) if it not in ("PIE_CLOSED", "PIE_OPEN", "PIE_APART", "PIE_BAD_ECN")]
@@ -370,27 +372,30 @@ def compare_names(root):
         yield f"include: {name} is a struct and a function"
 
 
-def compare_rates(header, sizes):
-    """The tables of rates, and from which rate on a default holds less than the default target."""
+def compare_rates(header, pages):
+    """Checks the tables of rates, and the rates at which a default is 15 ms."""
     limit, most = (int(it) for it in (default(header.comments["pie_params"]["limit_bytes"]), bound(header.comments["pie_params"]["limit_bytes"])[1]))
     units = {"Mbit/s": 10**6, "Gbit/s": 10**9}
-    for where, row in (("include/pie.h", r"\*\s+(\d+) ([MG]bit/s) +(\d+) +(\d+)"), ("docs/PARAMETERS.md", r"\| (\d+) ([MG]bit/s) \| (\d+) \| (\d+)")):
-        rows = re.findall(row, header.text if where == "include/pie.h" else sizes)
+    for where in ("docs/LIBRARY.md", "docs/PARAMETERS.md"):
+        rows = re.findall(r"\| (\d+) ([MG]bit/s) \| (\d+) \| (\d+)", pages[where])
         if len(rows) < 6:
             yield f"{where}: the table of rates was not found"
         for number, unit, wanted, chosen in rows:
             rate, chosen = int(number) * units[unit], int(chosen)
             by_rate = min(rate // 40, most)
-            good = {max(by_rate, limit)} if where == "include/pie.h" else {by_rate, 2}
+            good = {max(by_rate, limit)} if where == "docs/LIBRARY.md" else {by_rate, 2}
             if int(wanted) * 8 * 1000 != rate * 15 or chosen not in good:
                 yield f"{where}: the table of rates at {number} {unit}"
-    for bytes_held, rate in re.findall(r"default of (\d+) bytes is 15 ms at ([\d.]+) Mbit/s", header.text):
-        if abs(int(bytes_held) * 8 / 0.015 / 10**6 / float(rate) - 1) > 0.01:
-            yield f"include/pie.h: {bytes_held} bytes are not 15 ms at {rate} Mbit/s"
+    found = re.findall(r"default of ([\d,]+) bytes(?: is|, which is) 15 ms at ([\d.]+) Mbit/s", one_line(pages["docs/LIBRARY.md"]))
+    if len(found) != 2:
+        yield "docs/LIBRARY.md: the rates at which the defaults are 15 ms were not found"
+    for bytes_held, rate in found:
+        if abs(int(bytes_held.replace(",", "")) * 8 / 0.015 / 10**6 / float(rate) - 1) > 0.01:
+            yield f"docs/LIBRARY.md: {bytes_held} bytes are not 15 ms at {rate} Mbit/s"
 
 
 def compare_versions(header, root):
-    """The version is PIE_VERSION of include/pie.h; wherever else it has to stand, it is that."""
+    """Checks that each other place with a version has PIE_VERSION of include/pie.h."""
     version = header.defines.get("PIE_VERSION")
     sources = sorted((root / "crates").glob("*/src/**/*.rt"))
     program = [str(it.relative_to(root)) for it in sources if "const VERSION: &str" in it.read_text()]
@@ -423,7 +428,7 @@ def differences(root):
     yield from compare_methods(rust_text, source)
     formats = (root / "docs/FORMATS.md").read_text()
     yield from compare_ranges(header, rust, formats)
-    yield from compare_rates(header, (root / "docs/PARAMETERS.md").read_text())
+    yield from compare_rates(header, {page: (root / page).read_text() for page in ("docs/LIBRARY.md", "docs/PARAMETERS.md")})
     yield from compare_refusals(header, rust_text, source)
     yield from compare_numbers(header, source)
     yield from compare_limits(header)

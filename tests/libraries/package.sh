@@ -1,10 +1,9 @@
 #!/usr/bin/env bash
-# Takes the library and the program as a package: `make install` into a temporary folder. From an empty folder it builds the README's example over that by
-# pkg-config, in C11 and C++17 with warnings as errors, and by CMake, and a Rust program that depends on bindings/rust; runs them; installs below DESTDIR
-# as packagers do; uninstalls; and makes the archive of all, unpacks it elsewhere, and uses program and library with nothing of the toolchain in
-# reach. The libraries are those of the crates that were just proved, the program that of dist/. What is missing here is told on a line that begins with
-# NOT RUN.
-#
+# Uses the library and the program as a package: `make install` into a temporary folder. From an empty folder it
+# builds the README's example by pkg-config, in C11 and C++17 with warnings as errors, and by CMake, and a Rust
+# program that depends on bindings/rust, and runs them. It installs below DESTDIR as packagers do, and uninstalls.
+# Then it makes the archive, unpacks it elsewhere, and uses program and library without the toolchain. The libraries
+# are those of the proved crates, the program that of dist/. Prints a line NOT RUN for a missing tool.
 # usage: tests/libraries/package.sh
 # needs: library
 set -eu
@@ -13,7 +12,7 @@ repository=$PWD
 work=$(mktemp -d)
 trap 'rm -rf "$work"' EXIT
 warnings="-Wall -Wextra -Wconversion -Wshadow -pedantic -Werror"
-wanted="done (of an arrival: queue the packet); the next update is due at 30000000 ns"
+wanted="done (arrival: queue the packet); the next update is due at 30000000 ns"
 
 not_run() {
     echo "NOT RUN: tests/libraries/package.sh: $1"
@@ -152,7 +151,8 @@ command=$(sed -n 's|^    \(make install PREFIX="$HOME[^ ]*\).*|\1|p' README.md)
 HOME=$work/home bash -c "$command" > "$work/installed" || fail "README's command does not install: $command"
 grep -qx "$work/home/.local/bin/pie" "$work/installed" || fail "README's command installs no program"
 
-# the archive, unpacked elsewhere: it needs libc alone, of Debian 12 or before, and no path of this machine is in what pkg-config tells
+# the archive, unpacked elsewhere: it needs only libc of Debian 12 or earlier, and pkg-config prints no path of this
+# machine
 make -s archive > /dev/null && mv "$work/build/juniperbowls-$version.tar.gz" "$work/pie.tar.gz" && make -s archive > /dev/null || fail "no archive is made"
 cmp "$work/pie.tar.gz" "$work/build/juniperbowls-$version.tar.gz" || fail "two archives of the same files differ"
 mkdir "$work/elsewhere" && tar -xf "$work/pie.tar.gz" -C "$work/elsewhere"

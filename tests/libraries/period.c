@@ -159,7 +159,7 @@ static void set_params(struct pie_event *event) {
     CHECK(pie_set_params_summed(&state, &params, event, &period) == PIE_DONE);
 }
 
-/* What is refused changes neither the state nor the period; its moment would end the period. */
+/* A refused call changes neither the state nor the interval; its moment would end the interval. */
 static void refuse(struct pie_event event) {
     before(PIE_MAX_MOMENT + 1);
     struct pie_state was = state;

@@ -1,7 +1,8 @@
 #!/usr/bin/env python3
-"""Refuses, one after another, each request for memory that a call of the libraries makes: that one alone, and that one with all
-after it. The call answers want of memory in its own form and leaves what it promises. The first run in which nothing is left to
-refuse answers as with ample memory. Other calls answer as ever.
+"""Makes each request for memory of a call of the libraries fail in turn, alone and with all later requests. The
+call must report out of memory in its own form and keep its promises. The first run without a failure must answer as
+with ample memory. Other calls must answer as usual.
+
 usage: tests/libraries/refused_memory.py [PROGRAM]      PROGRAM: crates/pie_library_tests/out/pie_library_tests where none is given
 needs: pie_library_tests"""
 import os
@@ -13,8 +14,8 @@ import tempfile
 sys.path.insert(0, f"{os.path.dirname(os.path.abspath(__file__))}/../shared")
 from checks import NAME, ROOT, check, finish, refusing  # noqa: E402
 
-# What each call answers, and what is seen then, where a request was refused, as regular expressions. The number
-# of a fold is how many events there still are.
+# The answer of each call, and the visible effect, if a request failed, as regular expressions. The number of a fold
+# is the number of events that remain.
 REFUSED = {
     "Book::fold": r"memory, 1000, 0",
     "write_excerpt": r"memory, 0, 0",
@@ -22,24 +23,24 @@ REFUSED = {
     "Link::try_fold": r"memory, 3, 0",
     "Link::fold": r"memory, 3, 0",
 }
-# What stands behind these calls where the program makes every part.
+# The lines after these calls if the program makes every part.
 BEHIND = "run_trace_flushes"
-# What each of these calls requests at the most at once, in bytes, and what is not enough for it: an event that is handed out takes 64 bytes, however
-# many the tail holds.
+# The most bytes that each of these calls requests at once, and a size that is not enough: an event of a fold takes
+# 64 bytes, whatever the size of the log.
 ROOM = {"Book::fold": (64, 63)}
-# No call makes so many requests.
+# No call makes this many requests.
 MOST = 1000
 PROGRAM = os.path.abspath(sys.argv[1]) if sys.argv[1:] else f"{ROOT}/crates/pie_library_tests/out/pie_library_tests"
 
 
 def calls_of(text):
-    """What each call printed."""
+    """Returns the output of each call."""
     parts = re.split(r"^begin (.*)\n", text, flags=re.MULTILINE)
     return dict(zip(parts[1::2], parts[2::2]))
 
 
 def is_want(name, told):
-    """Whether this is what the call answers that was refused a request."""
+    """Returns true if this is the answer of the call whose request failed."""
     return re.fullmatch(f"{name}: {REFUSED[name]}\n", told) is not None
 
 
@@ -49,7 +50,7 @@ def run(**environment):
 
 
 class Program:
-    """What the calls answer with ample memory, and where requests are refused."""
+    """Returns the answers of the calls with ample memory, and with failing requests."""
 
     def __init__(self):
         status, output, errors = run()
@@ -89,7 +90,7 @@ class Program:
             print(f"{NAME}: {name}: refused memory at {counts[0]} places, and at {counts[1]} with all after it")
 
     def has_room(self, library, met, name, enough, too_little):
-        """The call does with so much room for each request, and does not with too little."""
+        """Checks that the call succeeds with this much room for each request, and fails with too little."""
         for most in (enough, too_little):
             if os.path.exists(met):
                 os.remove(met)

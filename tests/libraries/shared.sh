@@ -1,8 +1,8 @@
 #!/usr/bin/env bash
-# The shared library, made from the assembly of the crates that were just proved: it exports the functions that dist/abi.txt lists and nothing else
-# (abi.py compares these with the headers), needs nothing but libc, has its soname, and is the same twice; the worked rows of bindings/c run over it. A
-# list with one function more is refused. What is missing here is told on a line that begins with NOT RUN.
-#
+# Checks the shared library made from the assembly of the proved crates: it exports exactly the functions of
+# dist/abi.txt (abi.py compares these with the headers), needs only libc, has its soname, and is reproducible. The
+# worked rows of bindings/c run over it. A list with one more function must be rejected. Prints a line NOT RUN for a
+# missing tool.
 # usage: tests/libraries/shared.sh
 # needs: library
 set -eu

@@ -15,7 +15,7 @@ import tempfile
 from pathlib import Path
 
 ROOT = Path(__file__).resolve().parents[2]
-HEADER, CRATE, LINK = "include/pie.h", "bindings/rust/src/", "bindings/rust/src/link.rs"
+HEADER, PAGE, CRATE, LINK = "include/pie.h", "docs/LIBRARY.md", "bindings/rust/src/", "bindings/rust/src/link.rs"
 ARRIVE = "uint64_t queued, uint32_t size, uint32_t room, uint32_t ecn, uint64_t word"
 
 # of each: a name, the file, and in pairs what is replaced, which the file has once, and what by
@@ -55,8 +55,8 @@ EDITS = [
     ("a comment: later moments", HEADER, "a moment above 2^60 - 1 */", "a moment above 2^62 - 1 */"),
     ("a comment: a larger queue", HEADER, "this packet, at most 2^30", "this packet, at most 2^32"),
     ("a text: an ECN field of 4", HEADER, "an ECN field above 3\"", "an ECN field above 4\""),
-    ("a comment: another limit at 100 Mbit/s", HEADER, "187500           2500000", "187500            250000"),
-    ("a comment: the default is 15 ms at another rate", HEADER, "15 ms at 140 Mbit/s", "15 ms at 1400 Mbit/s"),
+    ("a page: another limit at 100 Mbit/s", PAGE, "187500 | 2500000", "187500 | 250000"),
+    ("a page: the default is 15 ms at another rate", PAGE, "15 ms at 140 Mbit/s", "15 ms at 1400 Mbit/s"),
     ("a comment: sizes looked at before moments", HEADER, "PIE_BAD_MOMENT, PIE_BAD_SIZE, PIE_BAD_ECN", "PIE_BAD_SIZE, PIE_BAD_MOMENT, PIE_BAD_ECN"),
     ("a comment: parameters numbered otherwise", HEADER, "1 target, 2 t_update", "1 t_update, 2 target"),
     ("another latest moment", HEADER, "1152921504606846975", "1152921504606846976"),
@@ -106,7 +106,7 @@ def copied(folder):
 
 
 def refused_by(folder, prefix):
-    """What refuses the copy in this folder first, None where nothing does."""
+    """Returns the first check that rejects the copy in this folder, or None."""
     library = prefix / "lib/libpie_c.a"
     compile_c = [os.environ.get("CC", "cc"), "-Wall", "-Wextra", "-Werror", "-std=c11", "-O1", f"-I{folder}/include"]
     (folder / "probes.c").write_text(run([sys.executable, ROOT / "tests/libraries/header.py", "--probes", folder]).stdout)

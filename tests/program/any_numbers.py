@@ -55,7 +55,7 @@ def packets_of(chance, moment):
 
 
 def agreeing(chance, waiting, moment, old, dropped_most):
-    """The fifteen statistics of a history at whose end these packets wait, and how many events it had."""
+    """Returns fifteen statistics for a history with this number of events at whose end these packets are queued."""
     left = some(chance, 0, 2**30)
     queued = left + len(waiting)
     marked = some(chance, 0, queued)
@@ -105,16 +105,16 @@ def out_of_range(rows, chance):
     return [first, *rows[1:]]
 
 
-# ----- Commands, and what they come to by the numbers alone
+# ----- Commands, and their answers by the numbers alone
 
 def word_near(chance, core):
-    """A random word, often right at the place from which one picks no packet."""
+    """Returns a random word, often at the boundary of a pick."""
     at = core.prob * 2**64 // 10**12 + chance.choice((-1, 0, 1))
     return chance.choice((max(0, min(WORDS, at)), chance.getrandbits(64), chance.getrandbits(64) >> 8))
 
 
 def command(chance, core):
-    """The fields of a trace's record, for a core that stands so."""
+    """Returns the fields of a trace record for a core in this state."""
     caller, due = some(chance, 0, 65535), core.last + core.params["t_update"]
     moment = core.moment + chance.choice((0, 0, 1, -1, 1000, 40_000, 10**6, 10**9))
     moment = max(0, min(moment, 2**64 - 1)) if chance.random() < 0.97 else chance.choice((0, LATEST, 2**60, WORDS))
@@ -132,7 +132,7 @@ def command(chance, core):
 
 
 def cause_of(core, size, ecn, word):
-    """What decides an arrival: the first of docs/FORMATS.md's causes that holds."""
+    """Returns the cause of an arrival: the first of docs/FORMATS.md's causes that holds."""
     p, before = core.params, core.bytes()
     part = core.prob * size // p["mean_pkt"] if core.chosen["size"] == "scaled" and size < p["mean_pkt"] else core.prob
     total = core.accu + part
@@ -149,12 +149,12 @@ def cause_of(core, size, ecn, word):
 
 
 def numbers_of(core):
-    """What an explanation tells of a core, before or after an event."""
+    """Returns the fields of an explanation for a core, before or after an event."""
     return [core.bytes(), len(core.waiting), core.delay(), core.prob, core.accu, core.burst]
 
 
 class Excerpt:
-    """A preamble, commands behind it, and by the reference the records of a run, and of each event what an explanation has to tell."""
+    """Returns a preamble, commands, and by the reference the records of a run and the explanation of each event."""
 
     def __init__(self, rows, chance):
         self.beginning = rows
@@ -295,7 +295,7 @@ def hold_cuts(name, excerpt, text, rows, chance):
 
 
 def hold_again(name, part):
-    """A run of what a part asked for writes the part."""
+    """Checks that a run of the commands of an excerpt writes the excerpt."""
     lines = [line.split(",") for line in part.splitlines()]
     keep = {"arrive": 7, "depart": 3, "update": 3, "reset": 3, "params": 12}
     asked = "".join(",".join(line[: keep.get(line[0], len(line))]) + "\n" for line in lines)

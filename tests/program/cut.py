@@ -1,11 +1,12 @@
 #!/usr/bin/env python3
-"""Cuts histories by `pie cut` and holds each excerpt to the whole: the histories of examples/, those of the worked rows, and random ones, in each
-choice of the optional elements, with records of the time of day; small ones at each event, and others at random ones. An excerpt is clean, with the
-number of the whole's event with which it ends; its explanations are those of the whole, number for number, also with times of day (--wall), and its
-sums those of the whole at these moments. Of a random history it is, byte for byte, the text that tests/shared/reference_resumed.py makes of
-look-backs over the whole, with the last time of day before its first event behind its beginning, and those between its events in their places. So
-are excerpts of excerpts, and segments. Then faults, events that differ, choices of which there is no event, and what becomes of the file that -o
-names.
+"""Cuts histories with `pie cut` and compares each excerpt with the whole: the histories of examples/, those of the
+worked rows, and random ones with each optional element and with clock records. Small histories are cut at each
+event, others at random events. An excerpt must be clean, with the whole's number of its last event. Its
+explanations must be those of the whole, number for number, also with --wall, and its sums those of the whole over
+these moments. An excerpt of a random history must be byte for byte the text of tests/shared/reference_resumed.py,
+which looks back over the whole, with the last clock record before its first event after the preamble, and those
+between its events in their places. The same holds for excerpts of excerpts and for segments. Then the script tries
+faults, events that differ, selections without an event, and the file of -o.
 
 usage: tests/program/cut.py [PROGRAM [FIRST_SEED [RUNS]]]      PROGRAM: crates/pie/out/pie where none is given
 needs: program
@@ -22,7 +23,8 @@ from excerpts import audited, bad_params, explained, rows_within, segments_of  #
 from running import run  # noqa: E402
 
 FIRST, RUNS = ([int(word) for word in sys.argv[2:4]] + [1, 8][len(sys.argv[2:4]) :])[:2]
-# How many events a random history has at most; up to how many a history is small; and at how many places another is cut.
+# The most events of a random history; the most events of a history that is cut everywhere; and the number of cuts
+# of a longer one.
 EVENTS, SMALL, PLACES = 60, 12, 6
 NOTES = ("refused,", "folded,", "shown,", "tallied,")
 COMMANDS = ("arrive,", "depart,", "update,", "reset,", "params,")
@@ -37,7 +39,7 @@ def cut(text, *words):
 
 
 def times_after(text):
-    """The records of the time of day behind so many events of a text, and before the next: from 0 on."""
+    """Returns the clock records after each event of a text and before the next, from event 0 on."""
     found = [[]]
     for line in text.splitlines(keepends=True):
         if line.startswith("clock,"):
@@ -107,7 +109,8 @@ def choices(history, chance):
 
 
 def by_day(history, chance):
-    """The same by times of day: from the first event that is within on, before the next that is later or has none."""
+    """Returns the events selected by wall-clock times: from the first event within, before the next event that is
+    later or has no time."""
     known = [day for day in history.days if day]
     for _ in range(min(len(known), 3)):
         start, end = sorted((chance.choice(known), chance.choice(known)))
@@ -125,13 +128,13 @@ def summed(text, *words):
 
 
 def check_times(what, history, part, first, last):
-    """Whether the events of an excerpt have the times of day that they have in the whole."""
+    """Returns true if the events of an excerpt have the wall-clock times that they have in the whole."""
     tried["with times of day"] += "\nclock," in part
     check(explained(part, "--all", "--wall") == (0, rows_within(history.walls, first - 1, last)), f"{what}: other times of day than in the whole")
 
 
 def check_part(history, words, first, last):
-    """Whether the words cut out the events from first to last of a history; the excerpt."""
+    """Cuts with these options, which must select the events from first to last of a history. Returns the excerpt."""
     what = f"{history.name}: cut {' '.join(words)}"
     status, part, errors = cut(history.text, *words)
     check((status, errors) == (0, ""), f"{what}: status {status}, {errors}")
@@ -158,7 +161,8 @@ def hold(history, chance):
 
 
 def hold_again(history, chance, parts):
-    """An excerpt of an excerpt is that of the whole; of one that doesn't tell what set the probability, it is so told as far as that has it."""
+    """Checks that an excerpt of an excerpt is that of the whole; the setter of the probability is known in it as
+    far as the first excerpt has it."""
     for (part, words, last), first in parts:
         event = chance.randrange(first, last + 1)
         words = ["--event", str(event), "--around", str(chance.choice((0, 1, 5)))]
@@ -173,7 +177,7 @@ def hold_again(history, chance, parts):
 
 
 def named(text, *words):
-    """The same of a file that has a name."""
+    """Checks the cut of a file that has a name."""
     with tempfile.TemporaryDirectory() as folder:
         file = Path(folder) / "history"
         file.write_bytes(text.encode())
@@ -241,7 +245,8 @@ def check_differing(history, chance):
 
 
 def out_of_range(history, number, chance):
-    """A history with a change to parameters out of their ranges behind so many events: its text, the record, and its effective moment."""
+    """Returns a history with a change to parameters out of their ranges after this many events: its text, the
+    record, and its effective moment."""
     before = history.moments[number - 1] if number else history.book.start
     handed_in = chance.choice((0, before, before + 1, before + chance.randrange(2, 10**9), 2**60, 2**64 - 1))
     record = bad_params(handed_in, chance)
@@ -290,7 +295,7 @@ def check_unmakeable_segments(history, text, record, number, every, what):
 
 
 def check_nothing(history):
-    """Choices of which there is no event, and a fault, wherever it is."""
+    """Tries selections without an event, and a fault at any place."""
     nothing = (1, "", "no event of the text is wanted")
     check(cut(history.text, "--event", str(history.count + 1)) == nothing, f"{history.name}: an event that is not there")
     if history.moments[-1] < LATEST:

@@ -1,12 +1,15 @@
 #!/usr/bin/env python3
-"""Damages texts, and compares what the built program makes of each, its status, its output and its error stream, with what the reader and the
-reference of tests/shared/reference_texts.py make of it: of a trace `run`; of a history `audit`, and `migrate` or `explain --all --csv`, which read
-as the audit does. First come malformed texts that were written by hand, and then the richest traces and their histories, of each version and both
-profiles: of version one each is cut at every byte, and each of its bytes is made another, a sample of two; of the later versions so is each byte of
-the first record, which alone reads otherwise, and one in THIN behind it. The audits of many texts are one call, over files.
+"""Damages texts, and compares the program's status, output and error stream with those of the reader and the
+reference of tests/shared/reference_texts.py: of `run` for a trace; of `audit`, and of `migrate` or `explain --all
+--csv`, which read like the audit, for a history. First come malformed texts written by hand, then the richest
+traces and histories of each version and both profiles. A text of version one is cut at every byte, and each of its
+bytes is changed, in a sample of places to two values. Of later versions each byte of the first record is changed,
+because only that record has another format, and one in THIN of the other bytes. One call audits many texts as
+files.
 
-With `every` each byte is made each of the 255 others, each history goes to all three commands, and nothing else is done; with two numbers K and N
-behind it only each N-th place from the K-th on: N such runs are all.
+With `every` each byte is changed to each of the 255 other values, and each history goes to all three commands;
+nothing else is tried. With numbers K and N after it, only each N-th place from the K-th is tried: N such runs try
+all.
 
 usage: tests/program/damaged_texts.py [PROGRAM [every [K N]]]      PROGRAM: crates/pie/out/pie where none is given
 needs: program, an early start"""
@@ -21,18 +24,18 @@ import reference_texts as plain  # noqa: E402
 from checks import NAME, check, finish  # noqa: E402
 from running import PROGRAM, TRACE, run  # noqa: E402
 
-# The same in version two and the second profile, whose controller the third arrival turns on; and in version three with each element but the cap
-# another than the usual one, the decay told, and the time of day at the end.
+# The trace in version two and the second profile, whose controller the third arrival activates; and in version
+# three with every optional element except the cap, with the decay and with a clock record at the end.
 TRACES = [
     TRACE,
     TRACE.replace(b"open,", b"open2,2,bounded,").replace(b"100000,1000000000000", b"9000,1000000000000"),
     TRACE.replace(b"open,", b"open3,1,stamp,random,capped,scaled,half,bounded,") + b"clock,1001005,1795550400000000000\n",
 ]
 
-# What a command has to end with of a text.
+# The expected status, output and error of a command for a text.
 COMMANDS = {"run": plain.run, "audit": plain.audit, "migrate": plain.migrate, "explain --all --csv": plain.explain}
 OF_A_HISTORY = [name for name in COMMANDS if name != "run"]
-# How thinly the records behind the first are damaged in versions two and three.
+# One of this many places after the first record is damaged in versions two and three.
 THIN = 10
 # Bytes that mean something to a reader of records.
 TELLING = b'0,\n"'
@@ -45,7 +48,8 @@ def wanted(name, text):
 
 
 def audits_differing(program, texts):
-    """What differs when all these texts are audited as files, by one call for those that have to end with the same status."""
+    """Returns the differences of an audit of all these texts as files, with one call for the texts of each expected
+    status."""
     found, by_status = [], {}
     for what, text in texts:
         status, *written = wanted("audit", text)
@@ -67,12 +71,12 @@ def audits_differing(program, texts):
 
 
 def one_more(place, names):
-    """Of the commands of a history the audit, and one of the others."""
+    """Returns the audit, and one of the other commands for a history."""
     return names if len(names) == 1 else [names[0], random.Random(place).choice(names[1:])]
 
 
 def differing(program, texts):
-    """Of these texts, each with what was done to it and its commands, those of which a command ends with something else."""
+    """Returns the texts, each given with its damage and its commands, for which a command ends differently."""
     found = audits_differing(program, [(what, text) for what, text, names in texts if "audit" in names])
     for what, text, names in texts:
         for name in names:
@@ -98,19 +102,19 @@ def every(_):
 
 
 def sample(place):
-    """One telling byte, and one of all."""
+    """Returns a byte that is significant in the format, and a random one."""
     return {TELLING[place % len(TELLING)], random.Random(place).randrange(256)}
 
 
 def sampled(number, text):
-    """The places at which the trace of this number, or its history, is damaged where a sample is made."""
+    """Returns the places at which the trace with this number, or its history, is damaged in a sample."""
     behind = text.index(b"\n") + 1
     return range(len(text) + 1) if number == 0 else [*range(behind), *range(behind + number - 1, len(text), THIN), len(text)]
 
 
 def compare(program, bytes_at, places, chosen=one_more):
-    """What differs, of the traces and of their histories, at each place that `places` gives, of the commands that `chosen` gives; and it says how
-    many were compared."""
+    """Returns the differences for traces and histories, at the places of `places`, with the commands of `chosen`;
+    prints the number of comparisons."""
     found = []
     with ProcessPoolExecutor(os.cpu_count()) as pool:
         for number, trace in enumerate(TRACES):
@@ -159,7 +163,7 @@ def malformed():
 
 
 def small():
-    """A trace and a history of four records, in which one is another, or a part of it."""
+    """Returns a trace and a history of four records, one of them replaced entirely or in part."""
     trace = b"open,0,4,16,100\narrive,1,10,7,1500,ect0,0\ndepart,2,25\ndepart,2,30\n"
     lines = [b"open,0,4,16,100\n", b"arrive,1,10,7,1500,ect0,0,enqueue\n", b"depart,2,25,left,7,1500,ect0\n", b"depart,2,30,empty\n"]
     history = b"".join(lines)

@@ -17,7 +17,7 @@ from checks import NAME, ROOT, check, expect, finish  # noqa: E402
 from explaining import pie  # noqa: E402
 from reference import ANSWERS, USUAL, Book  # noqa: E402
 
-# RFC 8033's parameters, with what this project adds where a first record names none.
+# RFC 8033's parameters, and this project's defaults for the others.
 DEFAULTS = (15_000_000, 15_000_000, 150_000_000, 125, 1250, 1024, 262_144, 100_000_000_000, 16_384)
 STATE = ("bytes", "packets", "delay", "probability", "accumulated_probability", "burst_allowance", "active")
 
@@ -47,7 +47,7 @@ def step_of(fields):
 
 
 def state(book, n):
-    """What the controller holds after the first n events."""
+    """Returns the state of the controller after the first n events."""
     numbers = (book.bytes(n), len(book.waiting(n)), book.delay(n), book.prob(n), book.accu(n), book.burst(n), int(book.active(n)))
     return dict(zip(STATE, numbers))
 
@@ -68,7 +68,7 @@ def record(book, i):
 
 
 def hold(trace):
-    """How many events of this row were compared, and their causes."""
+    """Returns the number of events compared in this row, and their causes."""
     lines = [line.replace('"', "").split(",") for line in trace.read_text().splitlines()]
     history = trace.with_suffix(".out").read_text()
     book = opened(lines[0])

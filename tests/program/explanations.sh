@@ -21,8 +21,8 @@ off='1,arrive,1,1,1,1,100,enqueue,inactive,0,0,0,0,0,150000000,not,0,,0,,100,1,0
 off="${off}2,depart,2,5,5,1,100,left,,100,1,0,0,0,150000000,not,,4,0,,0,0,0,0,0,150000000,0\n"
 expect 'a controller that is off' 0 "$header$off" '' \
     'open2,2,bounded,0,4,16,100\narrive,1,1,1,100,not,0,enqueue\ndepart,2,5,left,1,100,not\n' explain --all --csv
-# What set the probability in profile two: an arrival that turns the controller on, which a calm update turns off, and no update
-# while it is off.
+# The event that set the probability in profile two: an arrival that activates the controller; the update with low
+# delay that deactivates it; no update while it is inactive.
 opening='open2,2,bounded,0,8,32,100,2,1,0,850000,0,1,1500,1000000000000,1024\n'
 steps='arrive,1,0,1,400,not,0\nupdate,4,1\narrive,1,1,2,100,not,0\nupdate,4,2\narrive,1,3,3,100,not,0\ndepart,3,4\nreset,4,5\ndepart,3,6\n'
 printf "$opening$steps" | "$program" run > "$work/turned"
@@ -33,7 +33,8 @@ if [ "$set_by" != "$want" ]; then
     echo "$script: what set the probability: $set_by"
     failed=1
 fi
-# .. and the words of that: no update so far, an update while it is off, turning on and off at the event that did it.
+# The words for these: no update so far, an update while the controller is inactive, activation and deactivation at
+# their event.
 turned=$(printf '%s\n' '  this event turned the controller on' '  this event turned the controller off' '  this event turned the controller on')
 if [ "$("$program" explain --all < "$work/turned" | grep turned.the)" != "$turned" ] ||
     [ "$("$program" explain --event 3 < "$work/turned" | sed -n 4p)" != "${turned%%$'\n'*}" ] ||
@@ -54,13 +55,14 @@ expect 'a packet that turns the controller on' 0 'event 3: packet 2, 100 bytes, 
   before it: 1 packets, 400 bytes, a delay of 0.000000 ms (0 ns)
   probability 0.0000 %% (0), as at the opening; last update at 0.000001 ms (1 ns); burst allowance 0.000000 ms (0 ns)
 ' '' "$(cat "$work/turned")" explain --event 3
-# a reset sets the probability, and no update so far does
+# a reset sets the probability, and there was no update
 expect 'a reset and no update' 0 'event 2: no packet was there to leave
   at 0.000002 ms (2 ns), by caller 1
   before it: 0 packets, 0 bytes, a delay of 0.000000 ms (0 ns)
   probability 0.0000 %% (0), set by event 1; no update so far; burst allowance 150.000000 ms (150000000 ns)
 ' '' 'open,0,4,16,100\nreset,1,1,done\ndepart,1,2,empty\n' explain --event 2
-# A packet that is let in, and how long that goes on at least: since a burst is allowed, and since little is accumulated.
+# An enqueued packet, and the least time for which packets stay safe: because a burst is allowed, and because little
+# is accumulated.
 expect 'a burst that is allowed' 0 'event 1: packet 7, 1000 bytes, Not-ECT: queued
   at 0.000002 ms (2 ns), by caller 1
   a burst is allowed: 150.000000 ms (150000000 ns) are left of it
@@ -72,7 +74,7 @@ expect 'a burst that is allowed' 0 'event 1: packet 7, 1000 bytes, Not-ECT: queu
 # a sum above 8.5 with the tenth.
 begun='arrive,1,0,1,1024,not,0\narrive,1,0,2,1024,not,0\narrive,1,0,3,1024,not,0\narrive,1,0,4,1024,not,0\n'
 begun="${begun}depart,3,1000\ndepart,3,1001000\nupdate,4,1001000\nupdate,4,1001001\nupdate,4,1001002\n"
-# Without the last of these updates it is 0.053955024169, of which sixteen are 0.85.
+# Without the last of these updates the probability is 0.053955024169; sixteen times that is 0.85.
 printf "open,0,32,64,100,2,1,0,850000,0,1,100000,900000000000,1024\n${begun%update*}arrive,1,1001003,5,500,ect0,0\n" | "$program" run > "$work/little"
 expect 'little that is accumulated' 0 'event 9: packet 5, 500 bytes, ECT(0): queued
   at 1.001003 ms (1001003 ns), by caller 1
@@ -100,8 +102,9 @@ marked='10,arrive,1,1001003,1001003,5,500,mark,picked_by_word,2048,2,2000000,903
 expect 'a marked packet' 0 "$header$marked" '' "$history" explain --csv --marked
 expect 'no packet marked before a changed verdict' 2 "$header" "$differs" "$changed" explain --csv --marked
 
-# Each way to choose events, in both forms, ends with each status: 0; 2 where the tenth event differs; and 1 where a fault stands behind
-# that. What is written is the same for these two: what the first ten records give. The plain program of bench/ says so of --all --csv.
+# Each selection of events, in words and CSV, with each exit status: 0; 2 if the tenth event differs; 1 if a fault
+# follows that event. In the last two cases the output is that of the first ten records. The reference program of
+# bench/ checks --all --csv.
 first=$(printf "$history" | head -n 10)
 for form in '' --csv; do
     for choice in '--event 1' '--tag 1' --lost --marked --all; do

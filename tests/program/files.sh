@@ -1,11 +1,13 @@
 #!/usr/bin/env bash
-# Files that the words name, which the built program reads, or writes after -o, destroying none; and the progress that it tells of a long one.
+# Checks files named on the command line: input files, and output files after -o, none of which may be destroyed;
+# and the progress line of a long input.
 # usage: tests/program/files.sh [PROGRAM]      PROGRAM: crates/pie/out/pie where none is given
 # needs: program
 . "$(dirname "$0")/../shared/expect.sh"
 
-# Progress, where it is asked for: on standard error alone, a line over and over, which is wiped at the end and before a fault. Unasked nothing is
-# told, since this standard error is no terminal, and nothing of a short text.
+# The progress line is written on request, to standard error only, on one line that is cleared at the end and before
+# a fault. Without the option there is none, because this standard error is not a terminal; there is none for a
+# short text either.
 awk 'BEGIN { print "rolling,0,4,16,1099511627776"; for (i = 1; i <= 1000000; i++) print "depart,1," i }' > "$work/long.trace"
 "$program" run "$work/long.trace" > "$work/long"
 wiped=$(printf '\r\033[K')
@@ -58,7 +60,7 @@ expect 'a difference is no better behind a fault' 1 "$work/changed: differs,10\n
 expect 'standard input, twice' 1 '-: clean,11\n' 'pie: -: standard input was read already\n' "$history" audit - -
 missing="$work/missing: No such file or directory (os error 2)"
 expect 'a missing file' 1 "$work/none: clean,0\n" "pie: $missing\n" '' audit "$work/missing" "$work/none"
-# A name of 240 bytes is a name as any other: its file is audited, and a fault of it is told.
+# A name of 240 bytes is valid: its file is audited, and its fault is reported.
 long=$work/$(printf 'n%.0s' $(seq 240))
 cp "$work/history" "$long"
 expect 'audits of which one has a long name' 0 "$long: clean,11\n$work/none: clean,0\n" '' '' audit "$long" "$work/none"
@@ -71,7 +73,7 @@ for name in run migrate 'explain --all'; do
     expect "$name of a missing file" 1 '' "pie: $missing\n" '' $name "$work/missing"
     expect "$name of a folder" 1 '' 'pie: cannot read the input\n' '' $name "$work"
 done
-# -o: what would go to standard output goes to a new file, which stands alone: nothing is left beside it.
+# -o writes the output to a new file and leaves no other file beside it.
 made=$work/folder/made
 mkdir "$work/folder"
 
@@ -104,7 +106,8 @@ written 'explanations to a file' 0 "$header$lost" "$history" explain --csv --los
 written 'a migration to a file' 0 "$two" "$one" migrate
 errors=$differs written 'explanations up to an event that differs, to a file' 2 "${header}$begins" '' explain "$work/changed" --csv --event=1
 
-# At a fault what was written stays beside the name, and what was there is there. That of an earlier fault is kept too.
+# After a fault the partial output stays beside the file, and an existing file is unchanged. The partial output of
+# an earlier fault stays too.
 until='this has what was written until then'
 fault='pie: record 3: wrong number of fields\n'
 begun='open,0,4,16,100\ndepart,1,9,empty\n'
@@ -161,7 +164,8 @@ slowly '' 'printf appeared > "$made"' --force
 holds 'a file that appears, by --force' "$history"
 rm "$made" "$work/slow"
 
-# What is read is never written, by whatever name: its own, another path, a hard link, a symbolic link, or as standard input.
+# The input file is never overwritten, by whatever name: its own, another path, a hard link, a symbolic link, or as
+# standard input.
 ln "$work/trace" "$work/hard"
 ln -s trace "$work/symbolic"
 mkdir "$work/other"

@@ -1,8 +1,9 @@
 #!/usr/bin/env bash
-# A flood of UDP beside four TCP flows through the link in user space (examples/link): while it runs the link names it by its addresses and ports, and
-# afterwards one line of `pie explain --flows` does, with the file that tells flows. Whatever the link named had the most bytes of its half second, by
-# the history; that is clean, and has no flow that the file doesn't tell. Without root or /dev/net/tun all of it runs in a Linux in a process, bench/uml. Where this machine lacks
-# something that it takes, a line that begins with NOT RUN says so.
+# Sends a UDP flood beside four TCP flows through the link in user space (examples/link). While it runs, the link
+# must report the flood by its addresses and ports, and afterwards one line of `pie explain --flows` must, with the
+# file of flows. Each flow that the link reported had the most bytes of its half second according to the history,
+# which is clean and contains no flow without a line in the file. Without root or /dev/net/tun the script runs in
+# user-mode Linux, bench/uml. Prints a line NOT RUN if a program is missing.
 # usage: tests/program/flood.sh [PROGRAM]      PROGRAM: crates/pie/out/pie where none is given
 # needs: program, library, root, quiet
 . "$(dirname "$0")/../shared/script.sh"

@@ -57,7 +57,8 @@ def numbers(rows):
 
 
 def by_flow(rows, most):
-    """The flows of these records, in their order: of so many the number and its numbers, and last those of all others with how many these are."""
+    """Returns the flows of these records in order: each flow's number and statistics, and last those of all other
+    flows with their number."""
     flows = {}
     for row in rows:
         if flow_of(row) is not None:
@@ -128,7 +129,7 @@ def hold(name, history, words):
 
 
 def by_wall():
-    """Times of day: of the events, where the history tells them, and else an empty field."""
+    """Checks wall-clock times: those of the events if the history has them, otherwise an empty field."""
     history = "open3,1,rate,derandomized,capped,unscaled,bounded,0,4,16,100\narrive,1,1500000,42949672967,100,ect0,0,enqueue\n"
     told = pie(history, "--flows", "1", "--wall", "--csv")
     expect("--wall without a clock", (told[0], told[1].splitlines()[0][-5:], told[1].splitlines()[1][-3:]), (0, ",wall", ",0,"))

@@ -25,7 +25,7 @@ ONE, NEVER, ALWAYS = 10**12, 850_000_000_000, 8_500_000_000_000
 LAST = 2**60 - 1
 seen, broken, reached = Counter(), Counter(), set()
 
-# What the contract of a law contains, without the spaces.
+# The text that the contract of each law must contain, without spaces.
 CLAUSES = {
     "bursts_are_let_in": ["0 < (parts_after opening before).burst → is_early event.answer ≡ false"],
     "bursts_are_let_in_so_long": [
@@ -155,15 +155,16 @@ class Samples:
 
 
 class Laws:
-    """What the laws need of the events so far."""
+    """The numbers of the events so far that the laws need."""
 
     def __init__(self, row):
         self.profile, self.elements, self.start, self.ring, self.params = opening_of(row)
         self.limits, self.samples = [self.params["limit_bytes"]], Samples()
         self.queue, self.verdicts, self.arrivals = [], Counter(), 0
         self.high, self.low, self.considered = 0, ONE, 0
-        # the sum of what the probability counted as, less 0.85 for each pick; the same, less 9.5 for each pick and 8.5 for each other restart; the
-        # greatest of the first while nothing was accumulated, and the least of the second; the sum since the last restart
+        # sums since the last restart: of counted probabilities less 0.85 for each pick, and less 9.5 for each pick
+        # and 8.5 for each other restart; the greatest first sum while nothing was accumulated, and the least second
+        # sum
         self.least_sum, self.most_sum, self.least_start, self.most_start, self.sum = 0, 0, 0, 0, 0
         self.since_pick, self.idle, self.lasting = None, None, None
         self.now = {"moment": self.start, "packets": 0, "bytes": 0, "prob": 0, "old": 0, "accu": 0, "burst": self.params["max_burst"],
@@ -339,7 +340,7 @@ class Laws:
 
 
 def hold_all(lines):
-    """Runs a trace in which a `show` follows each record, and checks all laws at each event."""
+    """Runs a trace with a `show` record after each record, and checks all laws at each event."""
     rows = run(lines)
     laws = Laws(rows[0])
     for line, row, after in zip(lines[1::2], rows[1::2], rows[2::2]):

@@ -1,9 +1,10 @@
 #!/usr/bin/env python3
-"""Audits the segments of random histories by `pie audit --joined`, in order and out of it: each follows the one before it, or the gap is told, or
-that it stands on something else. Segments are left out, exchanged and repeated, and come from another history with the same numbers; each field of a
-beginning is changed, and each field of the packets that wait there, beside tests/shared/reference_resumed.py, which says what is found of such a
-text. Texts of both kinds with a change, or with parameters out of their ranges, are cut into segments by `pie cut`, which come to what the reference
-finds of the whole: each is clean and follows, but the last where the text differs. Then whole histories among them, files with a fault and files that differ, one file, and standard input.
+"""Audits segments of random histories with `pie audit --joined`, in order and out of order: each follows the one
+before it, or the gap or the difference is reported. Segments are left out, exchanged and repeated, and replaced by
+segments of another history with the same numbers. Each field of a preamble and of its queued packets is changed;
+tests/shared/reference_resumed.py gives the expected finding. Texts with a change, or with parameters out of their
+ranges, are cut into segments by `pie cut`: each segment must be clean and follow, except the last if the text
+differs. Then whole histories, files with a fault, files that differ, one file, and standard input take part.
 
 usage: tests/program/joined.py [PROGRAM [FIRST_SEED [RUNS]]]      PROGRAM: crates/pie/out/pie where none is given
 needs: program
@@ -44,13 +45,13 @@ def parts_of(book, every):
 
 
 def stands_on(part):
-    """The beginning of a text, without what set the probability, on which no later answer stands."""
+    """Returns the preamble of a text without the setter of the probability, which affects no later answer."""
     beginning = reference_resumed.resumed_at(part.book, part.first - 1, False)
     return [list(map(str, row)) for row in beginning]
 
 
 def end_of(part):
-    """What a text that goes on behind the part would stand on."""
+    """Returns the preamble of a text that continues after this segment."""
     return [list(map(str, row)) for row in reference_resumed.resumed_at(part.book, part.last, False)]
 
 
@@ -149,7 +150,8 @@ def hold_packets(what, before, part, chance):
 
 
 def hold_broken(what, parts, chance):
-    """A text with a fault, or that differs, has no end: nothing is told of the next one's joint, which then begins anew."""
+    """A text with a fault or a difference has no end: the next text has no second line, and is the first of a new
+    row."""
     place = chance.randrange(len(parts))
     texts = [part.text for part in parts]
     lines = [f"clean,{part.last}{' follows' if number else ''}" for number, part in enumerate(parts)]
@@ -168,7 +170,7 @@ def hold_broken(what, parts, chance):
 
 
 def hold_segments(what, text, every):
-    """Whatever a text is, its segments come to what the reference finds of it."""
+    """Checks that the findings of a text's segments are those of the reference for the text, whatever the text is."""
     status, finding, error = found_of(text)
     got, output, errors = run(["cut", "--every", str(every)], text.encode())
     if status == 1:

@@ -1,8 +1,9 @@
 #!/usr/bin/env python3
-"""Runs the built program at size, and compares all that it writes with what a line of Python says of each record: 1.2 million events, which are
-run, audited, migrated and explained; a fold of the greatest tail, 2^20 events, and folds of 5000; a tail that is full; 65536 packets, and one packet
-too many; packets with the tag 0; and ten million records with a short tail. Each command holds one record, its queue and its tail, so it needs no
-memory that grows with the text: each runs with its address space limited to MEMORY bytes.
+"""Runs the program on large inputs, and compares its output with a line of Python for each record: 1.2 million
+events that are run, audited, migrated and explained; a fold of the greatest log, 2^20 events, and folds of 5000; a
+full log; 65536 packets, and one too many; packets with the tag 0; and ten million records with a short log. Each
+command stores one record, its queue and its log, so its memory does not grow with the text: it runs with its
+address space limited to MEMORY bytes.
 
 usage: tests/program/large.py [PROGRAM]      PROGRAM: crates/pie/out/pie where none is given
 needs: program"""
@@ -24,13 +25,13 @@ HEADER = (
     "ecn,word,waited,active,set_by,bytes_after,packets_after,delay_after,probability_after,accumulated_probability_after,burst_allowance_after,"
     "active_after\n"
 )
-# (the tail takes 112 bytes an event, and each of two rings 48 bytes a packet at the most)
+# (the log takes 112 bytes for each event, and each of two rings at most 48 bytes for each packet)
 MEMORY = 512 * 2**20
 ECNS = ("not", "ect1", "ect0", "ce")
 
 
 class Course:
-    """A trace and what has to be written of it, record by record."""
+    """A trace and its expected output, record by record."""
 
     def __init__(self):
         self.trace, self.history, self.migrated, self.explained = [f"open,{OPENING}"], [f"open,{OPENING}"], [f"open2,1,bounded,{OPENING}"], [HEADER]
@@ -69,7 +70,7 @@ def size_of(tag):
 
 
 def many_events():
-    """So many packets, each of which departs before the next arrives."""
+    """Adds packets, each of which departs before the next arrives."""
     course = Course()
     fold = TAIL
     held = 0
@@ -120,7 +121,7 @@ def limit():
 
 
 def compare(work, name, words, given, wanted):
-    """What the program writes over this text, and its status and error stream."""
+    """Returns the program's output for this text, its status and its error stream."""
     with open(f"{work}/given", "w", encoding="ascii") as file:
         file.writelines(given)
     with open(f"{work}/given", "rb") as file, open(f"{work}/output", "wb") as output:

@@ -1,10 +1,12 @@
 #!/usr/bin/env bash
-# Real TCP through the link in user space (examples/link), some seconds by tail drop and some by PIE: both histories are clean, and by
-# PIE packets wait less in the mean. On a machine so slow that TCP doesn't fill the queue they are made again, for twice as long. Its options open what pie params asks for by the same words. Then a link whose rate changes, and that
-# sends by grants, is killed in the middle of a transfer: what its flight recorder wrote
-# when it was asked, and what its file holds, is decided again. Each of these texts tells when its events were, by the time of day. Before that
-# the test of its packets: marks in IPv4 and IPv6 headers, and checksums. Without root or /dev/net/tun all of it runs in a Linux in a process,
-# bench/uml. Where this machine lacks something that it takes, a line that begins with NOT RUN says so.
+# Sends real TCP traffic through the link in user space (examples/link), some seconds with tail drop and some with
+# PIE. Both histories must be clean, and the mean waiting time must be lower with PIE. If the machine is so slow
+# that TCP does not fill the queue, the runs are repeated with twice the time. The link's options must give the
+# opening of `pie params` with the same options. Then a link with a changing rate and grants is killed during a
+# transfer, and the texts of its flight recorder, one written on request and one from its file, are audited; each
+# event must have a wall-clock time. First comes the test of packets: marks in IPv4 and IPv6 headers, and checksums.
+# Without root or /dev/net/tun the script runs in user-mode Linux, bench/uml. Prints a line NOT RUN if a program is
+# missing.
 # usage: tests/program/link.sh [PROGRAM]      PROGRAM: crates/pie/out/pie where none is given
 # needs: program, library, root, quiet
 . "$(dirname "$0")/../shared/script.sh"
@@ -13,7 +15,7 @@ seconds=5
 
 "$link/out/packet_test" || exit 1
 
-# what an option is told, and what the link says of it: the library reads its numbers
+# a value of an option, and the link's error message for it: the library parses the numbers
 while IFS='|' read -r option text said; do
     found=$("$link/out/link" "$option" "$text" 2>&1)
     if [ "$found" != "link: $said; see link --help" ]; then
@@ -21,17 +23,17 @@ while IFS='|' read -r option text said; do
         exit 1
     fi
 done <<'END'
---target|1.5|--target 1.5: refused: no number with a unit of its kind
---target|1.5ns|--target 1.5ns: refused: no whole number, or more than 18 decimals
+--target|1.5|--target 1.5: refused: not a number with a unit of the expected kind
+--target|1.5ns|--target 1.5ns: refused: not a whole number, or more than 18 decimals
 --target|20MSecs|--from and --to: missing
 --target|11s|--target: out of its range
---rate|10000000|--rate 10000000: refused: no number with a unit of its kind
+--rate|10000000|--rate 10000000: refused: not a number with a unit of the expected kind
 --rate|1152922tbit|--rate 1152922tbit: refused: a number above 2^60 - 1
 --rate|10mbit,20s:2mbit,40s:10mbit|--from and --to: missing
 --rate|10mbit,20s:2mbit,20s:10mbit|--rate 10mbit,20s:2mbit,20s:10mbit: a rate below 1kbit, or moments that don't rise
 --rate|10mbit,2mbit|--rate 10mbit,2mbit: not a rate, and then moments and rates, as 10mbit,20s:2mbit
 --rate|1s:10mbit|--rate 1s:10mbit: not a rate, and then moments and rates, as 10mbit,20s:2mbit
---rate|10mbit,1s:|--rate 10mbit,1s:: refused: no number with a unit of its kind
+--rate|10mbit,1s:|--rate 10mbit,1s:: refused: not a number with a unit of the expected kind
 --limit|1mb|--from and --to: missing
 --limit|1000p|--from and --to: missing
 --limit|1500|--limit 1500: a unit has to say of what it is, as 1000p or 256kb
@@ -44,7 +46,7 @@ done <<'END'
 --decay|half|--from and --to: missing
 --decay|quarter|--decay quarter: not a value of this option
 --mark_ecnth|10%|--from and --to: missing
---mark_ecnth|10mb|--mark_ecnth 10mb: refused: no number with a unit of its kind
+--mark_ecnth|10mb|--mark_ecnth 10mb: refused: not a number with a unit of the expected kind
 --grant|5ms|--from and --to: missing
 --grant|5us|--grant: out of its range
 --queue|red|--queue red: not a value of this option
@@ -74,8 +76,8 @@ done <<'END'
 --rate 10mbit --bytemode --mtu 9000 --limit 77p
 --rate 10mbit --decay half
 END
-# tells_time TEXT SINCE: each event of a text is told by a time of day that isn't earlier than this one, nor later than now
-tells_time() {
+# has_times TEXT SINCE: each event of a text has a wall-clock time between SINCE and now
+has_times() {
     local first last now
     now=$(date -u +%Y-%m-%dT%H:%M:%S.%NZ)
     read -r first last < <("$program" explain --all --csv --wall < "$1" | awk -F, 'NR == 2 { first = $NF } END { print first, $NF }')
@@ -89,7 +91,7 @@ is_full() {
     local packets mean _
     measure "$work/$1" "$seconds" 4 --rate 10mbit --rtt 20ms --queue "$1" --records "$work/$1.records" --every 100ms || exit 1
     read -r packets mean _ < <(waits "$work/$1/history")
-    # less than a tenth of what the link can carry is no test
+    # a load of less than a tenth of the link's rate tests nothing
     [ "$packets" -ge $((seconds * 80)) ] && { [ "$1" != tail ] || awk -v mean="$mean" 'BEGIN { exit !(mean > 30) }'; }
 }
 for queue in tail pie; do
@@ -112,7 +114,7 @@ for queue in tail pie; do
         echo "$script: the records of periods that the link wrote by $queue are not those of its history"
         exit 1
     fi
-    tells_time "$work/$queue/history" "$since" || exit 1
+    has_times "$work/$queue/history" "$since" || exit 1
     read -r packets mean _ < <(waits "$work/$queue/history")
     echo "$script: $queue: $packets packets left, mean wait $mean ms, history clean ($events events)"
     means+=("$mean")
@@ -122,7 +124,8 @@ if ! awk -v tail="${means[0]}" -v pie="${means[1]}" 'BEGIN { exit !(pie < tail) 
     exit 1
 fi
 
-# killed in the middle of a transfer: the text of what its flight recorder left is clean, and goes on behind that which it wrote when it was asked
+# killed during a transfer: the text of its flight recorder is clean and continues the text that was written on
+# request
 for seconds in 4 8 16 32 64 128; do
     kill_in_the_middle "$work/killed" "$seconds" 4 --rate 10mbit,1s:2mbit --grant 5ms --rtt 20ms --ecn || exit 1
     "$link/out/flight_text" "$work/killed/flight" > "$work/killed/text" || exit 1
@@ -134,7 +137,7 @@ for seconds in 4 8 16 32 64 128; do
     fi
     [ "${asked#clean,}" -lt 200 ] || break
 done
-tells_time "$work/killed/flight.history" "$since" && tells_time "$work/killed/text" "$since" || exit 1
+has_times "$work/killed/flight.history" "$since" && has_times "$work/killed/text" "$since" || exit 1
 # after the first second the link had 2 Mbit/s, and sent at its grants alone, each 5 ms
 awk -F, '$1 == "depart" && $4 == "left" && $3 > 1.1e9 { bits += 8 * $6; if ($3 != last) moments++; last = $3; if (!first) first = $3 }
     END { time = (last - first) / 1e9; print bits, moments, time

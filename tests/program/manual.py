@@ -1,8 +1,9 @@
 #!/usr/bin/env python3
-"""Holds the manual page and the completions to the program: each subcommand and each long option that `--help` tells is in man/pie.1 and in
-the completions for bash, zsh and fish, under its subcommand, and they have no others; the page's synopsis has those of each subcommand too, but
-where it ends in dots. Where bash, zsh and fish are there, what they offer is asked of them. So are the options of man/pie-report.1 and of
-man/pie-metrics.1 those that `pie-report --help` and `pie-metrics --help` tell. Exit status 1 where something is missing or too much.
+"""Compares the manual page and the completions with the program: man/pie.1 and the completions for bash, zsh and
+fish must contain exactly the subcommands and long options of `--help`, and so must the page's synopsis of each
+subcommand, unless it ends in dots. If bash, zsh and fish are installed, the script also asks them for completions.
+The options of man/pie-report.1 and man/pie-metrics.1 must be those of `pie-report --help` and `pie-metrics --help`.
+The exit status is 1 if an option is missing or unknown.
 
 usage: tests/program/manual.py [PROGRAM]      PROGRAM: crates/pie/out/pie where none is given
 needs: program
@@ -35,7 +36,8 @@ def section(text, name):
 
 
 def told():
-    """What the program tells: of each subcommand its long options, each with whether it takes a value; "" is the program itself."""
+    """Returns the long options of each subcommand according to the program, and whether each takes a value; the
+    name "" is the program itself."""
     top = output([PROGRAM, "--help"])
     names = re.findall(r"^  (\w+)  ", section(top, "Commands"), re.M)
     options = {}
@@ -63,7 +65,7 @@ def hold_script(script):
 
 
 def manual():
-    """The same of the manual page, in sections `.SS NAME`."""
+    """Returns the options in the manual page, by sections `.SS NAME`."""
     text = (ROOT / "man/pie.1").read_text(encoding="utf-8")
     parts = re.split(r"^\.SS (\w+)\n", text.split(".SH SUBCOMMANDS\n")[1].split(".SH OPTIONS\n")[0], flags=re.M)[1:]
     names = parts[0::2]

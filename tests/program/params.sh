@@ -27,7 +27,8 @@ for row in 10mbit:262144:stalls 100mbit:2500000 1gbit:25000000 10gbit:250000000 
     IFS=: read -r rate limit warns <<< "$row"
     params "a limit at $rate" "$usual,0,1000,1000,$events,15000000,15000000,150000000,125,1250,1024,$limit,0,16384" "${warns:+$stalls}" --rate "$rate"
 done
-# Half of what waits at the target is 16384 bytes at 17.476266667 Mbit/s; by time stamps, and where no rate is known, nothing is said.
+# Half of the bytes queued at the target is 16384 at 17.476266667 Mbit/s. With time stamps or without a rate there
+# is no warning.
 record="$usual,0,1000,1000,$events,15000000,15000000,150000000,125,1250,1024,436907,0,16384"
 params 'a rate at which the estimator stalls' "$record" "$stalls" --rate 17476266bit
 params 'a rate at which it does not' "$record" '' --rate 17476267bit

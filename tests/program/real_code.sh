@@ -1,12 +1,12 @@
 #!/usr/bin/env bash
-# Decision by decision beside Linux's sch_pie.c and DPDK's rte_pie.h (bench/steps): where they come to something else, it is by a difference that
-# docs/PARAMETERS.md names. Then Linux's code with a constant changed, which has to be found out: a difference that isn't named. Where Debian's
-# packages are not installed, a line that begins with NOT RUN says so.
+# Compares each decision with Linux's sch_pie.c and DPDK's rte_pie.h (bench/steps). Each difference must be one that
+# docs/PARAMETERS.md names. Then the script changes a constant in Linux's code and expects a difference without a
+# name. Prints a line NOT RUN if Debian's packages are not installed.
 # usage: tests/program/real_code.sh [PROGRAM]      PROGRAM: crates/pie/out/pie where none is given
 # needs: program
 . "$(dirname "$0")/../shared/script.sh"
 steps=$top/bench/steps
-# (an opening of 20 fields, and one of 21, which tells the decay)
+# (an opening of 20 fields, and one of 21 fields with the decay)
 for kind in '1 stamp 100000000000' '1 rate 0' '3 stamp 100000000000 20 half' '3 rate 0 20 half'; do
     # shellcheck disable=SC2086
     python3 "$steps/trace.py" $kind > "$work/trace" && "$program" run "$work/trace" > "$work/$(tr ' ' - <<< "$kind")" || exit 1
@@ -19,7 +19,7 @@ if [ $status = 3 ]; then
 fi
 cat "$work/found"
 [ $status = 0 ] || exit 1
-grep -q '[1-9][0-9]*  decays at two delays of 0 alone' "$work/found" || fail "Linux decayed wherever the history with the other decay does"
+grep -q '[1-9][0-9]*  decays only at two delays of 0' "$work/found" || fail "Linux decayed wherever the history with the other decay does"
 while IFS='|' read -r old new; do
     cp "$steps/out/linux_pie.h" "$work/"
     sed "s|$old|$new|" "$steps/out/linux_pie.c" > "$work/linux_pie.c"

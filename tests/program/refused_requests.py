@@ -1,8 +1,10 @@
 #!/usr/bin/env python3
-"""Refuses the built program each request for memory, each read and each write in turn, once and from there on (tests/shared/refuse.c): it ends with
-its fault, and what it wrote before is a beginning of what it writes where nothing is refused. So of a long text, whose pages are many; and of short
-ones that are read and written 7 bytes at a time, of each subcommand that reads or writes: there a failed read ends the text of all records before it. So too each request by which it makes, writes, moves and
-removes the file of -o: then what was there is there, or all that there was to write. refused_storms.py beside this does so of a storm.
+"""Makes each allocation, each read and each write of the program fail in turn, once and from there on
+(tests/shared/refuse.c). The program must report its fault, and its output must be a beginning of the normal output.
+The inputs are a long text of many pages, and short texts read and written 7 bytes at a time, for each subcommand
+that reads or writes: a failed read must end the text after all earlier records. Then each call fails that creates,
+writes, renames and removes the file of -o: the old file must remain, or the new one must be complete.
+refused_storms.py does this for storms.
 
 usage: tests/program/refused_requests.py [PROGRAM]      PROGRAM: crates/pie/out/pie where none is given
 needs: program, an early start"""
@@ -19,23 +21,25 @@ FAULTS = {"REFUSE_MEMORY": MEMORY, "REFUSE_READ": READ, "REFUSE_WRITE": WRITE}
 
 
 def told(words, says, errors):
-    """Whether each line on standard error tells this fault, of a file where files are audited."""
+    """Returns true if each line on standard error reports this fault; the lines of an audit of files also name a
+    file."""
     names = [word.encode() for word in words if word.startswith("/")]
     lines = {says, *(says.replace(b"pie: ", b"pie: %s: " % name, 1) for name in names if words[0] == "audit")}
     return errors == says or errors != b"" and set(errors.splitlines(keepends=True)) <= lines
 
 
 def is_beginning(words, variable, output, want):
-    """Whether this is a beginning of the text that is wanted. A summary of the events up to a fault is another text, and of files that are audited
-    each that can be read is told."""
+    """Returns true if this output is a beginning of the wanted text. A summary of the events up to a fault is a
+    different text, and an audit of files reports each file that it can read."""
     if variable == "REFUSE_WRITE" or "--summary" not in words and "--joined" not in words:
         return want.startswith(output)
     return "--summary" in words or set(output.splitlines()) <= set(want.splitlines())
 
 
 def texts_before(words, given, place):
-    """What may be written before this read, if each before it gave STEP bytes: the output of the records that ended by then, those of the last page
-    among them, or of those that ended one read earlier, since a record may be taken up only with the next read."""
+    """Returns the outputs allowed before this read, if each earlier read returned STEP bytes: the output of all
+    complete records, including those of the last page, or of the records that were complete one read earlier,
+    because a record may be processed at the next read."""
     for reads in (place - 1, max(place - 2, 0)):
         read = given[:STEP * reads]
         yield run(words, read[:read.rfind(b"\n") + 1])[1]
@@ -80,10 +84,11 @@ def long_text(library, met):
 
 
 def short_texts(library, met):
-    """Short texts of which a read or a write moves 7 bytes at the most, so that each 7 bytes are the last before a fault."""
+    """Tries short texts with reads and writes of at most 7 bytes, so that each 7 bytes are the last before some
+    fault."""
     trace = b"open,0,4,16,100\narrive,1,10,7,1500,ect0,0\ndepart,2,25\ndepart,2,30\n"
     history = run(["run"], trace)[1]
-    # (the second and the third event, with what they stand on)
+    # (the second and the third event, with a preamble)
     part = run(["cut", "--from", "25"], history)[1]
     goes_on = part.replace(b",left,7,1500,ect0", b"").replace(b",empty", b"")
     check(part.startswith(b"resume,") and goes_on.endswith(b"depart,2,25\ndepart,2,30\n"), "what is cut:", part)
@@ -93,7 +98,7 @@ def short_texts(library, met):
             with open(f"{folder}/{name}", "wb") as file:
                 file.write(text)
         first, second = f"{folder}/first", f"{folder}/second"
-        # (of those that are asked for memory too, a long text does not stand for it)
+        # (these also allocate memory in ways that a long text does not)
         moved, asked = ["REFUSE_READ", "REFUSE_WRITE"], list(FAULTS)
         commands = [
             (["run"], trace, moved), (["run"], goes_on, asked), (["audit"], history, moved), (["audit"], part, asked),
@@ -112,7 +117,7 @@ def short_texts(library, met):
 
 
 def faults_before(library, met, history):
-    """A text's fault before which something was written that cannot be flushed: the device is what is told."""
+    """Tries a fault in the text after output that cannot be flushed: the error of the device must be reported."""
     faulty = {"run": (["run"], TRACE + b"dep\n"), **{name: (words, history + b"dep\n") for name, words in READERS.items() if name != "audit"}}
     for name, (words, given) in faulty.items():
         got = run(words, given, LD_PRELOAD=library, REFUSE_MET=met, REFUSE_WRITE="1", REFUSE_ON="1")
@@ -145,7 +150,8 @@ def outputs_refused(library, met, name, words, given):
                 is_whole = got[:2] == (0, b"") and left.pop("made", None) == want
                 is_kept = got[:2] == (1, b"") and left.pop("made", None) == older
                 check(is_whole or is_kept, name, "-o", forced, place, on, "another file, or", got[0], got[2][:200])
-                # (of what was written something is left under the other name, which is told; after a link that was made it may be all)
+                # (a part of the output remains under the partial name, which is reported; after a hard link it may
+                # be the whole output)
                 is_told = f"pie: {made}.partial: this has what was written until then\n".encode() in got[2]
                 check(all(want.startswith(text) for text in left.values()), name, "-o", place, on, "no beginning of the text is left")
                 check(set(left) <= {"made.partial"} and (is_whole or is_told or not any(left.values())), name, "-o", place, on, got[2], list(left))

@@ -1,6 +1,7 @@
 #!/usr/bin/env python3
-"""Refuses a storm of the built program each request for memory, each write and each start of a thread in turn, once and from there on
-(tests/shared/refuse.c). The threads of a storm wait for one that is missing, a third of a second or more, before they go on.
+"""Makes each allocation, each write and each start of a thread of a storm fail in turn, once and from there on
+(tests/shared/refuse.c). The threads of a storm wait a third of a second or more for a missing thread before they
+continue.
 
 usage: tests/program/refused_storms.py [PROGRAM]      PROGRAM: crates/pie/out/pie where none is given
 needs: program, an early start"""
@@ -17,15 +18,16 @@ THREAD = b"pie: a thread could not be started\n"
 
 
 def is_clean(history):
-    """Whether the whole lines of what a storm wrote are a history, if there is one."""
+    """Returns true if the whole lines of a storm's output are a history, or if there are none."""
     lines = history.splitlines(keepends=True)
     whole = [line for line in lines if line.endswith(b"\n")]
     return not whole or run(["audit"], b"".join(whole))[:2] == (0, b"clean,%d\n" % (len(whole) - 1))
 
 
 def storm_refused(library, met):
-    """A storm of which each request for memory, each write and each start of a thread is refused ends: with its fault, or with a history
-    that is audited clean where it did without. What it wrote before its fault is a beginning of a history, and none of its threads runs on."""
+    """Makes each allocation, each write and each start of a thread fail. The storm must end with its fault, or with
+    a clean history if it did not need the failed call. Its output before a fault must be a beginning of a history,
+    and no thread may continue."""
     few, many = ["storm", "--senders", "3", "--packets", "4"], ["storm", "--senders", "3", "--packets", "500"]
     rows = [("REFUSE_MEMORY", [MEMORY, THREAD], few, {}), ("REFUSE_THREAD", [THREAD], few, {}),
             # (long enough for several writes; and short, some bytes at a time)

@@ -1,7 +1,8 @@
 #!/usr/bin/env python3
-"""Replays captures that it makes itself (examples/replay): pcap and pcapng, each link type, IPv4 and IPv6, VLAN tags, super-packets; each history is
-clean, its arrivals are the packets of the capture, and the capture with comments has the same frames. Broken captures end with one line,
-and what was decided until then is written. Where libpcap or a C compiler isn't there, a line that begins with NOT RUN says so.
+"""Replays captures that the script makes (examples/replay): pcap and pcapng, each link type, IPv4 and IPv6, VLAN
+tags, super-packets. Each history must be clean, its arrivals must be the packets of the capture, and the capture
+with comments must have the same frames. A broken capture must end with one line, after the output of the frames
+before it. Prints a line NOT RUN if libpcap or a C compiler is missing.
 
 usage: tests/program/replay.py [PIE]      PIE: crates/pie/out/pie where none is given
 needs: program, library"""
@@ -65,8 +66,8 @@ def block(kind, body):
 
 
 def pcapng(links, frames):
-    """The bytes of a pcapng file with an interface for each of these link types, in turn for frame after frame: the first of them tells times in
-    ns, the others in us."""
+    """Returns a pcapng file with one interface for each of these link types, used in turn. The first interface has
+    times in ns, the others in us."""
     out = block(0x0A0D0D0A, struct.pack("<IHHq", 0x1A2B3C4D, 1, 0, -1))
     for number, link in enumerate(links):
         option = struct.pack("<HHB3xHH", 9, 1, 9, 0, 0) if number == 0 else b""
@@ -80,7 +81,7 @@ def pcapng(links, frames):
 
 
 def comments(data):
-    """Of a pcapng file of this machine's order the frames, each with its moment, bytes and comment."""
+    """Returns the frames of a pcapng file in this machine's byte order, each with its moment, bytes and comment."""
     found, at = [], 0
     while at < len(data):
         kind, size = struct.unpack_from("=II", data, at)
@@ -113,8 +114,8 @@ class Tool:
         expect(made.returncode == 0, f"examples/replay isn't built: {made.stdout}{made.stderr}")
 
     def run(self, data, *words, filter_words=(), stdin=False):
-        """Replays the bytes of a capture, and answers the status, the lines of its history, its audit, the frames with comments, and what was
-        said."""
+        """Replays a capture. Returns the status, the lines of its history, its audit, the frames with comments, and
+        standard error."""
         for name in ("capture", "history", "commented"):
             (self.work / name).unlink(missing_ok=True)
         (self.work / "capture").write_bytes(data)
@@ -185,7 +186,7 @@ def each_kind(tool):
 
 
 def flow_number(protocol, source, destination, ports=b""):
-    """What examples/README.md says of a flow's number: MurmurHash3 (x86, 32 bits)."""
+    """Returns the number of a flow as examples/README.md defines it: MurmurHash3 (x86, 32 bits)."""
     data, value = source + destination + ports, protocol
     for word in struct.unpack(f"<{len(data) // 4}I", data):
         word = word * 0xCC9E2D51 % 2**32
@@ -198,7 +199,8 @@ def flow_number(protocol, source, destination, ports=b""):
 
 
 def one_flow(version, protocol, hosts, ports, extensions=(), fragment=None, options=0):
-    """A packet of 200 bytes, with these extension headers or as a fragment that more follow or at this offset; and the line that tells its flow."""
+    """Returns a packet of 200 bytes with these extension headers, or a fragment at this offset with or without more
+    fragments, and the line that names its flow."""
     size, head = 4 if version == 4 else 16, struct.pack(">HH", *ports)
     source, destination = (bytes([10 if size == 4 else 0xFD]) + bytes(size - 2) + bytes([host]) for host in hosts)
     if version == 4:
@@ -311,7 +313,7 @@ def broken(tool):
 
 
 def random_bytes(tool, rounds=150):
-    """Captures with some bytes changed: the program ends by itself, and what it wrote is clean."""
+    """Tries captures with changed bytes: the program must end by itself, and its output must be clean."""
     random_of = random.Random(3)
     for number in range(rounds):
         kind = random_of.choice((lambda it: pcap(ETHERNET, it), lambda it: pcapng([ETHERNET] * 2, it)))

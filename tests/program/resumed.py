@@ -1,9 +1,11 @@
 #!/usr/bin/env python3
-"""Audits texts that go on from the middle of a history: random histories, in each choice of the optional elements, resumed at places all over
-them by tests/shared/reference_resumed.py, which has the numbers from look-backs over the whole. Each is clean, with the number of the whole's last
-event. Then the same texts with a byte changed, a line left out, or two exchanged: what `pie audit` finds, and the fault that it tells, are those of
-the reference, which decides the events from the numbers alone. Each text is explained too, as CSV and summed up: its records are those of the whole
-history's explanations, number for number, after the event that it goes on from; one that doesn't tell what set the probability says so.
+"""Audits excerpts: random histories with each optional element, resumed at many places by
+tests/shared/reference_resumed.py, which computes the preamble by look-backs over the whole. Each must be clean,
+with the number of the whole's last event. Then the texts are damaged: a byte changed, a line removed, two lines
+exchanged. The finding and the fault of `pie audit` must be those of the reference, which decides the events from
+the numbers of the preamble alone. Each text is also explained, as CSV and in sums: its records must be those of the
+whole history after the preamble, number for number. If the preamble does not contain the setter of the probability,
+the records say so.
 
 usage: tests/program/resumed.py [PROGRAM [FIRST_SEED [RUNS]]]      PROGRAM: crates/pie/out/pie where none is given
 needs: program
@@ -18,14 +20,15 @@ from checks import check, finish  # noqa: E402
 from excerpts import audited, changed, explained, rows_within  # noqa: E402
 
 FIRST, RUNS = ([int(word) for word in sys.argv[2:4]] + [1, 16][len(sys.argv[2:4]) :])[:2]
-# How many events a history has at most, and how many places lie between two at which it is resumed.
+# The most events of a history, and the distance between two places at which it is resumed.
 EVENTS, STEP = 60, 7
-# The places from which a text was summed up as the whole is.
+# The places from which the sums of a text were those of the whole.
 summed = []
 
 
 def check_explanations(seed, book, n, text, is_known, whole):
-    """Whether a text that goes on after n events is explained as the whole history, of which these are the records."""
+    """Returns true if the explanation of an excerpt after n events has these records of the whole history's
+    explanation."""
     header, *records = whole
     wanted_rows = rows_within(whole, n, len(book.events), is_known)
     got = explained(text, "--all")
@@ -46,7 +49,7 @@ def check_explanations(seed, book, n, text, is_known, whole):
 
 
 def wanted(text):
-    """The same by the reference."""
+    """Returns the finding and the fault by the reference."""
     _, output, error = reference_resumed.audit(text)
     return output.strip(), error.strip().removeprefix("pie: ")
 

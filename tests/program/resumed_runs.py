@@ -1,11 +1,12 @@
 #!/usr/bin/env python3
-"""Runs traces that go on from the middle of a history: random histories, in each choice of the optional elements, resumed at places all over them by
-tests/shared/reference_resumed.py, and behind that the commands from there, without their answers. What `pie run` writes is the beginning as it was
-read, and then line for line what it writes of the whole trace from there on, with the whole's registers, statistics and number of events. Then
-other commands in place of those, parameters that are changed from there on, folds, and requests that are refused, in bounded and rolling books whose
-tail or whose limit of events is nearly full: each line is that of the look-backs of reference.py, over the history and what came after it, where the
-tail begins empty. What was written is found clean. The same commands are answered the same behind 2^32 and 2^40 events. And with a change in the
-text: its fault, and how far the history text goes.
+"""Runs traces that resume a history: random histories with each optional element, resumed at many places by
+tests/shared/reference_resumed.py, followed by the commands from there without their answers. The output of `pie
+run` must be the preamble as it was read, then line for line the output of the whole trace, with its registers,
+statistics and number of events. Then other commands follow the preamble: changed parameters, folds and refused
+commands, in bounded and rolling books whose log or limit of events is nearly full. Each line must be that of the
+look-backs of reference.py over the history and the new commands, with an empty log at the preamble; the output must
+audit clean. The same commands must have the same answers after 2^32 and 2^40 events. Last come changed texts: their
+fault, and the end of the output.
 
 usage: tests/program/resumed_runs.py [PROGRAM [FIRST_SEED [RUNS]]]      PROGRAM: crates/pie/out/pie where none is given
 needs: program
@@ -23,9 +24,9 @@ from reference_texts import Fault, answered, error_of, records, request, text_of
 from running import PROGRAM  # noqa: E402
 
 FIRST, RUNS = ([int(word) for word in sys.argv[2:4]] + [1, 16][len(sys.argv[2:4]) :])[:2]
-# How many commands a history has at most, and how many places lie between two at which it is resumed.
+# The most commands of a history, and the distance between two places at which it is resumed.
 STEPS, STEP = 60, 7
-# How many records behind the beginnings were refused, by their codes, and how many changed texts had which kind of fault.
+# The number of refused records after the preambles by code, and of changed texts by kind of fault.
 refused, faults = {}, {"beginning": 0, "later": 0, "none": 0}
 
 
@@ -37,7 +38,7 @@ def ran(rows):
 
 
 def check_clean(seed, n, text, events):
-    """Whether what a run wrote is found clean, with the number of the whole's last event."""
+    """Returns true if the output of a run is clean, with the number of the whole's last event."""
     done = subprocess.run([PROGRAM, "audit"], input=text, capture_output=True, text=True, check=False)
     check(done.stdout == f"clean,{events}\n", f"seed {seed}, resumed after event {n}: the audit of what was run says {done.stdout}{done.stderr}")
 
@@ -54,7 +55,7 @@ def counted(book, refusals):
 
 
 def check_same(seed, whole, n, of_whole):
-    """Whether the commands after n events are answered as in the run of the whole, of which these are the lines."""
+    """Returns true if the commands after n events have the answers of the whole run, given by these lines."""
     beginning = resumed_at(whole, n, n % 2 == 0)
     rows = [*beginning, *(record_of(caller, command) for caller, command, _ in whole.events[n:]), ["show"], ["tally"]]
     later = of_whole[len(of_whole) - len(rows) + len(beginning) :]
@@ -65,7 +66,8 @@ def check_same(seed, whole, n, of_whole):
 
 
 def check_far(seed, whole, n, chance):
-    """Whether commands are answered the same where many more events were before them, up to as many as a history may have."""
+    """Returns true if commands have the same answers after many more events, up to the greatest number that a
+    history may have."""
     last = len(whole.events)
     more = chance.choice((2**32 - last, 2**32 - n - 1, 2**32, 2**40 - n - 1, 2**40, 2**47 - last))
     (first, *packets) = resumed_at(whole, n, False)
@@ -81,7 +83,7 @@ def check_far(seed, whole, n, chance):
 
 
 def other_row(chance, book, tag):
-    """A record that is no command of the history, for a book that stands so: it is answered or refused."""
+    """Returns a record that is not a command of the history; a book in this state accepts or refuses it."""
     kind = chance.randrange(10)
     if kind == 0:
         return ["fold", chance.choice((0, 1, 3, book.held, book.held + 1))]
@@ -97,7 +99,8 @@ def other_row(chance, book, tag):
 
 
 def check_other(seed, whole, n, chance):
-    """Whether other commands after n events are answered as the look-backs over those events and what came after them say."""
+    """Returns true if other commands after n events have the answers of the look-backs over those events and the
+    new ones."""
     tail, is_rolling = chance.choice((1, 4, 40)), chance.randrange(3) == 0
     book = gone_on(whole, n, tail, n + chance.choice((3, 10, 1000)), is_rolling)
     beginning = resumed_at(book, n, n % 2 == 0)
@@ -137,7 +140,8 @@ def changed(rows, beginning, chance):
 
 
 def check_changed(seed, n, rows):
-    """Whether the fault of these records is the reference's, and the history text ends where it does."""
+    """Returns true if the fault of these records is the reference's, and the output ends where the reference's
+    does."""
     rows = records("".join(map(text_of, rows)))
     status, output, error = ran(rows)
     try:

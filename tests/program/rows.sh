@@ -1,9 +1,9 @@
 #!/usr/bin/env bash
-# Runs each worked trace of tests/rows, and compares its history, byte for byte, with the one beside it, which was worked out by
-# hand; and each of tests/rows/choices, one for each choice of RFC 8033's optional elements and each combination of them in both profiles, whose
-# histories are those of a reference. Where NAME.fault is beside them the run ends with that fault and status 1, and else the audit of the
-# history is clean, with as many events as it has lines that are no notes. Of a history that no run writes, tests/rows/NAME.history, the audit
-# says NAME.finding: its finding, or its fault.
+# Runs each worked trace of tests/rows and compares its history, byte for byte, with the one beside it, which was
+# computed by hand; and each of tests/rows/choices, one for each combination of RFC 8033's optional elements in both
+# profiles, with histories of a reference. If NAME.fault exists, the run must end with that fault and status 1.
+# Otherwise the audit of the history must be clean, with the number of lines that are not notes.
+# tests/rows/NAME.history is a history that no run writes; its audit must give NAME.finding, a finding or a fault.
 # usage: tests/program/rows.sh [PROGRAM]      PROGRAM: crates/pie/out/pie where none is given
 # needs: program
 . "$(dirname "$0")/../shared/script.sh"

@@ -23,7 +23,7 @@ expect 'a number that is not canonical' 1 'open,0,4,16,100\n' 'pie: record 2: no
 expect 'refusals of three kinds' 0 'open,0,4,1,100\ndepart,1,1,empty\nrefused,3,5\nrefused,4,3\nrefused,5,6\n' '' \
     'open,0,4,1,100\ndepart,1,1\ndepart,1,1\nupdate,1,1\nfold,2\n' run
 expect 'a bad parameter' 1 '' 'pie: record 1: target out of range\n' 'open,0,4,16,100,1,1,0,0,0,1,1,0,1024\n' run
-# The histories that these runs write are clean, and one in which a verdict was changed is not.
+# The histories of these runs are clean, and a history with a changed verdict is not.
 expect 'an audit' 0 'clean,11\n' '' "$history" audit
 expect 'a history without events' 0 'clean,0\n' '' 'open,0,4,16,100\n' audit
 expect 'a changed verdict' 2 'differs,10\n' '' "$changed" audit

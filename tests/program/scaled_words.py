@@ -1,7 +1,8 @@
 #!/usr/bin/env python3
-"""Holds the words of `pie explain` to the records of `pie explain --csv` for each considered arrival of the worked rows of choices/. Where sizes scale
-the probability, the words tell what it comes to: floor(probability x size / mean_pkt) for a packet below mean_pkt. They tell what was accumulated,
-with this packet's part, only where something accumulates: never with `random`. Exit status 1 if something differs.
+"""Compares the words of `pie explain` with the records of `pie explain --csv` for each considered arrival of the
+worked rows of choices/. If sizes scale the probability, the words contain the scaled value: floor(probability x
+size / mean_pkt) for a packet below mean_pkt. They contain the accumulated probability, with this packet's part,
+only if probabilities accumulate: never with `random`. The exit status is 1 if something differs.
 
 usage: tests/program/scaled_words.py [PROGRAM]      PROGRAM: crates/pie/out/pie where none is given
 needs: program
@@ -25,7 +26,8 @@ def per_cent(part):
 
 
 def hold(name, history):
-    """Of how many packets the words told what the probability comes to, and of how many what was accumulated."""
+    """The number of packets whose words contained the scaled probability, and of those with the accumulated
+    probability."""
     _, rows, _ = records(name, history)
     _, words, _ = pie(history, "--all")
     events = re.split(r"(?m)^event ", words)[1:]

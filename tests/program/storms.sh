@@ -13,7 +13,7 @@ if [ "$got" != 0 ] || [ "$(head -n 1 "$work/output")" != open,0,1024,5,5 ] || [ 
     cat "$work/output" "$work/errors"
     failed=1
 fi
-# 15 packets of 8 senders: 120 arrivals, 120 departures and 2 updates, neither of which can be too soon.
+# 15 packets of 8 senders: 120 arrivals, 120 departures and 2 updates; no update can be too soon.
 for _ in 1 2 3; do
     found=$("$program" storm --senders 8 --packets 15 | "$program" audit)
     if [ "$found" != clean,242 ]; then
@@ -21,7 +21,8 @@ for _ in 1 2 3; do
         failed=1
     fi
 done
-# 50 packets of 8 senders: 400 arrivals, 400 departures and 4 updates, of which those that come too soon are no events.
+# 50 packets of 8 senders: 400 arrivals, 400 departures and up to 4 updates; an update that is too soon is not an
+# event.
 for _ in 1 2; do
     found=$("$program" storm --senders 8 --packets 50 --seed 7 | "$program" audit)
     case $found in
@@ -46,8 +47,9 @@ for words in '--senders 2' '--packets 7' '--burst 3' '--seed 0' '--senders=2 --p
         failed=1
     fi
 done
-# Its threads run beside one another: with a hundred packets each the caller changes at least a hundred times, as --count says. It says the
-# number of events, too. (On a machine that has other work its threads may come to run one after another: such a storm is made again.)
+# The threads run concurrently: with a hundred packets each, the caller changes at least a hundred times, as --count
+# reports beside the number of events. (On a busy machine the threads may run one after another: such a storm is
+# repeated.)
 for _ in 1 2 3 4 5 6 7 8 9 10; do
     "$program" storm --senders 8 --packets 100 --count > "$work/output" 2> "$work/errors"
     events=$("$program" audit < "$work/output")
@@ -60,8 +62,8 @@ if [ "$events" != "clean,$told" ] || [ "$changes" != "$counted" ] || [ "$changes
     echo "$script: a storm and its counts: $events, $counted changes of caller, $(cat "$work/errors")"
     failed=1
 fi
-# Changes of the parameters and folds take part: seven changes, of which the first sets a reference delay of 5 ms and the second the default one,
-# and as many events as without the folds, which hand out half of them.
+# Changes of the parameters and folds take part: seven changes, the first with a reference delay of 5 ms and the
+# second with the default, and the same number of events as without folds, which remove half of them from the log.
 "$program" storm --senders 8 --packets 100 --changes 7 --folds 9 > "$work/output" 2> "$work/errors"
 got=$?
 changed=$(awk -F, '$1 == "params" { print $4 }' "$work/output" | sort | uniq -c | tr -s ' \n' ' ')
@@ -71,8 +73,9 @@ if [ "$got" != 0 ] || [ -s "$work/errors" ] || [ "$changed" != " 3 15000000 4 50
     echo "$script: a storm with changes and folds: status $got, $events, changes $changed, $(cat "$work/errors")"
     failed=1
 fi
-# At a load of 1.2 packets wait, and are dropped early. (Whether some are marked first is the machine's choice: the probability may pass the threshold
-# for marks between two updates. Where senders take turns on a busy machine no packet may be dropped early: such a storm is made again.)
+# At a load of 1.2 packets queue up, and some are dropped early. (Marks depend on the machine: the probability may
+# pass the threshold for marks between two updates. On a busy machine, if senders take turns, no packet may be
+# dropped early: such a storm is repeated.)
 for _ in 1 2 3 4 5 6 7 8 9 10; do
     "$program" storm --senders 4 --packets 2000 --load 120 > "$work/output" 2> "$work/errors"
     early=$(grep -c '^arrive,.*,early$' "$work/output")
@@ -82,9 +85,9 @@ if [ "$early" = 0 ] || [ "$("$program" audit < "$work/output" | cut -d, -f1)" !=
     echo "$script: ten storms at a load of 1.2: $early packets were dropped early, $(cat "$work/errors")"
     failed=1
 fi
-# In bursts of 32, 4008 packets of a sender are 125 bursts and one of eight. Each stands in the history with nothing of another caller
-# between, and all its packets have the moment of its last. Packets are dropped, and the caller changes, here too. (Some are dropped early in about
-# one of three such storms: a burst mostly meets the limit in bytes first.)
+# In bursts of 32, the 4008 packets of a sender are 125 bursts and one of eight. Each burst is contiguous in the
+# history, and all its packets have the moment of its last. Packets are dropped, and the caller changes, here too.
+# (About one of three such storms has early drops: a burst usually reaches the limit in bytes first.)
 for _ in 1 2 3 4 5 6 7 8 9 10; do
     "$program" storm --senders 8 --packets 4008 --burst 32 --load 120 --count > "$work/output" 2> "$work/errors"
     dropped=$(grep -c '^arrive,.*,\(early\|bytes\)$' "$work/output")

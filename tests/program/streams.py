@@ -40,8 +40,9 @@ def streams():
 
 
 def closed():
-    """A pipe that nobody reads any more: nothing is said, and the status is that of a program which SIGPIPE ended. So of each subcommand, of help, and
-    where the reader ends in the midst; but a file that -o names is no such pipe, and a fault of the text that is met before is told."""
+    """Tries a closed pipe: the program must print nothing, with the status of a program ended by SIGPIPE, for each
+    subcommand and for help, and also if the reader ends in the middle. A file of -o is no such pipe, and an earlier
+    fault in the text must be reported."""
     history = run(["run"], TRACE)[1]
     texts = {"run": (["run"], TRACE), "params": (["params"], b""), "storm": (["storm", "--packets", "1"], b""), "help": (["--help"], b""),
              "help of cut": (["cut", "--help"], b""), **{name: (words, history) for name, words in READERS.items()}}
@@ -66,7 +67,7 @@ def unread(words, given):
 
 
 def at_terminal(words, path, is_output_terminal):
-    """What is written to standard error, which is a terminal; standard output is one too, or written to nowhere."""
+    """Returns the text on standard error, which is a terminal; standard output is also a terminal, or discarded."""
     errors, error_end = pty.openpty()
     output, output_end = pty.openpty()
     with open(path, "rb") as text:
@@ -100,7 +101,7 @@ def terminals():
 
 
 def interrupted():
-    """An interrupt (Ctrl-C) leaves what has the name of -o, and what was written until then beside it."""
+    """An interrupt (Ctrl-C) must leave the file of -o unchanged, and the partial output beside it."""
     opening, moments = b"rolling,0,4,16,1099511627776\n", range(1, 100_001)
     with tempfile.TemporaryDirectory() as work:
         made = f"{work}/made"

@@ -70,7 +70,7 @@ def numbers(rows):
     arrivals = [row for row in rows if row["kind"] == "arrive"]
     waits = [int(row["waited"]) for row in rows if row["verdict"] == "left"]
     updates = [row for row in rows if row["kind"] == "update"]
-    # An active update takes the delay of its own moment, of which its record has the value before it.
+    # An active update uses the delay of its own moment; its record has the value before it.
     delays = [int(row["delay"]) for row in updates if row["active"] == "1"]
     probs = [int(row["probability_after"]) for row in rows]
     found = {"events": len(rows), "first_moment": series(moments)[0], "last_moment": series(moments)[1]}
@@ -92,8 +92,9 @@ def numbers(rows):
 
 
 def above_target(rows):
-    """How many packets that left had waited longer than the target, and how long one of these was the first in the queue: of each what it had waited
-    longer, as far back as the packet before it left, or the first event."""
+    """Returns the number of departed packets that waited longer than the target, and the time during which one of
+    these was at the head of the queue: for each packet its excess, at most back to the previous departure or the
+    first event."""
     longer = late = 0
     since = int(rows[0]["effective_moment"]) if rows else 0
     for row in rows:

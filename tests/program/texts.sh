@@ -1,6 +1,6 @@
 #!/usr/bin/env bash
-# Runs the built program on many short texts: each fault of a trace and of a history, what an audit finds, what a migration and an
-# explanation write. What is wanted was worked out by hand from docs/FORMATS.md and the rules.
+# Runs the program on many short texts: each fault of a trace and of a history, findings of audits, and the output
+# of migrations and explanations. The expected output was computed by hand from docs/FORMATS.md and the rules.
 # usage: tests/program/texts.sh [PROGRAM]      PROGRAM: crates/pie/out/pie where none is given
 # needs: program
 . "$(dirname "$0")/../shared/script.sh"
@@ -26,7 +26,7 @@ says() {
 kind='unknown kind' fields='wrong number of fields' number='not a number in range' word='unknown word'
 none='the first record is not an open record'
 
-# opening FAULT TEXT: the fault of a trace's first record, before which nothing is written; of a history it is the same
+# opening FAULT TEXT: the fault of the first record of a trace, before any output; the same for a history
 opening() {
     says 1 '' "pie: $1\n" "$2" run
     says 1 '' "pie: $1\n" "$2" audit
@@ -95,7 +95,7 @@ for it in fold,-1 fold,18446744073709551616 update,1,1.5 reset,65536,1 params,1,
     record "$number" "$it"
 done
 record "$word" arrive,1,10,7,1500,ECT0,0
-# the time of day is told in version three alone, where it is written as it was read
+# a clock record is accepted in version three only, and is written as it was read
 record "$kind" clock,1,2
 record "$kind" clock
 says 1 'open2,2,bounded,0,4,16,100\n' "pie: record 2: $kind\n" 'open2,2,bounded,0,4,16,100\nclock,1,2\n' run
@@ -232,7 +232,7 @@ changed "record 13: $fields" 13 'arrive,2,1001003'
 changed clean,13 16 'folded,18446744073709551615'
 changed differs,14 18 'depart,5,1001005,empty'
 changed "record 20: $number" 20 'refused,20,-7'
-# a fault is told where an earlier event differs as well
+# a fault is reported even if an earlier event differs
 sed -i '5s/enqueue/mark/' "$marks"
 changed "record 13: $fields" 13 'arrive,2,1001003'
 # a packet that was marked leaves as one that met congestion, whatever its arrival said

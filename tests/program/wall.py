@@ -1,10 +1,12 @@
 #!/usr/bin/env python3
-"""Holds the times of day that `pie explain --wall` tells, and those that `--from` and `--to` take, to Python's dates: of random histories of version
-three by tests/shared/reference.py, with records of the time of day at random places (none, one, or some, between which the time jumps), each record
-of `--all --csv --wall` has the time of day of its effective moment by the last such record before it, and else is the record without the option; the
-words have it in place of milliseconds, also for the last update; the events within some times of day are explained, and no others, and those are cut
-that begin and end so; and summaries have the times of day of their events. Then times at the ends of years, months and days, what lies before 1970 or past 2^64 - 1 ns, texts that are no
-times of day, and what doesn't go together. Exit status 1 where something differs.
+"""Compares the times of `pie explain --wall`, and those that `--from` and `--to` accept, with Python's dates. The
+inputs are random histories of version three by tests/shared/reference.py with clock records at random places: none,
+one, or several with jumps between them. Each record of `--all --csv --wall` must have the wall-clock time of its
+effective moment by the last clock record before it, and otherwise be the record without the option. The words must
+have the time in place of milliseconds, also for the last update. Exactly the events between two times must be
+explained and cut, and summaries must have the times of their events. Then the script tries times at the ends of
+years, months and days, times before 1970 or past 2^64 - 1 ns, invalid times, and invalid combinations. The exit
+status is 1 if something differs.
 
 usage: tests/program/wall.py [PROGRAM [FIRST_SEED [RUNS [STEPS]]]]      PROGRAM: crates/pie/out/pie where none is given
 needs: program
@@ -27,7 +29,7 @@ OPENING = "open3,1,stamp,derandomized,capped,unscaled,rolling,0,4,16,1000\n"
 
 
 def utc(unix, places=9):
-    """A time of day as Python has it, with so many decimals of a second."""
+    """Returns a time as Python writes it, with this number of decimals of a second."""
     date = EPOCH + timedelta(seconds=unix // SECOND)
     decimals = f".{unix % SECOND:09}"[: places + 1] if places else ""
     return f"{date:%Y-%m-%dT%H:%M:%S}{decimals}Z"
@@ -66,7 +68,7 @@ def hold_records(name, history, clocks):
 
 
 def hold_words(name, history, clocks):
-    """The words of --wall are those without it, but for moments."""
+    """Checks that the words with --wall differ from those without it in the moments only."""
     status, plain, _ = pie(history, "--all")
     wanted, number = [], 0
     for line in plain.splitlines(keepends=True):
@@ -124,7 +126,7 @@ def hold_cut(name, history, lines, times, words):
 
 
 def told(times, spaces):
-    """What a summary says in words of these times of day, and nothing where none is known."""
+    """Returns the words of a summary for these times, or nothing if no time is known."""
     known = [utc(time) for time in times if time is not None]
     return [f"{spaces}by the time of day from {known[0]} to {known[-1]}\n"] if known else []
 

@@ -1,8 +1,9 @@
 #!/usr/bin/env python3
-"""Holds the Grafana dashboard (report/grafana.json) to what it is made of, since Debian has no Grafana to draw it: panels have ids of their own, places
-that don't overlap and fill whole rows, units that fit their queries, and queries whose metrics the C code (examples/shared/metrics.c) or report/pie-metrics
-writes, with both labels, and a rate of each counter and of nothing else. Each metric is shown but those of trouble. The names of the C code and of
-pie-metrics are the same but for those that only one of them can know. promtool, where it is, parses each query.
+"""Checks the Grafana dashboard (report/grafana.json), because Debian has no Grafana to draw it: panels have unique
+ids, places that do not overlap and fill whole rows, units that fit their queries, and queries whose metrics the C
+code (examples/shared/metrics.c) or report/pie-metrics writes, with both labels, and a rate for each counter and for
+nothing else. Each metric except those of errors has a panel. The C code and pie-metrics have the same names, except
+those that only one of them can know. promtool, if it is installed, parses each query.
 
 usage: tests/report/dashboard.py
 needs: nothing

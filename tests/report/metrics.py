@@ -1,10 +1,12 @@
 #!/usr/bin/env python3
-"""Metrics (report/pie-metrics, examples/shared/metrics.c). The counters of pie-metrics are those of `pie explain --summary`, to the number: of the
-records of examples/, of records that a writer goes on with, that begin anew, or that are written again, and of what a flight recorder wrote. With
---state none falls and no period is lost, and a recorder that was opened anew is told from the old one; the file goes when its writer ended or fell
-silent, and at whatever FILE or options hold. Then the link of examples/link, by an overload of UDP
-in a namespace of its own: its metrics, its history and its flight recorder's memory tell the same numbers, its file goes at each signal, and what
-it writes has the names of pie-metrics. promtool, where it is, says nothing of any of it.
+"""Tests metrics (report/pie-metrics, examples/shared/metrics.c). The counters of pie-metrics must be exactly those
+of `pie explain --summary`: for the records of examples/, for records whose writer continues, restarts or rewrites
+them, and for the text of a flight recorder. With --state no counter may fall, no interval may be lost, and a
+reopened recorder must be distinguished from the old one. The metrics file must go when its writer ended or fell
+silent, whatever FILE or options contain. Then the link of examples/link runs under a UDP overload in a namespace of
+its own: its metrics, its history and its flight recorder must have the same numbers, its metrics file must go at
+each signal, and its metrics must have the names of pie-metrics. promtool, if it is installed, must accept all of
+them.
 
 usage: tests/report/metrics.py [PROGRAM]      PROGRAM: crates/pie/out/pie where none is named
 needs: program, library, root
@@ -147,8 +149,8 @@ def sums(*rows):
 
 
 def goes_on(folder):
-    """A writer that goes on, in pieces of several periods and in the middle of a record; then others begin anew, the last with the same file's name
-    for a history that grew within its last period."""
+    """Tries a writer that continues, in pieces of several intervals and in the middle of a record; then others that
+    restart, the last with the same file name for a history that grew within its last interval."""
     watched = Watched(folder, "goes-on")
     overload, marks = ROOT / "examples/overload.history", ROOT / "examples/marks.history"
     head, rows = periods_of(overload)
@@ -181,7 +183,7 @@ def goes_on(folder):
 
 
 def is_gone(what, watched, status, said, *words):
-    """A look after which there is no file, and which says why."""
+    """Checks that there is no metrics file after this run, and that the run reports why."""
     got, _, errors = metrics(watched.records, "-o", watched.output, *words)
     check(got == status and said in errors and not watched.output.exists(), f"{what}: {got}, {errors}, {watched.output.exists()}")
 
@@ -244,7 +246,7 @@ def ends(folder):
 
 
 def without(name):
-    """What leaves a column out of records, whose header it sees first."""
+    """Returns a filter that removes a column from records, whose header it receives first."""
     at = []
 
     def line_without(line):
@@ -285,7 +287,7 @@ def of_flights(folder):
     def delay_of(last):
         return next(it for it in reversed(delays[:last]) if it is not None)
 
-    # (the last event before this one at which the delay is not that of the last update)
+    # (the last event before this one after which the delay differs from the last update's)
     ends = {end: max(it for it in range(100, end + 1) if delay_of(it) != rows[it - 1]["delay_after"]) for end in (500, 700)}
     for first, last in ((200, ends[500]), (300, ends[500]), (450, ends[700]), (800, len(rows)), (800, len(rows))):
         text, part = Path(folder, "flight.text"), Path(folder, "flight.history")
@@ -330,7 +332,8 @@ def of_flights(folder):
 
 
 def recorded(folder, name, opening, packets, last, size=500):
-    """What a flight recorder keeps of a history of so many packets, each of which leaves 1 ms after it came: its last events, and the history."""
+    """Returns the events that a flight recorder keeps of a history of this many packets, each of which departs 1 ms
+    after its arrival: its last events, and the history."""
     trace, path, text = (Path(folder, f"{name}.{ending}") for ending in ("trace", "history", "text"))
     lines = [f"arrive,1,{at * 2000000},{at},{size},not,0\ndepart,2,{at * 2000000 + 1000000}\n" for at in range(1, packets + 1)]
     trace.write_text("".join([f"open3,1,rate,derandomized,capped,unscaled,rolling,{opening},64,32,100000\n", *lines]))
@@ -340,8 +343,9 @@ def recorded(folder, name, opening, packets, last, size=500):
 
 
 def of_opened_anew(folder):
-    """A recorder that was opened anew and went on longer than the old one, whose last event is overwritten: it is told from the old one by its opening,
-    its moment or any statistic that is less. And what a text tells has each bound of a histogram from the beginning on."""
+    """Tries a recorder that was reopened and ran longer than the old one, whose last event is overwritten: it is
+    distinguished from the old one by its opening, its moment or a statistic that is less. The text must have each
+    bound of a histogram from the beginning."""
     fields = [name for name in COUNTERS if name != "arrived_bytes"]
     for name, old, new in (("another moment", (0, 100, 40, 500), (5, 300, 40, 500)), ("fewer bytes", (0, 100, 40, 1000), (0, 150, 40, 500)),
                            ("a smaller queue", (0, 100, 40, 501), (0, 300, 40, 500)), ("other events", (0, 100, 40, 500), (0, 101, 202, 501))):
@@ -458,7 +462,7 @@ def of_signals(folder):
 
 
 def missing():
-    """What the link lacks here."""
+    """Returns the programs of the link that are missing."""
     for program_of, why in (("cc", "a C compiler"), ("make", "make"), ("ip", "ip"), ("unshare", "unshare")):
         if shutil.which(program_of) is None:
             return why

@@ -1,11 +1,13 @@
 #!/usr/bin/env python3
-"""Reports of histories (report/pie-report). Of each page what stands in it is what `pie explain` says, and the policy in its head fits its script and
-style; by --flows whose packets they were is what `pie explain --flows` says; of a history that differs or has a fault the page says so; hostile texts
-stay text; and FILE is written as `pie -o` writes it.
+"""Tests reports of histories (report/pie-report). The content of each page must be that of `pie explain`, and the
+policy in its head must fit its script and style. With --flows the flows must be those of `pie explain --flows`. The
+page of a history that differs or has a fault must say so. Hostile texts must stay text. FILE must be written as
+`pie -o` writes it.
 
-Then Debian's Chromium opens pages of examples/, of a part of one, and of damaged ones: nothing on its console, the numbers that are seen are those of
-`pie explain --summary`, a zoom, a click, a search and keys do what they say, no picture is blank, and windows of any width hold it, the greatest numbers
-too. The axes tell times of day if the history does, and else moments in a unit that fits, of nothing and of 36 years.
+Then Debian's Chromium opens pages of examples/, of an excerpt, and of damaged histories: its console must be empty,
+the visible numbers must be those of `pie explain --summary`, zoom, click, search and keys must work, no picture may
+be blank, and windows of any width must fit, also with the greatest numbers. The axes must have wall-clock times if
+the history has them, and otherwise moments in a suitable unit, for no time and for 36 years.
 
 usage: tests/report/report.py [PROGRAM [PICTURES]]      PROGRAM: crates/pie/out/pie where none is named; PICTURES: a folder for the pictures
 needs: program
@@ -48,7 +50,7 @@ def table(text):
 
 
 def inside(page):
-    """What a page holds: its data, its script and style, and its policy."""
+    """Returns the parts of a page: its data, its script and style, and its policy."""
     data = json.loads(re.search(r'<script type="application/json" id="data">(.*?)</script>', page, re.S)[1])
     script = re.search(r"<script>(.*?)</script>", page, re.S)[1]
     style = re.search(r"<style>(.*?)</style>", page, re.S)[1]
@@ -60,7 +62,7 @@ def hash_of(text):
 
 
 def hold_data(name, page, path, *words):
-    """Holds what stands in a page to what `pie explain` says."""
+    """Compares the content of a page with `pie explain`."""
     data, script, style, policy = inside(page)
     check(f"default-src 'none'; script-src {hash_of(script)}; style-src {hash_of(style)};" in policy, f"{name}: the policy is {policy}")
     check(page.count("<script") == 2 and page.isascii(), f"{name}: more scripts than two, or letters that are not ASCII")
@@ -83,7 +85,7 @@ def hold_data(name, page, path, *words):
 
 
 def broken(folder):
-    """Histories that are not sound: name, path, status, and what is said of it."""
+    """Histories with an error: name, path, status, and the message."""
     lines = (ROOT / "examples/overload.history").read_text().splitlines(keepends=True)
     at = next(place for place in range(600, len(lines)) if lines[place].endswith(",enqueue\n"))
     texts = {
@@ -116,7 +118,7 @@ def unusual(folder):
 
 
 def pages(folder):
-    """Makes the pages, and holds what stands in them: name, history, page, status, words."""
+    """Makes the pages and checks their content: name, history, page, status, words."""
     examples = [(path.stem, path, 0, "", ()) for path in sorted((ROOT / "examples").glob("*.history"))]
     part = ("part", ROOT / "examples/overload.history", 0, "", ("--from", "300ms", "--to", "0.5s"))
     cut = cut_out(folder)
@@ -134,7 +136,7 @@ def pages(folder):
 
 
 def cut_out(folder):
-    """A part of a history that stands on its own, where the program has a command for it."""
+    """Returns an excerpt of a history, if the program has a command for it."""
     path = Path(folder, "cut.history")
     words = ["cut", ROOT / "examples/overload.history", "--from", "300ms", "--to", "600ms", "-o", path]
     done = subprocess.run([PROGRAM, *words], capture_output=True, check=False)
@@ -255,7 +257,7 @@ def files(folder):
 # ----- In the browser
 
 def browser():
-    """Chromium without a window, or nothing, and then it is told what is missing."""
+    """Returns Chromium without a window, or prints the missing program and returns nothing."""
     try:
         from selenium import webdriver
         from selenium.webdriver.chrome.service import Service
@@ -287,7 +289,8 @@ def share(part, whole):
 
 
 def close(text, value):
-    """Whether a text with three digits behind the point is this number of nanoseconds in ms, however its last digit was rounded."""
+    """Returns true if a text with three decimals is this number of nanoseconds in ms, with any rounding of its last
+    digit."""
     return abs(float(number(text.removesuffix(" ms"))) - int(value) / 1e6) < 0.000501
 
 
@@ -448,7 +451,7 @@ def hold_axes(driver, pages_of):
         page.run("view = arguments[0]; redraw()", list(view))
         found = page.run(labels)
         page.says(len(found) > 2 and all(re.fullmatch(each, it) for it in found), f"times of {view}: {found}")
-    # a time of day stands where its moment is
+    # a wall-clock time is at the place of its moment
     places = page.run("view = [...WHOLE]; redraw(); return [...document.querySelectorAll('svg text.time')].map((it) =>"
                       " [it.textContent, Math.round(timeAt(Number(it.getAttribute('x'))) / 1e6)])")
     page.says(all(abs(round(1000 * float(text[6:])) - at) <= 1 for text, at in places), f"places {places}")

@@ -1,5 +1,5 @@
-"""What scripts in Python share: ROOT is the repository, NAME the script's name. `check` tells each failure, and `finish` how many there were;
-`expect` ends at the first."""
+"""Shared by the Python scripts: ROOT is the repository, NAME the script's name. `check` prints each failure, and
+`finish` their number; `expect` ends the script at the first failure."""
 import os
 import shutil
 import subprocess
@@ -14,12 +14,13 @@ failures = []
 
 
 def program():
-    """The program that is tested: the first word of the command line, and else the one that the repository built."""
+    """Returns the program under test: the first argument, or the program that the repository built."""
     return str(Path(sys.argv[1] if sys.argv[1:] else ROOT / "crates/pie/out/pie").resolve())
 
 
 def refusing(folder, what):
-    """refuse.c, compiled in this folder; without a compiler nothing, and it is told that no request for these was refused."""
+    """Compiles refuse.c in this folder. Without a compiler returns nothing and prints that no request failed for
+    these."""
     compiler = shutil.which(os.environ.get("CC", "cc"))
     if not compiler:
         print(f"NOT RUN: {NAME}: no C compiler here, so no request for {what} was refused")

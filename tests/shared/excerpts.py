@@ -1,5 +1,5 @@
-"""What scripts share over texts that go on from the middle of a history: audits of many texts in one run, explanations beside the whole's, the
-texts of segments, texts with a change, and records of parameters out of their ranges."""
+"""Shared by scripts over excerpts: audits of many texts in one run, explanations compared with the whole's,
+segments, texts with a change, and records of parameters out of their ranges."""
 import subprocess
 import tempfile
 from pathlib import Path
@@ -8,7 +8,8 @@ from running import PROGRAM, run
 
 
 def audited(texts, *words):
-    """The status of one run of `pie audit` over files, and what it finds of each of these texts and tells of it on standard error."""
+    """Returns the status of one run of `pie audit` over files, and the finding and the error of each of these
+    texts."""
     with tempfile.TemporaryDirectory() as folder:
         for place, text in enumerate(texts):
             (Path(folder) / str(place)).write_bytes(text.encode())
@@ -20,14 +21,15 @@ def audited(texts, *words):
 
 
 def explained(text, *words):
-    """The status of `pie explain` of a text as CSV, and the records that it writes, of which the first is the header."""
+    """Returns the status of `pie explain --csv` for a text, and its records, the first of which is the header."""
     status, output, _ = run(["explain", *words, "--csv"], text.encode())
     return status, [line.split(",") for line in output.decode().splitlines()]
 
 
 def rows_within(whole, before, last, is_known=True):
-    """Of the records of a whole history's explanations those that an excerpt has which goes on after so many events, up to the event with this
-    number, below the header; where the excerpt doesn't tell what set the probability, that field is empty until an event of its own has."""
+    """Returns the records of a whole history's explanations that belong to an excerpt after this many events, up to
+    the event with this number, without the header. If the excerpt does not contain the setter of the probability,
+    that field is empty until an event of the excerpt sets it."""
     header, *records = whole
     setter = header.index("set_by")
     rows = [header]
@@ -68,7 +70,8 @@ def changed(text, chance):
 
 
 def bad_params(moment, chance):
-    """The record of a change at this moment to parameters of which one is out of its range: it reads well, as an event that differs."""
+    """Returns a record that changes a parameter to a value out of its range at this moment: it can be read, and is
+    an event that differs."""
     params = [15_000_000, 15_000_000, 150_000_000, 125, 1250, 1024, 262_144, 10**11, 16_384]
     place, wrong = chance.choice([(0, 1), (1, 0), (2, 10**12 + 1), (3, 10**6 + 1), (5, 0), (6, 2**30 + 1), (7, 2**64 - 1), (8, 1000)])
     params[place] = wrong

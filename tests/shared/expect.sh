@@ -1,5 +1,5 @@
-# What scripts share that run the built program on texts, beside what script.sh has: each reads it by `.`. Then come the texts that more than one
-# of them has.
+# Shared by scripts that run the program on texts; source it. It contains script.sh, and texts that several scripts
+# use.
 . "$(dirname "${BASH_SOURCE[0]}")/script.sh"
 
 # expect NAME STATUS OUTPUT ERRORS INPUT WORDS..: texts as printf reads them
@@ -49,10 +49,10 @@ arrive,2,1001003,6,500,not,0,early
 shown,11,1001003,3,2548,903954174169,2000000,0,0,1001002,1000000,1
 tallied,6,4,1,1,0,0,2,2048,0,3,0,0,4096,2000000,1002000
 '
-# .. in which a verdict was changed, and what is said of that
+# this history with a changed verdict, and the error that reports it
 changed=${history/ect0,0,mark/ect0,0,early}
 differs='pie: event 10 is not what the rules give there, so it and later events are not explained\n'
-# What an explanation of it writes: the header, the packet that was lost, the first event
+# The output of an explanation of this history: the header, the lost packet, the first event
 header='number,kind,caller,moment,effective_moment,tag,size,verdict,cause,bytes,packets,delay,probability,accumulated_probability,burst_allowance'
 header="$header,ecn,word,waited,active,set_by,bytes_after,packets_after,delay_after,probability_after,accumulated_probability_after"
 header="$header,burst_allowance_after,active_after\\n"

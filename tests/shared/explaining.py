@@ -1,6 +1,7 @@
-"""What the scripts over `pie explain` share: histories, their records by `--all --csv`, and moments between which to choose.
+"""Shared by the scripts over `pie explain`: histories, their records by `--all --csv`, and moments for --from and
+--to.
 
-Words of the command line: [PROGRAM [FIRST_SEED [RUNS [STEPS]]]]"""
+Command line: [PROGRAM [FIRST_SEED [RUNS [STEPS]]]]"""
 import csv
 import io
 import random
@@ -22,7 +23,7 @@ def pie(history, *words):
 
 
 def histories():
-    """The name and the text of each history of examples/, and of so many random ones by reference.py."""
+    """Returns the name and the text of each history of examples/, and of this many random ones by reference.py."""
     for path in sorted((ROOT / "examples").glob("*.history")):
         yield path.stem, path.read_text()
     with tempfile.TemporaryDirectory() as work:

@@ -1,6 +1,7 @@
-# What the tests of include/pie_flight.h and include/pie_follow.h share, for bash's `.`: of NAME, whose test is tests/libraries/NAME.c, `header_test
-# NAME ARGUMENT..` builds the test as C11, C++11 and C++17 with warnings as errors, and with the sanitizers, and runs each in a folder of its own,
-# `$work`. It works at the top of the repository, and sets `$failed` where something fails.
+# Shared by the tests of include/pie_flight.h and include/pie_follow.h; source it in bash. `header_test NAME
+# ARGUMENT..` builds tests/libraries/NAME.c as C11, C++11 and C++17 with warnings as errors, and with the
+# sanitizers, and runs each program in a folder of its own below `$work`. It runs at the top of the repository, and
+# sets `$failed` if something fails.
 cd "$(dirname "$0")/../.."
 cc=${CC:-cc}
 cxx=${CXX:-c++}

@@ -1,5 +1,6 @@
-# What the install scripts of adapters and measures share; each reads this file by `.`, and says in its head, on a line `for:`, what its packages
-# are for. With --missing as its only word a script names the packages that this machine lacks, and installs nothing.
+# Shared by the install scripts of adapters and measures. Each sources this file and describes the purpose of its
+# packages in its head, on a line `for:`. With --missing as its only argument a script prints the missing packages
+# and installs nothing.
 set -eu
 script=$(cd "$(dirname "$0")" && pwd)/$(basename "$0")
 mode=${1-}

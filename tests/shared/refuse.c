@@ -1,10 +1,11 @@
-/* Loaded before a program (LD_PRELOAD), refuses one of its requests: the n-th for memory (REFUSE_MEMORY=n), the n-th read of standard
- * input or of a file (REFUSE_READ=n), the n-th write of standard output (REFUSE_WRITE=n), the n-th start of a thread (REFUSE_THREAD=n), or
- * the n-th request of those that make, write, move and remove a file (REFUSE_FILE=n). With REFUSE_ON=1 those after it are refused as well.
- * REFUSE_OVER=n refuses each request for more than n bytes of memory. With REFUSE_STEP=n each read and each write moves n bytes at the most.
- * A request that was refused makes the file that REFUSE_MET names. Where REFUSE_AFTER names a line that the program writes, only the
- * requests from that line to the next one are counted. With REFUSE_ALONE it is said on standard error if another thread is still running
- * when the program writes. */
+/* A library for LD_PRELOAD that makes one request of a program fail: the n-th allocation (REFUSE_MEMORY=n), the
+ * n-th read of standard input or of a file (REFUSE_READ=n), the n-th write of standard output (REFUSE_WRITE=n), the
+ * n-th start of a thread (REFUSE_THREAD=n), or the n-th request that creates, writes, renames or removes a file
+ * (REFUSE_FILE=n). With REFUSE_ON=1 all later requests of that kind fail too. REFUSE_OVER=n makes each allocation
+ * of more than n bytes fail. With REFUSE_STEP=n each read and each write transfers at most n bytes, and with
+ * REFUSE_FIRST=n the first read of standard input does. A failed request creates the file REFUSE_MET. If
+ * REFUSE_AFTER is a line that the program writes, only the requests from that line to the next one are counted.
+ * With REFUSE_ALONE standard error reports whether another thread is still running when the program writes. */
 #define _GNU_SOURCE
 #include <dlfcn.h>
 #include <errno.h>
@@ -23,10 +24,10 @@ extern void *__libc_realloc(void *, size_t);
 
 static atomic_long asked[5];
 
-/* Whether the line that REFUSE_AFTER names was the last that was written. */
+/* Returns true if the last line written was that of REFUSE_AFTER. */
 static atomic_int is_between;
 
-/* Whether a request is counted now, and the number that the variable names. */
+/* Returns true if a request is counted now, and the number in the variable. */
 static int is_counted(const char *variable, long *number) {
     const char *text = getenv(variable);
     if (!text || !getenv("REFUSE_MET") || (getenv("REFUSE_AFTER") && !atomic_load(&is_between)))
@@ -43,7 +44,7 @@ static int refuse(void) {
     return 1;
 }
 
-/* Whether this request, of the kind that the variable names, is one to refuse. */
+/* Returns true if this request, of the variable's kind, is to fail. */
 static int is_refused(int kind, const char *variable) {
     long place;
     if (!is_counted(variable, &place))
@@ -52,7 +53,7 @@ static int is_refused(int kind, const char *variable) {
     return (now == place || (getenv("REFUSE_ON") && now > place)) && refuse();
 }
 
-/* Whether a request for so many bytes of memory is one to refuse. */
+/* Returns true if a request for this many bytes of memory is to fail. */
 static int is_memory_refused(size_t size) {
     long most;
     if (is_counted("REFUSE_OVER", &most) && size > (size_t)most)
@@ -96,11 +97,15 @@ void *realloc(void *old, size_t size) {
     return __libc_realloc(old, size);
 }
 
-/* How many of so many bytes one request moves. */
-static size_t step(size_t size) {
-    const char *text = getenv("REFUSE_STEP");
+/* Returns the number of bytes, at most `size`, that one request moves by this variable. */
+static size_t step_by(const char *variable, size_t size) {
+    const char *text = getenv(variable);
     size_t most = text ? (size_t)atol(text) : size;
     return size < most ? size : most;
+}
+
+static size_t step(size_t size) {
+    return step_by("REFUSE_STEP", size);
 }
 
 ssize_t read(int file, void *to, size_t size) {
@@ -108,7 +113,9 @@ ssize_t read(int file, void *to, size_t size) {
         errno = EIO;
         return -1;
     }
-    return syscall(SYS_read, file, to, step(size));
+    static atomic_int has_begun;
+    int is_first = file == 0 && !atomic_exchange(&has_begun, 1);
+    return syscall(SYS_read, file, to, is_first ? step_by("REFUSE_FIRST", step(size)) : step(size));
 }
 
 ssize_t write(int file, const void *from, size_t size) {

@@ -1,16 +1,17 @@
-"""What the scripts have in common that refuse a program its requests, one after another (refuse.c)."""
+"""Shared by the scripts that make requests of a program fail one after another (refuse.c)."""
 import os
 
 from running import run
 
-# Of the requests one alone is refused, or all from there on.
+# One request alone fails, or all from there on.
 ONCE_AND_ON = [{}, {"REFUSE_ON": "1"}]
-# How many bytes a read or a write moves at the most, where each is to move few.
+# The most bytes of a read or a write, if each is to transfer few.
 STEP = 7
 
 
 def in_turn(library, met, words, given, variable, on, **more):
-    """What the program answers with its first such request refused, with its second, and so on, and whether it made it; the last time it did not."""
+    """Returns the program's answer with its first such request failing, with its second, and so on, and whether it
+    made the request; the last time it did not."""
     for place in range(1, 10_000):
         if os.path.exists(met):
             os.remove(met)

@@ -1,4 +1,4 @@
-"""What scripts share that run the built program on a text, or by a line of bash."""
+"""Shared by scripts that run the program on a text, or by a line of bash."""
 import os
 import re
 import select
@@ -9,7 +9,8 @@ from checks import check, program
 
 PROGRAM = program()
 PATIENCE = 600  # seconds after which a program hangs, on however slow a machine
-# The commands that read a history, each with words by which it reads all of one. A command that is not here and by its help reads one is a failure.
+# The commands that read a history, each with options by which it reads all of it. A command that reads one
+# according to its help but is not listed here is a failure.
 READERS = {"audit": ["audit"], "explain": ["explain", "--all"], "summary": ["explain", "--summary", "--every", "100us"], "cut": ["cut", "--from", "0"],
            "migrate": ["migrate"]}
 READ, WRITE, MEMORY = b"pie: cannot read the input\n", b"pie: cannot write the output\n", b"pie: out of memory\n"

@@ -1,6 +1,6 @@
-# What scripts in bash share: each reads this file by `.`. It leaves $top, the repository; $here, the script's own folder; $script, its name;
-# $program, the first word of the command line, and else the program that the repository built; $failed; and $work, a folder that is removed at
-# the end.
+# Shared by the bash scripts; source it. It sets $top, the repository; $here, the script's folder; $script, its
+# name; $program, the first argument or the program that the repository built; $failed; and $work, a folder that is
+# removed at the end.
 set -u
 here=$(cd "$(dirname "$0")" && pwd)
 top=$(cd "$here/../.." && pwd)
@@ -10,7 +10,7 @@ work=$(mktemp -d)
 trap 'rm -rf "$work"' EXIT
 failed=0
 
-# fail WORDS..: tells what is wrong, and goes on
+# fail WORDS..: prints an error, and continues
 fail() {
     echo "$script: $*"
     failed=1

@@ -1,7 +1,7 @@
-# What scripts share whose packets go through the link in user space (examples/link); read by `.` behind script.sh, with the names of further
-# commands that the script takes. It leaves $link, that folder, with its programs built, and what measure.sh there has. Without root or /dev/net/tun
-# the whole script runs in a Linux in a process, bench/uml; where this machine lacks something that it takes, it ends with a line that begins with
-# NOT RUN.
+# Shared by scripts that send packets through the link in user space (examples/link). Source it after script.sh,
+# with the names of further commands that the script needs. It sets $link, that folder with its programs built, and
+# the functions of its measure.sh. Without root or /dev/net/tun the whole script runs in user-mode Linux, bench/uml.
+# If a program is missing, the script ends with a line NOT RUN.
 link=$top/examples/link
 inside=()
 if ! missing=$("$link/missing.sh"); then

@@ -1,6 +1,6 @@
-/* Loops over the calls of pie.h for whoever has many events in an array, as bindings/python has in numpy's. They decide nothing of their own: each
- * event is one call of the library. They are tested, not proved, and take no memory. Their callers hand in what the comments say; nothing is checked
- * but what the library checks. */
+/* Loops over the calls of pie.h for arrays of events, such as numpy's in bindings/python. They decide nothing
+ * themselves: each event is one call of the library. They are tested, not proved, and allocate no memory. The
+ * library checks the arguments of events; other requirements in the comments below are not checked. */
 #ifndef PIE_ARRAYS_H
 #define PIE_ARRAYS_H
 
@@ -49,16 +49,17 @@ struct pie_array_queue {
  * that is refused, or with `keeps_refused` passes on. Answers how many events it decided or passed. */
 size_t pie_array_decide(struct pie_state *state, struct pie_array_queue *queue, struct pie_event *events, size_t count, uint32_t keeps_refused);
 
-/* Offers arrivals to the queue at their moments, in the order of the array. The link takes the oldest packet as soon as it is free, and sends it at
- * `rate`; an update is made at pie_due. Of what comes at one moment a departure is first, then an update, then an arrival. After the last arrival
- * it goes on to the moment `until`. Departures have the caller 2, updates 3. Answers how many events it wrote to `out`; where one was refused
- * that one lies behind them. */
+/* Passes arrivals to the queue at their moments, in the order of the array. The link takes the oldest packet as
+ * soon as it is free, and sends it at `rate`; updates are made at pie_due. At one moment a departure is first, then
+ * an update, then an arrival. After the last arrival the link continues to the moment `until`. Departures have the
+ * caller 2, updates 3. Returns the number of events written to `out`; an event with an error follows them. */
 size_t pie_array_offer(struct pie_state *state, struct pie_array_queue *queue, const struct pie_event *arrivals, size_t count, uint64_t until,
                        struct pie_event *out, size_t room);
 
-/* Writes the records of events, one after another, while PIE_RECORD_ROOM bytes are left of `room`; of one that was refused that it was, where
- * histories know the refusal. `records` is how many records there are, and goes on; `untold` how many refusals were left out. It ends at new
- * parameters, and at what is no event. Answers how many events it passed; `length` is how many bytes it wrote. */
+/* Writes the records of events, one after another, while PIE_RECORD_ROOM bytes are left of `room`; for a refused
+ * event a `refused` record, if histories contain its error. `records` is the number of records, and is advanced;
+ * `untold` is the number of omitted refusals. Stops at new parameters and at an invalid event. Returns the number
+ * of events written; `length` receives the number of bytes. */
 size_t pie_array_write(const struct pie_event *events, size_t count, uint64_t *records, uint64_t *untold, unsigned char *out, size_t room,
                        size_t *length);
 

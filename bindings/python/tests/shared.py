@@ -1,4 +1,4 @@
-"""What the tests share: where things are, and worked traces run through a `Queue`."""
+"""Shared by the tests: paths, and worked traces run through a `Queue`."""
 import csv
 import io
 import os
@@ -26,13 +26,14 @@ def records(place):
 
 
 def told(text):
-    """Of a history's records its events, and the codes of its refusals that a controller makes: those of a full log are the book's."""
+    """Returns the events of a history's records, and the codes of refusals by the controller; the book makes those
+    of a full log."""
     every = list(csv.reader(text.splitlines()))
     return [it if it[0] in EVENT_KINDS else it[2] for it in every if it[0] in EVENT_KINDS or it[0] == "refused" and it[2] in "1237"]
 
 
 def step(queue, record):
-    """One record of a trace by its call. What is refused is in the history."""
+    """Makes the call of one trace record. A refusal is in the history."""
     kind, caller, moment, *rest = record
     words = {"moment": int(moment), "caller": int(caller)}
     try:

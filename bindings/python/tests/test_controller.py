@@ -1,4 +1,5 @@
-"""The calls for a queue of one's own: worked rows, refusals with the library's texts, bad values, and what a recorder writes."""
+"""Tests of the calls for a queue that the caller owns: worked rows, errors with the library's descriptions, bad
+values, and the output of a recorder."""
 import io
 
 import pytest

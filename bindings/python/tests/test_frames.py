@@ -19,7 +19,7 @@ def printed(history, *options):
 
 
 def same(frame, rows):
-    """Whether a frame has these rows, each field as it was printed."""
+    """Checks that a frame has these rows, each field as it was printed."""
     assert list(frame.columns) == list(rows[0]) and len(frame) == len(rows)
     for name in frame:
         assert ["" if pd.isna(it) else str(it) for it in frame[name]] == [row[name] for row in rows], name

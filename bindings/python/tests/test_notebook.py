@@ -22,7 +22,7 @@ def test_the_notebook(tmp_path, monkeypatch):
     assert list(told) == re.findall(r'name: "([^"]*)"', (ROOT / "report/page.js").read_text().split("Queueing delay and waits")[1].split("title:")[0])
     rows = jb.explain(found["history"], "--every", found["period"], pie=PIE)
     left = rows[rows.left > 0]
-    assert np.allclose(told["mean wait of packets that left"].get_ydata(), left.mean_wait / 1e6)
+    assert np.allclose(told["mean wait of departed packets"].get_ydata(), left.mean_wait / 1e6)
     assert np.allclose(told["target"].get_ydata(), rows.last_target / 1e6) and len(left) > 50
     assert chart.get_title() in (ROOT / "report/page.js").read_text()
     assert jb.audit(found["history"], PIE).is_clean

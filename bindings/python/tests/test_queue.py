@@ -25,7 +25,7 @@ def overload(count, rate, load=1.2, seed=5):
 
 
 def by_single_calls(opening, moments, sizes, ecn, words, rate, until, history):
-    """The same link, packet by packet, over a controller for a queue of one's own."""
+    """Runs the link packet by packet, over a controller for a queue that the test owns."""
     pie, waiting, queued, taken, free, rest = jb.Controller(opening, history), deque(), 0, 0, 0, 0
     while True:
         end = moments[taken] if taken < len(moments) else until
@@ -213,7 +213,7 @@ def test_far_moments_end_at_once():
         with pytest.raises(ValueError, match="updates come due"):
             queue.offer(moments, 1500, "10mbit", until=until)
     assert queue.state == before and queue.packets == 0
-    # one that is opened there goes on
+    # a queue that is opened there continues
     late = Queue(Opening.for_rate("10mbit", moment=2**60 - 2))
     assert list(late.offer([2**60 - 1], 1500, "10mbit")["moment"]) == [2**60 - 1]
     with pytest.raises(jb.Refused, match="arrival 1"):

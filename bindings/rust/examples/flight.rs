@@ -86,7 +86,7 @@ fn keep(file: &str) -> Result<Infallible, Box<dyn Error>> {
     Err("the tags ran out".into())
 }
 
-/// Writes the text of what is kept while the queue works. A text that is there is whole.
+/// Writes the text while the queue works. A text file is complete when it has its name.
 fn write_now_and_then(memory: &[AtomicU64], history: &str) {
     let (mut scratch, new) = (Vec::new(), format!("{history}.new"));
     loop {

@@ -31,7 +31,7 @@ fn send(mut port: Port, mut word: u64, start: Instant) {
     }
 }
 
-/// What waits departs, and the probability is updated, until no sender is left and nothing waits.
+/// Removes queued packets and updates the probability, until no sender is left and the queue is empty.
 fn transmit(mut port: Port, senders: &AtomicU32, start: Instant) {
     loop {
         let is_last = senders.load(SeqCst) == 0;

@@ -35,7 +35,7 @@ fn main() -> Result<(), Box<dyn Error>> {
             left?;
             free_at += u64::from(SIZE) * BYTE;
         }
-        // a timer that is late, and one that is too soon: that is refused, and told
+        // a late timer, and one that is too soon: the update is refused and recorded
         if tag % 20 == 0 {
             let (event, _) = pie.update_event(ring.len() as u64 * u64::from(SIZE), timer, now);
             history.record(&event)?;

@@ -9,7 +9,7 @@ use crate::library::{
 use crate::refusal::{done, done_with, refusal};
 use crate::{Ecn, Params, Refusal, State, Updated, Verdict};
 
-/// The bytes that the longest record takes, but that which resumes.
+/// Bytes of the longest record except `resume`.
 const ROOM: usize = 256;
 
 /// The code that a departure answers where there was no packet.
@@ -26,8 +26,9 @@ pub struct Packet {
     pub ecn: Ecn,
 }
 
-/// What a call was asked and what it answered, in 64 bytes. Its text, by `Display`, is its record in a history (docs/FORMATS.md); that of a
-/// call that was refused says why, and is no record: a history tells it by its number, as `Recorder` does.
+/// The arguments and the result of a call, in 64 bytes. `Display` writes its record of a history (docs/FORMATS.md).
+/// For a refused call it writes the error, which is not a record: a history contains its number, as `Recorder`
+/// writes it.
 #[derive(Clone, Copy, Debug, PartialEq, Eq, Hash)]
 #[repr(transparent)]
 pub struct Event(RawEvent);
@@ -39,14 +40,14 @@ pub struct ParamsEvent {
     params: Params,
 }
 
-/// A record's bytes, of which there is room for so many.
+/// The bytes of a record, with room for the longest.
 pub(crate) struct Text<const BYTES: usize = ROOM> {
     bytes: [u8; BYTES],
     count: usize,
 }
 
 impl<const BYTES: usize> Text<BYTES> {
-    /// What the library writes; none where it writes nothing.
+    /// Returns the text that the library writes; none if it writes nothing.
     pub(crate) fn of(write: impl FnOnce(*mut u8, usize) -> usize) -> Option<Text<BYTES>> {
         let mut bytes = [0; BYTES];
         let count = write(bytes.as_mut_ptr(), BYTES);
@@ -104,7 +105,7 @@ impl Event {
         Text::event(&self.0)
     }
 
-    /// What the call answered that has no more to say.
+    /// Returns the result of a call without further data.
     fn done(&self) -> Result<(), Refusal> {
         done(self.refused().unwrap_or(0))
     }

@@ -85,7 +85,7 @@ struct Bits {
 }
 
 impl Bits {
-    /// Where the next one begins, in which word and how many bits above its lowest; and the place behind it.
+    /// The position of the next parameter: its word, and the bit above the lowest; and the position after it.
     fn step(&mut self, width: u32) -> (usize, u32) {
         let at = self.at;
         self.at += width;

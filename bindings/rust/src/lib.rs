@@ -1,37 +1,38 @@
-//! PIE (RFC 8033) for a packet queue that its caller owns: safe Rust over the static library `libpie_c.a`, whose every call is proved
-//! to answer by the RFC's rules, whatever is handed in.
+//! PIE (RFC 8033), an active queue management algorithm, for a packet queue that the caller owns: safe Rust over the static
+//! library `libpie_c.a`, whose calls are proved to follow the RFC's rules for all arguments.
 //!
-//! The caller has the packets, the clock and the random words. A [`State`] is a plain struct of numbers; no call takes memory, waits
-//! or looks at a clock. Moments and times are whole nanoseconds from a start of the caller's choosing (a clock that never goes back,
-//! as `std::time::Instant`), probabilities are whole numbers of 10^-12. `include/pie.h` names what else goes wrong unseen.
+//! The caller has the packets, the clock and the random words. A [`State`] is a plain struct of numbers; no call allocates
+//! memory, blocks or reads a clock. Moments and times are whole nanoseconds from a start that the caller chooses, by a clock
+//! that never goes back, such as `std::time::Instant`. Probabilities are whole numbers of 10^-12. docs/LIBRARY.md describes
+//! common mistakes.
 //!
 //! ```
 //! use juniperbowls::{Ecn, Opening, State, Verdict};
 //!
 //! # fn main() -> Result<(), juniperbowls::Refusal> {
 //! let mut pie = State::open(&Opening::for_rate(100_000_000))?;
-//! // 1500 bytes arrive at 10 ns while 3000 wait, and the ring has room for 7 packets
+//! // a packet of 1500 bytes arrives at 10 ns; 3000 bytes are queued, and the ring has room for 7 packets
 //! let verdict = pie.arrive(3000, 1500, 7, Ecn::Ect0, 0x9e37_79b9_7f4a_7c15, 10)?;
 //! assert_eq!(verdict, Verdict::Enqueue);
-//! let arrived = pie.moment; // kept beside the packet
-//! // that packet leaves at 25 ns, and 3000 bytes are still queued
+//! let arrived = pie.moment; // stored with the packet
+//! // the packet departs at 25 ns, and 3000 bytes are still queued
 //! pie.depart_waited(1500, 3000, arrived, 25)?;
-//! // a timer is armed for `due`
+//! // a timer is set to `due`
 //! let updated = pie.update(3000, pie.due())?;
 //! assert_eq!(updated.due, 30_000_000);
 //! # Ok(())
 //! # }
 //! ```
 //!
-//! The library checks whole what comes in, so no call here asks anything that a type doesn't say: this crate is safe, and its `unsafe`
-//! is the calls alone.
+//! The library checks its arguments, so all requirements of a call are in its types: the crate is safe, and contains `unsafe`
+//! only for the calls of the library.
 //!
-//! Each call has a form that leaves an [`Event`] beside its answer, whose text is a record of a history. With the feature `std` a `Recorder`
-//! writes a history, which `pie audit` decides again and `pie explain` explains. What runs for a month keeps its last events alone, in a
+//! Each call has a form that also returns an [`Event`], whose text is a record of a history. With the feature `std` a `Recorder`
+//! writes a history for `pie audit` and `pie explain`. A program that runs for months keeps the last events only, in a
 //! [`Flight`] recorder.
 //!
-//! A [`State`] is one thread's at a time. With the feature `link`, which takes the library `libpie_link.a` too, several threads share one
-//! controller by a `Link`, each by a `Port` of its own.
+//! One thread at a time uses a [`State`]. With the feature `link`, which needs the library `libpie_link.a` too, several threads
+//! share one controller through a `Link`, each with a `Port` of its own.
 #![no_std]
 #![deny(missing_docs)]
 #![deny(unsafe_op_in_unsafe_fn)]

@@ -1,4 +1,5 @@
-//! What the library declares: `crates/pie_c/src` has the functions, and `tests/libraries/header.py` compares these declarations with them.
+//! Declarations of the library. `crates/pie_c/src` has the functions; `tests/libraries/header.py` compares the
+//! declarations with them.
 
 use core::mem::{align_of, offset_of, size_of};
 
@@ -14,7 +15,7 @@ pub(crate) struct RawUpdated {
     pub(crate) burst: u64,
 }
 
-/// What a call was asked and what it answered.
+/// The arguments and the result of a call.
 #[repr(C)]
 #[derive(Clone, Copy, Debug, Default, PartialEq, Eq, Hash)]
 pub(crate) struct RawEvent {
@@ -32,7 +33,7 @@ pub(crate) struct RawEvent {
     pub(crate) reserved: u32,
 }
 
-/// What a controller is opened with.
+/// The configuration of a new controller.
 #[repr(C)]
 #[derive(Clone, Copy, Debug, PartialEq, Eq)]
 pub(crate) struct RawOpening {
@@ -115,7 +116,7 @@ unsafe extern "C" {
     pub(crate) fn pie_write_queued(tag: u64, size: u32, ecn: u32, since: u64, out: *mut u8, room: usize) -> usize;
 }
 
-/// What is made of words of 64 bits alone.
+/// A struct of 64-bit words.
 pub(crate) trait Words: Sized {
     /// Puts its words at the beginning of these.
     fn put(&self, to: &mut [u64]);
@@ -136,7 +137,7 @@ impl Words for u64 {
     }
 }
 
-/// Whether each field of a struct begins at the word with this number; and the words.
+/// Checks that each field of a struct begins at the word with this number. Returns the words.
 macro_rules! words {
     ($kind:ident, $count:expr, $($field:ident = $number:expr),+) => {
         const _: () = {

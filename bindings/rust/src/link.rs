@@ -23,20 +23,21 @@ const NONE: u32 = 5;
 const UPDATE: u8 = 3;
 const SETS: u8 = 5;
 
-/// How many events one fold hands out at most.
+/// The most events of one fold.
 const MOST: usize = 64;
 
-/// Links that were opened so far, each of which has its number.
+/// Number of links opened so far; each link has a number.
 static LINKS: AtomicU64 = AtomicU64::new(0);
 
-/// A link: one controller with its queue and its event log, which several threads call, each by a [`Port`] of its own. Each packet is a name
-/// there, its `tag`: the link has the order in which packets leave, and the caller has the packets.
+/// A link: one controller with its queue and its event log, shared by several threads, each with a [`Port`] of its own. The link
+/// stores the names of packets, `tag`, in the order of the queue; the caller stores the packets.
 ///
-/// What is proved of the library `libpie_link.a`, for all interleavings of any number of threads: whenever nobody has the turn, there is one
-/// history of one thread behind all ports. It has each port's calls once and in its order, and every answer is RFC 8033's at its place. A bounded
-/// link ([`Mode::Bounded`](crate::Mode::Bounded)) loses no event. A rolling link, the default, lets its oldest event go when its log is full:
-/// [`Folds::first_number`] shows the gap. Not proved: this crate, which hands each call on; the calls that wait, which are loops over those that
-/// don't; and that a call that waits is ever served. That the calls of several ports may run at once is trusted, as docs/PROMISES.md says.
+/// Proved of the library `libpie_link.a`, for all interleavings of any number of threads: while no port has the turn, all events
+/// form one history. It contains the calls of each port exactly once and in the port's order, and every result is RFC 8033's at its
+/// place. A bounded link ([`Mode::Bounded`](crate::Mode::Bounded)) loses no event. A rolling link, the default, discards its oldest
+/// event when its log is full; [`Folds::first_number`] shows the gap. Not proved: this crate; the waiting calls, which are loops over
+/// the others; and that a waiting call gets its turn. That calls of several ports may run concurrently is trusted, as
+/// docs/PROMISES.md says.
 ///
 /// ```
 /// use juniperbowls::{Ecn, Link, Opening, Packet, Verdict};
@@ -58,11 +59,13 @@ static LINKS: AtomicU64 = AtomicU64::new(0);
 #[derive(Debug)]
 pub struct Link(());
 
-/// One caller of a [`Link`], or several: a range of numbers, by the least of which its events are told. It is one thread's at a time, and may go
-/// to another. Where it is dropped its numbers are nobody's, and what it asked stays in the history; the last one of a link frees it.
+/// A handle of a [`Link`] with one or more caller numbers; its events have the least of them. One thread at a time uses it, and it may
+/// move to another. When it is dropped, its numbers are not used again and its events stay in the history; the last port of a link
+/// frees it.
 ///
-/// A call whose name has `try` never waits: it answers [`LinkRefusal::Busy`] where another port has the turn, and nothing has happened. The
-/// others try again until they are served: after a pause, then with the processor given up, then after a sleep of at most a millisecond.
+/// A call whose name has `try` never waits: it returns [`LinkRefusal::Busy`] if another port has the turn, and nothing has changed. The
+/// other calls try again until they get their turn: after a pause, then after yielding the processor, then after a sleep of at most one
+/// millisecond.
 ///
 /// ```compile_fail
 /// fn is_shared<T: Sync>() {}
@@ -85,7 +88,7 @@ impl Drop for Port {
     }
 }
 
-/// What an update at a link took and left.
+/// The result of an update at a link.
 #[derive(Clone, Copy, Debug, PartialEq, Eq, Hash)]
 pub struct LinkUpdated {
     /// The queueing delay that it took, in ns (section 5.2); 0 while the controller is inactive.
@@ -181,7 +184,7 @@ impl Iterator for Folds {
     }
 }
 
-/// Events of a burst: what is asked, and once it was made what was answered.
+/// The events of a burst: arguments, and after the call results.
 impl Event {
     /// A packet is to arrive; `word` is random.
     #[must_use]
@@ -202,10 +205,10 @@ impl Event {
         Event::of_raw(RawEvent { moment, kind: UPDATE, ..RawEvent::default() })
     }
 
-    /// What an arrival was answered.
+    /// Returns the verdict of an arrival.
     ///
     /// # Errors
-    /// Why it was refused.
+    /// The error of the arrival.
     pub fn verdict(&self) -> Result<Verdict, LinkRefusal> {
         let code = self.raw().answer;
         Verdict::of(code).map_err(|_| link_refusal(code))
@@ -220,7 +223,7 @@ impl Event {
     }
 }
 
-/// The packet that left, by what the departure answered.
+/// Returns the packet that departed.
 fn packet_of(code: u32, event: &RawEvent) -> Result<Option<Packet>, LinkRefusal> {
     match code {
         0 => Ok(Some(Packet { tag: event.tag, size: event.size, ecn: Ecn::of(event.ecn) })),
@@ -253,10 +256,10 @@ impl Link {
         Ok(port)
     }
 
-    /// Opens a link and so many ports, of one number each, in the order of their numbers: 1 to 65535.
+    /// Opens a link and N ports of one caller number each, in the order of their numbers; N is 1 to 65535.
     ///
     /// # Errors
-    /// As of [`Link::open`].
+    /// Those of [`Link::open`].
     pub fn ports<const PORTS: usize>(opening: &Opening) -> Result<[Port; PORTS], LinkRefusal> {
         const { assert!(PORTS >= 1 && PORTS <= u16::MAX as usize, "a link has 1 to 65535 callers") }
         let mut first = Link::open(opening, PORTS as u16)?;
@@ -348,22 +351,22 @@ impl Port {
         link_done_with(unsafe { pie_link_try_set_params(&mut self.raw, params, &mut event) }, params)
     }
 
-    /// The packets arrive one after another in one turn, with nothing of another port between: each event is told as a call of its own would be, also
-    /// that it was refused, after which the next is handed in all the same.
+    /// Decides the arrivals one after another in one turn, with no event of another port between them. Each event
+    /// receives its own result or error. An error does not end the burst.
     ///
     /// # Errors
-    /// `Busy`, with each event as it was.
+    /// `Busy`; the events are then unchanged.
     pub fn try_arrive_all(&mut self, events: &mut [Event]) -> Result<(), LinkRefusal> {
         // SAFETY: as `link_library` says; an event is a `RawEvent`, and no more.
         link_done(unsafe { pie_link_try_arrive_all(&mut self.raw, events.as_mut_ptr().cast(), events.len()) })
     }
 
-    /// Packets leave one after another in one turn, and answers how many of these events were made. The burst ends after the last of them; after a
-    /// departure without a packet, or an update that is refused but as too soon; and before a departure whose packet has more bytes than remain of
-    /// `bytes` (`u64::MAX`: as many as there are).
+    /// Removes packets from the queue one after another in one turn. Returns the number of events with a result.
+    /// The burst ends after the last event; after a departure from an empty queue; after an update with an error
+    /// other than too soon; and before a packet with more bytes than remain of `bytes` (`u64::MAX` for no limit).
     ///
     /// # Errors
-    /// `Busy`, with each event as it was.
+    /// `Busy`; the events are then unchanged.
     pub fn try_depart_all(&mut self, bytes: u64, events: &mut [Event]) -> Result<usize, LinkRefusal> {
         let mut made = 0;
         // SAFETY: as `link_library` says; an event is a `RawEvent`, and no more.
@@ -371,8 +374,9 @@ impl Port {
         Ok(made)
     }
 
-    /// Hands out the oldest events of the log, at most 64, which leave it: one at least. What all folds of a link hand out, in their order, is its
-    /// history as far as they come; of a link that lets no event go ([`Mode::Bounded`](crate::Mode::Bounded)) nothing is missing.
+    /// Removes the oldest events from the log and returns them: at least one, at most 64. All folds of a link
+    /// together, in order, return its history; if the link is bounded ([`Mode::Bounded`](crate::Mode::Bounded)), no
+    /// event is missing.
     ///
     /// # Errors
     /// In this order: `Busy`, `NoEvent`.
@@ -384,7 +388,7 @@ impl Port {
         Ok(folds)
     }
 
-    /// What the controller and its queue hold.
+    /// Returns the registers of the controller and its queue.
     ///
     /// # Errors
     /// `Busy`.

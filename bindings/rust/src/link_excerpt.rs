@@ -1,4 +1,4 @@
-//! An excerpt of a link: the last events with what they stand on, and their text.
+//! An excerpt of a link: the last events with their preamble, as a text.
 
 use std::io::{self, Write};
 
@@ -10,8 +10,8 @@ use crate::{LinkRefusal, Opening, Port};
 /// More bytes than a record of an excerpt has.
 const RECORD: usize = 1280;
 
-/// The last events of a [`Link`](crate::Link) with what they stand on, in memory that was taken before. Its text is for `pie audit`, `pie explain` and
-/// `pie cut`.
+/// The last events of a [`Link`](crate::Link) with their preamble, in memory allocated before. Its text is an input
+/// of `pie audit`, `pie explain` and `pie cut`.
 #[derive(Debug)]
 pub struct Excerpt {
     raw: RawExcerpt,
@@ -58,11 +58,11 @@ impl Excerpt {
 }
 
 impl Port {
-    /// Copies what the link still has of its events into an excerpt, those of the log at least, with what they stand on. It takes no memory, and the
-    /// history stays as it was.
+    /// Copies all events that the link still has, at least those of the log, with their preamble to the excerpt.
+    /// The call allocates no memory, and the history is unchanged.
     ///
     /// # Errors
-    /// In this order: `Busy`, `TooSmall`. The excerpt is as it was then.
+    /// In this order: `Busy`, `TooSmall`. The excerpt is then unchanged.
     pub fn try_excerpt(&mut self, excerpt: &mut Excerpt) -> Result<(), LinkRefusal> {
         // SAFETY: as `link_library` says.
         link_done(unsafe { pie_link_try_excerpt(self.raw(), &mut excerpt.raw) })

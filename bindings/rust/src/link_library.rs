@@ -1,5 +1,5 @@
-//! What the library of the link declares: `crates/pie_link_c/src` has the functions, and `tests/libraries/header.py` compares these declarations
-//! with them.
+//! Declarations of the link's library. `crates/pie_link_c/src` has the functions; `tests/libraries/header.py`
+//! compares the declarations with them.
 
 use core::ffi::c_void;
 use core::ptr::null_mut;
@@ -32,9 +32,9 @@ impl RawExcerpt {
     pub(crate) const CLOSED: RawExcerpt = RawExcerpt { at: null_mut() };
 }
 
-// SAFETY, of each call of these: the declarations are the library's, the references live for the call, `events` has as many events as are told, and
-// none overlaps another. A port or an excerpt is handed in by a reference that nobody else has, and memory is ordered where it goes to another thread, as safe
-// Rust has it.
+// SAFETY of each of these calls: the declarations are those of the library; the references are valid for the call;
+// `events` has `count` events; no arguments overlap. A port or an excerpt is passed by an exclusive reference, and
+// safe Rust orders memory when it moves to another thread.
 unsafe extern "C" {
     pub(crate) fn pie_link_open_port(opening: &RawOpening, callers: u16, port: &mut RawPort) -> u32;
     pub(crate) fn pie_link_share_port(port: &mut RawPort, added: &mut RawPort) -> u32;

@@ -1,18 +1,18 @@
-//! What a link holds.
+//! Registers and statistics of a link.
 
 use core::mem::size_of;
 
 use crate::{Params, Stats};
 
-/// The registers of a link's controller and what waits in its queue, after `count` events.
+/// The registers of a link's controller and its queue after `count` events.
 #[repr(C)]
 #[derive(Clone, Copy, Debug, PartialEq, Eq, Hash)]
 pub struct Registers {
-    /// How many events there were.
+    /// Number of events.
     pub count: u64,
-    /// The effective moment, the greatest so far.
+    /// Effective moment: the greatest moment so far.
     pub moment: u64,
-    /// How many packets wait.
+    /// Number of queued packets.
     pub packets: u64,
     /// Their bytes.
     pub bytes: u64,
@@ -26,13 +26,13 @@ pub struct Registers {
     pub burst: u64,
     /// The moment of the last update, or of the opening.
     pub last: u64,
-    /// The moment from which the next update is due.
+    /// The moment from which the next update is not too soon.
     pub due: u64,
-    /// The average time in which `dq_threshold` bytes depart; 0 with no sample.
+    /// Average time in which `dq_threshold` bytes depart; 0: no sample.
     pub average: u64,
-    /// 1 where a cycle of the departure rate is begun, and else 0.
+    /// 1 while a departure rate cycle is open, otherwise 0.
     pub measuring: u64,
-    /// 1 while the controller is active, and else 0.
+    /// 1 while the controller is active, otherwise 0.
     pub active: u64,
     /// The parameters in force.
     pub params: Params,
@@ -42,7 +42,7 @@ pub struct Registers {
 #[repr(C)]
 #[derive(Clone, Copy, Debug, Default, PartialEq, Eq, Hash)]
 pub struct Totals {
-    /// How many events there were.
+    /// Number of events.
     pub count: u64,
     /// Their statistics.
     pub stats: Stats,

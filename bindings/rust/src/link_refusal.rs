@@ -27,7 +27,7 @@ pub enum LinkRefusal {
     OneNumber,
     /// An excerpt with less room than those of the link may need.
     TooSmall,
-    /// What the calls of a [`State`](crate::State) refuse too.
+    /// An error that the calls of a [`State`](crate::State) return too.
     Refused(Refusal),
 }
 
@@ -66,12 +66,12 @@ pub(crate) fn link_refusal(code: u32) -> LinkRefusal {
     }
 }
 
-/// What a call answered that has no more to say.
+/// Returns the result of a call without further data.
 pub(crate) fn link_done(code: u32) -> Result<(), LinkRefusal> {
     if code == 0 { Ok(()) } else { Err(link_refusal(code)) }
 }
 
-/// What a call answered that was handed these parameters.
+/// Returns the result of a call with these parameters.
 pub(crate) fn link_done_with(code: u32, params: &Params) -> Result<(), LinkRefusal> {
     match (code, params.first_bad()) {
         (107, Some(parameter)) => Err(LinkRefusal::Refused(Refusal::Params(parameter))),

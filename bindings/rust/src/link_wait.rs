@@ -1,4 +1,4 @@
-//! How a call waits while another port has the turn.
+//! Waiting while another port has the turn.
 
 use core::hint::spin_loop;
 use core::time::Duration;
@@ -8,9 +8,10 @@ use crate::LinkRefusal;
 
 /// Rounds that are a pause, each twice as long as the one before: the last one of 64 `spin_loop`s.
 const PAUSES: u32 = 7;
-/// .. and after these, rounds that give the processor up, before those that sleep: most turns are over by then.
+/// Rounds that yield the processor, after those and before the rounds that sleep: most turns are over by then.
 const YIELDS: u32 = 500;
-/// The first sleep, and the longest, in microseconds. Nobody wakes a sleeper: so long a turn may stay unused.
+/// The first and the longest sleep, in microseconds. No call wakes a sleeper, so a turn may stay unused for that
+/// time.
 const SLEEPS: (u64, u64) = (50, 1000);
 
 /// Makes a call again and again while another port has the turn: after a pause, then with the processor given up, then after a sleep.

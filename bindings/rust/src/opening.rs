@@ -1,9 +1,9 @@
-//! What a controller and its history are opened with.
+//! The configuration of a new controller and of its history.
 
 use crate::library::{RawOpening, pie_default_opening};
 use crate::{Choices, Params, Profile};
 
-/// What the event log of whoever decides a history again does when it is full.
+/// Behavior of a full event log.
 #[derive(Clone, Copy, Debug, PartialEq, Eq, Hash)]
 pub enum Mode {
     /// It takes no event more.
@@ -12,8 +12,8 @@ pub enum Mode {
     Rolling = 1,
 }
 
-/// What a controller is opened with. Of the last four the history alone knows, whose first record says them: whoever decides it again holds
-/// no more packets and events than they allow. The defaults, of [`Opening::for_rate`], are in brackets.
+/// The configuration of a new controller. The last four fields do not affect decisions. They are written to the first record of
+/// the history and bound the memory of a replay. The defaults of [`Opening::for_rate`] are in parentheses.
 ///
 /// ```
 /// use juniperbowls::{Choices, Opening, Profile, State};
@@ -35,13 +35,13 @@ pub struct Opening {
     pub profile: Profile,
     /// The optional elements (`delay_stamp` alone).
     pub choices: Choices,
-    /// What the event log does when it is full (Rolling).
+    /// Behavior of a full event log (Rolling).
     pub mode: Mode,
-    /// How many packets the queue holds at most, 1 to 2^20 (2^20).
+    /// Capacity of the queue in packets, 1 to 2^20 (2^20).
     pub packets: u64,
-    /// How many events the log holds, 1 to 2^20 (1024).
+    /// Capacity of the event log in events, 1 to 2^20 (1024).
     pub tail: u64,
-    /// How many events there may be in all, 1 to 2^47 (2^47).
+    /// The most events of the history, 1 to 2^47 (2^47).
     pub events: u64,
 }
 

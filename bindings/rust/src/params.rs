@@ -4,7 +4,8 @@ use core::fmt;
 
 use crate::library::{pie_check_params, pie_default_params, pie_params_for};
 
-/// The parameters, in the order in which they are checked. The defaults, in brackets, are those of RFC 8033 where it has them.
+/// Parameters, in the order in which they are checked. The defaults are in parentheses: those of RFC 8033 if it has
+/// one.
 #[repr(C)]
 #[derive(Clone, Copy, Debug, PartialEq, Eq, Hash)]
 pub struct Params {

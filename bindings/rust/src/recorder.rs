@@ -26,7 +26,7 @@ impl Text {
         Text::of(|out, room| unsafe { pie_write_clock(moment, unix_time, out, room) })
     }
 
-    /// That so many events are missing.
+    /// Reports this many missing events.
     pub(crate) fn lost(count: u64) -> Option<Text> {
         // SAFETY: as `library` says, and `out` has `room` bytes.
         Text::of(|out, room| unsafe { pie_write_lost(count, out, room) })
@@ -58,17 +58,17 @@ impl Text {
 #[derive(Debug)]
 pub struct Recorder<W: Write> {
     out: W,
-    /// Whether it is of version three, which tells the time of day.
+    /// True if the history is of version three, which has clock records.
     has_clock: bool,
     records: u64,
     untold: u64,
 }
 
 impl<W: Write> Recorder<W> {
-    /// Writes the opening of a controller that [`State::open`](crate::State::open) opens by this.
+    /// Writes the opening that is passed to [`State::open`](crate::State::open).
     ///
     /// # Errors
-    /// `InvalidInput` where that refuses it; and what the writer answers.
+    /// `InvalidInput` if `State::open` rejects it; otherwise an error of the writer.
     pub fn open(mut out: W, opening: &Opening) -> io::Result<Recorder<W>> {
         match Text::opening(opening) {
             None => Err(io::Error::new(io::ErrorKind::InvalidInput, "an opening that no history has")),
@@ -80,10 +80,11 @@ impl<W: Write> Recorder<W> {
         }
     }
 
-    /// Writes an event's record. One that was refused is told by its number, where histories know the refusal; others are counted.
+    /// Writes the record of an event. An event that was refused is recorded by its number if histories contain its
+    /// error; other refused events are counted.
     ///
     /// # Errors
-    /// What the writer answers: the history may then end within a record.
+    /// An error of the writer. The history may then end within a record.
     pub fn record(&mut self, event: &Event) -> io::Result<()> {
         self.put(event.refused(), || event.text())
     }
@@ -96,8 +97,8 @@ impl<W: Write> Recorder<W> {
         self.put(event.refused(), || event.text())
     }
 
-    /// Writes the time of day: it was `unix_time` (nanoseconds since 1970-01-01T00:00:00Z) when the caller's clock showed `moment`. It decides
-    /// nothing; by the last one before an event `pie explain --wall` tells that event's time of day.
+    /// Writes a clock record: the wall-clock time was `unix_time` (nanoseconds since 1970-01-01T00:00:00Z) at `moment`. It
+    /// affects no decision. `pie explain --wall` computes the time of an event from the last clock record before it.
     ///
     /// ```
     /// # use juniperbowls::{Opening, Recorder};
@@ -110,8 +111,9 @@ impl<W: Write> Recorder<W> {
     /// ```
     ///
     /// # Errors
-    /// `InvalidInput`, with nothing written, where the moment is above 2^60 - 1, or the history is of a version before the third, which has no
-    /// such record: with `events` above 2^40 in its [`Opening`] it is of the third. Else as of [`Recorder::record`].
+    /// `InvalidInput` if the moment is above 2^60 - 1, or if the history is of a version before the third, which has no such
+    /// record; nothing is then written. With `events` above 2^40 in its [`Opening`] a history is of version three. Otherwise
+    /// those of [`Recorder::record`].
     pub fn clock(&mut self, moment: u64, unix_time: u64) -> io::Result<()> {
         match Text::clock(moment, unix_time) {
             Some(text) if self.has_clock => self.put(None, || Some(text)),
@@ -119,10 +121,10 @@ impl<W: Write> Recorder<W> {
         }
     }
 
-    /// Writes that so many events are missing. No audit of the text is clean then.
+    /// Writes that this many events are missing. An audit of the text then ends with a fault.
     ///
     /// # Errors
-    /// As of [`Recorder::record`].
+    /// Those of [`Recorder::record`].
     pub fn lost(&mut self, count: u64) -> io::Result<()> {
         self.put(None, || Text::lost(count))
     }
@@ -144,13 +146,13 @@ impl<W: Write> Recorder<W> {
         }
     }
 
-    /// How many records there are, with the opening.
+    /// Returns the number of records, with the opening.
     #[must_use]
     pub fn records(&self) -> u64 {
         self.records
     }
 
-    /// How many calls were refused for a reason that no history has.
+    /// Returns the number of refused calls whose error histories do not contain.
     #[must_use]
     pub fn untold(&self) -> u64 {
         self.untold

@@ -5,8 +5,8 @@ use core::fmt;
 
 use crate::{Parameter, Params};
 
-/// Why a call is refused. It then changed nothing. All but `TooSoon` are a mistake of the caller; of an arrival nothing was decided
-/// then, so queue the packet while it fits, and else drop it, as you would without PIE.
+/// The error of a call, which then changed nothing. All errors except `TooSoon` are mistakes of the caller. After
+/// an error of an arrival nothing was decided: queue the packet if it fits, otherwise drop it.
 #[derive(Clone, Copy, Debug, PartialEq, Eq, Hash)]
 pub enum Refusal {
     /// A moment above 2^60 - 1 ns.
@@ -15,7 +15,7 @@ pub enum Refusal {
     Size,
     /// An update before it is due.
     TooSoon {
-        /// The moment from which it isn't.
+        /// The moment from which the next update is not too soon.
         due: u64,
     },
     /// This parameter is out of its range, and those before it are not.
@@ -68,12 +68,12 @@ pub(crate) fn refusal(code: u64, due: u64) -> Refusal {
     }
 }
 
-/// What a call answered that has no more to say.
+/// Returns the result of a call without further data.
 pub(crate) fn done(code: u32) -> Result<(), Refusal> {
     if code == 0 { Ok(()) } else { Err(refusal(u64::from(code), 0)) }
 }
 
-/// What a call answered that was handed these parameters.
+/// Returns the result of a call with these parameters.
 pub(crate) fn done_with(code: u32, params: &Params) -> Result<(), Refusal> {
     match (code, params.first_bad()) {
         (107, Some(parameter)) => Err(Refusal::Params(parameter)),

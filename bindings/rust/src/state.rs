@@ -13,7 +13,7 @@ use crate::{Opening, Params, Refusal};
 pub struct State {
     /// The parameters in force.
     pub params: Params,
-    /// The effective moment: the greatest so far.
+    /// Effective moment: the greatest moment so far.
     pub moment: u64,
     /// The probability of drop or mark, 0 to 10^12 (section 4.2).
     pub prob: u64,
@@ -25,21 +25,21 @@ pub struct State {
     pub last: u64,
     /// The accumulated probability, below 8.5 * 10^12 (section 5.4).
     pub accu: u64,
-    /// The average time in which `dq_threshold` bytes depart, below 2^60 ns; 0: no sample (section 5.2).
+    /// Average time in which `dq_threshold` bytes depart, below 2^60 ns; 0: no sample (section 5.2).
     pub average: u64,
-    /// 1 while a cycle of the departure rate is open, and else 0.
+    /// 1 while a departure rate cycle is open, otherwise 0.
     pub measuring: u64,
-    /// The moment at which it opened, 0 with none.
+    /// Moment at which the cycle began; 0 if none is open.
     pub cycle_start: u64,
     /// The bytes that it counted, below `dq_threshold`, 0 with none.
     pub cycle_count: u64,
     /// The number of the [`Profile`].
     pub profile: u64,
-    /// 1 while the controller is active, and else 0; in profile one always 1 (section 5.3).
+    /// 1 while the controller is active, otherwise 0; always 1 in profile one (section 5.3).
     pub active: u64,
     /// The flags of the [`Choices`], at most 31.
     pub choices: u64,
-    /// What the packet that departed last had waited, at most 2^40 ns; 0 where delays don't come from time stamps.
+    /// Waiting time of the packet that departed last, at most 2^40 ns; 0 if delays are not measured by time stamps.
     pub waited: u64,
 }
 
@@ -91,13 +91,13 @@ pub enum Ecn {
 
 #[cfg(feature = "link")]
 impl Ecn {
-    /// The ECN field of these bits, of which the lowest two count.
+    /// Returns the ECN field of the lowest two bits.
     pub(crate) fn of(bits: u8) -> Ecn {
         [Ecn::NotEct, Ecn::Ect1, Ecn::Ect0, Ecn::Ce][usize::from(bits & 3)]
     }
 }
 
-/// Whether the controller turns itself on and off (RFC 8033, section 5.3).
+/// Profile: whether the controller turns itself on and off (RFC 8033, section 5.3).
 #[derive(Clone, Copy, Debug, PartialEq, Eq, Hash)]
 pub enum Profile {
     /// It is always active.
@@ -106,7 +106,7 @@ pub enum Profile {
     Two = 2,
 }
 
-/// What becomes of an arriving packet.
+/// The verdict on an arriving packet.
 #[derive(Clone, Copy, Debug, PartialEq, Eq, Hash)]
 pub enum Verdict {
     /// Queue it as it is.
@@ -122,7 +122,7 @@ pub enum Verdict {
 }
 
 impl Verdict {
-    /// What an arrival answered.
+    /// Returns the verdict of a return code.
     pub(crate) fn of(code: u32) -> Result<Verdict, Refusal> {
         match code {
             0 => Ok(Verdict::Enqueue),
@@ -134,17 +134,17 @@ impl Verdict {
         }
     }
 
-    /// Whether the packet is queued, marked or not.
+    /// Returns true if the packet is queued, marked or unmarked.
     #[must_use]
     pub fn is_queued(self) -> bool {
         matches!(self, Verdict::Enqueue | Verdict::Mark)
     }
 }
 
-/// What an update took and left.
+/// The result of an update.
 #[derive(Clone, Copy, Debug, PartialEq, Eq, Hash)]
 pub struct Updated {
-    /// The moment from which the next update isn't too soon.
+    /// The moment from which the next update is not too soon.
     pub due: u64,
     /// The queueing delay that it took, in ns (section 5.2); 0 while the controller is inactive.
     pub delay: u64,
@@ -246,7 +246,7 @@ impl State {
         if code == 0 { Ok(Updated { due, delay, prob, burst }) } else { Err(refusal(code, due)) }
     }
 
-    /// The moment from which the next update isn't too soon: a timer is armed for it.
+    /// Returns the moment from which the next update is not too soon. Set a timer to it.
     #[must_use]
     pub fn due(&self) -> u64 {
         // SAFETY: as `library` says.
@@ -272,8 +272,8 @@ impl State {
         done_with(unsafe { pie_set_params(self, params, moment) }, params)
     }
 
-    /// Whether each field is in its range and the fields fit one another, for a state that comes from elsewhere. `arrive`, `depart` and
-    /// `empty` don't look: they take the numbers as they are.
+    /// Checks a state from another source: each field must be in its range, and the fields must agree with each
+    /// other. `arrive`, `depart` and `empty` do not check the state.
     ///
     /// # Errors
     /// `State`.

@@ -32,8 +32,8 @@ pub struct Stats {
     pub largest_queue: u64,
     /// The greatest delay of an update, in ns.
     pub largest_delay: u64,
-    /// What the packets that departed had waited, summed, in ns: the low 64 bits.
+    /// Sum of the waiting times of packets that departed, in ns: the lower 64 bits.
     pub waited: u64,
-    /// .. and the high 64 bits.
+    /// The upper 64 bits of that sum.
     pub waited_high: u64,
 }

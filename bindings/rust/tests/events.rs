@@ -1,4 +1,4 @@
-//! The text of events, and what a recorder writes.
+//! The text of events, and the output of a recorder.
 
 use std::io::{self, ErrorKind, Write};
 

@@ -168,7 +168,8 @@ fn as_many_events_as_the_opening_allows() {
     assert_eq!(port.try_reset(2), Err(LinkRefusal::Exhausted));
 }
 
-/// Threads that begin each burst together, so that they meet: each one's calls stand in the history once and in its order, whoever folds.
+/// Threads start each burst at the same time, so that they meet: the calls of each are in the history once and in
+/// order, whichever thread folds.
 #[test]
 fn threads_meet() {
     const THREADS: usize = 6;
@@ -225,7 +226,8 @@ fn threads_meet() {
             before = caller;
         }
         assert_eq!(next, [BURSTS * BURST; THREADS]);
-        // (each burst of each thread begins with a change, but for the first of a round that goes on with the last one's thread)
+        // (each burst of each thread begins with a change of caller, except the first of a round that continues
+        // with the last one's thread)
         assert!(changes >= BURSTS * (THREADS as u64 - 1), "the turn changed hands {changes} times");
     });
 }

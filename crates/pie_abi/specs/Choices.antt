@@ -1,4 +1,4 @@
--- What the numbers of an opening choose, and the latest moment.
+-- Choices of an opening, from their numbers, and the latest moment.
 use Rattle.std.specs.Prelude.{ℕ, ◌^◌, ◌-◌, ◌+◌, ◌/◌, ◌%◌, ◌==◌, if◌then◌else◌}
 use Rattle.pie_params.specs.declared.elements.Elements.{Elements}
 use Rattle.pie_params.specs.declared.elements.Decay.{Decay}

@@ -1,4 +1,4 @@
--- What a caller's opening says, and why one is refused.
+-- The opening with a caller's numbers, and its refusals.
 use Rattle.std.specs.Prelude.{ℕ, ◌==◌, ◌||◌, nat_lt, not, Result, Ok, Err, if◌then◌else◌}
 use Rattle.pie_event.specs.Opening as book
 use Rattle.pie_event.specs.declared.opening.Limits.{Limits}
@@ -13,11 +13,11 @@ use Rattle.pie_abi.specs.Params.{are_in_range, raw_of}
 abbrev pub limits_of : PieOpening → Limits
 limits_of o = record { packets = o.packets; tail = o.tail; events = o.events }
 
--- what a full event log does
+-- the behaviour of a full event log
 abbrev pub mode_of : ℕ → Mode
 mode_of number = if number == 1 then Rolling else Bounded
 
--- why an opening is refused, and 0 where it isn't
+-- the code of the refusal of an opening; 0 if it is accepted
 unfoldable pub opening_refusal : PieOpening → ℕ
 opening_refusal o =
     if not (are_in_range o.params) then 107
@@ -27,10 +27,10 @@ opening_refusal o =
     else if nat_lt 1 o.mode || not (book.are_in_range (limits_of o)) then 120
     else 0
 
--- the opening of a history that it says
+-- the opening of the history
 abbrev pub opening_in : PieOpening → Opening
 opening_in o = book.opening_of (limits_of o) (raw_of o.params) o.moment (mode_of o.mode) (profile_of o.profile) (elements_of o.choices)
 
--- .. or why it is refused
+-- the opening of the history, or the code of its refusal
 abbrev pub opening_of : PieOpening → Result Opening ℕ
 opening_of o = if opening_refusal o == 0 then Ok (opening_in o) else Err (opening_refusal o)

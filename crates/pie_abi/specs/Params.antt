@@ -1,4 +1,4 @@
--- The parameters as a C caller holds them, and the numbers of their fields.
+-- Parameters in the layout of C, and the numbers of their fields.
 use Rattle.std.specs.Prelude.{ℕ, Bool, is_none, Option, Some, None}
 use Rattle.pie_params.specs.declared.raw.Field.{Field}
 use Rattle.pie_params.specs.declared.raw.Field.TheVariants.{Target, TUpdate, MaxBurst, Alpha, Beta, MeanPkt, LimitBytes, MarkEcnth, DqThreshold}
@@ -6,7 +6,7 @@ use Rattle.pie_params.specs.declared.raw.RawParams.{RawParams}
 use Rattle.pie_params.specs.Range.{first_bad}
 use Rattle.pie_abi.specs.declared.params.PieParams.{PieParams}
 
--- the same fields, as the record whose ranges are checked
+-- the parameters as the record whose ranges are checked
 abbrev pub raw_of : PieParams → RawParams
 raw_of p = record {
   target = p.target;
@@ -20,7 +20,7 @@ raw_of p = record {
   dq_threshold = p.dq_threshold;
 }
 
--- the parameters as a C caller holds them, of that record
+-- the parameters of that record in the layout of C
 abbrev pub params_of : RawParams → PieParams
 params_of p = record {
   target = p.target;
@@ -34,7 +34,7 @@ params_of p = record {
   dq_threshold = p.dq_threshold;
 }
 
--- the number of a field, counted from 1 in the order in which the fields are checked
+-- the number of a field, counted from 1 in the order of the checks
 abbrev pub field_number : Field → ℕ
 field_number Target = 1
 field_number TUpdate = 2
@@ -46,11 +46,11 @@ field_number LimitBytes = 7
 field_number MarkEcnth = 8
 field_number DqThreshold = 9
 
--- the number of a field that is out of its range, and 0 with none
+-- the number of the field out of its range; 0 without one
 abbrev pub bad_number : Option Field → ℕ
 bad_number None = 0
 bad_number (Some field) = field_number field
 
--- the parameters are all in their ranges
+-- true if all parameters are in their ranges
 unfoldable pub are_in_range : PieParams → Bool
 are_in_range params = is_none (first_bad (raw_of params))

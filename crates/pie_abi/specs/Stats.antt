@@ -1,9 +1,9 @@
--- The statistics as a C caller holds them.
+-- Statistics in the layout of C.
 use Rattle.std.specs.Prelude.{◌^◌, ◌/◌, ◌%◌}
 use Rattle.pie_event.specs.declared.stats.Stats.{Stats}
 use Rattle.pie_abi.specs.declared.stats.PieStats.{PieStats}
 
--- the same numbers; what packets waited has two words
+-- the statistics in the layout of C, with the sum of the times in the queue as two words
 abbrev pub stats_of : Stats → PieStats
 stats_of s = record {
   arrivals = s.arrivals;

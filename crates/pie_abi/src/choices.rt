@@ -1,11 +1,11 @@
-//! What the numbers of an opening choose.
+//! Choices of an opening, from their numbers.
 ghost use Rattle.std.specs.Prelude.{◌≡◌};
 ghost use Rattle.pie_abi.specs.Choices.{elements_of, profile_of};
 
 use pie_event::Profile;
 use pie_params::{Decay, Delay, Elements, Picking, Size, Step};
 
-/// The optional elements by their flags.
+/// Returns the optional elements of the flags `choices`.
 #[inline(always)]
 #[tactic(auto, unfolding(crate::specs::Choices::elements_of))]
 pub fn elements(choices: u64) -> Elements
@@ -45,7 +45,7 @@ pub fn elements(choices: u64) -> Elements
     }
 }
 
-/// The profile with this number.
+/// Returns the profile of `number`.
 #[inline(always)]
 pub fn profile(number: u64) -> Profile
     ensures { result ≡ profile_of number }

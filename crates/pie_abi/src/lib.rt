@@ -1,5 +1,5 @@
-//! What the libraries for C have in common: the structs that their callers hold, the codes that their calls answer, and what an opening, a
-//! packet and its ECN field say by their numbers. It exports nothing: a program may link both libraries.
+//! Common parts of the libraries for C: the structs that their callers own, the return codes, and the meaning of the
+//! numbers of an opening and of a packet. The crate exports no symbol, so a program may link both libraries.
 #![tactic(auto)]
 
 pub mod choices;

@@ -1,10 +1,10 @@
-//! What a packet's numbers say.
+//! The meaning of a packet's numbers.
 ghost use Rattle.std.specs.Prelude.{◌≡◌, nat_le, is_some, IfSome};
 ghost use Rattle.pie_abi.specs.Packets.{ecn_at, ecn_from, is_bad_size};
 
 use pie_queue::{Ecn, MAX_SIZE};
 
-/// The ECN field of these two bits, `None` above 3 (RFC 3168, section 5).
+/// Returns the ECN field with the two bits `bits`, or `None` if `bits` is above 3 (RFC 3168, section 5).
 pub fn ecn(bits: u32) -> Option<Ecn>
     ensures field { result ≡ ecn_from bits }
     ensures two { is_some result ≡ nat_le bits 3 }
@@ -19,7 +19,7 @@ pub fn ecn(bits: u32) -> Option<Ecn>
     }
 }
 
-/// Whether a packet's size is outside 1 to 65535 bytes.
+/// Returns true if `size` is outside 1 to 65535 bytes.
 pub fn is_bad_size(size: u32) -> bool
     ensures { result ≡ is_bad_size size }
 {

@@ -1,12 +1,11 @@
-//! The parameters as a C caller holds them.
+//! Parameters in the layout of C.
 ghost use Rattle.std.specs.Prelude.{◌≡◌};
 ghost use Rattle.pie_abi.specs.Params.{are_in_range, field_number, params_of, raw_of};
 
 use pie_params::{Field, Params, RawParams};
 
-/// The parameters as a C caller holds them, in the order in which they are checked. Times are in
-/// nanoseconds, gains in thousandths per second, sizes in bytes, probabilities in units of `10^-12`
-/// (RFC 8033, sections 4.2, 4.4, 5.1 and 5.2).
+/// Parameters in the layout of C, in the order of the checks. Times are in nanoseconds, gains in thousandths per
+/// second, sizes in bytes, probabilities in units of `10^-12` (RFC 8033, sections 4.2, 4.4, 5.1 and 5.2).
 #[repr(C)]
 #[derive(Clone, Copy)]
 pub struct PieParams {
@@ -16,22 +15,22 @@ pub struct PieParams {
     pub t_update: u64,
     /// The burst allowance, 0 to 10^12.
     pub max_burst: u64,
-    /// The gain on the delay's distance from the target, 0 to 10^6.
+    /// The gain on the difference between delay and target, 0 to 10^6.
     pub alpha: u64,
-    /// The gain on the delay's change, 0 to 10^6.
+    /// The gain on the change of the delay, 0 to 10^6.
     pub beta: u64,
     /// The mean packet size, 1 to 65535.
     pub mean_pkt: u64,
     /// The queue's limit, 1 to 2^30.
     pub limit_bytes: u64,
-    /// The probability from which a packet is dropped and not marked, 0 to 10^12.
+    /// The probability from which on a picked packet is dropped instead of marked, 0 to 10^12.
     pub mark_ecnth: u64,
-    /// The bytes that a cycle of the departure rate counts, a power of two from 1024 to 65536.
+    /// The number of bytes that a cycle of the departure rate counts, a power of two from 1024 to 65536.
     pub dq_threshold: u64,
 }
 
 impl PieParams {
-    /// The same fields as the record that pie_params checks.
+    /// Returns the parameters as the record that pie_params checks.
     #[inline(always)]
     pub fn raw(&self) -> RawParams
         ensures { result ≡ raw_of self.now }
@@ -49,7 +48,7 @@ impl PieParams {
         }
     }
 
-    /// The same fields as a C caller holds them.
+    /// Returns the parameters of that record in the layout of C.
     pub fn from_raw(raw: RawParams) -> PieParams
         ensures { result ≡ params_of raw }
     {
@@ -67,7 +66,7 @@ impl PieParams {
     }
 }
 
-/// The number of a field, counted from 1 in the order in which the fields are checked.
+/// Returns the number of a field, counted from 1 in the order of the checks.
 pub fn number(field: Field) -> u32
     ensures { result ≡ field_number field }
 {
@@ -84,7 +83,7 @@ pub fn number(field: Field) -> u32
     }
 }
 
-/// Whether the parameters are all in their ranges.
+/// Returns true if all parameters are in their ranges.
 #[inline(always)]
 #[tactic(auto, unfolding(crate::specs::Params::are_in_range))]
 pub fn are_in_range(params: &PieParams) -> bool

@@ -1,28 +1,28 @@
-//! The statistics as a C caller holds them.
+//! Statistics in the layout of C.
 ghost use Rattle.std.specs.Prelude.{◌≡◌};
 ghost use Rattle.pie_abi.specs.Stats.{stats_of};
 
 use pie_event::Stats;
 
-/// The statistics of a history, in the order of its record `tallied`.
+/// Statistics of a history, in the order of its record `tallied`.
 #[repr(C)]
 #[derive(Clone, Copy)]
 pub struct PieStats {
-    /// Packets that arrived.
+    /// Arriving packets.
     pub arrivals: u64,
-    /// Those that were queued as they came.
+    /// Packets that were queued unchanged.
     pub enqueued: u64,
-    /// Those that were queued and marked.
+    /// Packets that were queued and marked.
     pub marked: u64,
-    /// Those that were dropped early.
+    /// Packets that were dropped early.
     pub early: u64,
-    /// Those that were dropped for want of bytes.
+    /// Packets that were dropped by the limit in bytes.
     pub over_bytes: u64,
-    /// Those that were dropped since the ring was full.
+    /// Packets that were dropped because the ring was full.
     pub over_packets: u64,
-    /// Packets that departed.
+    /// Departed packets.
     pub left: u64,
-    /// Their bytes.
+    /// The sum of the sizes of the departed packets, in bytes.
     pub left_bytes: u64,
     /// Departures that found no packet.
     pub empty: u64,
@@ -32,18 +32,18 @@ pub struct PieStats {
     pub resets: u64,
     /// Changes of the parameters.
     pub changes: u64,
-    /// The most bytes that waited after an event.
+    /// The greatest number of bytes in the queue after an event.
     pub largest_queue: u64,
     /// The greatest delay of an update, in nanoseconds.
     pub largest_delay: u64,
-    /// What the packets that departed had waited, summed, in nanoseconds: the low 64 bits.
+    /// The sum of the times that the departed packets spent in the queue, in nanoseconds: the low 64 bits.
     pub waited: u64,
     /// The high 64 bits of that sum.
     pub waited_high: u64,
 }
 
 impl PieStats {
-    /// The same numbers as a C caller holds them: what packets waited has two words.
+    /// Returns the statistics in the layout of C, with the sum of the times in the queue as two words.
     pub fn of(stats: &Stats) -> PieStats
         ensures { result ≡ stats_of stats.now }
     {

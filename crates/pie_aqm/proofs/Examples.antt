@@ -1,8 +1,8 @@
--- The definitions on worked calls: each theorem computes. A row is a call and what a controller of profile two holds after it, by the rules and
--- looking back over all that it was shown. The numbers are worked out by hand.
+-- Examples of the definitions: each theorem computes. A row is a call and the state of a controller of profile two
+-- after it, by the rules and by the look-back. The numbers are worked out by hand.
 use Rattle.std.specs.Prelude.{◌≡◌, refl, ⊤, ℕ, ◌+◌, ◌^◌, List, [], ◌∷◌, ◌++◌, map, Bool, true, false, Some, None}
 use Rattle.pie_aqm.specs.{RawParams, Elements, Stamp, Two, ArrivingPacket, ControllerEvent, Estimate, Parts, Call, Arrive, Depart, Pass, Update}
-use Rattle.pie_aqm.specs.{Restart, Change, after_call, shown_by, opened, no_estimate, delay_answered, cause, with_count}
+use Rattle.pie_aqm.specs.{Restart, Change, after_call, event_of_call, opened, no_estimate, delay_answered, cause, with_count}
 use Rattle.pie_aqm.specs.{count_kept_open, is_unmeasured, first_unsound, held_of, now_of, params_of, active_of, departures_shown, updates_shown}
 use Rattle.pie_aqm.specs.{arrivals_shown, departures_of, waited_of, waited_noted, delay_noted, control_of, early_of, is_active, noted, noted_after}
 use Rattle.pie_aqm.specs.{places, greatest, last_or, verdict, accu_left}
@@ -20,7 +20,7 @@ use Rattle.pie_early.specs.Decision.{is_considered, is_picked}
 use Rattle.pie_early.specs.History.{accumulated}
 use Rattle.pie_event.specs.declared.cause.Cause.TheVariants.{NoRoomInBytes, NoRoomInPackets, Inactive, BurstAllowed}
 
--- all that a theorem on worked calls computes with
+-- the definitions that theorems on worked calls unfold
 unfoldable pub worked : Type 0
 unfolding held_of now_of params_of active_of departures_shown updates_shown arrivals_shown departures_of waited_of waited_noted delay_noted control_of
     early_of is_active noted noted_after places greatest last_or average samples begun cycles cycles_from first_position first_opening first_closing
@@ -28,41 +28,43 @@ unfolding held_of now_of params_of active_of departures_shown updates_shown arri
     accu_left is_considered is_picked accumulated cause early_cause considered_cause count_kept_open is_unmeasured first_unsound
 worked = ⊤
 
--- 3000 bytes are a third of the limit, half the target is two nanoseconds, and one update takes the whole burst allowance
+-- parameters where 3000 bytes are a third of the limit, half the target is 2 nanoseconds, and one update uses up the
+-- burst allowance
 abbrev pub small : RawParams
 small =
     record default_profile { target = 4; max_burst = 1; alpha = 850_000; beta = 0; mean_pkt = 1; limit_bytes = 9000; dq_threshold = 1024 }
 
--- the average, and the start and the count of a cycle that is begun
+-- an estimate, from its average and the start and count of an open cycle
 abbrev measured : ℕ → ℕ → ℕ → Estimate
 measured average start count = record { average = average; begun = Some (record { start = start; count = count }) }
 
--- the probability, the old delay, the burst allowance and the moment of the last update
+-- a state of the control law: probability, old delay, burst allowance and moment of the last update
 abbrev parts : ℕ → ℕ → ℕ → ℕ → Parts
 parts prob old burst last = record { prob = prob; old_delay = old; burst = burst; last = last }
 
 abbrev packet : ℕ → ℕ → Bool → ArrivingPacket
 packet queued size full = record { queued = queued; is_full = full; size = size; ecn = NotEct; word = 0 }
 
--- what is held after each call, and what looking back gives then
+-- the state after each call, beside the look-back
 abbrev both_ways : Elements → List ControllerEvent → Held → List (Call × Held) → List (Held × Held)
 both_ways elements shown h [] = []
 both_ways elements shown h (row ∷ rows) =
-    let more : List ControllerEvent = shown ++ shown_by h row.0 ∷ [] in
+    let more : List ControllerEvent = shown ++ event_of_call h row.0 ∷ [] in
     let after : Held = after_call h row.0 in
     (after, held_of (record { profile = Two; elements = elements; params = small; moment = 0 }) more) ∷ both_ways elements more after rows
 
--- both are what the rows say
+-- both are the states of the rows
 abbrev Hold : Elements → List (Call × Held) → Type 0
 Hold elements rows = both_ways elements [] (opened Two elements small 0) rows ≡ map (λ (row : Call × Held). (row.1, row.1)) rows
 
--- ---- by the departure rate: the moment, whether it is active, the estimate, and the control law's registers
+-- ---- Delay from the departure rate: moment, activity, estimate, and state of the control law
 
 abbrev rated : ℕ → Bool → Estimate → Parts → Held
 rated moment active rate control = record (opened Two usual small moment) { active = active; rate = rate; control = control }
 
--- it opens inactive, and measures nothing; a queue of a third of the limit turns it on, and of a byte less doesn't. Then cycles are measured. A calm
--- update turns it off, and the next one is taken for its moment alone
+-- The controller is inactive at the opening and measures nothing. A queue of a third of the limit activates it; a queue
+-- of one byte less does not. Then cycles are measured. A calm update deactivates it, and the next update changes only
+-- the moment
 by_rate : Hold usual ((Arrive (packet 2000 999 false) 0, rated 0 false no_estimate (parts 0 0 1 0))
     ∷ (Depart 999 2000 0 1, rated 1 false no_estimate (parts 0 0 1 0))
     ∷ (Arrive (packet 2000 1000 false) 1, rated 1 true no_estimate (parts 0 0 1 0))
@@ -84,7 +86,8 @@ by_rate : Hold usual ((Arrive (packet 2000 999 false) 0, rated 0 false no_estima
 unfolding worked
 by_rate = refl
 
--- ---- by time stamps: the moment, whether it is active, the last packet's wait, the registers, and the accumulated probability
+-- ---- Delay from time stamps: moment, activity, the last packet's time in the queue, state of the control law, and
+-- accumulated probability
 
 abbrev stamps : Elements
 stamps = record usual { delay = Stamp }
@@ -93,8 +96,9 @@ abbrev stamped : ℕ → Bool → ℕ → Parts → ℕ → Held
 stamped moment active waited control accu =
     record (opened Two stamps small moment) { active = active; waited = waited; control = control; accu = accu }
 
--- a departed packet's wait goes by the effective moment, is 0 where it left the queue empty, and at most 2 ^ 40; it is the delay, whatever waits.
--- An update is calm where the probability is 0, and that and the old delay are below half the target, as 1 is and 2 isn't
+-- A departed packet's time in the queue is counted by the effective moment, is 0 if the queue is empty afterwards, and
+-- is at most 2 ^ 40. It is the delay for any queue. An update is calm if the probability is 0 and this delay and the
+-- old one are below half the target, which holds for 1 but not for 2
 by_stamps : Hold stamps ((Arrive (packet 2000 1000 false) 1, stamped 1 true 0 (parts 0 0 1 0) 0)
     ∷ (Depart 1000 2000 1 11, stamped 11 true 10 (parts 0 0 1 0) 0)
     ∷ (Update 0 11, stamped 11 true 10 (parts 2490 10 0 11) 0)
@@ -116,12 +120,12 @@ by_stamps : Hold stamps ((Arrive (packet 2000 1000 false) 1, stamped 1 true 0 (p
 unfolding worked
 by_stamps = refl
 
--- ---- what is asked of what is held
+-- ---- Readers of a state
 
 abbrev cycling : Bool → Held
 cycling active = rated 8 active (measured 1000 2 24) (parts 0 0 1 8)
 
--- an inactive controller's delay is 0; and what departures that change least leave
+-- the delay of an inactive controller is 0; then the departures with the smallest changes
 asked : (map (λ active. delay_answered (cycling active) 2048) (true ∷ false ∷ []) ≡ 2000 ∷ 0 ∷ [])
     × (map (count_kept_open (cycling true)) (999 ∷ 1000 ∷ []) ≡ Some 1023 ∷ None ∷ [])
     × (with_count (cycling true) 1023 9 ≡ rated 9 true (measured 1000 2 1023) (parts 0 0 1 8))
@@ -129,7 +133,7 @@ asked : (map (λ active. delay_answered (cycling active) 2048) (true ∷ false �
 unfolding worked
 asked = (refl, refl, refl, refl)
 
--- what decides: tail drop by bytes, then by packets, which clear, then that the controller is inactive, and then the rest
+-- causes in order: tail drop by bytes, then by packets, then an inactive controller, then early drop
 causes : (map (λ (a : ArrivingPacket). cause (cycling false) a 7) (packet 8999 2 true ∷ packet 8999 1 true ∷ packet 8999 1 false ∷ [])
     ≡ NoRoomInBytes 8999 2 9000 ∷ NoRoomInPackets 7 ∷ Inactive ∷ []) × (cause (cycling true) (packet 8999 1 false) 7 ≡ BurstAllowed 1)
     × (map (accu_left (stamped 8 true 0 (parts 0 0 1 8) 5)) (packet 8999 2 false ∷ packet 8999 1 true ∷ packet 8999 1 false ∷ []) ≡ 0 ∷ 0 ∷ 5 ∷ [])

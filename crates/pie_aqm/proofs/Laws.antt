@@ -1,16 +1,16 @@
--- What one more event does to each list that the parts are shown, and to whether the controller is active.
+-- The change of each part's list of inputs, and of the activity, by one more event.
 use Rattle.std.proofs.Common.{◌≡◌, ℕ, List, [], ◌∷◌, ◌++◌, map, Bool, true, false, refl, ap, ◌∙◌, sym, ◌&&◌, if◌then◌else◌, ◌≤◌, ◌-◌, subst, arith}
 use Rattle.std.specs.Prelude.{max, Option, Some, None, unwrap_or, min}
 use Rattle.std.specs.List.{filter_map, after_last}
 use Rattle.std.proofs.lemmas.Bool.Decides.{nat_tests}
 use Rattle.std.proofs.lemmas.List.{append-nil, append_assoc, map-append}
-use Rattle.pie_aqm.specs.{RawParams, Departure, Profile, One, Two, ControllerEvent, Opened, moment_of, params_set, Noted, active_of, change_at}
-use Rattle.pie_aqm.specs.{change_by, clears_rate, clears_wait, clears_wait_at, control_at, updates_shown, control_of, wait_at, wait_shown}
-use Rattle.pie_aqm.specs.{waited_noted, waited_of, control_shown, delay_noted, departure_shown, departures_shown, departures_of, early_at}
-use Rattle.pie_aqm.specs.{arrivals_shown, early_of, early_shown, events_of, is_active, is_active_in, is_calm_noted, now_of, note, noted, noted_after}
+use Rattle.pie_aqm.specs.{RawParams, Departure, Profile, One, Two, ControllerEvent, Opened, moment_of, params_set, ActivityEvent, active_of, change_at}
+use Rattle.pie_aqm.specs.{change_by, clears_rate, clears_wait, clears_wait_at, control_at, updates_shown, control_of, wait_at, wait_input}
+use Rattle.pie_aqm.specs.{waited_noted, waited_of, control_input, delay_noted, departure_input, departures_shown, departures_of, early_at}
+use Rattle.pie_aqm.specs.{arrivals_shown, early_of, early_input, events_of, is_active, is_active_in, is_calm_at_end, now_of, activity_event, noted, noted_after}
 use Rattle.pie_aqm.specs.{params_of, parts_of, turns_on_by, Place, last_or, places, keeps_wait, measures, Enqueue, ArrivingPacket, considered_where}
-use Rattle.pie_aqm.specs.{verdict_shown, accu_left, offered, verdict, Elements, departure, Estimate, Parts, Arrive, Call, Change, Depart}
-use Rattle.pie_aqm.specs.{HasThreshold, Pass, Restart, Update, after_call, shown_by, ShowsCall, Arrived, Departed, Updated, Reset, Changed, Shows}
+use Rattle.pie_aqm.specs.{verdict_input, accu_left, offered, verdict, Elements, departure, Estimate, Parts, Arrive, Call, Change, Depart}
+use Rattle.pie_aqm.specs.{HasThreshold, Pass, Restart, Update, after_call, event_of_call, RepresentsCall, Arrived, Departed, Updated, Reset, Changed, Shows}
 use Rattle.pie_aqm.specs.{estimate_of, held_of, greatest, anew, bytes_with, capped, control_updated, delay_in, departed, is_calm, judged, no_estimate}
 use Rattle.pie_aqm.specs.{opened, opens_active, passed, renewed, stays_active, turns_on, updated, wait_of}
 use Rattle.pie_aqm.proofs.Places.{filter_map-push, from_places-push, greatest-push, last_or-one, place_of, since-push, with_one}
@@ -19,16 +19,16 @@ use Rattle.pie_aqm.proofs.Sounds.{threshold-holds}
 use Rattle.pie_params.specs.Range.{first_bad}
 use Rattle.pie_early.specs.Decision.{counted}
 use Rattle.pie_early.specs.Events.{EarlyEvent, arrival, cleared}
-use Rattle.pie_early.proofs.Laws.{shows_arrival, shows-next}
+use Rattle.pie_early.proofs.Laws.{represents_arrival, represents-next}
 use Rattle.pie_rate.specs.Estimate.{after_departure}
-use Rattle.pie_rate.proofs.Laws.{nothing_shown, shows_after}
+use Rattle.pie_rate.proofs.Laws.{none_represented, represents_after}
 use Rattle.pie_control.specs.Events.{ControlEvent, idled, reset, update_at}
-use Rattle.pie_control.proofs.Laws.{shows_idled, shows_reset, shows_updated}
+use Rattle.pie_control.proofs.Laws.{represents_idled, represents_reset, represents_updated}
 use Rattle.pie_early.specs.History as Early
 use Rattle.pie_rate.specs.Estimate as Rate
 use Rattle.pie_control.specs.History as Control
 
--- ---- the moment and the parameters
+-- ---- The moment and the parameters
 
 pub moment-push : (opened : Opened) (events : List ControllerEvent) (event : ControllerEvent)
     → now_of opened (events ++ event ∷ []) ≡ max (now_of opened events) (moment_of event)
@@ -42,51 +42,51 @@ unfolding params_of
 params-push opened events event =
     simp (filter_map-push, last_or-one)
 
--- ---- notes
+-- ---- Events with their activity
 
-noted_after-push : (opened : Opened) (earlier : List Noted) (events : List ControllerEvent) (event : ControllerEvent)
-    → noted_after opened earlier (events ++ event ∷ []) ≡ noted_after opened earlier events ++ note opened (noted_after opened earlier events) event
+activity_after-push : (opened : Opened) (earlier : List ActivityEvent) (events : List ControllerEvent) (event : ControllerEvent)
+    → noted_after opened earlier (events ++ event ∷ []) ≡ noted_after opened earlier events ++ activity_event opened (noted_after opened earlier events) event
     ∷ []
 unfolding noted_after
-noted_after-push opened earlier [] event = refl
-noted_after-push opened earlier (first ∷ events) event = noted_after-push opened (earlier ++ note opened earlier first ∷ []) events event
+activity_after-push opened earlier [] event = refl
+activity_after-push opened earlier (first ∷ events) event = activity_after-push opened (earlier ++ activity_event opened earlier first ∷ []) events event
 
-noted-push : (opened : Opened) (events : List ControllerEvent) (event : ControllerEvent)
-    → noted opened (events ++ event ∷ []) ≡ noted opened events ++ note opened (noted opened events) event ∷ []
+activity-push : (opened : Opened) (events : List ControllerEvent) (event : ControllerEvent)
+    → noted opened (events ++ event ∷ []) ≡ noted opened events ++ activity_event opened (noted opened events) event ∷ []
 unfolding noted
-noted-push opened events event = noted_after-push opened [] events event
+activity-push opened events event = activity_after-push opened [] events event
 
-events-noted_after : (opened : Opened) (earlier : List Noted) (events : List ControllerEvent)
+events-activity_after : (opened : Opened) (earlier : List ActivityEvent) (events : List ControllerEvent)
     → events_of (noted_after opened earlier events) ≡ events_of earlier ++ events
 unfolding noted_after
-events-noted_after opened earlier [] = sym (append-nil (events_of earlier))
-events-noted_after opened earlier (first ∷ events) =
-    events-noted_after opened (earlier ++ note opened earlier first ∷ []) events
-    ∙ ap (λ (all : List ControllerEvent). all ++ events) (map-append (λ (n : Noted). n.event) earlier (note opened earlier first ∷ []))
+events-activity_after opened earlier [] = sym (append-nil (events_of earlier))
+events-activity_after opened earlier (first ∷ events) =
+    events-activity_after opened (earlier ++ activity_event opened earlier first ∷ []) events
+    ∙ ap (λ (all : List ControllerEvent). all ++ events) (map-append (λ (n : ActivityEvent). n.event) earlier (activity_event opened earlier first ∷ []))
     ∙ append_assoc (events_of earlier) (first ∷ []) events
 
--- the events of the notes are the events
-pub events-noted : (opened : Opened) (events : List ControllerEvent) → events_of (noted opened events) ≡ events
+-- the events with their activity are the events
+pub events-activity : (opened : Opened) (events : List ControllerEvent) → events_of (noted opened events) ≡ events
 unfolding noted
-events-noted opened events = events-noted_after opened [] events
+events-activity opened events = events-activity_after opened [] events
 
--- one more event turns the controller on
+-- true if one more event activates the controller
 abbrev pub turned_on : Opened → List ControllerEvent → ControllerEvent → Bool
 turned_on opened events event = turns_on_by event (active_of opened events) (params_of opened events)
 
 -- the place of one more event
-abbrev last_place : Opened → List ControllerEvent → ControllerEvent → Place Noted
-last_place opened events event = place_of (noted opened events) (note opened (noted opened events) event)
+abbrev last_place : Opened → List ControllerEvent → ControllerEvent → Place ActivityEvent
+last_place opened events event = place_of (noted opened events) (activity_event opened (noted opened events) event)
 
--- what is filtered from the places of the notes
-filtered-push : {Y : Type 0} (h : Place Noted → Option Y) (opened : Opened) (events : List ControllerEvent) (event : ControllerEvent)
+-- the elements filtered from the places, with one more event
+filtered-push : {Y : Type 0} (h : Place ActivityEvent → Option Y) (opened : Opened) (events : List ControllerEvent) (event : ControllerEvent)
     → filter_map h (places (noted opened (events ++ event ∷ [])))
     ≡ with_one (filter_map h (places (noted opened events))) (h (last_place opened events event))
-filtered-push h opened events event = simp (noted-push, from_places-push)
+filtered-push h opened events event = simp (activity-push, from_places-push)
 
--- ---- activity
+-- ---- Activity
 
--- whether the controller is active after an event that changes it so, or not at all
+-- the activity after an event, from the change that it makes
 abbrev pub active_next : Profile → Bool → Option Bool → Bool
 active_next profile active None = active
 active_next One active (Some new) = true
@@ -95,15 +95,15 @@ active_next Two active (Some new) = new
 pub active-push : (opened : Opened) (events : List ControllerEvent) (event : ControllerEvent)
     → active_of opened (events ++ event ∷ [])
     ≡ active_next opened.profile (active_of opened events) (change_by event (active_of opened events) (turned_on opened events event)
-    (is_calm_noted opened (noted opened events)))
+    (is_calm_at_end opened (noted opened events)))
 unfolding active_of is_active
 active-push opened events event =
     by opened.profile ∙ ap (active_next opened.profile (is_active_in opened.profile opened (noted opened events))) shown
   where
     shown : change_at opened (last_place opened events event)
         ≡ change_by event (is_active opened (noted opened events)) (turns_on_by event (is_active opened (noted opened events)) (params_of opened events))
-        (is_calm_noted opened (noted opened events))
-    shown = rw (events-noted opened events) refl
+        (is_calm_at_end opened (noted opened events))
+    shown = rw (events-activity opened events) refl
 
     in_one : (change : Option Bool) → true ≡ active_next One true change
     in_one change = grind (arith, nat_tests)
@@ -123,22 +123,22 @@ pub one_is_active : (opened : Opened) (events : List ControllerEvent) → opened
 unfolding active_of is_active
 one_is_active opened events one = ap (λ (profile : Profile). is_active_in profile opened (noted opened events)) one
 
--- ---- what the parts are shown
+-- ---- The inputs of the parts
 
 -- the departures since the estimate was cleared, after one more event at this moment
 abbrev pub departures_next : ControllerEvent → Bool → Bool → List Departure → ℕ → List Departure
-departures_next event measured on departures now = if clears_rate event on then [] else with_one departures (departure_shown event measured now)
+departures_next event measured on departures now = if clears_rate event on then [] else with_one departures (departure_input event measured now)
 
 pub departures-push : (opened : Opened) (events : List ControllerEvent) (event : ControllerEvent)
     → departures_shown opened (events ++ event ∷ [])
     ≡ departures_next event (measures (active_of opened events) opened.elements.delay) (turned_on opened events event)
     (departures_shown opened events) (max (now_of opened events) (moment_of event))
 unfolding departures_shown departures_of active_of
-departures-push opened events event = simp (noted-push, since-push, events-noted, moment-push)
+departures-push opened events event = simp (activity-push, since-push, events-activity, moment-push)
 
--- what the packet had waited that departed last, after one more event at this moment
+-- the time that the last departed packet spent in the queue, after one more event at this moment
 abbrev pub waited_next : ControllerEvent → Bool → Bool → ℕ → ℕ → ℕ
-waited_next event kept on waited now = if clears_wait event on then 0 else unwrap_or (wait_shown event kept now) waited
+waited_next event kept on waited now = if clears_wait event on then 0 else unwrap_or (wait_input event kept now) waited
 
 pub waited-push : (opened : Opened) (events : List ControllerEvent) (event : ControllerEvent)
     → waited_of opened (events ++ event ∷ [])
@@ -146,9 +146,9 @@ pub waited-push : (opened : Opened) (events : List ControllerEvent) (event : Con
     (max (now_of opened events) (moment_of event))
 unfolding waited_of waited_noted active_of last_or
 waited-push opened events event =
-    simp (noted-push, since-push, events-noted, moment-push)
+    simp (activity-push, since-push, events-activity, moment-push)
     (by (clears_wait event (turned_on opened events event))
-    (wait_shown event (keeps_wait (active_of opened events) opened.elements.delay) (max (now_of opened events) (moment_of event))))
+    (wait_input event (keeps_wait (active_of opened events) opened.elements.delay) (max (now_of opened events) (moment_of event))))
   where
     before : List ℕ
     before = filter_map (wait_at opened) (after_last (clears_wait_at opened) (places (noted opened events)))
@@ -159,36 +159,36 @@ waited-push opened events event =
 
 pub control-push : (opened : Opened) (events : List ControllerEvent) (event : ControllerEvent)
     → updates_shown opened (events ++ event ∷ [])
-    ≡ with_one (updates_shown opened events) (control_shown event (active_of opened events) (turned_on opened events event)
+    ≡ with_one (updates_shown opened events) (control_input event (active_of opened events) (turned_on opened events event)
     (params_of opened events) opened.elements (delay_noted opened (noted opened events)) (max (now_of opened events) (moment_of event)))
 unfolding updates_shown control_of active_of
 control-push opened events event =
-    rw (filtered-push (control_at opened) opened events event, events-noted opened events, moment-push opened events event) refl
+    rw (filtered-push (control_at opened) opened events event, events-activity opened events, moment-push opened events event) refl
 
 pub early-push : (opened : Opened) (events : List ControllerEvent) (event : ControllerEvent)
     → arrivals_shown opened (events ++ event ∷ [])
-    ≡ with_one (arrivals_shown opened events) (early_shown event (active_of opened events) (turned_on opened events event)
+    ≡ with_one (arrivals_shown opened events) (early_input event (active_of opened events) (turned_on opened events event)
     opened.elements (params_of opened events) (parts_of opened (updates_shown opened events)))
 unfolding arrivals_shown early_of updates_shown active_of
-early-push opened events event = rw (filtered-push (early_at opened) opened events event, events-noted opened events) refl
+early-push opened events event = rw (filtered-push (early_at opened) opened events event, events-activity opened events) refl
 
--- ---- What an arrival does to what early drop holds, whichever list it shows
+-- ---- The state of early drop after an arrival, for any list that it represents
 
--- after an arrival and its verdict
+-- the list after an arrival and its verdict
 pub early-step : (h : Held) (a : ArrivingPacket) (events : List EarlyEvent) → Early.Shows events h.accu
-    → Early.Shows (events ++ verdict_shown (verdict h a) (considered_where h.active h.params h.control a.queued)
+    → Early.Shows (events ++ verdict_input (verdict h a) (considered_where h.active h.params h.control a.queued)
     (counted h.elements h.params h.control (offered a)) h.elements.picking ∷ []) (accu_left h a)
 unfolding verdict accu_left
 early-step h a events shown =
-    let as_cleared = shows-next events h.accu cleared shown in
-    let unseen = shows-next events h.accu (arrival false (counted h.elements h.params h.control (offered a)) h.elements.picking Enqueue) shown in
-    let seen = shows_arrival h.elements.picking h.params h.control (counted h.elements h.params h.control (offered a)) a.queued a.word h.accu events
+    let as_cleared = represents-next events h.accu cleared shown in
+    let unseen = represents-next events h.accu (arrival false (counted h.elements h.params h.control (offered a)) h.elements.picking Enqueue) shown in
+    let seen = represents_arrival h.elements.picking h.params h.control (counted h.elements h.params h.control (offered a)) a.queued a.word h.accu events
     a.ecn shown in
     grind (arith, nat_tests)
 
--- ---- A controller that shows some events shows one more after each call
+-- ---- The state after each call represents one more event
 
--- ---- the parts' own relations, as equations
+-- ---- The parts' abstraction relations, as equations
 
 parts-is : (o : Opened) (events : List ControlEvent) (parts : Parts) → Control.Shows o.params o.moment events parts → parts ≡ parts_of o events
 parts-is o events parts shown = rw (← shown.prob, ← shown.old_delay, ← shown.burst, ← shown.last) refl
@@ -197,9 +197,9 @@ rate-is : (threshold : ℕ) (departures : List Departure) (e : Estimate) → Rat
 rate-is threshold departures e shown = rw (← shown.average, ← shown.begun) refl
 
 none-is : (threshold : ℕ) → estimate_of threshold [] ≡ no_estimate
-none-is threshold = sym (rate-is threshold [] no_estimate (nothing_shown threshold))
+none-is threshold = sym (rate-is threshold [] no_estimate (none_represented threshold))
 
--- ---- activity
+-- ---- Activity
 
 active-opened : (profile : Profile) (elements : Elements) (params : RawParams) (moment : ℕ)
     → opens_active profile ≡ active_of (record { profile = profile; elements = elements; params = params; moment = moment }) []
@@ -214,14 +214,14 @@ active-update : (profile : Profile) (active calm : Bool)
     → active_next profile active (if active then (if calm then Some false else None) else None) ≡ (active && stays_active profile calm)
 active-update profile active calm = grind (arith, nat_tests)
 
--- ---- with no event
+-- ---- Without an event
 
-pub Shows_opened : (profile : Profile) (elements : Elements) (params : RawParams) (moment : ℕ) (new : Held)
+pub Represents_opened : (profile : Profile) (elements : Elements) (params : RawParams) (moment : ℕ) (new : Held)
     → new ≡ opened profile elements params moment → Shows (record { profile = profile; elements = elements; params = params; moment = moment }) [] new
 unfolding Shows held_of now_of params_of departures_shown departures_of waited_of waited_noted updates_shown control_of arrivals_shown early_of noted
     noted_after places greatest last_or Control.probability Control.last_delay Control.last_moment Control.granted_burst Control.burst_allowance
     Early.accumulated
-Shows_opened profile elements params moment new is =
+Represents_opened profile elements params moment new is =
     let now : moment ≡ max moment 0 = omega arith in
     let burst : params.max_burst ≡ params.max_burst - 0 = omega arith in
     let active = active-opened profile elements params moment in
@@ -238,24 +238,24 @@ Shows_opened profile elements params moment new is =
       accu = 0;
     }
 
--- ---- one more event
+-- ---- One more event
 
 module _ (o : Opened) (events : List ControllerEvent) where
-  -- each part after one more event, which turns the controller on or not
+  -- each part after one more event, which activates the controller or not
   abbrev next_if : Bool → ControllerEvent → Held
   next_if on event = record {
     profile = o.profile;
     elements = o.elements;
     params = unwrap_or (params_set event) (params_of o events);
     moment = max (now_of o events) (moment_of event);
-    active = active_next o.profile (active_of o events) (change_by event (active_of o events) on (is_calm_noted o (noted o events)));
+    active = active_next o.profile (active_of o events) (change_by event (active_of o events) on (is_calm_at_end o (noted o events)));
     rate = estimate_of (unwrap_or (params_set event) (params_of o events)).dq_threshold (departures_next event
         (measures (active_of o events) o.elements.delay) on (departures_shown o events) (max (now_of o events) (moment_of event)));
     waited = waited_next event (keeps_wait (active_of o events) o.elements.delay) on (waited_of o events)
         (max (now_of o events) (moment_of event));
-    control = parts_of o (with_one (updates_shown o events) (control_shown event (active_of o events) on (params_of o events) o.elements
+    control = parts_of o (with_one (updates_shown o events) (control_input event (active_of o events) on (params_of o events) o.elements
         (delay_noted o (noted o events)) (max (now_of o events) (moment_of event))));
-    accu = Early.accumulated (with_one (arrivals_shown o events) (early_shown event (active_of o events) on o.elements (params_of o events)
+    accu = Early.accumulated (with_one (arrivals_shown o events) (early_input event (active_of o events) on o.elements (params_of o events)
         (parts_of o (updates_shown o events))));
   }
 
@@ -265,22 +265,22 @@ module _ (o : Opened) (events : List ControllerEvent) where
 
   delay-is : (queued : ℕ) → delay_noted o (noted o events) queued ≡ delay_in (held_of o events) queued
   unfolding held_of delay_noted departures_shown waited_of
-  delay-is queued = rw (events-noted o events) refl
+  delay-is queued = rw (events-activity o events) refl
 
-  calm-is : (queued : ℕ) → is_calm_noted o (noted o events) queued ≡ is_calm (held_of o events) queued
+  calm-is : (queued : ℕ) → is_calm_at_end o (noted o events) queued ≡ is_calm (held_of o events) queued
   unfolding held_of updates_shown
-  calm-is queued = rw (delay-is queued, events-noted o events) refl
+  calm-is queued = rw (delay-is queued, events-activity o events) refl
 
-  -- what the control law holds that was shown these
+  -- the state of the control law after these inputs
   own : (us : List ControlEvent) → Control.Shows o.params o.moment us (parts_of o us)
   own us = record { prob = refl; old_delay = refl; burst = refl; last = refl }
 
-  -- what a reset, and turning on, leave of the control law and of early drop
+  -- the control law and early drop after a reset or activation
   control-reset : parts_of o (updates_shown o events ++ reset (params_of o events) ∷ []) ≡ renewed (params_of o events) (parts_of o (updates_shown o events))
-  control-reset = sym (parts-is o _ _ (shows_reset o.params o.moment (updates_shown o events) _ _ (own (updates_shown o events)) (params_of o events) refl))
+  control-reset = sym (parts-is o _ _ (represents_reset o.params o.moment (updates_shown o events) _ _ (own (updates_shown o events)) (params_of o events) refl))
 
   early-cleared : Early.accumulated (arrivals_shown o events ++ cleared ∷ []) ≡ 0
-  early-cleared = sym (shows-next (arrivals_shown o events) (Early.accumulated (arrivals_shown o events)) cleared refl)
+  early-cleared = sym (represents-next (arrivals_shown o events) (Early.accumulated (arrivals_shown o events)) cleared refl)
 
   depart-next : (size left since moment : ℕ) → (held_of o events).params.dq_threshold ≤ 65536
       → next_if false (Departed size left since moment) ≡ departed (held_of o events) size left since moment
@@ -299,7 +299,7 @@ module _ (o : Opened) (events : List ControllerEvent) where
       rated : (b : Bool) → estimate_of t (with_one (departures_shown o events) (if b then Some d else None))
           ≡ (if b then after_departure t (estimate_of t (departures_shown o events)) d else estimate_of t (departures_shown o events))
       rated true = sym (rate-is t (departures_shown o events ++ d ∷ []) (after_departure t (estimate_of t (departures_shown o events)) d)
-          (shows_after t (departures_shown o events) d (estimate_of t (departures_shown o events)) small (record { average = refl; begun = refl })))
+          (represents_after t (departures_shown o events) d (estimate_of t (departures_shown o events)) small (record { average = refl; begun = refl })))
       rated false = refl
 
       kept : (b : Bool) → unwrap_or (if b then Some (wait_of left since (max (now_of o events) moment)) else None) (waited_of o events)
@@ -318,8 +318,8 @@ module _ (o : Opened) (events : List ControllerEvent) where
 
       by : (delay now : ℕ) (b : Bool) → parts_of o (us ++ (if b then update_at (params_of o events) o.elements delay now else idled now) ∷ [])
           ≡ (if b then control_updated o.elements (params_of o events) (parts_of o us) delay now else record (parts_of o us) { last = now })
-      by delay now true = sym (parts-is o _ _ (shows_updated o.params o.moment us _ _ (own us) (params_of o events) o.elements delay now refl))
-      by delay now false = sym (parts-is o _ _ (shows_idled o.params o.moment us _ _ (own us) now refl))
+      by delay now true = sym (parts-is o _ _ (represents_updated o.params o.moment us _ _ (own us) (params_of o events) o.elements delay now refl))
+      by delay now false = sym (parts-is o _ _ (represents_idled o.params o.moment us _ _ (own us) now refl))
 
   reset-next : (moment : ℕ) → next_if false (Reset moment) ≡ after_call (held_of o events) (Restart moment)
   unfolding held_of
@@ -337,7 +337,7 @@ module _ (o : Opened) (events : List ControllerEvent) where
   arrive-next a moment false = simp (sym (early-step (held_of o events) a (arrivals_shown o events) refl))
 
   call-next : (call : Call) → HasThreshold (held_of o events) call
-      → next_if (turned_on o events (shown_by (held_of o events) call)) (shown_by (held_of o events) call) ≡ after_call (held_of o events) call
+      → next_if (turned_on o events (event_of_call (held_of o events) call)) (event_of_call (held_of o events) call) ≡ after_call (held_of o events) call
   unfolding held_of
   call-next (Arrive a moment) small = arrive-next a moment (turns_on (held_of o events) (bytes_with (verdict (held_of o events) a) a.queued a.size))
   call-next (Depart size left since moment) small = depart-next size left since moment small
@@ -346,40 +346,40 @@ module _ (o : Opened) (events : List ControllerEvent) where
   call-next (Restart moment) small = reset-next moment
   call-next (Change params moment) small = change-next params moment
 
-pub Shows_call : (o : Opened) (events : List ControllerEvent) (held : Held) → Shows o events held → (call : Call) → HasThreshold held call
-    → Shows o (events ++ shown_by held call ∷ []) (after_call held call)
+pub Represents_call : (o : Opened) (events : List ControllerEvent) (held : Held) → Shows o events held → (call : Call) → HasThreshold held call
+    → Shows o (events ++ event_of_call held call ∷ []) (after_call held call)
 unfolding Shows
-Shows_call o events held shows =
-    subst (λ (h : Held). (call : Call) → HasThreshold h call → after_call h call ≡ held_of o (events ++ shown_by h call ∷ [])) (sym shows)
-    (λ call small. sym (held-push o events (shown_by (held_of o events) call) ∙ call-next o events call small))
+Represents_call o events held shows =
+    subst (λ (h : Held). (call : Call) → HasThreshold h call → after_call h call ≡ held_of o (events ++ event_of_call h call ∷ [])) (sym shows)
+    (λ call small. sym (held-push o events (event_of_call (held_of o events) call) ∙ call-next o events call small))
 
 has_threshold : (held : Held) (call : Call) → held.params.dq_threshold ≤ 65536 → HasThreshold held call
 has_threshold held (Depart size left since moment) small = small
 has_threshold held _ small = tt
 
--- parameters that are in their ranges have a threshold that may be set
+-- parameters in their ranges have a permitted threshold
 pub threshold_held : (held : Held) (call : Call) → first_bad held.params ≡ None → HasThreshold held call
 threshold_held held call good = has_threshold held call (threshold-holds held.params good).1
 
-pub shows_called : (o : Opened) (events : List ControllerEvent) (held : Held) → Shows o events held → held.params.dq_threshold ≤ 65536
-    → (call : Call) → Shows o (events ++ shown_by held call ∷ []) (after_call held call)
-shows_called o events held shows small call = Shows_call o events held shows call (has_threshold held call small)
+pub represents_called : (o : Opened) (events : List ControllerEvent) (held : Held) → Shows o events held → held.params.dq_threshold ≤ 65536
+    → (call : Call) → Shows o (events ++ event_of_call held call ∷ []) (after_call held call)
+represents_called o events held shows small call = Represents_call o events held shows call (has_threshold held call small)
 
--- what is held is what looking back gives
+-- the state equals the look-back
 pub held_is : (o : Opened) (events : List ControllerEvent) (held : Held) → Shows o events held → held ≡ held_of o events
 unfolding Shows
 held_is o events held shows = shows
 
--- the same held, told otherwise
+-- an equal state represents the same events
 pub moved : (o : Opened) (events : List ControllerEvent) (held new : Held) → new ≡ held → Shows o events held → Shows o events new
 moved o events held new e shows = subst (λ (h : Held). Shows o events h) (sym e) shows
 
--- a call on what is held
-pub shows_with : (held new : Held) (call : Call) → new ≡ after_call held call → HasThreshold held call → ShowsCall held call new
-unfolding ShowsCall
-shows_with held new call is small opened events shows = moved opened _ _ new is (Shows_call opened events held shows call small)
+-- a call on the state
+pub represents_with : (held new : Held) (call : Call) → new ≡ after_call held call → HasThreshold held call → RepresentsCall held call new
+unfolding RepresentsCall
+represents_with held new call is small opened events shows = moved opened _ _ new is (Represents_call opened events held shows call small)
 
--- a departure, where the threshold is no greater than it may be
+-- a departure, if the threshold is at most 65536
 pub uncapped : (h g : Held) (size left since moment : ℕ) → h.params.dq_threshold ≤ 65536
     → g ≡ record (departed (capped h) size left since moment) { params = h.params } → g ≡ after_call h (Depart size left since moment)
 uncapped h g size left since moment small is = let e : min h.params.dq_threshold 65536 ≡ h.params.dq_threshold = omega (arith, small) in rw e at is

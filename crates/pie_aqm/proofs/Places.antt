@@ -1,4 +1,4 @@
--- What one more event at the end of a history does to its places, and to what is filtered from them.
+-- The places of a history with one more event at its end, and the elements filtered from them.
 use Rattle.std.proofs.Common.{◌≡◌, ℕ, List, [], ◌∷◌, ◌++◌, Bool, true, false, refl, ap, ◌∙◌, arith}
 use Rattle.std.specs.Prelude.{max, Option, Some, None, unwrap_or, if◌then◌else◌}
 use Rattle.std.specs.List.{after_last, cons_option, filter_map}
@@ -7,23 +7,23 @@ use Rattle.std.proofs.lemmas.List.Elements.{filter_map-append}
 use Rattle.pie_early.proofs.Laws.{after_last-push_no, after_last-push_yes}
 use Rattle.pie_aqm.specs.Places.{Place, places, after, greatest, last_or}
 
--- the place of an event that comes after these
+-- the place of an event after these events
 abbrev pub place_of : {E : Type 0} → List E → E → Place E
 place_of history event = record { before = history; event = event }
 
--- the last event's place is after all the others'
+-- the last event's place is after all the others
 pub places-push : {E : Type 0} (history : List E) (event : E) → places (history ++ event ∷ []) ≡ places history ++ place_of history event ∷ []
 unfolding places
 places-push [] event = refl
 places-push (first ∷ history) event =
     rw (places-push history event) (rw (map-append (after first) (places history) (place_of history event ∷ [])) refl)
 
--- a list with one more at its end, or with none
+-- a list with one more element at its end, or unchanged
 abbrev pub with_one : {X : Type 0} → List X → Option X → List X
 with_one xs None = xs
 with_one xs (Some x) = xs ++ x ∷ []
 
--- what a filter keeps with one more at the end
+-- a filtered list with one more element at the end
 pub filter_map-push : {X Y : Type 0} (h : X → Option Y) (xs : List X) (x : X) → filter_map h (xs ++ x ∷ []) ≡ with_one (filter_map h xs) (h x)
 filter_map-push {X} {Y} h xs x = filter_map-append h xs (x ∷ []) ∙ by (filter_map h xs) (h x)
   where
@@ -31,12 +31,12 @@ filter_map-push {X} {Y} h xs x = filter_map-append h xs (x ∷ []) ∙ by (filte
     by kept None = append-nil kept
     by kept (Some y) = refl
 
--- what a filter over the places keeps with one more event
+-- a filtered list of places with one more event
 pub from_places-push : {E Y : Type 0} (h : Place E → Option Y) (history : List E) (event : E)
     → filter_map h (places (history ++ event ∷ [])) ≡ with_one (filter_map h (places history)) (h (place_of history event))
 from_places-push h history event = simp (places-push, filter_map-push)
 
--- .. and one over the places after the last that clears
+-- a filtered list of the places after the last one that clears
 pub since-push : {E Y : Type 0} (clears : Place E → Bool) (h : Place E → Option Y) (history : List E) (event : E)
     → filter_map h (after_last clears (places (history ++ event ∷ [])))
     ≡ (if clears (place_of history event) then [] else with_one (filter_map h (after_last clears (places history))) (h (place_of history event)))
@@ -54,7 +54,7 @@ unfolding greatest
 greatest-push [] y = omega arith
 greatest-push (x ∷ xs) y = let more = greatest-push xs y in omega arith
 
--- the last of a list with one more, or with none
+-- the last element of a list with one more element, or unchanged
 pub last_or-push : {X : Type 0} (d : X) (xs : List X) (x : X) → last_or d (xs ++ x ∷ []) ≡ x
 unfolding last_or
 last_or-push d [] x = refl

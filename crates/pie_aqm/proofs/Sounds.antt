@@ -1,4 +1,4 @@
--- Parameters that are in their ranges.
+-- Parameters in their ranges.
 use Rattle.std.proofs.Common.{◌≡◌, ◌≤◌, arith, ◌<◌, ◌-◌, ◌^◌, ◌&&◌, ℕ, ℤ, pos, negsuc, ◌+ℤ◌, Bool, true, false, refl, ap, subst, sym}
 use Rattle.std.proofs.Common.{if◌then◌else◌, ◌↔◌, rules}
 use Rattle.std.specs.Prelude.{None, max, Option, Some}
@@ -37,9 +37,9 @@ pub threshold-holds : (params : RawParams) → first_bad params ≡ None → (10
 threshold-holds params e = let r = in-range params e in let power = r.dq_threshold in
     (grind (arith, nat_tests, power), grind (arith, nat_tests, power))
 
--- ---- What a controller holds stays sound at each call
+-- ---- The state of a controller stays sound at each call
 
--- ---- the accumulated probability
+-- ---- The accumulated probability
 
 pub accu-small : (h : Held) (a : ArrivingPacket) → h.accu < 8_500_000_000_000 → accu_left h a < 8_500_000_000_000
 unfolding accu_left
@@ -50,7 +50,7 @@ accu-small h a small =
       accu_below h.elements.picking h.params h.control (counted h.elements h.params h.control (offered a)) a.queued a.word h.accu small,
     )
 
--- ---- the departure rate
+-- ---- The departure rate
 
 mixed-within : (t sample average : ℕ) → t ≤ 65536 → sample < 2 ^ 60 → average < 2 ^ 60 → averaged t average sample < 2 ^ 60
 mixed-within t sample average small s a = grind arith
@@ -62,7 +62,7 @@ step-holds threshold average size left now None some small within a w = grind (a
 step-holds threshold average size left now (Some cycle) some small within a w =
     let mixed = mixed-within threshold (max 1 (now - cycle.start)) average small (omega arith) a in grind (arith, nat_tests)
 
--- ---- the control law
+-- ---- The control law
 
 bounded-hold : (z : ℤ) → bounded_of z ≤ 10 ^ 12
 bounded-hold (pos n) = omega arith
@@ -77,7 +77,7 @@ pub delay-hold : (bytes average threshold : ℕ) → delay_of bytes average thre
 unfolding delay_of
 delay-hold bytes average threshold = omega arith
 
--- ---- each call
+-- ---- Each call
 
 pub Sound_opened : (profile : Profile) (elements : Elements) (params : RawParams) (moment : ℕ) → first_bad params ≡ None → moment < 2 ^ 60
     → IsSound (opened profile elements params moment)
@@ -160,7 +160,7 @@ Sound_call h sound (Change params moment) taken = change-sound h sound moment ta
 pub stays_sound : (h g : Held) → g ≡ h → IsSound h → IsSound g
 stays_sound h g is sound = subst (λ (k : Held). IsSound k) (sym is) sound
 
--- ---- No number of a controller can't be believed exactly where all are sound
+-- ---- `first_unsound` returns no number exactly if the state is sound
 
 pub sound_from : (h : Held) → first_unsound h ≡ None → IsSound h
 unfolding first_unsound

@@ -1,4 +1,4 @@
--- What a controller holds, and what is sound to hold.
+-- The state of a controller, and its soundness.
 use Rattle.std.specs.Prelude.{◌≡◌, ℕ, ◌^◌, ◌<◌, ◌≤◌, Bool, true, nat_le, nat_lt, not, is_none, Option, Some, None, find, List, [], ◌∷◌, ⊤}
 use Rattle.pie_aqm.specs.Types.{Begun, Profile, One, Two}
 use Rattle.pie_params.specs.Range.{first_bad}
@@ -6,17 +6,19 @@ use Rattle.pie_aqm.specs.declared.raw.RawController.{RawController}
 use Rattle.pie_event.specs.declared.register.Register.{Register}
 use Rattle.pie_event.specs.declared.register.Register.TheVariants as register
 
--- its profile and its optional elements; the parameters in force and the effective moment; whether it is active; the estimate of the
--- departure rate, what the packet that departed last had waited, the registers of the control law, and the accumulated probability
+-- the state of a controller: profile, optional elements, parameters in force, effective moment, activity, estimate of
+-- the departure rate, the last departed packet's time in the queue, state of the control law, and accumulated
+-- probability
 abbrev pub Held : Type 0
 Held = RawController
 
--- a cycle of the departure rate that is begun began no later than now, and has counted less than the threshold
+-- an open cycle in range: it opened at or before `now` and has counted fewer bytes than the threshold
 abbrev pub IsWithin : ℕ → ℕ → Option Begun → Type 0
 IsWithin threshold now None = ⊤
 IsWithin threshold now (Some cycle) = (cycle.start ≤ now) × (cycle.count < threshold)
 
--- each number is in its range, and the numbers fit one another: nothing was later than now, and in profile one it is active
+-- a sound state: each number is in its range, and the numbers agree. No moment is later than the effective one, and in
+-- profile one the controller is active
 pub record IsSound (h : Held) : Type 0 where
   pub params : first_bad h.params ≡ None
   pub moment : h.moment < 2 ^ 60
@@ -30,9 +32,9 @@ pub record IsSound (h : Held) : Type 0 where
   pub waited : h.waited ≤ 2 ^ 40
   pub active : h.profile ≡ One → h.active ≡ true
 
--- ---- which of the numbers that a controller is said to hold can be believed, one after another
+-- ---- Soundness of each number of a state
 
--- a cycle that is begun began no later than now, and has counted less than the threshold
+-- true if an open cycle opened at or before `now`; below, true if it has counted fewer bytes than the threshold
 abbrev pub began_by : ℕ → Option Begun → Bool
 began_by now None = true
 began_by now (Some cycle) = nat_le cycle.start now
@@ -41,12 +43,12 @@ abbrev pub counts_below : ℕ → Option Begun → Bool
 counts_below threshold None = true
 counts_below threshold (Some cycle) = nat_lt cycle.count threshold
 
--- in profile one a controller is active
+-- true if the activity is possible: in profile one a controller is active
 abbrev pub fits_profile : Profile → Bool → Bool
 fits_profile One active = active
 fits_profile Two active = true
 
--- the number is in its range, and fits those before it
+-- true if the number is in its range and agrees with the numbers before it
 abbrev pub is_sound_at : Held → Register → Bool
 is_sound_at h register.Params = is_none (first_bad h.params)
 is_sound_at h register.Moment = nat_le h.moment 1152921504606846975
@@ -61,12 +63,12 @@ is_sound_at h register.CycleCount = counts_below h.params.dq_threshold h.rate.be
 is_sound_at h register.Waited = nat_le h.waited (2 ^ 40)
 is_sound_at h register.Active = fits_profile h.profile h.active
 
--- the numbers, in the order in which they are looked at
-abbrev pub looked_at : List Register
-looked_at =
+-- the numbers, in the order of the checks
+abbrev pub checked_registers : List Register
+checked_registers =
     register.Params ∷ register.Moment ∷ register.Prob ∷ register.OldDelay ∷ register.Accu ∷ register.Burst ∷ register.Last ∷ register.Average
     ∷ register.CycleStart ∷ register.CycleCount ∷ register.Waited ∷ register.Active ∷ []
 
--- the first number that can't be believed
+-- the first number that is not sound
 unfoldable pub first_unsound : Held → Option Register
-first_unsound h = find (λ register. not (is_sound_at h register)) looked_at
+first_unsound h = find (λ register. not (is_sound_at h register)) checked_registers

@@ -1,7 +1,7 @@
--- What a controller holds, looking back over all that it was shown (RFC 8033, sections 4.1, 4.2, 4.4 and 5.1 to 5.5). Nothing here
--- is a register: each part looks back over a list that is filtered from the events. Whether the controller was active before an
--- event (section 5.3; what turns it on and off is this project's own) is noted of each event from the oldest on, and each note
--- looks back over all notes before it.
+-- The state of a controller as a look-back over all its events (RFC 8033, sections 4.1, 4.2, 4.4 and 5.1 to 5.5).
+-- Nothing here accumulates: each part is computed from a list that is filtered from the events. Activity before an
+-- event (section 5.3; the conditions for switching are this project's own) is recorded with each event from the oldest
+-- on, and each of these records looks back over all records before it.
 use Rattle.std.specs.Prelude.{◌≡◌, ℕ, Bool, true, false, ◌&&◌, List, [], ◌∷◌, ◌++◌, map, Option, option_map, Some, None, if◌then◌else◌}
 use Rattle.std.specs.List.{filter_map, after_last}
 use Rattle.pie_aqm.specs.Types.{RawParams, Elements, Departure, departure, Parts, Enqueue, Mark, Drop, Profile, One, Two, Verdict, Picking}
@@ -20,115 +20,117 @@ use Rattle.pie_aqm.specs.Events.{ControllerEvent, Opened, Arrived, Departed, Upd
 use Rattle.pie_aqm.specs.Places.{Place, places, greatest, last_or}
 use Rattle.pie_aqm.specs.Steps.{delay_by, keeps_wait, measures, wait_of, wakes}
 
--- the effective moment: the greatest of the opening moment and all moments handed in
+-- the effective moment: the greatest of the opening moment and the moments of all events
 unfoldable pub now_of : Opened → List ControllerEvent → ℕ
 now_of opened events = greatest (opened.moment ∷ map moment_of events)
 
--- the parameters in force: those that were set last, or else the opening's
+-- the parameters in force: those set last, or the opening's
 unfoldable pub params_of : Opened → List ControllerEvent → RawParams
 params_of opened events = last_or opened.params (filter_map params_set events)
 
--- an event, with whether the controller was active before it
-pub record Noted : Type 0 where
+-- an event, with the activity of the controller before it
+pub record ActivityEvent : Type 0 where
   pub event : ControllerEvent
   pub active : Bool
 
--- these events, without that
-abbrev pub events_of : List Noted → List ControllerEvent
-events_of noted = map (λ (n : Noted). n.event) noted
+-- these events, without the activity
+abbrev pub events_of : List ActivityEvent → List ControllerEvent
+events_of noted = map (λ (n : ActivityEvent). n.event) noted
 
 -- the parameters in force before the event of a place, and the effective moment at it
-abbrev pub params_at : Opened → Place Noted → RawParams
+abbrev pub params_at : Opened → Place ActivityEvent → RawParams
 params_at opened place = params_of opened (events_of place.before)
 
-abbrev pub moment_at : Opened → Place Noted → ℕ
+abbrev pub moment_at : Opened → Place ActivityEvent → ℕ
 moment_at opened place = now_of opened (events_of place.before ++ place.event.event ∷ [])
 
--- ---- turning on
+-- ---- Activation
 
--- an arrival at an inactive controller turns it on where three times the bytes after it reach the limit
+-- true if an arrival activates the controller: it is inactive, and three times the bytes in the queue after it reach
+-- the limit
 abbrev pub turns_on_by : ControllerEvent → Bool → RawParams → Bool
 turns_on_by (Arrived verdict size before after moment) active params = wakes active params.limit_bytes after
 turns_on_by event active params = false
 
-abbrev pub turns_on_at : Opened → Place Noted → Bool
+abbrev pub turns_on_at : Opened → Place ActivityEvent → Bool
 turns_on_at opened place = turns_on_by place.event.event place.event.active (params_at opened place)
 
--- ---- the departure rate
+-- ---- The departure rate
 
--- what clears the estimate: a reset, new parameters, and turning on
+-- true for an event that clears the estimate: a reset, new parameters, or activation
 abbrev pub clears_rate : ControllerEvent → Bool → Bool
 clears_rate (Reset moment) turned_on = true
 clears_rate (Changed params moment) turned_on = true
 clears_rate event turned_on = turned_on
 
--- a departure as the estimate is shown it, where the departure rate is measured
-abbrev pub departure_shown : ControllerEvent → Bool → ℕ → Option Departure
-departure_shown (Departed size left since moment) measured now = if measured then Some (departure size left now) else None
-departure_shown event measured now = None
+-- a departure as an input of the estimate, if the departure rate is measured
+abbrev pub departure_input : ControllerEvent → Bool → ℕ → Option Departure
+departure_input (Departed size left since moment) measured now = if measured then Some (departure size left now) else None
+departure_input event measured now = None
 
-abbrev pub clears_rate_at : Opened → Place Noted → Bool
+abbrev pub clears_rate_at : Opened → Place ActivityEvent → Bool
 clears_rate_at opened place = clears_rate place.event.event (turns_on_at opened place)
 
-abbrev pub departure_at : Opened → Place Noted → Option Departure
+abbrev pub departure_at : Opened → Place ActivityEvent → Option Departure
 departure_at opened place =
-    departure_shown place.event.event (measures place.event.active opened.elements.delay) (moment_at opened place)
+    departure_input place.event.event (measures place.event.active opened.elements.delay) (moment_at opened place)
 
--- the packets that departed since the estimate was cleared
-unfoldable pub departures_of : Opened → List Noted → List Departure
+-- the departures since the estimate was cleared
+unfoldable pub departures_of : Opened → List ActivityEvent → List Departure
 departures_of opened noted = filter_map (departure_at opened) (after_last (clears_rate_at opened) (places noted))
 
--- ---- time stamps
+-- ---- Time stamps
 
--- what clears the last packet's wait: a reset, and turning on
+-- true for an event that clears the last packet's time in the queue: a reset, or activation
 abbrev pub clears_wait : ControllerEvent → Bool → Bool
 clears_wait (Reset moment) turned_on = true
 clears_wait event turned_on = turned_on
 
--- what a packet that departed had waited, where that is kept
-abbrev pub wait_shown : ControllerEvent → Bool → ℕ → Option ℕ
-wait_shown (Departed size left since moment) kept now = if kept then Some (wait_of left since now) else None
-wait_shown event kept now = None
+-- the time that a departed packet spent in the queue, if it is kept
+abbrev pub wait_input : ControllerEvent → Bool → ℕ → Option ℕ
+wait_input (Departed size left since moment) kept now = if kept then Some (wait_of left since now) else None
+wait_input event kept now = None
 
-abbrev pub clears_wait_at : Opened → Place Noted → Bool
+abbrev pub clears_wait_at : Opened → Place ActivityEvent → Bool
 clears_wait_at opened place = clears_wait place.event.event (turns_on_at opened place)
 
-abbrev pub wait_at : Opened → Place Noted → Option ℕ
-wait_at opened place = wait_shown place.event.event (keeps_wait place.event.active opened.elements.delay) (moment_at opened place)
+abbrev pub wait_at : Opened → Place ActivityEvent → Option ℕ
+wait_at opened place = wait_input place.event.event (keeps_wait place.event.active opened.elements.delay) (moment_at opened place)
 
--- what the packet had waited that departed last since then, 0 with none (section 4.3)
-unfoldable pub waited_noted : Opened → List Noted → ℕ
+-- the time that the last departed packet since then spent in the queue; 0 without one (section 4.3)
+unfoldable pub waited_noted : Opened → List ActivityEvent → ℕ
 waited_noted opened noted = last_or 0 (filter_map (wait_at opened) (after_last (clears_wait_at opened) (places noted)))
 
--- ---- the queueing delay
+-- ---- The queueing delay
 
--- .. of so many bytes
-unfoldable pub delay_noted : Opened → List Noted → ℕ → ℕ
+-- the queueing delay of `queued` bytes
+unfoldable pub delay_noted : Opened → List ActivityEvent → ℕ → ℕ
 delay_noted opened noted queued =
     let threshold = (params_of opened (events_of noted)).dq_threshold in
     delay_by opened.elements.delay (waited_noted opened noted) (delay_of queued (average threshold (departures_of opened noted)) threshold)
 
--- ---- the control law
+-- ---- The control law
 
--- an update or a reset as the control law is shown it: an update with the parameters in force, the elements, the delay of the
--- bytes in the queue and the effective moment, and while the controller is inactive the moment alone; turning on is a reset
-abbrev pub control_shown : ControllerEvent → Bool → Bool → RawParams → Elements → (ℕ → ℕ) → ℕ → Option ControlEvent
-control_shown (Arrived verdict size before after moment) active turned_on params elements delay now = if turned_on then Some (reset params) else None
-control_shown (Updated queued moment) active turned_on params elements delay now =
+-- an update or a reset as an input of the control law. An update has the parameters in force, the elements, the delay
+-- of the bytes in the queue and the effective moment; while the controller is inactive it is idle. Activation is a
+-- reset
+abbrev pub control_input : ControllerEvent → Bool → Bool → RawParams → Elements → (ℕ → ℕ) → ℕ → Option ControlEvent
+control_input (Arrived verdict size before after moment) active turned_on params elements delay now = if turned_on then Some (reset params) else None
+control_input (Updated queued moment) active turned_on params elements delay now =
     Some (if active then update_at params elements (delay queued) now else idled now)
-control_shown (Reset moment) active turned_on params elements delay now = Some (reset params)
-control_shown event active turned_on params elements delay now = None
+control_input (Reset moment) active turned_on params elements delay now = Some (reset params)
+control_input event active turned_on params elements delay now = None
 
-abbrev pub control_at : Opened → Place Noted → Option ControlEvent
+abbrev pub control_at : Opened → Place ActivityEvent → Option ControlEvent
 control_at opened place =
-    control_shown place.event.event place.event.active (turns_on_at opened place) (params_at opened place) opened.elements
+    control_input place.event.event place.event.active (turns_on_at opened place) (params_at opened place) opened.elements
     (delay_noted opened place.before) (moment_at opened place)
 
--- the updates and resets
-unfoldable pub control_of : Opened → List Noted → List ControlEvent
+-- the inputs of the control law: updates and resets
+unfoldable pub control_of : Opened → List ActivityEvent → List ControlEvent
 control_of opened noted = filter_map (control_at opened) (places noted)
 
--- what the control law holds that was shown these
+-- the state of the control law after these inputs
 abbrev pub parts_of : Opened → List ControlEvent → Parts
 parts_of opened events = record {
   prob = probability events;
@@ -137,76 +139,77 @@ parts_of opened events = record {
   last = last_moment opened.moment events;
 }
 
--- ---- early drop
+-- ---- Early drop
 
--- an arrival by its verdict, as early drop is shown it: with whether it was considered, what the probability counted as then, and how
--- packets are picked; a tail drop clears
-abbrev pub verdict_shown : Verdict → Bool → ℕ → Picking → EarlyEvent
-verdict_shown Enqueued considered prob picking = arrival considered prob picking Enqueue
-verdict_shown Marked considered prob picking = arrival considered prob picking Mark
-verdict_shown DroppedEarly considered prob picking = arrival considered prob picking Drop
-verdict_shown DroppedBytes considered prob picking = cleared
-verdict_shown DroppedPackets considered prob picking = cleared
+-- an arrival with its verdict as an input of early drop: whether it was considered, its effective probability, and the
+-- method of picking. A tail drop is a clear
+abbrev pub verdict_input : Verdict → Bool → ℕ → Picking → EarlyEvent
+verdict_input Enqueued considered prob picking = arrival considered prob picking Enqueue
+verdict_input Marked considered prob picking = arrival considered prob picking Mark
+verdict_input DroppedEarly considered prob picking = arrival considered prob picking Drop
+verdict_input DroppedBytes considered prob picking = cleared
+verdict_input DroppedPackets considered prob picking = cleared
 
--- an arrival that is no tail drop is considered: never while the controller is inactive
+-- true if an arrival that is not a tail drop is considered: never while the controller is inactive
 abbrev pub considered_where : Bool → RawParams → Parts → ℕ → Bool
 considered_where active params parts queued = active && is_considered params parts queued
 
--- an arrival or a reset as early drop is shown it; turning on clears
-abbrev pub early_shown : ControllerEvent → Bool → Bool → Elements → RawParams → Parts → Option EarlyEvent
-early_shown (Arrived verdict size before after moment) active turned_on elements params parts =
+-- an arrival or a reset as an input of early drop; activation is a clear
+abbrev pub early_input : ControllerEvent → Bool → Bool → Elements → RawParams → Parts → Option EarlyEvent
+early_input (Arrived verdict size before after moment) active turned_on elements params parts =
     Some (if turned_on then cleared
-    else verdict_shown verdict (considered_where active params parts before) (counted_as elements.size params size parts.prob) elements.picking)
-early_shown (Reset moment) active turned_on elements params parts = Some cleared
-early_shown event active turned_on elements params parts = None
+    else verdict_input verdict (considered_where active params parts before) (counted_as elements.size params size parts.prob) elements.picking)
+early_input (Reset moment) active turned_on elements params parts = Some cleared
+early_input event active turned_on elements params parts = None
 
-abbrev pub early_at : Opened → Place Noted → Option EarlyEvent
+abbrev pub early_at : Opened → Place ActivityEvent → Option EarlyEvent
 early_at opened place =
-    early_shown place.event.event place.event.active (turns_on_at opened place) opened.elements (params_at opened place)
+    early_input place.event.event place.event.active (turns_on_at opened place) opened.elements (params_at opened place)
     (parts_of opened (control_of opened place.before))
 
--- the arrivals, and what clears the accumulated probability besides
-unfoldable pub early_of : Opened → List Noted → List EarlyEvent
+-- the inputs of early drop: arrivals, and events that clear the accumulated probability
+unfoldable pub early_of : Opened → List ActivityEvent → List EarlyEvent
 early_of opened noted = filter_map (early_at opened) (places noted)
 
--- ---- activity
+-- ---- Activity
 
--- what becomes of activity by an event: an arrival may turn the controller on, and a calm update turns an active one off
+-- the change of activity by an event: an arrival may activate the controller, and a calm update deactivates it
 abbrev pub change_by : ControllerEvent → Bool → Bool → (ℕ → Bool) → Option Bool
 change_by (Arrived verdict size before after moment) active turned_on calm = if turned_on then Some true else None
 change_by (Updated queued moment) active turned_on calm = if active then (if calm queued then Some false else None) else None
 change_by event active turned_on calm = None
 
--- an update of so many bytes after these notes is calm (section 4.4)
-abbrev pub is_calm_noted : Opened → List Noted → ℕ → Bool
-is_calm_noted opened noted queued =
+-- true if an update with `queued` bytes in the queue, after these events, is calm (section 4.4)
+abbrev pub is_calm_at_end : Opened → List ActivityEvent → ℕ → Bool
+is_calm_at_end opened noted queued =
     is_calm_after (control_of opened noted) (params_of opened (events_of noted)) opened.elements (delay_noted opened noted queued)
 
-abbrev pub change_at : Opened → Place Noted → Option Bool
-change_at opened place = change_by place.event.event place.event.active (turns_on_at opened place) (is_calm_noted opened place.before)
+abbrev pub change_at : Opened → Place ActivityEvent → Option Bool
+change_at opened place = change_by place.event.event place.event.active (turns_on_at opened place) (is_calm_at_end opened place.before)
 
--- in profile one the controller is always active; in profile two it is what the last change made it, and inactive with none
-abbrev pub is_active_in : Profile → Opened → List Noted → Bool
+-- true if the controller is active: always in profile one. In profile two the last change decides, and without a change
+-- the controller is inactive
+abbrev pub is_active_in : Profile → Opened → List ActivityEvent → Bool
 is_active_in One opened noted = true
 is_active_in Two opened noted = last_or false (filter_map (change_at opened) (places noted))
 
-unfoldable pub is_active : Opened → List Noted → Bool
+unfoldable pub is_active : Opened → List ActivityEvent → Bool
 is_active opened noted = is_active_in opened.profile opened noted
 
--- an event after these
-abbrev pub note : Opened → List Noted → ControllerEvent → Noted
-note opened earlier event = record { event = event; active = is_active opened earlier }
+-- an event after these, with the activity before it
+abbrev pub activity_event : Opened → List ActivityEvent → ControllerEvent → ActivityEvent
+activity_event opened earlier event = record { event = event; active = is_active opened earlier }
 
--- these notes, and then one for each of these events
-unfoldable pub noted_after : Opened → List Noted → List ControllerEvent → List Noted
+-- these events with their activity, followed by one for each further event
+unfoldable pub noted_after : Opened → List ActivityEvent → List ControllerEvent → List ActivityEvent
 noted_after opened earlier [] = earlier
-noted_after opened earlier (event ∷ events) = noted_after opened (earlier ++ note opened earlier event ∷ []) events
+noted_after opened earlier (event ∷ events) = noted_after opened (earlier ++ activity_event opened earlier event ∷ []) events
 
--- each event, with whether the controller was active before it
-unfoldable pub noted : Opened → List ControllerEvent → List Noted
+-- each event, with the activity of the controller before it
+unfoldable pub noted : Opened → List ControllerEvent → List ActivityEvent
 noted opened events = noted_after opened [] events
 
--- ---- all that it holds
+-- ---- The whole state
 
 unfoldable pub active_of : Opened → List ControllerEvent → Bool
 active_of opened events = is_active opened (noted opened events)
@@ -223,14 +226,14 @@ updates_shown opened events = control_of opened (noted opened events)
 unfoldable pub arrivals_shown : Opened → List ControllerEvent → List EarlyEvent
 arrivals_shown opened events = early_of opened (noted opened events)
 
--- the estimate of the departure rate by these departures
+-- the estimate of the departure rate after these departures
 abbrev pub estimate_of : ℕ → List Departure → Estimate
 estimate_of threshold departures = record {
   average = average threshold departures;
   begun = option_map (begun_at departures) (begun threshold departures);
 }
 
--- what a controller holds that was shown these events
+-- the state of a controller after these events
 unfoldable pub held_of : Opened → List ControllerEvent → Held
 held_of opened events = record {
   profile = opened.profile;
@@ -244,6 +247,6 @@ held_of opened events = record {
   accu = accumulated (arrivals_shown opened events);
 }
 
--- opened so, a controller that was then shown these events holds this
+-- the abstraction relation: the state of a controller with this opening after these events
 unfoldable pub Shows : Opened → List ControllerEvent → Held → Type 0
 Shows opened events held = held ≡ held_of opened events

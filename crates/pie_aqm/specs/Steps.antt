@@ -1,5 +1,5 @@
--- The rules: what each call makes of what a controller holds, told by the steps of its parts (RFC 8033, sections 4.1, 4.2, 4.4, 5.1
--- to 5.5, and Appendix A for tail drop; when profile two turns on and off is this project's own).
+-- The rules: the state of a controller after each call, from the state before it (RFC 8033, sections 4.1, 4.2, 4.4, 5.1
+-- to 5.5, and Appendix A for tail drop; the conditions for switching in profile two are this project's own).
 use Rattle.std.specs.Prelude.{ℕ, ◌+◌, ◌-◌, ◌*◌, ◌^◌, ◌==◌, max, ◌&&◌, not, nat_lt, nat_le, Bool, true, false, Option, Some, None, is_none}
 use Rattle.std.specs.Prelude.{min, option_map, if◌then◌else◌}
 use Rattle.pie_aqm.specs.Types.{RawParams, Elements, Delay, Rate, Stamp, departure, Estimate, Parts, Offered, Choice, Enqueue}
@@ -17,22 +17,22 @@ use Rattle.pie_event.specs.declared.cause.Cause.TheVariants.{NoRoomInBytes, NoRo
 use Rattle.pie_event.specs.declared.verdict.Verdict.TheVariants.{DroppedBytes, DroppedPackets}
 use Rattle.pie_event.specs.Verdict.{is_queued}
 
--- the effective moment: the greatest so far
+-- the effective moment: the greatest up to now
 abbrev pub now_at : Held → ℕ → ℕ
 now_at h moment = max h.moment moment
 
--- no sample of the departure rate, and no cycle begun
+-- no sample of the departure rate, and no open cycle
 abbrev pub no_estimate : Estimate
 no_estimate = record { average = 0; begun = None }
 
--- ---- opening, reset and new parameters
+-- ---- Opening, reset and new parameters
 
--- at its opening a controller of profile one is active, and one of profile two isn't
+-- true if the controller is active at its opening: in profile one
 abbrev pub opens_active : Profile → Bool
 opens_active One = true
 opens_active Two = false
 
--- probability, delays and estimate are 0, and the burst allowance is whole
+-- the state at an opening: probability, delays and estimate are 0, and the burst allowance is `max_burst`
 abbrev pub opened : Profile → Elements → RawParams → ℕ → Held
 opened profile elements params moment = record {
   profile = profile;
@@ -46,49 +46,51 @@ opened profile elements params moment = record {
   accu = 0;
 }
 
--- the control law started anew keeps the moment of the last update
+-- the control law after a reset, which keeps the moment of the last update
 abbrev pub renewed : RawParams → Parts → Parts
 renewed params control = record control { prob = 0; old_delay = 0; burst = params.max_burst }
 
--- .. and the estimate, the last packet's wait and the accumulated probability start anew too
+-- the state after a reset of the control law, the estimate, the last packet's time in the queue and the accumulated
+-- probability
 abbrev pub anew : Held → Held
 anew h = record h { rate = no_estimate; waited = 0; control = renewed h.params h.control; accu = 0 }
 
--- a reset keeps whether the controller is active
+-- the state after a reset, which keeps the activity
 abbrev pub reset : Held → ℕ → Held
 reset h moment = record (anew h) { moment = now_at h moment }
 
--- new parameters clear the estimate
+-- the state after new parameters, which clear the estimate
 abbrev pub changed : Held → RawParams → ℕ → Held
 changed h params moment = record h { params = params; moment = now_at h moment; rate = no_estimate }
 
--- ---- arrivals
+-- ---- Arrivals
 
--- an arriving packet as early drop sees it
+-- an arriving packet as the input of early drop
 abbrev pub offered : ArrivingPacket → Offered
 offered a = record { bytes = a.queued; size = a.size; ecn = a.ecn; word = a.word }
 
--- early drop's choice: while the controller is inactive it considers no packet, and each is queued
+-- the choice of early drop. An inactive controller considers no packet and queues each
 abbrev pub choice : Held → ArrivingPacket → Choice
 choice h a = if h.active then choice_of h.elements h.params h.control (offered a) h.accu else Enqueue
 
--- tail drop: the first of these where the queue has no room for the packet's bytes, else the second where the ring has none for one
--- packet more, and else the third
+-- tail drop: the first value if the queue has no room for the packet's bytes, the second if the ring has no room for
+-- another packet, otherwise the third
 abbrev pub by_room : {X : Type 0} → ℕ → ArrivingPacket → X → X → X → X
 by_room limit a no_bytes no_packet room = if nat_lt limit (a.queued + a.size) then no_bytes else if a.is_full then no_packet else room
 
--- the verdict: tail drop by bytes, then by packets, and else early drop's choice
+-- the verdict: tail drop by bytes, then by packets, otherwise the choice of early drop
 unfoldable pub verdict : Held → ArrivingPacket → Verdict
 verdict h a = by_room h.params.limit_bytes a DroppedBytes DroppedPackets (chosen (choice h a))
 
--- what decides it, where so many packets wait: the limit in bytes, then that in packets, then that the controller is inactive, then the
--- rest, each with the numbers that it compares (RFC 8033, Appendix A; the limit in packets is this project's own)
+-- the cause, with `packets` waiting packets: the limit in bytes, the limit in packets, an inactive controller, then the
+-- cases of early drop, each with the numbers that it compares (RFC 8033, Appendix A; the limit in packets is this
+-- project's own)
 unfoldable pub cause : Held → ArrivingPacket → ℕ → Cause
 cause h a packets =
     by_room h.params.limit_bytes a (NoRoomInBytes a.queued a.size h.params.limit_bytes) (NoRoomInPackets packets)
     (if h.active then early_cause h.elements h.params h.control (offered a) h.accu else Inactive)
 
--- the accumulated probability after it: 0 after a tail drop, and as it was while the controller is inactive
+-- the accumulated probability after an arrival: 0 after a tail drop, unchanged while the controller is inactive
 unfoldable pub accu_left : Held → ArrivingPacket → ℕ
 accu_left h a = by_room h.params.limit_bytes a 0 0 (if h.active then accu_after h.elements h.params h.control (offered a) h.accu else h.accu)
 
@@ -96,43 +98,45 @@ accu_left h a = by_room h.params.limit_bytes a 0 0 (if h.active then accu_after 
 abbrev pub bytes_with : Verdict → ℕ → ℕ → ℕ
 bytes_with verdict queued size = if is_queued verdict then queued + size else queued
 
--- a controller is turned on where it is inactive and three times the bytes in the queue after the verdict reach the limit
+-- true if the controller is activated: it is inactive, and three times the bytes in the queue after the verdict reach
+-- the limit
 abbrev pub wakes : Bool → ℕ → ℕ → Bool
 wakes active limit bytes = not active && nat_le limit (3 * bytes)
 
 abbrev pub turns_on : Held → ℕ → Bool
 turns_on h bytes = wakes h.active h.params.limit_bytes bytes
 
--- .. which starts it anew
+-- the state after activation, which is a reset
 abbrev pub woken : Held → ℕ → Held
 woken h bytes = if turns_on h bytes then record (anew h) { active = true } else h
 
--- after the verdict
+-- the state after the verdict
 abbrev pub judged : Held → ArrivingPacket → ℕ → Held
 judged h a moment = record h { moment = now_at h moment; accu = accu_left h a }
 
--- after an arrival
+-- the state after an arrival
 abbrev pub arrived : Held → ArrivingPacket → ℕ → Held
 arrived h a moment = woken (judged h a moment) (bytes_with (verdict h a) a.queued a.size)
 
--- ---- departures
+-- ---- Departures
 
--- the departure rate is measured, while the controller is active, where the delay comes from it
+-- true if the departure rate is measured: the controller is active, and the delay comes from the rate
 abbrev pub measures : Bool → Delay → Bool
 measures active Rate = active
 measures active Stamp = false
 
--- .. and else what a departed packet had waited is kept
+-- true if the time of a departed packet in the queue is kept: the controller is active, and the delay comes from time
+-- stamps
 abbrev pub keeps_wait : Bool → Delay → Bool
 keeps_wait active Rate = false
 keeps_wait active Stamp = active
 
--- what a packet had waited that departed now, had arrived then and left so many bytes: 0 where it left the queue empty (RFC 8033,
--- section 4.3; the greatest is this project's own)
+-- the time in the queue of a packet that departs at `now`, arrived at `since` and leaves `left` bytes; 0 if the queue
+-- is empty afterwards (RFC 8033, section 4.3; the maximum is this project's own)
 abbrev pub wait_of : ℕ → ℕ → ℕ → ℕ
 wait_of left since now = if left == 0 then 0 else min (2 ^ 40) (now - since)
 
--- after a packet of this size departed, had waited since then and left so many bytes
+-- the state after the departure of a packet of `size` bytes that arrived at `since` and leaves `left` bytes
 abbrev pub departed : Held → ℕ → ℕ → ℕ → ℕ → Held
 departed h size left since moment = record h {
   moment = now_at h moment;
@@ -141,13 +145,13 @@ departed h size left since moment = record h {
   waited = if keeps_wait h.active h.elements.delay then wait_of left since (now_at h moment) else h.waited;
 }
 
--- a threshold above 65536 bytes counted as 65536, for numbers that nobody checked
+-- a state whose threshold above 65536 bytes is replaced by 65536, for unchecked numbers
 abbrev pub capped : Held → Held
 capped h = record h { params = record h.params { dq_threshold = min h.params.dq_threshold 65536 } }
 
--- ---- departures that change least
+-- ---- Departures with the smallest changes
 
--- what the open cycle of the departure rate counts with a departed packet of this size that leaves it open; nothing where none is open
+-- the count of the open cycle of the departure rate with a departed packet of `size` bytes that leaves it open
 abbrev pub count_below : ℕ → ℕ → Option Begun → Option ℕ
 count_below threshold size None = None
 count_below threshold size (Some cycle) = if nat_lt (cycle.count + size) threshold then Some (cycle.count + size) else None
@@ -156,7 +160,7 @@ unfoldable pub count_kept_open : Held → ℕ → Option ℕ
 count_kept_open h size =
     if measures h.active h.elements.delay then count_below (min h.params.dq_threshold 65536) size h.rate.begun else None
 
--- the cycle with this count, and the moment
+-- the cycle with this count; below, the state with this count and the moment
 abbrev pub counting : ℕ → Begun → Begun
 counting count cycle = record cycle { count = count }
 
@@ -166,45 +170,45 @@ with_count h count moment = record h {
   rate = record h.rate { begun = option_map (counting count) h.rate.begun };
 }
 
--- a departure meets no cycle, and opens none
+-- true if a departure meets no open cycle and opens none
 unfoldable pub is_unmeasured : Held → ℕ → Bool
 is_unmeasured h left =
     measures h.active h.elements.delay && is_none h.rate.begun && nat_lt left (min h.params.dq_threshold 65536)
 
--- after a departure that found no packet
+-- the state after a departure that found no packet
 abbrev pub passed : Held → ℕ → Held
 passed h moment = record h { moment = now_at h moment }
 
--- ---- updates
+-- ---- Updates
 
--- the moment from which an update isn't too soon
+-- the due moment, from which on an update is not too soon
 abbrev pub due_of : RawParams → Parts → ℕ
 due_of params control = control.last + params.t_update
 
 abbrev pub due : Held → ℕ
 due h = due_of h.params h.control
 
--- an update is too soon where the effective moment, that before it being this, is before the due moment
+-- true if an update is too soon: the effective moment, `before` until now, is before the due moment
 abbrev pub is_before_due : ℕ → ℕ → ℕ → Bool
 is_before_due before due moment = nat_lt (max before moment) due
 
 abbrev pub is_too_soon : Held → ℕ → Bool
 is_too_soon h moment = is_before_due h.moment (due h) moment
 
--- the queueing delay: by the departure rate, or what the packet that departed last had waited
+-- the queueing delay: from the departure rate, or the time that the last departed packet spent in the queue
 abbrev pub delay_by : Delay → ℕ → ℕ → ℕ
 delay_by Rate waited estimate = estimate
 delay_by Stamp waited estimate = waited
 
--- .. of so many bytes
+-- the queueing delay of `queued` bytes
 abbrev pub delay_in : Held → ℕ → ℕ
 delay_in h queued = delay_by h.elements.delay h.waited (delay_of queued h.rate.average h.params.dq_threshold)
 
--- the delay that an update answers: 0 while the controller is inactive
+-- the delay that an update returns: 0 while the controller is inactive
 abbrev pub delay_answered : Held → ℕ → ℕ
 delay_answered h queued = if h.active then delay_in h queued else 0
 
--- the control law's registers after an update with this delay at this moment
+-- the state of the control law after an update with this delay at this moment
 abbrev pub control_updated : Elements → RawParams → Parts → ℕ → ℕ → Parts
 control_updated elements params before delay now = record {
   prob = next elements params before.prob delay before.old_delay;
@@ -213,23 +217,23 @@ control_updated elements params before delay now = record {
   last = now;
 }
 
--- .. while the controller is inactive it takes in the moment alone
+-- the state of the control law after an update; for an inactive controller only the moment changes
 abbrev pub control_after : Held → ℕ → ℕ → Parts
 control_after h queued now =
     if h.active then control_updated h.elements h.params h.control (delay_in h queued) now else record h.control { last = now }
 
--- an update with so many bytes in the queue would be calm
+-- true if an update with `queued` bytes in the queue is calm
 abbrev pub is_calm : Held → ℕ → Bool
 is_calm h queued =
     ends_calm h.params (next h.elements h.params h.control.prob (delay_in h queued) h.control.old_delay) (delay_in h queued)
     h.control.old_delay
 
--- whether an active controller stays so after an update: in profile two not after a calm one
+-- true if an active controller stays active after an update: in profile two not after a calm one
 abbrev pub stays_active : Profile → Bool → Bool
 stays_active One calm = true
 stays_active Two calm = not calm
 
--- after an update
+-- the state after an update
 abbrev pub updated : Held → ℕ → ℕ → Held
 updated h queued moment = record h {
   moment = now_at h moment;

@@ -1,4 +1,4 @@
--- The types that definitions here speak of, and their cases.
+-- Types that the definitions use, and their cases.
 pub use Rattle.pie_params.specs.declared.raw.RawParams.{RawParams}
 pub use Rattle.pie_params.specs.declared.elements.Elements.{Elements}
 pub use Rattle.pie_params.specs.declared.elements.Delay.{Delay}

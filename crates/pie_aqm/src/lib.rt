@@ -1,12 +1,13 @@
-//! The controller, once: the rules of RFC 8033 put together for a queue that somebody else owns.
+//! The controller: the rules of RFC 8033 combined, for a queue that its caller owns.
 //!
-//! A `Controller` holds the parameters, the effective moment, the departure rate, the control law's registers, early drop's
-//! accumulated probability, and whether it is active. It is handed the bytes in the queue at each call. If it summarizes events e1
-//! to en, a call that shows it event e makes it summarize e1 to en and e (clause `shows`); and each call leaves exactly what the
-//! rule makes of what was held (`after`). `Controller::cause` names what decides an arrival, and its verdict is that of `arrive`.
+//! A `Controller` contains the parameters, the effective moment, the departure rate, the state of the control law, the
+//! accumulated probability of early drop, and its activity. The caller passes the bytes in the queue with each call. If
+//! the controller represents events e1 to en, a call with event e makes it represent e1 to en and e (clause `shows`).
+//! Clause `after` states the state after the call from the state before it. `Controller::cause` returns the cause of
+//! the decision on an arrival; its verdict is that of `arrive`.
 //!
-//! The rules stand over plain numbers, as `RawController`'s calls. A `Controller` is one whose numbers are sound (`raw`, clause
-//! `sound`), and hands each call on.
+//! The rules are defined over plain numbers, as calls of `RawController`. A `Controller` is a `RawController` with
+//! sound numbers (`raw`, clause `sound`), and forwards each call.
 #![tactic(auto)]
 
 mod controller;

@@ -14,36 +14,36 @@ use pie_params::{Delay, Elements, Picking, RawParams, Size};
 use pie_queue::Ecn;
 use pie_rate::{MAX_THRESHOLD, RawRate};
 
-/// What a [`Controller`](crate::Controller) holds, as plain numbers, each in its range or not: the controller's rules, put together from
-/// those of its parts.
+/// The state of a [`Controller`](crate::Controller) as plain numbers, which may be out of range: the controller's
+/// rules, combined from those of its parts.
 ///
-/// Its calls check nothing. Those for each packet need not: no numbers make them overflow. An update, its delay and when it is due
-/// want numbers in their ranges.
+/// The calls check nothing. Calls for a packet accept any numbers: no sum or product overflows. An update, its delay
+/// and its due moment require numbers in their ranges.
 #[derive(Clone, Copy)]
 pub struct RawController {
     /// The profile.
     pub profile: Profile,
-    /// The optional elements of RFC 8033, as they were chosen.
+    /// The chosen optional elements of RFC 8033.
     pub elements: Elements,
     /// The parameters in force.
     pub params: RawParams,
-    /// The effective moment: the greatest so far, in nanoseconds.
+    /// The effective moment, in nanoseconds: the greatest of all moments up to now.
     pub moment: u64,
-    /// Whether the controller works.
+    /// True if the controller is active.
     pub active: bool,
     /// The estimate of the departure rate.
     pub rate: RawRate,
-    /// What the packet that departed last had waited, in nanoseconds: 0 where the delay doesn't come from time stamps (RFC 8033,
-    /// section 4.3).
+    /// The time that the last departed packet spent in the queue, in nanoseconds; 0 unless the delay comes from time
+    /// stamps (RFC 8033, section 4.3).
     pub waited: u64,
-    /// The control law's registers.
+    /// The state of the control law.
     pub control: RawControl,
     /// The accumulated probability, in units of `10^-12`.
     pub accu: u64,
 }
 
 impl RawController {
-    /// At its opening, as [`Controller::open`](crate::Controller::open) says it.
+    /// Makes the state at an opening, as [`Controller::open`](crate::Controller::open) does.
     #[inline(always)]
     pub fn opened(
         profile: Profile,
@@ -66,8 +66,8 @@ impl RawController {
         }
     }
 
-    /// Decides on an arriving packet, as [`Controller::arrive`](crate::Controller::arrive) does, and answers the place of what decides it too,
-    /// in the order of the decision: that of the name of its [`cause`](crate::Controller::cause).
+    /// Decides on an arriving packet, as [`Controller::arrive`](crate::Controller::arrive) does, and also returns the
+    /// position of the cause in the order of the decision: that of the name of its [`cause`](crate::Controller::cause).
     #[inline(always)]
     pub fn arrive_with_place(&mut self, arrival: ArrivingPacket, moment: u64) -> (Verdict, usize)
         requires { arrival.queued ≤ 2 ^ 30 }
@@ -80,8 +80,8 @@ impl RawController {
         self.arrive_by(self.elements, arrival, moment)
     }
 
-    /// The verdict alone, where picking by the sum and sizes as they are have a way of their own, compiled with no choice in it, and all else
-    /// is a call.
+    /// Decides on an arriving packet and returns the verdict alone. Accumulation without scaled sizes has a path of its
+    /// own, compiled without a test of the choices. All other choices are a call.
     #[inline(always)]
     pub(crate) fn arrive_either_way(&mut self, arrival: ArrivingPacket, moment: u64) -> Verdict
         requires { arrival.queued ≤ 2 ^ 30 }
@@ -109,7 +109,8 @@ impl RawController {
         }
     }
 
-    /// The same, as a function apart. It takes an arrival's fields, since an arrival that is handed over whole goes through memory.
+    /// Decides on an arriving packet in a function that is not inlined. It takes the arrival's fields, because a struct
+    /// would be passed through memory.
     #[inline(never)]
     fn arrive_apart(
         &mut self,
@@ -136,7 +137,7 @@ impl RawController {
         self.arrive_with_place(arrival, moment).0
     }
 
-    /// The same by these elements, which are its own.
+    /// Decides on an arriving packet with `elements`, which are the controller's own.
     #[inline(always)]
     fn arrive_by(
         &mut self,
@@ -162,8 +163,9 @@ impl RawController {
         (verdict, place)
     }
 
-    /// The verdict on an arriving packet, the accumulated probability after it, and the place of what decides it: tail drop by bytes, then by
-    /// packets, before all else, and then early drop, while the controller is active (RFC 8033, sections 4.1, 5.1, 5.4 and Appendix A).
+    /// Returns the verdict on an arriving packet, the accumulated probability after it, and the position of the cause.
+    /// Tail drop by bytes is tested first, then tail drop by packets, then early drop if the controller is active (RFC
+    /// 8033, sections 4.1, 5.1, 5.4 and Appendix A).
     #[inline(always)]
     #[tactic(auto, unfolding(crate::specs::Steps::cause, crate::specs::Steps::verdict, crate::specs::Steps::accu_left))]
     fn judge(&self, elements: Elements, arrival: ArrivingPacket) -> (Verdict, u64, usize)
@@ -198,7 +200,8 @@ impl RawController {
         (verdict_of(decision.choice), decision.accu, decision.place)
     }
 
-    /// What would decide an arriving packet, as [`Controller::cause`](crate::Controller::cause) says it.
+    /// Returns the cause that would decide on an arriving packet, as [`Controller::cause`](crate::Controller::cause)
+    /// does.
     #[tactic(auto, unfolding(crate::specs::Steps::cause, crate::specs::Steps::verdict))]
     pub(crate) fn cause(&self, arrival: ArrivingPacket, packets: u64) -> Cause
         requires { arrival.queued ≤ 2 ^ 30 }
@@ -228,8 +231,8 @@ impl RawController {
         )
     }
 
-    /// Probability, old delay, accumulated probability, rate estimate and the last packet's wait become 0, and the burst allowance
-    /// `max_burst`.
+    /// Sets probability, old delay, accumulated probability, rate estimate and the last packet's time in the queue to
+    /// 0, and the burst allowance to `max_burst`.
     #[inline(always)]
     fn start_anew(&mut self)
         ensures { self.new ≡ anew self.old }
@@ -240,7 +243,7 @@ impl RawController {
         self.accu = 0;
     }
 
-    /// Moves the effective moment to this one, where it is later.
+    /// Moves the effective moment to `moment` if that is later.
     #[inline(always)]
     pub fn pass(&mut self, moment: u64)
         ensures { self.new ≡ record self.old { moment = max self.old.moment moment } }
@@ -248,8 +251,8 @@ impl RawController {
         self.moment = self.moment.max(moment);
     }
 
-    /// Takes in a packet that departed, as [`Controller::depart`](crate::Controller::depart) does. A `dq_threshold` above 65536
-    /// counts as 65536.
+    /// Adds a departure, as [`Controller::depart`](crate::Controller::depart) does. A `dq_threshold` above 65536 has
+    /// the effect of 65536.
     #[inline(always)]
     pub fn depart(&mut self, size: u32, left: u64, since: u64, moment: u64)
         ensures { self.new ≡ record (departed (capped self.old) size left since moment) { params = self.old.params } }
@@ -266,8 +269,9 @@ impl RawController {
         }
     }
 
-    /// What the open cycle of the departure rate counts with a departed packet of this size, `None` where none is open, or the packet
-    /// closes it. Where there is a count, [`depart`](RawController::depart) changes it and the moment alone.
+    /// Returns the count of the open cycle of the departure rate with a departed packet of `size` bytes. Returns `None`
+    /// if no cycle is open or the packet closes the cycle. If a count is returned, [`depart`](RawController::depart)
+    /// changes only the count and the moment.
     #[inline(always)]
     #[tactic(auto, using(std::proofs::lemmas::Bool::Decides::nat_tests), unfolding(crate::specs::Steps::count_kept_open))]
     pub fn counted(&self, size: u32) -> Option<u64>
@@ -282,8 +286,8 @@ impl RawController {
         cycle.counted(size, self.threshold())
     }
 
-    /// Whether a departure with so many bytes behind it meets no cycle of the departure rate and opens none: then
-    /// [`depart`](RawController::depart) changes the moment alone.
+    /// Returns true if a departure that leaves `left` bytes meets no open cycle of the departure rate and opens none.
+    /// Then [`depart`](RawController::depart) changes only the moment.
     #[inline(always)]
     #[tactic(auto, using(std::proofs::lemmas::Bool::Decides::nat_tests), unfolding(crate::specs::Steps::is_unmeasured))]
     pub fn is_unmeasured(&self, left: u64) -> bool
@@ -294,7 +298,7 @@ impl RawController {
         self.measures() && self.rate.begun.is_none() && left < self.threshold()
     }
 
-    /// Whether departures are measured: while the controller is active, where the delay comes from the departure rate.
+    /// Returns true if departures are measured: the controller is active, and the delay comes from the departure rate.
     #[inline(always)]
     fn measures(&self) -> bool
         ensures { result ≡ measures self.now.active self.now.elements.delay }
@@ -302,7 +306,7 @@ impl RawController {
         self.active && matches!(self.elements.delay, Delay::Rate)
     }
 
-    /// The bytes that a cycle counts.
+    /// Returns the number of bytes that a cycle counts.
     #[inline(always)]
     fn threshold(&self) -> u64
         ensures { result ≡ min self.now.params.dq_threshold 65536 }
@@ -344,7 +348,7 @@ impl RawController {
         self.start_anew();
     }
 
-    /// Puts new parameters in force, as [`Controller::set_params`](crate::Controller::set_params) does.
+    /// Sets new parameters, as [`Controller::set_params`](crate::Controller::set_params) does.
     #[inline(always)]
     pub fn set_params(&mut self, params: RawParams, moment: u64)
         ensures { self.new ≡ changed self.old params moment }
@@ -354,7 +358,7 @@ impl RawController {
         self.rate = RawRate::cleared();
     }
 
-    /// The queueing delay of so many bytes, as [`Controller::delay`](crate::Controller::delay) says it.
+    /// Returns the queueing delay of `queued` bytes, as [`Controller::delay`](crate::Controller::delay) does.
     #[inline(always)]
     pub fn delay(&self, queued: u64) -> u64
         requires average { self.now.rate.average < 2 ^ 60 }
@@ -370,7 +374,8 @@ impl RawController {
         }
     }
 
-    /// Whether an update at this moment is too soon, as [`Controller::is_too_soon`](crate::Controller::is_too_soon) says it.
+    /// Returns true if an update at `moment` is too soon, as
+    /// [`Controller::is_too_soon`](crate::Controller::is_too_soon) does.
     #[inline(always)]
     #[tactic(auto, using(std::proofs::lemmas::Bool::Decides::nat_tests))]
     pub fn is_too_soon(&self, moment: u64) -> bool
@@ -380,7 +385,7 @@ impl RawController {
         self.moment.max(moment) < self.due()
     }
 
-    /// The moment from which an update isn't too soon, as [`Controller::due`](crate::Controller::due) says it.
+    /// Returns the due moment, as [`Controller::due`](crate::Controller::due) does.
     #[inline(always)]
     pub fn due(&self) -> u64
         requires { IsSound self.now }
@@ -390,7 +395,7 @@ impl RawController {
     }
 }
 
-/// Whether a controller of this profile works at the opening.
+/// Returns true if a controller of this profile is active at its opening.
 fn opens_active(profile: Profile) -> bool
     ensures { result ≡ opens_active profile }
 {
@@ -400,8 +405,9 @@ fn opens_active(profile: Profile) -> bool
     }
 }
 
-/// What a packet had waited that departs now, has waited since then and leaves so many bytes, in nanoseconds: at most `2^40`, and 0 where
-/// it leaves the queue empty (RFC 8033, section 4.3; the greatest is this project's own).
+/// Returns the time in the queue of a packet that departs at `now`, arrived at `since` and leaves `left` bytes, in
+/// nanoseconds. It is at most `2^40`, and 0 if the queue is empty afterwards (RFC 8033, section 4.3; the maximum is
+/// this project's own).
 #[inline(never)]
 fn wait(left: u64, since: u64, now: u64) -> u64
     ensures { result ≡ wait_of left since now }

@@ -1,4 +1,4 @@
-//! Which of the numbers that a controller holds can't be believed.
+//! The soundness of a controller's state.
 ghost use Rattle.std.specs.Prelude.{◌≡◌, ◌↔◌, None};
 ghost use Rattle.pie_aqm.specs.{IsSound, first_unsound, is_sound_at};
 
@@ -11,7 +11,7 @@ use pie_params::Params;
 /// The greatest burst allowance, in nanoseconds.
 const MAX_BURST: u64 = 1_000_000_000_000;
 
-/// All of them, in the order in which they are looked at.
+/// All numbers, in the order of the checks.
 const REGISTERS: [Register; 12] = [
     Register::Params,
     Register::Moment,
@@ -28,18 +28,19 @@ const REGISTERS: [Register; 12] = [
 ];
 
 impl RawController {
-    /// The first of the numbers that no controller holds, in the order of [`Register`]: it is out of its range, or doesn't fit those
-    /// before it. `None` where the numbers are sound.
+    /// Returns the first number that no controller can hold, in the order of [`Register`]: it is out of its range or
+    /// contradicts the numbers before it. Returns `None` if the state is sound.
     pub(crate) fn first_unsound(&self) -> Option<Register>
         ensures first { result ≡ first_unsound self.now }
         ensures sound { (result ≡ None) ↔ IsSound self.now }
     {
-        self.look()
+        self.find_unsound()
     }
 
-    /// The same.
+    /// Returns the first number that no controller can hold. Split from `first_unsound` for the proof of its clause
+    /// `sound`.
     #[tactic(auto, unfolding(crate::specs::Held::first_unsound))]
-    fn look(&self) -> Option<Register>
+    fn find_unsound(&self) -> Option<Register>
         ensures { result ≡ first_unsound self.now }
     {
         REGISTERS
@@ -48,7 +49,7 @@ impl RawController {
             .find(|&register| !self.is_sound_at(register))
     }
 
-    /// Whether this number can be believed.
+    /// Returns true if the number `register` is sound.
     #[tactic(auto, using(std::proofs::lemmas::Bool::Decides::nat_tests))]
     fn is_sound_at(&self, register: Register) -> bool
         ensures { result ≡ is_sound_at self.now register }

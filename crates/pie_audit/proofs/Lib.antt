@@ -2,3 +2,4 @@ mod Names
 pub mod LegalFacts
 pub mod AuditorFacts
 pub mod ToldFacts
+pub mod LiftFacts

@@ -1,4 +1,4 @@
--- What the files of this folder take from below, in one place.
+-- Definitions from lower crates that the files of this folder use.
 pub use Rattle.std.proofs.Common.{Bool, List, [], ap, append_assoc, arith, cond, false, inl, inr, length, length-append, map, not, refl, rules, subst}
 pub use Rattle.std.proofs.Common.{sym, take, true, ℕ, ◌&&◌, ◌++◌, ◌+◌, ◌-◌, ◌<◌, ◌==◌, ◌^◌, ◌∙◌, ◌∷◌, ◌≡◌, ◌≤◌}
 pub use Rattle.std.proofs.KnownBytes.{Appends-nil}
@@ -17,7 +17,7 @@ pub use Rattle.pie_audit.specs.{Going, HasField, HeardOn, IfErr, IfOk, IfSome, I
 pub use Rattle.pie_audit.specs.{Line, LinePlace, LinesAt, LinesRead, LinesView, Made, None, Note, Ok, OnOk, Opening, Option, ParamsFit, Result, Row}
 pub use Rattle.pie_audit.specs.{Setter, Shows, Some, Standing, TakesRow, TellsHistory, TellsPart, TellsSetter, TextToldBy, Three, ToldBy, TraceFault}
 pub use Rattle.pie_audit.specs.{Unmakeable, active_after, after_line, coming_after, coming_by, coming_from, counted_with, decision, differs}
-pub use Rattle.pie_audit.specs.{differs_at, event_in, event_row, fault_after, fault_by, fields_of, filter_map, find, finding_after, finding_by}
+pub use Rattle.pie_audit.specs.{differs_at, event_in, event_row, fault_after, fault_by, filter_map, find, finding_after, finding_by}
 pub use Rattle.pie_audit.specs.{is_active_after, is_device, is_resumed, is_same_answer, is_some, lines_after, min, nat_lt, next_number, number_of}
 pub use Rattle.pie_audit.specs.{opening_refusal, option_map, part_rows, records_of, refusal_by_rule, same_answers, sets_after, sets_probability}
 pub use Rattle.pie_audit.specs.{setter_at, setter_by, setter_told, setter_with, start_after, text_finding, written_rows, ⊤}

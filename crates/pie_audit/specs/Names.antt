@@ -1,11 +1,10 @@
--- What definitions, code and proofs of this crate take from below, in one place.
+-- Definitions from lower crates that this crate's definitions, code and proofs use.
 pub use Rattle.std.specs.Fmt.{decimal}
 pub use Rattle.std.specs.Io.KnownBytes.{Appends}
 pub use Rattle.std.specs.List.{filter_map, find, last_or}
 pub use Rattle.std.specs.Option.{is_some}
 pub use Rattle.std.specs.Prelude.{All, Bool, Err, IfErr, IfOk, IfSome, List, None, Ok, OnOk, Option, Result, Some, [], codes, false, length, map, min}
 pub use Rattle.std.specs.Prelude.{nat_lt, not, option_map, take, true, unwrap_or, ℕ, ⊤}
-pub use Rattle.csv.specs.Records.{fields_of}
 pub use Rattle.pie_audit.specs.declared.auditor.Finding.TheVariants.{Clean, Differs}
 pub use Rattle.pie_book.specs.Beside.{held_after_calls}
 pub use Rattle.pie_book.specs.Core.{CoreView, Shows}

@@ -1,12 +1,15 @@
-//! The audit of a history: each recorded event is decided again, and the first that the rules do not give is named.
+//! The audit of a history: it decides each recorded event again and names the first event that differs from the
+//! rules.
 //!
-//! The definitions that the contracts cite stand in `specs/`: `finding` looks at each event with all lines before it. Those that pie_explain and
-//! pie_cut cite stand beside them: `Setters` says which event set the probability, and `Start` what a text that goes on tells of it.
+//! The definitions that the contracts cite are in `specs/`. `finding` compares each event with the decision after
+//! all lines before it. pie_explain and pie_cut cite two more: `Setters` gives the event that set the probability,
+//! and `Start` the knowledge of an excerpt about that event.
 //!
-//! `clean_is_legal`: a text without a fault is found clean exactly where the events that it tells are legal from its opening on, and differs
-//! at the first that is not.
+//! `clean_is_legal`: a text without a fault is clean exactly if its events are legal from its opening on; otherwise
+//! it differs at the first event that is not legal.
 //!
-//! `recorded_calls_are_clean` says it of the events of a controller beside its caller's queue. That what a run writes is found clean is a law of pie_trace.
+//! `recorded_calls_are_clean` states this for the events of a controller beside its caller's queue. A law of
+//! pie_trace states that the output of a run is clean.
 #![tactic(auto)]
 
 pub mod auditor;
@@ -22,8 +25,8 @@ pub use begun::{TextBegun, begin};
 pub use following::{Follower, lines_that_agree_have_few_events};
 pub use hearing::{Auditing, Hears, hear_lines};
 pub use law::{
-    clean_is_legal, clean_parts_are_legal, events_are_lines, recorded_calls_are_clean,
-    written_parts_are_told,
+    clean_is_legal, clean_parts_are_legal, events_are_lines, findings_look_back,
+    recorded_calls_are_clean, written_parts_are_told,
 };
 pub use telling::{Tells, beginnings_tell, tell};
 pub use text::{audit, write_finding};

@@ -1,10 +1,10 @@
 -- A core stays balanced at each command.
-use Rattle.std.proofs.Common.{◌≡◌, ◌≤◌, ◌+◌, ◌*◌, ◌==◌, ◌||◌, ℕ, max, List, [], ◌∷◌, ◌++◌, length, drop, Bool, true, false, not, refl, sym, ap, ◌∙◌, arith}
-use Rattle.std.proofs.Common.{length-append, length-drop, cond, if◌then◌else◌, rules, subst, None}
+use Rattle.std.proofs.Common.{◌≡◌, ◌≤◌, ◌+◌, ◌*◌, ◌==◌, ◌||◌, ℕ, List, [], ◌∷◌, ◌++◌, length, true, not, refl, sym, arith}
+use Rattle.std.proofs.Common.{length-append, length-drop, subst, None}
 use Rattle.std.proofs.lemmas.Bool.Decides.{nat_tests}
-use Rattle.pie_book.specs.{Packet, Waiting, Command, Arrive, Depart, Update, Reset, SetParams, CoreView, Held, Stats, bytes_of, answer_in, answer_by}
-use Rattle.pie_book.specs.{core_after, standing_of, IsBalanced, are_balanced, suits_delay, suits_picking, waiting_next, counted, deed, Deed, age_of_oldest}
-use Rattle.pie_book.specs.{handed_in, after_call, call_in, Opening, opened_by, first_core, end_refusal}
+use Rattle.pie_book.specs.{Waiting, Command, Arrive, Depart, CoreView, bytes_of}
+use Rattle.pie_book.specs.{core_after, standing_of, IsBalanced, are_balanced, suits_delay, suits_picking, age_of_oldest}
+use Rattle.pie_book.specs.{handed_in, Opening, opened_by, first_core, end_refusal}
 use Rattle.pie_params.specs.declared.elements.Delay.{Delay}
 use Rattle.pie_params.specs.declared.elements.Delay.TheVariants.{Rate, Stamp}
 use Rattle.pie_params.specs.declared.elements.Picking.{Picking}
@@ -13,7 +13,7 @@ use Rattle.pie_book.specs.declared.standing.Standing.{Standing}
 use Rattle.pie_aqm.specs.Steps as Steps
 use Rattle.pie_early.specs.Decision as Early
 
--- ---- numbers and facts
+-- ---- Numbers and facts
 
 pub balanced_to : (s : Standing) → IsBalanced s → are_balanced s ≡ true
 unfolding are_balanced
@@ -34,7 +34,7 @@ balanced_of s e = record {
   picking = grind (arith, nat_tests, e);
 }
 
--- ---- one command more
+-- ---- One more command
 
 module _ (core : CoreView) where
   events-next : (command : Command) → IsBalanced (standing_of core)
@@ -110,7 +110,7 @@ module _ (core : CoreView) where
     picking = picking-next command b;
   }
 
--- ---- with no event, and with all packets
+-- ---- Without events, and with all packets
 
 first-delay : (delay : Delay) (opening : Opening) → suits_delay delay (opened_by opening) ≡ true
 first-delay Rate opening = refl
@@ -134,7 +134,7 @@ balanced_first opening = record {
   picking = first-picking opening.choices.elements.picking opening;
 }
 
--- numbers with as many packets and bytes as were announced
+-- numbers with as many packets and bytes as announced
 pub balanced_ended : (core : CoreView) (packets bytes : ℕ) → length core.waiting ≤ packets → bytes_of core.waiting ≤ bytes
     → end_refusal (record { core = core; packets = packets; bytes = bytes }) ≡ None
     → are_balanced (record { count = core.count; controller = core.held; packets = packets; bytes = bytes; stats = core.stats }) ≡ true

@@ -1,5 +1,5 @@
--- What a core holds, where it shows a history, is what looking back over the history gives; and it shows the history with one event more
--- after each command.
+-- The state of a core that represents a history equals the look-back over the history, and after each command the core
+-- represents the history with one more event.
 use Rattle.std.proofs.Common.{◌≡◌, ◌≤◌, ◌<◌, ◌+◌, ℕ, List, [], ◌∷◌, ◌++◌, map, length, true, refl, ap, subst, ◌∙◌, sym, arith, length-append, max}
 use Rattle.std.proofs.Common.{None, Some, All, is_some, append-nil, drop, Bool, cond, Option, filter_map, drop-drop, length-drop, if◌then◌else◌}
 use Rattle.std.proofs.Common.{sum_by, ◌↔◌, add-zero, ◌==◌}
@@ -13,21 +13,21 @@ use Rattle.pie_book.specs.{delay_after, delay_answered, held_after, admitted, by
 use Rattle.pie_book.specs.{registers_after, event_of, opened_of, shown, age_of_oldest, largest_delay, largest_queue, stats_after, waited, answer_in}
 use Rattle.pie_book.specs.{call_in, waiting_next, bytes_of, HasThreshold, after_call, Place, places, greatest, Deed, deed, departure, fits, handed_in}
 use Rattle.pie_book.specs.{deed_of, admission, departed, marked, queued, count_of, is_departure, bytes_departed, is_update, first_bad, SetParams}
-use Rattle.pie_book.specs.{IsNext, CommandFits, refusal_with, active_after, arriving_size, event_shown, oldest_since, shown_at, delay_at, core_after}
+use Rattle.pie_book.specs.{IsNext, CommandFits, refusal_with, active_after, arriving_size, controller_event, oldest_since, controller_event_at, delay_at, core_after}
 use Rattle.pie_book.specs.{first_core, registers_with, after_calls, call_at, calls_of, held_after_calls, Follows, cause_in, apply_in, outcome}
 use Rattle.pie_book.specs.{core_along, is_refused_full, or_full, refused_or}
-use Rattle.pie_aqm.specs.Steps.{cause, bytes_with, now_at}
+use Rattle.pie_aqm.specs.Steps.{cause, now_at}
 use Rattle.pie_aqm.proofs.Places.{place_of, places-push, from_places-push, greatest-push, with_one}
 use Rattle.pie_event.specs.Deed.{with_ce}
-use Rattle.pie_aqm.specs.Calls.{shown_by, Call}
+use Rattle.pie_aqm.specs.Calls.{event_of_call, Call}
 use Rattle.pie_aqm.specs.Places.{after}
-use Rattle.pie_aqm.proofs.Laws.{Shows_call, Shows_opened, held_is, threshold_held, one_is_active}
+use Rattle.pie_aqm.proofs.Laws.{Represents_call, Represents_opened, held_is, threshold_held, one_is_active}
 use Rattle.pie_aqm.specs.History as Controller
 use Rattle.pie_aqm.specs.Steps as Steps
 
--- ---- what one more event at the end of a history does to the moment and the packets that wait
+-- ---- The moment and the waiting packets after one more event
 
--- the effective moment after one more event is the greater of the one before it and the moment handed in
+-- the effective moment after one more event is the greater of the one before it and the caller's moment
 pub effective_moment-push : (opening : Opening) (history : List Event) (event : Event)
     → effective_moment opening (history ++ event ∷ []) ≡ max (effective_moment opening history) (handed_in event.command)
 unfolding effective_moment
@@ -35,19 +35,19 @@ effective_moment-push opening history event =
     rw (map-append (λ (e : Event). handed_in e.command) history (event ∷ []))
     (greatest-push (opening.moment ∷ map (λ (e : Event). handed_in e.command) history) (handed_in event.command))
 
--- the packets that were queued, after one more event
+-- the queued packets after one more event
 admitted-push : (opening : Opening) (history : List Event) (event : Event) → admitted opening (history ++ event ∷ [])
     ≡ with_one (admitted opening history) (admission (max (effective_moment opening history) (handed_in event.command)) (deed_of event))
 unfolding admitted
 admitted-push opening history event = simp (from_places-push, effective_moment-push)
 
--- how many departed, after one more event
+-- the number of departed packets after one more event
 departed_count-push : (history : List Event) (event : Event)
     → departed_count (history ++ event ∷ []) ≡ departed_count history + cond (is_some (departure (deed_of event))) 1 0
 unfolding departed_count
 departed_count-push history event = sum_by_push (λ (e : Event). cond (is_some (departure (deed_of e))) 1 0) history event
 
--- the packets that wait, after one more event
+-- the waiting packets after one more event
 pub waiting_after-push : (opening : Opening) (history : List Event) (event : Event) → departed_count history ≤ length (admitted opening history)
     → waiting_after opening (history ++ event ∷ [])
     ≡ waiting_next (waiting_after opening history) (max (effective_moment opening history) (handed_in event.command)) (deed_of event)
@@ -64,7 +64,7 @@ waiting_after-push opening history event fewer =
     by_deed (marked packet) n entries now within = simp add-zero (drop-append-le n entries (_ ∷ []) within)
     by_deed _ n entries now within = simp add-zero
 
--- no more packets have departed than were queued, after an event that lets one depart only where one waits
+-- at most as many packets have departed as were queued, after an event whose departure finds a waiting packet
 pub departed-push : (opening : Opening) (history : List Event) (event : Event) → departed_count history ≤ length (admitted opening history)
     → (is_some (departure (deed_of event)) ≡ true → 0 < length (waiting_after opening history))
     → departed_count (history ++ event ∷ []) ≤ length (admitted opening (history ++ event ∷ []))
@@ -78,9 +78,9 @@ departed-push opening history event fewer waits =
     longer None = omega arith
     longer (Some entry) = let more = length-append (admitted opening history) (entry ∷ []) in omega (arith, more)
 
--- ---- .. and to the statistics
+-- ---- The statistics after one more event
 
--- one more, where there is one
+-- one more, if there is one
 more_of : (b : Bool) (n m : ℕ) → n + cond b m 0 ≡ (if b then n + m else n)
 more_of b n m = grind (arith, nat_tests)
 
@@ -89,7 +89,7 @@ count_of-push : (test : Deed → Bool) (history : List Event) (event : Event)
 count_of-push test history event =
     sum_by_push (λ (e : Event). cond (test (deed_of e)) 1 0) history event ∙ more_of (test (deed_of event)) (count_of test history) 1
 
--- no bytes depart where no packet does
+-- no bytes depart unless a packet does
 bytes-push : (history : List Event) (event : Event)
     → sum_by (λ (e : Event). bytes_departed (deed_of e)) (history ++ event ∷ [])
     ≡ (if is_departure (deed_of event) then sum_by (λ (e : Event). bytes_departed (deed_of e)) history + bytes_departed (deed_of event)
@@ -130,18 +130,18 @@ unfolding stats_after
 stats_after-push opening history event =
     simp (count_of-push, bytes-push, largest_queue-push, largest_delay-push, waited-push)
 
--- ---- legal histories
+-- ---- Legal histories
 
--- a departure lets a packet go only where one waits
+-- a packet departs only if one waits
 departs-some : (opening : Opening) (history : List Event) (command : Command)
     → is_some (departure (deed command (decision opening history command))) ≡ true → 0 < length (waiting_after opening history)
 departs-some opening history command some = grind (arith, nat_tests, some)
 
--- each command is answered as it can be
+-- each command has an answer that it can have
 pub answer_fits : (h : Held) (waiting : List Waiting) (packets : ℕ) (command : Command) → fits command (answer_by h waiting packets command) ≡ true
 answer_fits h waiting packets command = grind (arith, nat_tests)
 
--- what holds of each place of a history holds of the place between these events
+-- a fact about each place of a history, at the place between these events
 pub at_place : (P : Place Event → Type 0) (before : List Event) (event : Event) (rest : List Event) → All P (places (before ++ event ∷ rest))
     → P (place_of before event)
 unfolding places
@@ -156,7 +156,8 @@ at_place P (first ∷ before) event rest all =
     All-of-map P f (x ∷ xs) all =
         All-cons (λ y. P (f y)) x xs (All-head P (f x) (map f xs) all) (All-of-map P f xs (All-tail P (f x) (map f xs) all))
 
--- what holds of no event, and of one more that is legal at its place, holds of each legal history
+-- induction over legal histories: a fact that holds without events, and after one more legal event, holds for each
+-- legal history
 pub legal-all : (opening : Opening) (P : List Event → Type 0) → P []
     → ((before : List Event) (event : Event) → P before → IsLegalAt opening (place_of before event) → P (before ++ event ∷ []))
     → (history : List Event) → IsLegal opening history → P history
@@ -169,20 +170,20 @@ legal-all opening P none more history legal = go [] history none legal
         let joined : before ++ event ∷ [] ++ rest ≡ before ++ (event ∷ rest) = append_assoc before (event ∷ []) rest in
         subst P joined (go (before ++ event ∷ []) rest (more before event held here) (rw (← joined) at legal))
 
--- a legal history is legal with one more event that is legal at its end
+-- a legal history with one more event that is legal at its end
 pub legal-push : (opening : Opening) (history : List Event) (event : Event) → IsLegal opening history → IsLegalAt opening (place_of history event)
     → IsLegal opening (history ++ event ∷ [])
 legal-push opening history event legal here =
     rw (places-push history event) (All-push (IsLegalAt opening) (places history) (place_of history event) legal here)
 
--- in a legal history no more packets have departed than were queued
+-- in a legal history at most as many packets have departed as were queued
 pub departed-of-legal : (opening : Opening) (history : List Event) → IsLegal opening history
     → departed_count history ≤ length (admitted opening history)
 unfolding departed_count
 departed-of-legal opening = legal-all opening (λ h. departed_count h ≤ length (admitted opening h)) (omega arith)
     (λ before event within here. departed-push opening before event within (λ some. departs-some opening before event.command (rw here.answered at some)))
 
--- ---- what a core holds
+-- ---- The state of a core
 
 -- in profile one the controller is always active
 pub one_is_active_after : (opening : Opening) (history : List Event) → opening.choices.profile ≡ One → active_after opening history ≡ true
@@ -207,7 +208,7 @@ module _ (opening : Opening) (core : CoreView) (history : List Event) (shows : S
   pub refusal_is : (command : Command) → refusal_of core command ≡ refusal_by_rule opening history command
   refusal_is command = λ i. refusal_with (shows.moment i) (Steps.due (held-is i)) (shows.count i) (shows.events i) command
 
-  -- it answers the decision
+  -- the core's answer is the decision
   pub next_decided : (command : Command) → answer_in core command ≡ decision opening history command
   next_decided command = λ i. answer_by (held-is i) (shows.waiting i) (shows.packets i) command
 
@@ -217,7 +218,7 @@ module _ (opening : Opening) (core : CoreView) (history : List Event) (shows : S
   cause_is moment packet word =
       λ i. Some (cause (held-is i) (arrival_of (shows.waiting i) (shows.packets i) packet word) (length (shows.waiting i)))
 
--- the cause of its answer is the one after the history
+-- the cause of the core's answer is the cause after the history
 pub cause_found : (opening : Opening) (core : CoreView) (history : List Event) → Shows opening core history → (command : Command)
     → cause_in core command ≡ cause_after opening history command
 cause_found opening core history shows (Arrive moment packet word) = cause_is opening core history shows moment packet word
@@ -230,7 +231,7 @@ outcome_is opening core history shows held command =
     λ i. refused_or (or_full (refusal_is opening core history shows command i)
     (is_refused_full opening.choices.mode (held == opening.limits.tail))) (next_decided opening core history shows command i)
 
--- ---- with no event
+-- ---- Without an event
 
 pub first_shows : (opening : Opening) → Shows opening (first_core opening) []
 unfolding places admitted departed_count effective_moment greatest waiting_after shown stats_after largest_queue largest_delay waited
@@ -241,37 +242,37 @@ first_shows opening = record {
   count = refl;
   moment = let start : max opening.moment 0 ≡ opening.moment = omega arith in sym start;
   waiting = refl;
-  controller = Shows_opened opening.choices.profile opening.choices.elements opening.params opening.moment _ refl;
+  controller = Represents_opened opening.choices.profile opening.choices.elements opening.params opening.moment _ refl;
   stats = refl;
 }
 
 pub first_shown : (opening : Opening) (core : CoreView) → core ≡ first_core opening → Shows opening core []
 first_shown opening core is = subst (λ (c : CoreView). Shows opening c []) (sym is) (first_shows opening)
 
--- ---- one event more
+-- ---- One more event
 
--- each command's event is what its call shows the controller
-command-shown : (core : CoreView) (now : ℕ) (command : Command)
-    → event_shown (deed command (answer_in core command)) (arriving_size command) (oldest_since core.waiting) (bytes_of core.waiting)
+-- each command's event is the controller's event of its call
+controller_event-command : (core : CoreView) (now : ℕ) (command : Command)
+    → controller_event (deed command (answer_in core command)) (arriving_size command) (oldest_since core.waiting) (bytes_of core.waiting)
     (bytes_of (waiting_next core.waiting now (deed command (answer_in core command)))) (handed_in command)
-    ≡ shown_by core.held (call_in core command)
-command-shown core now (Arrive moment packet word) =
+    ≡ event_of_call core.held (call_in core command)
+controller_event-command core now (Arrive moment packet word) =
     let sum : (packet : Packet) → bytes_of (core.waiting ++ (record { packet = packet; since = now }) ∷ []) ≡ bytes_of core.waiting + packet.size =
     λ packet. sum_by_push (λ (w : Waiting). w.packet.size) core.waiting (record { packet = packet; since = now }) in
     let queued = sum packet in
     let marked = sum (with_ce packet) in
     grind (arith, nat_tests)
-command-shown core now (Depart moment) = grind (arith, nat_tests)
-command-shown core now _ = refl
+controller_event-command core now (Depart moment) = grind (arith, nat_tests)
+controller_event-command core now _ = refl
 
 -- the effective moment after a call
 moment-next : (core : CoreView) (command : Command) → (after_call core.held (call_in core command)).moment ≡ now_at core.held (handed_in command)
 moment-next core command = grind (arith, nat_tests)
 
-shown-push : (opening : Opening) (history : List Event) (event : Event)
-    → shown opening (history ++ event ∷ []) ≡ shown opening history ++ shown_at opening (place_of history event) ∷ []
+controller_events-push : (opening : Opening) (history : List Event) (event : Event)
+    → shown opening (history ++ event ∷ []) ≡ shown opening history ++ controller_event_at opening (place_of history event) ∷ []
 unfolding shown
-shown-push opening history event = simp (places-push, map-append)
+controller_events-push opening history event = simp (places-push, map-append)
 
 module _ (opening : Opening) (core : CoreView) (history : List Event) (shows : Shows opening core history) where
   pub next-shows : (caller : ℕ) (command : Command) → HasThreshold core.held (call_in core command) → refusal_of core command ≡ None
@@ -286,9 +287,9 @@ module _ (opening : Opening) (core : CoreView) (history : List Event) (shows : S
       let waiting : waiting_next core.waiting now d ≡ waiting_after opening (history ++ event ∷ []) =
       (λ i. waiting_next (shows.waiting i) (max (shows.moment i) (handed_in command)) d)
       ∙ sym (waiting_after-push opening history event (departed-of-legal opening history shows.legal)) in
-      let told : event_shown d (arriving_size command) (oldest_since core.waiting) (bytes_of core.waiting)
-      (bytes_of (waiting_next core.waiting now d)) (handed_in command) ≡ shown_at opening (place_of history event) =
-      λ i. event_shown d (arriving_size command) (oldest_since (shows.waiting i)) (bytes_of (shows.waiting i)) (bytes_of (waiting i))
+      let told : controller_event d (arriving_size command) (oldest_since core.waiting) (bytes_of core.waiting)
+      (bytes_of (waiting_next core.waiting now d)) (handed_in command) ≡ controller_event_at opening (place_of history event) =
+      λ i. controller_event d (arriving_size command) (oldest_since (shows.waiting i)) (bytes_of (shows.waiting i)) (bytes_of (waiting i))
       (handed_in command) in
       let counts : with_queue (counted core.stats d (Steps.delay_answered core.held (bytes_of core.waiting)) (age_of_oldest now core.waiting))
       (bytes_of (waiting_next core.waiting now d))
@@ -306,14 +307,14 @@ module _ (opening : Opening) (core : CoreView) (history : List Event) (shows : S
         count = rw (shows.count, length-append history (event ∷ [])) refl;
         moment = moment-next core command ∙ moment;
         waiting = waiting;
-        controller = rw (shown-push opening history event, ← told, command-shown core now command)
-            (Shows_call (opened_of opening) (shown opening history) core.held shows.controller (call_in core command) small);
+        controller = rw (controller_events-push opening history event, ← told, controller_event-command core now command)
+            (Represents_call (opened_of opening) (shown opening history) core.held shows.controller (call_in core command) small);
         stats = counts ∙ sym (stats_after-push opening history event);
       }
 
--- ---- Each legal history is shown by a core that made its commands, one after another
+-- ---- Each legal history is represented by a core that executed its commands in order
 
--- ---- parameters stay in their ranges
+-- ---- Parameters stay in their ranges
 
 pub good-next : (core : CoreView) (command : Command) → first_bad core.held.params ≡ None → CommandFits command
     → first_bad (after_call core.held (call_in core command)).params ≡ None
@@ -324,16 +325,16 @@ good-next core (Depart moment) good fit =
 good-next core (SetParams moment params) good fit = fit.1.in_range
 good-next core _ good fit = good
 
--- a core that shows a history shows it with a command that it takes
+-- a core that represents a history represents it with a command that it accepts
 pub next_shown : (opening : Opening) (core : CoreView) (history : List Event) → Shows opening core history → (caller : ℕ) (command : Command)
     → first_bad core.held.params ≡ None → refusal_of core command ≡ None
     → Shows opening (core_after core command) (history ++ event_of caller command (answer_in core command) ∷ [])
 next_shown opening core history shows caller command good free =
     next-shows opening core history shows caller command (threshold_held core.held (call_in core command) good) free
 
--- ---- one event more
+-- ---- One more event
 
--- what is legal after a history is the next of a core that shows the history
+-- a legal event after a history is the next event of a core that represents the history
 pub next-legal : (opening : Opening) (core : CoreView) (history : List Event) (event : Event) → Shows opening core history
     → IsLegalAt opening (place_of history event) → IsNext core event
 next-legal opening core history event shows here = record {
@@ -341,7 +342,7 @@ next-legal opening core history event shows here = record {
   answered = here.answered ∙ sym (next_decided opening core history shows event.command);
 }
 
--- .. which then shows the history with it
+-- the core then represents the history with the event
 pub next-core : (opening : Opening) (core : CoreView) (history : List Event) (event : Event) → Shows opening core history
     → first_bad core.held.params ≡ None → IsNext core event → Shows opening (core_after core event.command) (history ++ event ∷ [])
 next-core opening core history event shows good next =
@@ -350,16 +351,16 @@ next-core opening core history event shows good next =
     subst (λ (e : Event). Shows opening (core_after core event.command) (history ++ e ∷ [])) same
     (next_shown opening core history shows event.caller event.command good next.taken)
 
--- ---- a whole history
+-- ---- A whole history
 
--- a core shows these events, of which this is so
+-- a core that represents these events and satisfies P
 pub record IsRun (P : List Event → CoreView → Type 0) (opening : Opening) (history : List Event) : Type 0 where
   pub core : CoreView
   pub shows : Shows opening core history
   pub good : first_bad core.held.params ≡ None
   pub holds : P history core
 
--- what is so stays so at each command that is taken
+-- P is kept by each accepted command
 abbrev pub Stays : (List Event → CoreView → Type 0) → Opening → Type 0
 Stays P opening = (core : CoreView) (history : List Event) (event : Event) → Shows opening core history → P history core → CommandFits event.command
     → refusal_of core event.command ≡ None
@@ -386,7 +387,7 @@ module _ (P : List Event → CoreView → Type 0) (opening : Opening) (stays : S
       run-next before event (run both.0) here both.1)
       history legal fit
 
--- ---- a controller beside a queue decides and holds what a core does: a whole run
+-- ---- A controller with a queue decides as a core does, and has its state, over a whole run
 
 calls-push : (opening : Opening) (history : List Event) (event : Event)
     → calls_of opening (history ++ event ∷ []) ≡ calls_of opening history ++ call_at opening (place_of history event) ∷ []
@@ -402,7 +403,7 @@ none-called : (opening : Opening) → (first_core opening).held ≡ held_after_c
 unfolding calls_of places after_calls
 none-called opening = refl
 
--- a core holds what the controller does after the calls of the history
+-- a core whose controller has the state after the calls of the history
 abbrev HoldsCalls : Opening → List Event → CoreView → Type 0
 HoldsCalls opening history core = core.held ≡ held_after_calls opening history
 
@@ -422,7 +423,7 @@ run_beside opening history command good legal fit free =
     ap (λ (h : Held). answer_by h (waiting_after opening history) opening.limits.packets command)
     (sym run.holds ∙ held-is opening run.core history run.shows)
 
--- ---- events that follow from a core are legal after each history that the core shows
+-- ---- Events that follow from a core are legal after each history that the core represents
 
 module _ (opening : Opening) where
   pub follows_legal : (core : CoreView) (history rest : List Event) → Shows opening core history → first_bad core.held.params ≡ None
@@ -441,7 +442,7 @@ module _ (opening : Opening) where
             (next, (later next).1 (subst (λ (h : List Event). IsLegal opening h) (sym joined) legal)),
       )
 
-  -- the core that events which follow from it leave shows the history with them
+  -- the core after events that follow from it represents the history with them
   pub follows_shown : (core : CoreView) (history events : List Event) → Shows opening core history → first_bad core.held.params ≡ None
       → All (λ event. CommandFits event.command) events → Follows core events → Shows opening (core_along core events) (history ++ events)
   unfolding Follows core_along

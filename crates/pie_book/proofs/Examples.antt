@@ -1,5 +1,6 @@
--- The definitions on worked histories, refusals and runs, and events whose answer the command cannot have, which no run makes: each theorem computes.
--- More worked histories are rows of tests/rows, which tests/shared/reference.py reckons by looking back.
+-- Examples of the definitions: histories, refusals, runs, and events whose answer the command cannot have, which no run
+-- makes. Each theorem computes. tests/rows has more histories, which tests/shared/reference.py computes by looking
+-- back.
 use Rattle.std.specs.Prelude.{⊤, ℕ, ◌≡◌, ◌+◌, ◌^◌, List, [], ◌∷◌, ◌++◌, true, false, map, take, length, Some, None, Ok, Err}
 use Rattle.std.proofs.Common.{refl, ap, arith}
 use Rattle.pie_params.specs.Profile.{default_profile}
@@ -20,7 +21,7 @@ use Rattle.pie_book.specs.{Empty, Left, Updated, Done, Event, Mode, Bounded, Rol
 use Rattle.pie_book.specs.{registers_after, largest_queue, largest_delay, stats_after, waited, held_after, effective_moment, admitted, departed_count}
 use Rattle.pie_book.specs.{waiting_after, shown, deed, fits, last_events, without_last, tail_with, first_run, core_after, first_core, CoreView}
 use Rattle.pie_book.specs.{IsLegalAt, refusal_after, held_after_calls, calls_of, after_calls, resume_refusal, queue_refusal}
-use Rattle.pie_book.specs.{end_refusal, core_of, ResumingView, are_reached, DroppedPackets, ExcerptView, event_told, MayOpen, HasLimits}
+use Rattle.pie_book.specs.{end_refusal, core_of, ResumingView, are_reached, DroppedPackets, ExcerptView, event_of_entry, MayOpen, HasLimits}
 use Rattle.pie_book.specs.{IsNotContinued, Profile, Two, Elements}
 use Rattle.pie_params.specs.declared.elements.Delay.{Delay}
 use Rattle.pie_params.specs.declared.elements.Delay.TheVariants.{Rate, Stamp}
@@ -30,7 +31,7 @@ use Rattle.pie_params.specs.declared.elements.Picking.TheVariants.{Random}
 use Rattle.pie_aqm.specs.Steps.{cause}
 use Rattle.pie_event.specs.declared.cause.Cause.TheVariants as causes
 
--- all that a theorem on a worked history computes with
+-- the definitions that theorems on worked histories unfold
 unfoldable pub worked : Type 0
 unfolding worked_calls admitted effective_moment waiting_after departed_count held_after shown registers_after stats_after largest_queue largest_delay
     waited progress_after answers_from calls_of after_calls are_reached are_balanced core_along cause
@@ -39,7 +40,7 @@ worked = ⊤
 abbrev packet : ℕ → ℕ → Packet
 packet tag size = record { tag = tag; size = size; ecn = NotEct }
 
--- an answer that the command cannot have: of an arrival and a departure such an event did nothing
+-- an answer that the command cannot have: such an arrival or departure has no effect
 misfits : (map (deed (Arrive 1 (packet 7 60) 0)) (Empty ∷ Left (packet 7 60) ∷ Updated 2 3 4 ∷ Done ∷ [])
     ≡ nothing ∷ nothing ∷ nothing ∷ nothing ∷ [])
     × (map (deed (Depart 1)) (Enqueued ∷ Marked ∷ DroppedEarly ∷ Updated 2 3 4 ∷ Done ∷ []) ≡ nothing ∷ nothing ∷ nothing ∷ nothing ∷ nothing ∷ [])
@@ -48,7 +49,7 @@ misfits = (refl, refl)
 abbrev all_answers : List Answer
 all_answers = Enqueued ∷ Marked ∷ DroppedEarly ∷ DroppedBytes ∷ DroppedPackets ∷ Empty ∷ Left (packet 7 60) ∷ Updated 2 3 4 ∷ Done ∷ []
 
--- which of all answers each command can have
+-- the answers that each command can have
 fitting : (map (fits (Arrive 1 (packet 7 60) 0)) all_answers ≡ true ∷ true ∷ true ∷ true ∷ true ∷ false ∷ false ∷ false ∷ false ∷ [])
     × (map (fits (Depart 1)) all_answers ≡ false ∷ false ∷ false ∷ false ∷ false ∷ true ∷ true ∷ false ∷ false ∷ [])
     × (map (fits (Update 1)) all_answers ≡ false ∷ false ∷ false ∷ false ∷ false ∷ false ∷ false ∷ true ∷ false ∷ [])
@@ -64,8 +65,9 @@ opened mode tail events = record {
   choices = record { mode = mode; profile = One; elements = usual };
 }
 
--- ---- a worked run: four packets come, and two depart a millisecond apart; three updates raise the probability; of three packets that meet it one is
--- marked, one dropped, and one queued by its random word; then come new parameters, and a reset
+-- ---- A worked run: four packets arrive, and two depart a millisecond apart. Three updates raise the probability. Of
+-- the next three packets one is marked, one dropped, and one queued by its random word. Then follow new parameters and
+-- a reset
 
 -- no burst allowance, and an update is due after a nanosecond
 abbrev no_burst : RawParams
@@ -83,7 +85,7 @@ commands = map (λ tag. Arrive 0 (packet tag 1024) 0) (1 ∷ 2 ∷ 3 ∷ 4 ∷ [
 abbrev history : ℕ → List Event
 history n = (progress_after opening start (map (asked 1) (take n commands))).history
 
--- what a core comes to by them
+-- the core after these commands
 abbrev steps : CoreView → List Command → CoreView
 steps core [] = core
 steps core (command ∷ more) = steps (core_after core command) more
@@ -110,14 +112,14 @@ held : (map (λ n. registers_in (registers_after opening (history n))) (12 ∷ 1
 unfolding worked
 held = (refl, refl)
 
--- a core, and a controller beside a queue, come to the same
+-- a core, and a controller with a queue, reach the same state
 by_steps : let core : CoreView = steps (first_core opening) commands in
     (core.held ≡ held_after opening (history 14)) × (core.waiting ≡ waiting_after opening (history 14))
     × (core.stats ≡ stats_after opening (history 14)) × (held_after_calls opening (history 14) ≡ held_after opening (history 14))
 unfolding worked
 by_steps = (refl, refl, refl, refl)
 
--- ---- refusals and tails
+-- ---- Refusals and tails
 
 abbrev three : List Event
 three = event_of 1 (Arrive 10 (packet 7 1500) 0) Enqueued ∷ event_of 2 (Depart 25) (Left (packet 7 1500)) ∷ event_of 2 (Depart 30) Empty ∷ []
@@ -125,7 +127,7 @@ three = event_of 1 (Arrive 10 (packet 7 1500) 0) Enqueued ∷ event_of 2 (Depart
 abbrev sized : ℕ → Command
 sized size = Arrive 0 (packet 1 size) 0
 
--- after three events with a tail of three, of which a book takes three in all: each refusal stands before the next
+-- the order of refusals, after three events in a book with a limit of three events and a tail of three
 order : (map (refusal_after (opened Bounded 3 3) three 3) (Arrive (2 ^ 60) (packet 1 0) 0 ∷ sized 0 ∷ sized 65536 ∷ Update 31 ∷ sized 1 ∷ [])
     ≡ Some Moment ∷ Some Size ∷ Some Size ∷ Some (TooSoon 15000000) ∷ Some Exhausted ∷ [])
     × (map (λ mode. refusal_after (opened mode 3 4) three 3 (sized 1)) (Bounded ∷ Rolling ∷ []) ≡ Some HistoryFull ∷ None ∷ [])
@@ -137,7 +139,8 @@ order = (refl, refl, refl)
 abbrev moments : List Event → List ℕ
 moments events = map (λ event. handed_in event.command) events
 
--- the last events and the others; a full tail of a rolling book lets its oldest go; and the first up to one that sets parameters
+-- the last events and the others; the oldest event leaves a full tail of a rolling book; the first events up to one
+-- that sets parameters
 tails : (map (λ n. moments (last_events n three)) (0 ∷ 2 ∷ 3 ∷ []) ≡ [] ∷ (25 ∷ 30 ∷ []) ∷ (10 ∷ 25 ∷ 30 ∷ []) ∷ [])
     × (map (λ n. moments (without_last n three)) (0 ∷ 2 ∷ 3 ∷ []) ≡ (10 ∷ 25 ∷ 30 ∷ []) ∷ (10 ∷ []) ∷ [] ∷ [])
     × (map (λ most. moments (tail_with (opened Rolling most 4) (take 2 three) (event_of 2 (Depart 30) Empty))) (2 ∷ 3 ∷ [])
@@ -146,18 +149,19 @@ tails : (map (λ n. moments (last_events n three)) (0 ∷ 2 ∷ 3 ∷ []) ≡ []
 unfolding worked
 tails = (refl, refl, refl, refl)
 
--- an entry of the tail tells its event, whatever that is; an answer that the command cannot have stands for none
-entries : let told = λ (events : List Event). map (λ e. event_told (happened_in e)) events in
+-- the event of an entry of the tail is the recorded one, for any event; an answer that the command cannot have is
+-- stored as no effect
+entries : let told = λ (events : List Event). map (λ e. event_of_entry (happened_in e)) events in
     (told (history 14) ≡ history 14) × (told three ≡ three) × (told (event_of 3 (Depart 4) Marked ∷ []) ≡ event_of 3 (Depart 4) Empty ∷ [])
 unfolding worked
 entries = (refl, refl, refl)
 
--- ---- a core that goes on from the numbers after the run, and from the packets that waited: each refusal stands before the next
+-- ---- A core that resumes from the snapshot after the run, and from the waiting packets: the order of refusals
 
 abbrev numbers : Standing
 numbers = record { count = 14; controller = held_after opening (history 14); packets = 4; bytes = 3048; stats = stats_after opening (history 14) }
 
--- with an accumulated probability and a statistic that are one too great
+-- an accumulated probability and a statistic that are one too great
 abbrev unsound : ℕ → ℕ → Standing
 unsound packets bytes = record numbers {
   controller = record numbers.controller { accu = 8_500_000_000_000 };
@@ -184,7 +188,7 @@ agreeing : let s : Stats = numbers.stats in
 unfolding worked
 agreeing = (refl, refl)
 
--- .. and each register that a statistic or an element bounds
+-- each register that a statistic or an element bounds
 holding : let h : Held = numbers.controller in
     (map (λ held. are_balanced (record numbers { controller = held })) (record h { waited = 1 }
     ∷ record h { control = record h.control { old_delay = 2000000 } } ∷ record h { control = record h.control { old_delay = 2000001 } }
@@ -199,7 +203,8 @@ holding : let h : Held = numbers.controller in
 unfolding worked
 holding = (refl, refl)
 
--- a core may have had an opening with its limits of packets and events, its profile and its elements, whose moment is not after its own
+-- a core may have had an opening with its limits of packets and events, its profile and its elements, whose moment is
+-- not after its own
 abbrev opened_at : Profile → Delay → ℕ → Opening
 opened_at profile delay moment = record opening {
   limits = record opening.limits { tail = 1 };
@@ -230,7 +235,7 @@ continued = (
   ((refl, refl), refl, refl, omega arith),
 )
 
--- a core that no history reaches: three arrivals of which none was queued, and a packet that waits. It has room for one event more
+-- a core without a history: three arrivals, none of them queued, but one packet waits. It has room for one more event
 abbrev unreached : CoreView
 unreached = record (core_of opening.limits numbers (take 1 (waiting_after opening (history 14)))) {
   count = 99;
@@ -247,14 +252,14 @@ unreached_steps : (map (step_in unreached) (Depart (2 ^ 60) ∷ sized 0 ∷ size
 unfolding worked
 unreached_steps = (refl, refl, refl, refl, refl, refl, refl)
 
--- twice the 32 events of the tail, or twice the 4 packets; one packet's or one event's room less is too little
+-- room for twice the 32 events of the tail, or twice the 4 packets; room for one packet or one event less is too little
 rooms : (excerpt : ExcerptView) → let has = λ (packets events : ℕ).
     has_room (record excerpt { packets_room = packets; events_room = events }) opening.limits in
     (map most_kept (opening.limits ∷ record opening.limits { tail = 3 } ∷ []) ≡ 64 ∷ 8 ∷ [])
     × (has 4 64 ≡ true) × (has 3 64 ≡ false) × (has 4 63 ≡ false)
 rooms excerpt = (refl, refl, refl, refl)
 
--- three of the four were handed in, the newest of which arrived at 1001003; 500 bytes are missing
+-- three of the four packets were supplied; the newest arrived at 1001003, and 500 bytes are missing
 abbrev handed : ℕ → ℕ → ResumingView
 handed packets bytes =
     record { core = core_of opening.limits numbers (take 3 (waiting_after opening (history 14))); packets = packets; bytes = bytes }
@@ -266,7 +271,7 @@ queues : (map (λ packets. queue_refusal (handed packets 3048) (packet 7 0) 1001
 unfolding worked
 queues = (refl, refl, refl, refl)
 
--- ---- what laws alone speak of: runs of steps, and events that are not legal
+-- ---- Runs of steps, and events that are not legal, which only laws mention
 
 abbrev arrives : ℕ → Step
 arrives tag = asked 1 (Arrive tag (packet tag 100) 0)
@@ -276,14 +281,14 @@ unfolded : without_folds (arrives 1 ∷ folded 1 ∷ asked 1 (Depart 2) ∷ fold
 unfolding without_folds
 unfolded = refl
 
--- a fold in time makes room in a bounded book; a rolling one needs none
+-- a fold in time makes room in a bounded book; a rolling book needs none
 fold_in_time : (answers (opened Bounded 2 100) (arrives 1 ∷ arrives 2 ∷ arrives 3 ∷ []) ≡ Ok Enqueued ∷ Ok Enqueued ∷ Err HistoryFull ∷ [])
     × (answers (opened Bounded 2 100) (arrives 1 ∷ folded 1 ∷ arrives 2 ∷ arrives 3 ∷ []) ≡ Ok Enqueued ∷ Ok Enqueued ∷ Ok Enqueued ∷ [])
     × (answers (opened Rolling 2 100) (arrives 1 ∷ arrives 2 ∷ arrives 3 ∷ []) ≡ Ok Enqueued ∷ Ok Enqueued ∷ Ok Enqueued ∷ [])
 unfolding worked
 fold_in_time = (refl, refl, refl)
 
--- two answers stand before the first that says that the tail is full; with none that does, all of them do
+-- two answers precede the first `HistoryFull`; without one, all do
 counted_before_full : (before_full (Ok Enqueued ∷ Ok Enqueued ∷ Err HistoryFull ∷ Ok Empty ∷ []) ≡ 2)
     × (before_full (Err Size ∷ Err Exhausted ∷ Ok Done ∷ []) ≡ 3)
 counted_before_full = (refl, refl)

@@ -1,8 +1,7 @@
--- Folds change no answer: up to the first that says that the tail is full, the answers of a run are those that the rules give
--- its commands, whatever was folded.
+-- Folds change no answer: up to the first `HistoryFull`, the answers of a run are those of the rules, with any folds.
 use Rattle.std.proofs.Common.{◌≡◌, ◌≤◌, ◌+◌, ◌==◌, ℕ, List, [], ◌∷◌, ◌++◌, Bool, true, false, cond, take, refl, sym, ap, ◌∙◌, arith, min, Option}
 use Rattle.std.proofs.Common.{Some, None, Result, Ok, Err, one-add, not, take-take}
-use Rattle.pie_book.specs.Run.{Step, asked, folded, Progress, Asked, event_of, refused_or, recorded, held_after_fold, answers_from, answers}
+use Rattle.pie_book.specs.Run.{Step, asked, folded, Progress, CallerCommand, event_of, refused_or, recorded, held_after_fold, answers_from, answers}
 use Rattle.pie_book.specs.Run.{without_folds, is_full, before_full, AreSameUntilFull}
 use Rattle.pie_event.specs.declared.refusal.Refusal.TheVariants.{HistoryFull}
 use Rattle.pie_book.specs.Types.{Command, Answer, Event, Mode, Rolling, Opening, Refusal}
@@ -12,17 +11,17 @@ use Rattle.pie_book.specs.Decision.{decision, refusal_by_rule, or_full, is_refus
 abbrev Given : Type 0
 Given = Result Answer Refusal
 
--- what a command is answered where no tail is ever full
+-- the result of a command if no tail is ever full
 abbrev ruled : Opening → List Event → Command → Given
 ruled opening history command = refused_or (refusal_by_rule opening history command) (decision opening history command)
 
--- these events, and one more where the command was not refused
+-- these events, and one more if the command was not refused
 abbrev extended : List Event → ℕ → Command → Given → List Event
 extended history caller command (Ok answer) = history ++ event_of caller command answer ∷ []
 extended history caller command (Err why) = history
 
--- what a list of commands is answered where no tail is ever full
-all_ruled : Opening → List Event → List Asked → List Given
+-- the results of a list of commands if no tail is ever full
+all_ruled : Opening → List Event → List CallerCommand → List Given
 all_ruled opening history [] = []
 all_ruled opening history (request ∷ requests) =
     ruled opening history request.command
@@ -31,7 +30,8 @@ all_ruled opening history (request ∷ requests) =
 abbrev at : List Event → ℕ → Progress
 at history held = record { history = history; held = held }
 
--- ---- what holds of no answers, of one more and the same, and of all from one on that says that the tail is full, holds of those of a run and of the rules
+-- ---- A relation between the answers of a run and of the rules, if it holds for no answers, for one more equal answer,
+-- and for all answers from the first `HistoryFull` on
 
 module _ (opening : Opening) (R : List Given → List Given → Type 0) (none : R [] [])
     (same : (first : Given) (some other : List Given) → R some other → R (first ∷ some) (first ∷ other))
@@ -57,7 +57,7 @@ module _ (opening : Opening) (R : List Given → List Given → Type 0) (none : 
       one-asked history held caller command steps (λ history held. all-asked history held steps) (refusal_by_rule opening history command)
       (is_refused_full opening.choices.mode (held == opening.limits.tail)) (decision opening history command) refl
 
--- a rolling book answers as the rules do, since its tail refuses nothing
+-- a rolling book answers as the rules do, because its tail refuses nothing
 rolling-ruled : (opening : Opening) (steps : List Step) → opening.choices.mode ≡ Rolling
     → answers_from opening (at [] 0) steps ≡ all_ruled opening [] (without_folds steps)
 rolling-ruled opening steps is =
@@ -67,7 +67,7 @@ rolling-ruled opening steps is =
     rolls : (mode : Mode) (full : Bool) → mode ≡ Rolling → is_refused_full mode full ≡ false
     rolls mode full is = grind (arith, nat_tests)
 
--- the same up to the first answer that says that the tail is full
+-- equality up to the first `HistoryFull`
 abbrev SameUntilFull : List Given → List Given → Type 0
 SameUntilFull some other = take (before_full some) some ≡ take (before_full some) other
 
@@ -83,7 +83,7 @@ until_full-ruled opening steps = all-asked opening SameUntilFull refl same-cons 
         by true = refl
         by false = rw one-add (ap (◌∷◌ first) same)
 
--- two lists of steps with the same commands are answered the same until a tail is full
+-- two lists of steps with the same commands have the same answers up to the first full tail
 pub same_until_full : (opening : Opening) (some other : List Step) → without_folds some ≡ without_folds other
     → AreSameUntilFull (answers opening some) (answers opening other)
 same_until_full opening some other same =
@@ -98,7 +98,7 @@ same_until_full opening some other same =
         sym (take-take (min a b) a xs in_a) ∙ ap (take (min a b)) p ∙ take-take (min a b) a zs in_a
         ∙ sym (take-take (min a b) b zs in_b) ∙ sym (ap (take (min a b)) q) ∙ take-take (min a b) b ys in_b
 
--- .. and in a rolling book always
+-- in a rolling book they always have the same answers
 pub same_when_rolling : (opening : Opening) (some other : List Step) → opening.choices.mode ≡ Rolling → without_folds some ≡ without_folds other
     → answers opening some ≡ answers opening other
 same_when_rolling opening some other is same =

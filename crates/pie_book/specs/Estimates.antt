@@ -1,4 +1,4 @@
--- What the controller holds after a history: what looking back over all that it was shown gives (RFC 8033, sections 4.1, 4.2, 4.4 and
+-- The state of the controller after a history: the look-back over all its events (RFC 8033, sections 4.1, 4.2, 4.4 and
 -- 5.1 to 5.5).
 use Rattle.std.specs.Prelude.{ℕ, Bool, List}
 use Rattle.pie_book.specs.Types.{RawParams, Held, Event, Opening, Parts}
@@ -14,7 +14,7 @@ held_after opening history = held_of (opened_of opening) (shown opening history)
 abbrev pub params_after : Opening → List Event → RawParams
 params_after opening history = (held_after opening history).params
 
--- whether the controller is active (section 5.3)
+-- true if the controller is active (section 5.3)
 abbrev pub active_after : Opening → List Event → Bool
 active_after opening history = (held_after opening history).active
 
@@ -22,7 +22,7 @@ active_after opening history = (held_after opening history).active
 abbrev pub average_after : Opening → List Event → ℕ
 average_after opening history = (held_after opening history).rate.average
 
--- the probability, the old delay, the burst allowance and the last update's moment
+-- the probability, the old delay, the burst allowance and the moment of the last update
 abbrev pub parts_after : Opening → List Event → Parts
 parts_after opening history = (held_after opening history).control
 
@@ -30,13 +30,13 @@ parts_after opening history = (held_after opening history).control
 abbrev pub accu_after : Opening → List Event → ℕ
 accu_after opening history = (held_after opening history).accu
 
--- the queueing delay, and that which an update answers: 0 while the controller is inactive
+-- the queueing delay, and the delay that an update returns: 0 while the controller is inactive
 abbrev pub delay_after : Opening → List Event → ℕ
 delay_after opening history = Steps.delay_in (held_after opening history) (bytes_after opening history)
 
 abbrev pub delay_answered : Opening → List Event → ℕ
 delay_answered opening history = Steps.delay_answered (held_after opening history) (bytes_after opening history)
 
--- the moment from which an update is due
+-- the due moment of an update
 abbrev pub due_after : Opening → List Event → ℕ
 due_after opening history = Steps.due (held_after opening history)

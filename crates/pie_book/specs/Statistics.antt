@@ -39,24 +39,24 @@ abbrev pub is_reset : Deed → Bool
 is_reset was_reset = true
 is_reset _ = false
 
--- how many events did what passes the test
+-- the number of events whose effect passes the test
 abbrev pub count_of : (Deed → Bool) → List Event → ℕ
 count_of test history = count_by (λ event. test (deed_of event)) history
 
--- the bytes that departed by an event
+-- the bytes of the packet that departed at an event
 abbrev pub bytes_departed : Deed → ℕ
 bytes_departed d = option_map_or (λ (packet : Packet). packet.size) (departure d) 0
 
--- the time since the oldest of these packets arrived
+-- the time since the arrival of the oldest of these packets
 abbrev pub age_of_oldest : ℕ → List Waiting → ℕ
 age_of_oldest now [] = 0
 age_of_oldest now (oldest ∷ others) = now - oldest.since
 
--- how long the packet had waited that departed at this effective moment, where these packets waited
+-- the time in the queue of the packet that departed at this effective moment, from the packets that waited
 abbrev pub wait_of : Deed → ℕ → List Waiting → ℕ
 wait_of d now waiting = if is_departure d then age_of_oldest now waiting else 0
 
--- .. at a place
+-- the time in the queue of the packet that departed at this place
 abbrev pub wait_at : Opening → Place Event → ℕ
 wait_at opening place = wait_of (deed_of place.event) (effective_moment opening (up_to place)) (waiting_after opening place.before)
 
@@ -72,7 +72,7 @@ largest_queue opening history = greatest (map (λ place. bytes_after opening (up
 unfoldable pub largest_delay : Opening → List Event → ℕ
 largest_delay opening history = greatest (filter_map (delay_at opening) (places history))
 
--- the time that the departed packets had waited, summed
+-- the sum of the times that the departed packets spent in the queue
 unfoldable pub waited : Opening → List Event → ℕ
 waited opening history = sum_by (wait_at opening) (places history)
 
@@ -96,7 +96,7 @@ stats_after opening history = record {
   waited = waited opening history;
 }
 
--- the statistics of no event
+-- the statistics without an event
 abbrev pub no_stats : Stats
 no_stats = record {
   arrivals = 0;
@@ -120,13 +120,13 @@ pub record TallyView : Type 0 where
   pub count : ℕ
   pub stats : Stats
 
--- no statistic is greater than so many events can make it
+-- true if each statistic is at most the value that `count` events permit
 unfoldable pub are_reached : ℕ → Stats → Bool
 are_reached count s =
     nat_le s.arrivals count && nat_le s.enqueued count && nat_le s.marked count && nat_le s.early count && nat_le s.over_bytes count
     && nat_le s.over_packets count && nat_le s.left count && nat_le s.empty count && nat_le s.updates count && nat_le s.resets count
     && nat_le s.changes count && nat_le s.left_bytes (count * 65535) && nat_le s.waited (count * 2 ^ 60)
 
--- .. and no more events than a book may have
+-- statistics that at most 2 ^ 47 events permit
 abbrev pub IsReached : ℕ → Stats → Type 0
 IsReached count s = (count ≤ 2 ^ 47) × (are_reached count s ≡ true)

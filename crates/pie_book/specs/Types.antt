@@ -1,4 +1,4 @@
--- What definitions here, and the contracts over them, take from the crates below.
+-- Names from lower crates that the definitions and contracts use.
 pub use Rattle.pie_params.specs.declared.raw.RawParams.{RawParams}
 pub use Rattle.pie_params.specs.declared.elements.Elements.{Elements}
 pub use Rattle.pie_queue.specs.declared.packet.Packet.{Packet}

@@ -1,5 +1,5 @@
-//! A core decides a command: its controller makes one call, its queue takes the packet in or lets the oldest go, and its tally counts what was
-//! done.
+//! Decisions of a core: its controller makes one call, its queue takes or releases a packet, and its tally counts the
+//! event.
 ghost use Rattle.std.specs.Prelude.{◌≡◌, ◌<◌, ◌++◌, ◌∷◌, [], List, None, Some, IfOk, IfErr, OnErr, OnOk, ◌==◌, ◌≤◌, ◌^◌, ◌+◌, length, true, false};
 ghost use Rattle.pie_book.specs.{Event, Opening, decision, refusal_by_rule, event_of, refused_or, Arrive, Depart, Update, Reset, SetParams};
 ghost use Rattle.pie_book.specs.{handed_in, arrival_deed, IsSize, bytes_of, HasThreshold, Shows, closed, refusal_of, after_command, answer_in};
@@ -15,12 +15,13 @@ use pie_params::Params;
 use pie_queue::{Ecn, MAX_SIZE, Packet};
 
 impl Core {
-    /// Decides a command of a caller, and counts it as an event. It takes no memory.
+    /// Decides a command of `caller` and counts it as an event. It allocates nothing.
     ///
     /// # Errors
     ///
-    /// In this order, and the core is as it was: `Moment` above `2^60 - 1`; `Size` of an arrival outside 1 to 65535;
-    /// `TooSoon` at an update before the due moment; `Exhausted` where there were as many events as the limits allow.
+    /// Returns the first that applies, and the core is unchanged: `Moment` if the moment is above `2^60 - 1`; `Size` if
+    /// an arriving packet's size is outside 1 to 65535; `TooSoon` if an update is before the due moment; `Exhausted` if
+    /// the limit of events is reached.
     #[inline(always)]
     #[tactic(auto, using(crate::proofs::CoreFacts::refusal_is))]
     pub fn step(&mut self, caller: u16, command: Command) -> Result<Answer, Refusal>
@@ -38,7 +39,7 @@ impl Core {
         }
     }
 
-    /// The moment that the command hands in, or why it would be refused now, the tail aside.
+    /// Returns the moment of the command, or the refusal of the command without regard to the tail.
     pub(crate) fn taken(&self, command: &Command) -> Result<Nanos, Refusal>
         ensures refused { IfErr result (λ why. refusal_of self.now command.now ≡ Some why) }
         ensures taken { IfOk result (λ _. refusal_of self.now command.now ≡ None) }
@@ -48,7 +49,7 @@ impl Core {
         self.raw.taken(command)
     }
 
-    /// Decides a command that is not refused and hands in this moment, and counts it: the event that it then is.
+    /// Decides a command that is not refused, at its moment `moment`, and counts it. Returns the event.
     #[inline(always)]
     #[tactic(auto, using(crate::proofs::CoreFacts::next_decided))]
     pub(crate) fn advance(&mut self, caller: u16, moment: Nanos, command: Command) -> Recorded
@@ -71,7 +72,7 @@ impl Core {
 }
 
 impl RawCore {
-    /// The same, of the parts.
+    /// Returns the moment of the command, or its refusal, from the parts of the core.
     fn taken(&self, command: &Command) -> Result<Nanos, Refusal>
         ensures refused { IfErr result (λ why. refusal_of self.now command.now ≡ Some why) }
         ensures taken { IfOk result (λ _. refusal_of self.now command.now ≡ None) }
@@ -102,7 +103,7 @@ impl RawCore {
         Ok(moment)
     }
 
-    /// The event of a command that is not refused. The largest queue is not yet counted.
+    /// Decides a command that is not refused. Returns the event. The largest queue is not yet counted.
     #[inline(always)]
     fn decide(&mut self, caller: u16, moment: Nanos, command: Command) -> Recorded
         requires taken { refusal_of self.old command ≡ None }
@@ -121,7 +122,7 @@ impl RawCore {
         }
     }
 
-    /// Takes the bytes that wait after an event into the largest queue.
+    /// Includes the bytes in the queue after an event in the largest queue.
     #[inline(always)]
     fn close(&mut self)
         ensures { self.new ≡ closed self.old }
@@ -129,7 +130,7 @@ impl RawCore {
         self.tally.queue_is(self.queue.bytes());
     }
 
-    /// The verdict on an arriving packet, which is queued where it says so.
+    /// Decides an arriving packet and queues it if the verdict says so.
     #[inline(always)]
     #[tactic(auto, using(std::proofs::lemmas::Bool::Decides::nat_tests))]
     pub(crate) fn arrive(
@@ -158,7 +159,7 @@ impl RawCore {
         })
     }
 
-    /// An arriving packet, and the queue that it meets.
+    /// Returns an arriving packet with the queue before it.
     #[inline(always)]
     pub(crate) fn arrival(&self, packet: Packet, word: u64) -> ArrivingPacket
         ensures { result ≡ arrival_of self.now.waiting self.now.packets packet word }
@@ -172,7 +173,7 @@ impl RawCore {
         }
     }
 
-    /// Queues a packet where the verdict on it says so.
+    /// Queues the packet if its verdict says so.
     #[inline(always)]
     fn admit(&mut self, verdict: Verdict, packet: Packet, now: Nanos)
         requires size { IsSize packet.size }
@@ -195,7 +196,7 @@ impl RawCore {
         }
     }
 
-    /// The oldest packet departs, if there is one.
+    /// Removes the oldest packet, if there is one.
     #[inline(always)]
     pub(crate) fn depart(&mut self, caller: u16, moment: Nanos) -> Recorded
         requires room { self.old.count < self.old.events }

@@ -1,4 +1,4 @@
-//! Laws. Each function does nothing: its contract is the law.
+//! Laws. Each function has an empty body: its contract is the law.
 ghost use Rattle.std.specs.Prelude.{◌≡◌, List, true, ◌++◌, ◌∷◌, [], ℕ, All, None, nat_lt};
 ghost use Rattle.pie_book.specs.{One, Event, Rolling, Opening, CoreView, Shows, registers_of, registers_after, active_after, answers, without_folds};
 ghost use Rattle.pie_book.specs.{AreSameUntilFull, RawParams, Command, IsLegal, decision, refusal_by_rule, event_of, stats_after, Update, first_core};
@@ -8,12 +8,12 @@ ghost use Rattle.pie_book.specs.{fits, opening_refusal, AnswerFits, CommandFits,
 ghost use Rattle.pie_book.specs.Run.{Step};
 ghost use Rattle.pie_aqm.specs.Steps.{due, due_of, now_at};
 
-/// Where two runs from one opening have the same commands in the same order, and differ in their folds alone, all
-/// commands are answered the same in both: in a rolling book always, and in a bounded one up to the first answer
-/// `HistoryFull` in either (this project's own). So a fold changes no later answer but `HistoryFull`.
+/// States that folds change no answer except `HistoryFull`. If two runs from one opening have the same commands in the
+/// same order and differ only in their folds, all commands have the same answers in both: in a rolling book always, in
+/// a bounded one up to the first `HistoryFull` in either (this project's own).
 ///
-/// It does nothing: its contract is the law. `Book::apply` is proved to answer each command as the run of the steps
-/// before it says.
+/// The body is empty: the contract is the law. `Book::apply` is proved to answer each command as the run of the steps
+/// before it does.
 #[tactic(auto, using(crate::proofs::RunFacts::same_until_full, crate::proofs::RunFacts::same_when_rolling))]
 pub fn folds_change_no_answer()
     ensures until_full { (opening : Opening) (some : List Step) (other : List Step) → without_folds some ≡ without_folds other
@@ -22,28 +22,31 @@ pub fn folds_change_no_answer()
         → without_folds some ≡ without_folds other → answers opening some ≡ answers opening other }
 {}
 
-/// In profile one the controller is active after every history (RFC 8033, section 5.3, is for profile two alone).
+/// States that in profile one the controller is active after every history (RFC 8033, section 5.3, applies to profile
+/// two only).
 ///
-/// It does nothing: its contract is the law. `Book::registers` is proved to read activity after the book's history.
+/// The body is empty: the contract is the law. `Book::registers` is proved to return the activity after the book's
+/// history.
 #[tactic(auto, using(crate::proofs::CoreFacts::one_is_active_after))]
 pub fn profile_one_is_always_active()
     ensures { (opening : Opening) (history : List Event) → opening.choices.profile ≡ One → active_after opening history ≡ true }
 {}
 
-/// The registers of a core that shows a history are what looking back over the history gives, whoever has the core.
+/// States that the registers of any core that represents a history equal the look-back over the history.
 ///
-/// It does nothing: its contract is the law, for a caller that speaks of a book which is not in hand.
+/// The body is empty: the contract is the law, for a caller without the book.
 #[tactic(auto, using(crate::proofs::CoreFacts::registers_is))]
 pub fn registers_look_back()
     ensures { (opening : Opening) (core : CoreView) (history : List Event) → Shows opening core history
         → registers_of core ≡ registers_after opening history }
 {}
 
-/// The result of a step on a core and the result of looking back agree for every history that the core shows: the refusal, the answer and the
-/// cause of each command, the result in a book of this tail, and the core afterwards, for one command and for events that follow one another
-/// (this project's own). The clauses of `Core::step` and `Book::apply` state both. A core that no history leads to has the first alone.
+/// States that the result of a step on a core agrees with the look-back over every history that the core represents
+/// (this project's own). This holds for the refusal, the answer and the cause of each command, for the result in a book
+/// with this tail, and for the core afterwards, after one command and after a list of events. The clauses of
+/// `Core::step` and `Book::apply` state both. For a core without a history only the result of the step is stated.
 ///
-/// It does nothing: its contract is the law.
+/// The body is empty: the contract is the law.
 #[tactic(auto, using(crate::proofs::CoreFacts::refusal_is, crate::proofs::CoreFacts::next_decided, crate::proofs::CoreFacts::cause_found, crate::proofs::CoreFacts::outcome_is))]
 pub fn steps_look_back()
     ensures refusal { (opening : Opening) (core : CoreView) (history : List Event) → Shows opening core history
@@ -63,10 +66,11 @@ pub fn steps_look_back()
         → Shows opening (core_along core events) (history ++ events) }
 {}
 
-/// After every legal history, from an opening that a book accepts, each register, statistic and answer is a number that its
-/// field's type holds, and a legal history with one more decided command is legal (this project's own).
+/// States that all numbers fit their fields' types: after every legal history, from an opening that a book accepts,
+/// this holds for each register, statistic and answer. A legal history with one more decided command is legal (this
+/// project's own).
 ///
-/// It does nothing: its contract is the law, for readers of histories who have no book in hand.
+/// The body is empty: the contract is the law, for readers of histories without a book.
 #[tactic(auto, using(crate::proofs::RangeFacts::params_are_held, crate::proofs::RangeFacts::registers_are_held, crate::proofs::RangeFacts::stats_are_held, crate::proofs::RangeFacts::answers_are_held, crate::proofs::CoreFacts::answer_fits, crate::proofs::RangeFacts::legal_at_first, crate::proofs::RangeFacts::legal_with_one_more))]
 pub fn all_numbers_are_held()
     ensures params { (params : RawParams) → first_bad params ≡ None → ParamsFit params }
@@ -87,13 +91,17 @@ pub fn all_numbers_are_held()
         → IsLegal opening (history ++ event_of caller command (decision opening history command) ∷ []) }
 {}
 
-/// A controller beside a queue that its caller owns decides as a core does, in both profiles. At its opening it holds what a core
-/// holds that shows no event. And for every history that a core shows: where the controller holds what the core does and is handed
-/// the bytes of its queue and whether its ring is full, its call answers each command that is not refused with the decision after
-/// that history, and leaves what a core holds that shows the history with this event (this project's own). An update is too soon
-/// for the one where it is for the other. The library for C is proved to make exactly these calls.
+/// States that a controller with a queue of its caller decides as a core does, in both profiles (this project's own).
+/// The library for C is proved to make exactly these calls.
 ///
-/// It does nothing: its contract is the law.
+/// - At its opening the controller's state is that of a core without events.
+/// - For every history that a core represents: if the controller has the core's state, and its caller passes the bytes
+///   of the core's queue and whether the ring is full, each command that is not refused has the decision after that
+///   history as its answer.
+/// - After the call the controller has the state of a core that represents the history with this event.
+/// - An update is too soon for both or for neither.
+///
+/// The body is empty: the contract is the law.
 #[tactic(auto, using(crate::proofs::CoreFacts::next_decided))]
 pub fn parts_decide_as_a_core()
     ensures opens { (opening : Opening) → Shows opening (first_core opening) [] }
@@ -109,10 +117,11 @@ pub fn parts_decide_as_a_core()
         ≡ nat_lt (now_at core.held moment) (due core.held) }
 {}
 
-/// A whole run: a controller beside a queue that was opened as a legal history was, and made the calls of that history one after
-/// another, answers the next command that is not refused with the decision after that history (this project's own).
+/// States that a controller with a queue decides as a core does over a whole run: if it was opened as a legal history
+/// was, and made the calls of that history in order, it answers the next command that is not refused with the decision
+/// after that history (this project's own).
 ///
-/// It does nothing: its contract is the law.
+/// The body is empty: the contract is the law.
 #[tactic(auto, using(crate::proofs::CoreFacts::run_beside))]
 pub fn runs_decide_as_a_core()
     ensures { (opening : Opening) (history : List Event) (command : Command) → first_bad opening.params ≡ None → IsLegal opening history

@@ -1,23 +1,25 @@
-//! The book of one link buffer: it decides each command, records it with its answer as an event, and keeps what
-//! looking back over the whole history would give.
+//! The book of one link buffer. It decides each command, records it with its answer as an event, and keeps numbers that
+//! equal the look-back over the whole history.
 //!
-//! The definitions that the contracts cite stand in `specs/`: they look back over the list of all events and hold no
-//! register. `Shows` says that a core stands for a history, `Tells` that a book does.
+//! The definitions in `specs/`, which the contracts cite, look back over the list of all events and accumulate nothing.
+//! `Shows` is the abstraction relation between a core and a history, `Tells` that between a book and a history.
 //!
-//! `Core::step` and `Book::apply`: for every history that the core shows or the book tells, the answer is the decision after
-//! that history, or exactly its refusal (clause `decides`); the history with this event is shown or told afterwards (`shows`,
-//! `recorded`); a refusal leaves all as it was (`refused`). `Book::fold` refuses exactly where the tail holds fewer events or for
-//! want of memory, hands out the oldest ones, and the book tells the same history (`too_many`, `refused`, `folded`, `told`);
-//! `Book::fold_into` copies as many as there are into a vector that has room (`handed`), and never refuses.
-//! `open` and `open_with` refuse only for the listed reasons, in that order, or for lack of memory. The readers are what the definitions say:
-//! `registers`, `stats`, `count` and `waiting` of the whole history, `checkpoint` and `checkpoint_stats` of the history without
-//! the tail. `folds_change_no_answer` is the law over runs, and `all_numbers_are_held` the law that every register, statistic and answer after a
-//! legal history is a number that its field holds. `apply` and `step` take no memory.
-//!
-//! `Core::standing` and `Book::checkpoint_standing` tell the numbers that a core stands on, `Core::resume` begins a core of such numbers, which takes
-//! the packets that waited one by one, and `Book::resume` opens a book that goes on from a core. The core is that of the numbers (`core_of`), so it
-//! shows each history that they stand for. `Book::excerpt` hands out the last events with the numbers and packets that they stand on (`Ends`), by
-//! copying alone. `packets_that_waited_are_taken` and `excerpts_are_legal_after_any_history` are the laws of it.
+//! - `Core::step` and `Book::apply`, for every history that the core or the book represents: the answer is the decision
+//!   after that history, or exactly its refusal (clause `decides`). Afterwards core or book represent the history with
+//!   this event (`shows`, `recorded`). A refusal changes nothing (`refused`). Both allocate nothing.
+//! - `Book::fold` refuses exactly if the tail holds fewer events or there is no memory. It returns the oldest events,
+//!   and the book represents the same history (`too_many`, `refused`, `folded`, `told`). `Book::fold_into` moves events
+//!   into a vector that has room (`handed`), and never refuses.
+//! - `open` and `open_with` refuse only for the listed reasons, in that order, or for lack of memory.
+//! - The readers return the definitions' values: `registers`, `stats`, `count` and `waiting` of the whole history,
+//!   `checkpoint` and `checkpoint_stats` of the history without the tail.
+//! - `Core::standing` and `Book::checkpoint_standing` return a snapshot of a core. `Core::resume` begins a core from a
+//!   snapshot and then takes the waiting packets one by one. `Book::resume` opens a book that continues from a core.
+//!   The core has the numbers of the snapshot (`core_of`), so it represents each history that the snapshot represents.
+//! - `Book::excerpt` copies the last events with the state before them (`Ends`).
+//! - Laws: `folds_change_no_answer` for runs; `all_numbers_are_held` for the ranges of registers, statistics and
+//!   answers after a legal history; `packets_that_waited_are_taken` and `excerpts_are_legal_after_any_history` for
+//!   excerpts.
 #![tactic(auto)]
 
 pub mod book;

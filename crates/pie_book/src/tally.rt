@@ -1,4 +1,4 @@
-//! How many events there were, and their statistics, added up.
+//! Counts of events, and their statistics.
 ghost use Rattle.std.specs.Prelude.{◌≡◌, ◌+◌, ◌<◌, ◌≤◌, ◌^◌, ℕ};
 ghost use Rattle.pie_book.specs.{Packet, counted, with_queue, arrival_deed, found_none, updated, was_reset, departed, answer_of, TallyView};
 ghost use Rattle.pie_book.specs.{IsReached, no_stats};
@@ -8,8 +8,8 @@ use pie_aqm::Verdict;
 use pie_queue::Packet;
 use std::marker::Model;
 
-/// The number of events, and the statistics. The largest queue is kept by `queue_is` alone, since it looks at what waits
-/// after each event.
+/// The number of events, and the statistics. Only `queue_is` sets the largest queue, because it depends on the packets
+/// that wait after each event.
 #[derive(Drop)]
 pub(crate) struct Tally {
     count: u64,
@@ -27,7 +27,7 @@ impl Model for Tally {
 }
 
 impl Tally {
-    /// No event yet.
+    /// Makes a tally without events.
     #[tactic(auto, using(std::proofs::lemmas::Bool::Decides::nat_tests), unfolding(crate::specs::Statistics::are_reached))]
     pub(crate) fn empty() -> Tally
         ensures { result ≡ record { count = 0; stats = no_stats } }
@@ -52,7 +52,7 @@ impl Tally {
         Tally { count: 0, stats }
     }
 
-    /// So many events, with these statistics.
+    /// Makes a tally of `count` events with these statistics.
     pub(crate) fn resumed(count: u64, stats: Stats) -> Tally
         requires { IsReached count stats }
         ensures { result ≡ record { count = count; stats = stats } }
@@ -60,7 +60,7 @@ impl Tally {
         Tally { count, stats }
     }
 
-    /// One more arrival, with its verdict.
+    /// Counts an arrival with its verdict.
     #[tactic(auto, using(std::proofs::lemmas::Bool::Decides::nat_tests), unfolding(crate::specs::Statistics::are_reached))]
     pub(crate) fn arrived(&mut self, verdict: Verdict)
         requires { self.old.count < 2 ^ 47 }
@@ -78,7 +78,7 @@ impl Tally {
         }
     }
 
-    /// One more packet departed, of this size, after this many nanoseconds.
+    /// Counts a departed packet that spent `waited` nanoseconds in the queue.
     #[tactic(auto, using(std::proofs::lemmas::Bool::Decides::nat_tests), unfolding(crate::specs::Statistics::are_reached))]
     pub(crate) fn departed(&mut self, packet: Packet, waited: u64)
         requires count { self.old.count < 2 ^ 47 }
@@ -92,7 +92,7 @@ impl Tally {
         self.stats.waited += u128::from(waited);
     }
 
-    /// One more departure that found no packet.
+    /// Counts a departure that found no packet.
     #[tactic(auto, using(std::proofs::lemmas::Bool::Decides::nat_tests), unfolding(crate::specs::Statistics::are_reached))]
     pub(crate) fn found_none(&mut self)
         requires { self.old.count < 2 ^ 47 }
@@ -102,7 +102,7 @@ impl Tally {
         self.stats.empty += 1;
     }
 
-    /// One more update, with this delay.
+    /// Counts an update with its delay.
     #[tactic(auto, using(std::proofs::lemmas::Bool::Decides::nat_tests), unfolding(crate::specs::Statistics::are_reached))]
     pub(crate) fn updated(&mut self, delay: u64)
         requires { self.old.count < 2 ^ 47 }
@@ -113,7 +113,7 @@ impl Tally {
         self.stats.largest_delay = self.stats.largest_delay.max(delay);
     }
 
-    /// One more reset.
+    /// Counts a reset.
     #[tactic(auto, using(std::proofs::lemmas::Bool::Decides::nat_tests), unfolding(crate::specs::Statistics::are_reached))]
     pub(crate) fn was_reset(&mut self)
         requires { self.old.count < 2 ^ 47 }
@@ -123,7 +123,7 @@ impl Tally {
         self.stats.resets += 1;
     }
 
-    /// One more change of the parameters.
+    /// Counts a change of the parameters.
     #[tactic(auto, using(std::proofs::lemmas::Bool::Decides::nat_tests), unfolding(crate::specs::Statistics::are_reached))]
     pub(crate) fn changed(&mut self)
         requires { self.old.count < 2 ^ 47 }
@@ -133,7 +133,7 @@ impl Tally {
         self.stats.changes += 1;
     }
 
-    /// So many bytes wait after the event that was counted last.
+    /// Includes `bytes`, the bytes in the queue after the last event, in the largest queue.
     #[tactic(auto, using(std::proofs::lemmas::Bool::Decides::nat_tests), unfolding(crate::specs::Statistics::are_reached))]
     pub(crate) fn queue_is(&mut self, bytes: u64)
         ensures { self.new ≡ record { count = self.old.count; stats = with_queue self.old.stats bytes } }
@@ -141,7 +141,7 @@ impl Tally {
         self.stats.largest_queue = self.stats.largest_queue.max(bytes);
     }
 
-    /// How many events there were.
+    /// Returns the number of events.
     pub(crate) fn count(&self) -> u64
         ensures value { result ≡ self.now.count }
         ensures within { result ≤ 2 ^ 47 }
@@ -149,7 +149,7 @@ impl Tally {
         self.count
     }
 
-    /// The statistics.
+    /// Returns the statistics.
     pub(crate) fn stats(&self) -> Stats
         ensures value { result ≡ self.now.stats }
         ensures reached { IsReached self.now.count self.now.stats }

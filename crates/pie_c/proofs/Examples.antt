@@ -1,4 +1,4 @@
--- The definitions on worked rows: each theorem computes.
+-- Examples of the definitions: each theorem computes.
 use Rattle.pie_c.proofs.Names.{◌≡◌, ◌^◌, true, false, refl, PieParams, PieState, usual, Half, Stamp, Random, Uncapped, Scaled, One, accu_left}
 use Rattle.pie_c.proofs.Names.{arrived, capped, departed, opened, verdict, arrival_of, packet_refusal, waited_refusal, departure_refusal}
 use Rattle.pie_c.proofs.Names.{update_refusal, raw_of, choices_of, elements_of, are_in_range, held_in, is_activity_sound, is_rate_sound}
@@ -31,7 +31,7 @@ sound-states : (is_sound start ≡ true) × (is_sound (record start { last = 1 }
 unfolding state_of is_sound is_rate_sound is_activity_sound are_in_range choices_of
 sound-states = (refl, refl, refl, refl, refl, refl, refl, refl, refl, refl)
 
--- where delays come from time stamps a departure says when the packet arrived; numbers of its own are looked at first
+-- if delays come from time stamps, a departure requires the packet's arrival; the other arguments are tested first
 stamped : (departure_refusal (record start { choices = 1 }) 1 0 0 ≡ 119) × (departure_refusal (record start { choices = 30 }) 1 0 0 ≡ 0)
     × (waited_refusal (record start { choices = 1 }) 1 0 1 5 ≡ 118) × (waited_refusal (record start { choices = 1; moment = 1 }) 1 0 1 0 ≡ 0)
     × (waited_refusal start 1 0 1 0 ≡ 0) × (waited_refusal (record start { choices = 1 }) 0 0 1 5 ≡ 102)
@@ -39,7 +39,7 @@ stamped : (departure_refusal (record start { choices = 1 }) 1 0 0 ≡ 119) × (d
 unfolding state_of packet_refusal elements_of choices_of
 stamped = (refl, refl, refl, refl, refl, refl, refl, refl)
 
--- of a state that isn't sound, every field that a call doesn't change stays; a threshold above 65536 counts as 65536
+-- fields of an unsound state that a call does not change are kept; a threshold above 65536 has the effect of 65536
 abbrev odd : PieState
 odd = record start { params = record defaults { dq_threshold = 2 ^ 17 }; measuring = 1; cycle_start = 7; cycle_count = 65535; profile = 9 }
 

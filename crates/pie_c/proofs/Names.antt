@@ -1,4 +1,4 @@
--- What the files of this folder take from below, in one place.
+-- Names from lower crates that the files of this folder use, in one place.
 pub use Rattle.pie_c.specs.Names.{Opening}
 pub use Rattle.pie_c.specs.{last_moment, profile_number, profile_of, opening_in, opening_of, is_bad_size, verdict_number, params_of, raw_of}
 pub use Rattle.pie_c.specs.{PieOpening, PieParams, Depart, Held, IsSound, arrived, capped, departed, opened, updated, arrival_of}

@@ -1,6 +1,6 @@
--- What the calls for each packet leave of a sound state is what the controller then holds.
+-- The state after a call for a packet is the controller's state, if it was sound.
 use Rattle.std.specs.Prelude.{IsTrue, None}
-use Rattle.pie_c.specs.{Arrive, Call, Change, IsTaken, Pass, Restart, after_call, shown_by, ControllerEvent, Opened, Shows, Arrives, Departs, Leaves}
+use Rattle.pie_c.specs.{Arrive, Call, Change, IsTaken, Pass, Restart, after_call, event_of_call, ControllerEvent, Opened, Shows, Arrives, Departs, Leaves}
 use Rattle.pie_c.specs.{Makes, Passes, Steps, params_refusal, KeepsSound, LooksBack}
 use Rattle.pie_c.proofs.Names.{reset_refusal, ◌≡◌, ℕ, ◌≤◌, ◌<◌, ◌^◌, ◌==◌, if◌then◌else◌, nat_lt, Bool, true, false, List, [], ◌∷◌, Some, ◌++◌}
 use Rattle.pie_c.proofs.Names.{arith, refl, ◌∙◌, eqb-true, nat_tests, ArrivingPacket, Verdict, Depart, RawParams, first_bad, Held, accu_left}
@@ -14,14 +14,14 @@ use Rattle.pie_params.specs.Range.{is_dq_threshold}
 use Rattle.pie_aqm.specs.Steps.{changed, reset}
 use Rattle.pie_c.proofs.Sound.{choices-back, held-sound, held-state, params-from, state-held, state-sound}
 
--- ---- a call that nothing refuses
+-- ---- A call that is accepted
 
--- what an opening says that nothing refuses
+-- the numbers of an accepted opening
 pub opening-taken : (o : PieOpening) → opening_refusal o ≡ 0 → (are_in_range o.params ≡ true) × (o.moment < 2 ^ 60)
 unfolding opening_refusal
 opening-taken o free = (grind (arith, nat_tests), grind (arith, nat_tests))
 
--- what an opening says is not refused
+-- an opening with a result is accepted
 pub opening-free : (o : PieOpening) (it : Opening) → opening_of o ≡ Ok it → opening_refusal o ≡ 0
 opening-free o it is = grind (arith, nat_tests)
 
@@ -34,9 +34,9 @@ pub threshold-held : (s : PieState) → is_sound s ≡ true → (held_in s).para
 unfolding held_in
 threshold-held s sound = threshold-in (raw_of s.params) (held-sound s sound).params
 
--- ---- what follows for a call that leaves this of a sound state: it stays sound, and shows the call
+-- ---- A sound state after a call stays sound and represents the call
 
--- a call that is taken handed in a moment in its range
+-- the moment of an accepted call is in its range
 pub handed : (moment rest : ℕ) → (if nat_lt last_moment moment then 101 else rest) ≡ 0 → moment < 2 ^ 60
 handed moment rest free = grind (arith, nat_tests)
 
@@ -53,21 +53,21 @@ module _ (s t : PieState) (call : Call) (refusal : ℕ) (keeps : KeepsSound) (lo
       by true taken = state-sound _ (keeps (held_in s) (held-sound s sound) call (taken refl))
       by false taken = sound
 
-  pub shows-call : (o : Opened) (events : List ControllerEvent) → refusal ≡ 0 → Shows o events (held_in s)
-      → Shows o (events ++ shown_by (held_in s) call ∷ []) (held_in t)
-  shows-call o events free shows =
+  pub represents-call : (o : Opened) (events : List ControllerEvent) → refusal ≡ 0 → Shows o events (held_in s)
+      → Shows o (events ++ event_of_call (held_in s) call ∷ []) (held_in t)
+  represents-call o events free shows =
       rw (left, free, held-state (after_call (held_in s) call)) (looks o events (held_in s) shows (threshold-held s sound) call)
 
--- all three
+-- all three facts
 pub makes : KeepsSound → LooksBack → (s t : PieState) (call : Call) (refusal : ℕ) → is_sound s ≡ true
     → t ≡ if_taken refusal s (state_of (after_call (held_in s) call)) → (refusal ≡ 0 → IsTaken call) → Makes s call refusal t
 makes keeps looks s t call refusal sound left taken = record {
   after = left;
   sound = λ _. stays-sound s t call refusal keeps looks sound left taken;
-  shows = shows-call s t call refusal keeps looks sound left;
+  shows = represents-call s t call refusal keeps looks sound left;
 }
 
--- .. and where it is refused
+-- the three facts after a refused call
 pub unmade : (s : PieState) (call : Call) (refusal : ℕ) → (refusal == 0) ≡ false → Makes s call refusal s
 unmade s call refusal some = record {
   after = rw some refl;
@@ -75,24 +75,24 @@ unmade s call refusal some = record {
   shows = λ o events free. let none : (refusal == 0) ≡ true = rw free refl in cc;
 }
 
--- a refused arrival leaves all as it was
+-- a refused arrival leaves the state unchanged
 pub untouched : (s : PieState) (a : ArrivingPacket) (refusal moment code : ℕ) → code ≡ refusal → (refusal == 0) ≡ false → Arrives s a refusal moment code s
 untouched s a refusal moment code is some = record { answer = rw (is, some) refl; fields = rw some refl; held = λ _. unmade s (Arrive a moment) refusal some }
 
--- ---- the state after it
+-- ---- The state after a call
 
 pub arrived-state : (s : PieState) (a : ArrivingPacket) (moment : ℕ) → is_sound s ≡ true
     → with_arrival s (arrived (held_in s) a moment) ≡ state_of (arrived (held_in s) a moment)
 unfolding held_in state_of
 arrived-state s a moment sound = let back = state-held s sound in grind (arith, nat_tests)
 
--- where delays come from the rate it doesn't matter since when a packet waited
+-- if delays come from the rate, the packet's arrival is irrelevant
 pub by-rate : (s : PieState) (size left since moment : ℕ) → takes_stamps s ≡ false
     → with_rate s (departed (capped (held_in s)) size left 0 moment) ≡ with_departure s (departed (capped (held_in s)) size left since moment)
 unfolding held_in elements_of
 by-rate s size left since moment is = rw is refl
 
--- what a departure leaves of each field, where delays come from the rate and where they come from time stamps
+-- each field after a departure, for either source of delays
 left-in : (s t : PieState) (size left since moment refusal : ℕ) → is_sound s ≡ true
     → t ≡ if_taken refusal s (with_departure s (departed (capped (held_in s)) size left since moment))
     → t ≡ if_taken refusal s (state_of (departed (held_in s) size left since moment))
@@ -113,7 +113,7 @@ pub departs : KeepsSound → LooksBack → (s t : PieState) (size left since mom
     → Departs s size left since moment t
 departs keeps looks s t size left since moment is = record { fields = is; held = left-by keeps looks s t size left since moment _ is }
 
--- .. and of one that is refused where delays come from time stamps
+-- each field after a departure that is refused if delays come from time stamps
 pub departs_by_rate : KeepsSound → LooksBack → (s t : PieState) (size left moment : ℕ)
     → t ≡ if_taken (departure_refusal s size left moment) s (with_rate s (departed (capped (held_in s)) size left 0 moment))
     → Steps s (Depart size left 0 moment) (departure_refusal s size left moment) (with_rate s (departed (capped (held_in s)) size left 0 moment)) t
@@ -122,7 +122,7 @@ departs_by_rate keeps looks s t size left moment is = record {
   held = left-by keeps looks s t size left 0 moment _ (grind (arith, nat_tests, by-rate s size left 0 moment));
 }
 
--- a packet that leaves the open cycle open is taken, and changes its count and the moment alone
+-- a departure that leaves the open cycle open is accepted, and changes only the count and the moment
 pub counted-taken : (s : PieState) (h : Held) (size left moment count : ℕ) → h ≡ held_in s → count_kept_open h size ≡ Some count
     → moment ≤ last_moment → left ≤ 2 ^ 30 → 0 < size → departure_refusal s size left moment ≡ 0
 unfolding held_in count_kept_open elements_of packet_refusal
@@ -134,7 +134,7 @@ pub counted-state : (s : PieState) (h : Held) (size left moment count : ℕ) →
 unfolding held_in count_kept_open elements_of
 counted-state s h size left moment count is kept alone = grind (arith, nat_tests)
 
--- .. and so is one that meets no cycle and opens none, which changes the moment
+-- a departure that meets no open cycle and opens none is accepted, and changes only the moment
 pub unmeasured-taken : (s : PieState) (h : Held) (size left moment : ℕ) → h ≡ held_in s → is_unmeasured h left ≡ true → moment ≤ last_moment
     → is_bad_size size ≡ false → departure_refusal s size left moment ≡ 0
 unfolding held_in is_unmeasured elements_of packet_refusal
@@ -156,7 +156,7 @@ passes keeps looks s t moment is = record {
       makes keeps looks s t (Pass moment) (moment_refusal moment) sound (grind (arith, nat_tests)) (handed moment _);
 }
 
--- an arrival at a state that has its moment already
+-- an arrival at a state that already has its moment
 abbrev pub at_later : PieState → ℕ → PieState
 at_later s moment = record s { moment = max s.moment moment }
 
@@ -175,14 +175,14 @@ pub verdict-later : (s t : PieState) (a b : ArrivingPacket) (moment : ℕ) (h : 
 unfolding held_in verdict
 verdict-later s t a b moment h v at held is same = rw (is, held, same, at) refl
 
--- .. and the place of what decides it, which the moment has no part in
+-- the position of its cause, which does not depend on the moment
 pub place-later : (s t : PieState) (a b : ArrivingPacket) (moment packets : ℕ) (h : Held) (place : ℕ) → t ≡ at_later s moment → h ≡ held_in t
     → ((n : ℕ) → place ≡ place_of_cause (name_of (cause h a n))) → a ≡ b
     → place ≡ place_of_cause (name_of (cause (held_in s) b packets))
 unfolding held_in cause
 place-later s t a b moment packets h place at held is same = is packets ∙ rw (held, same, at) refl
 
--- ---- the state after the other calls
+-- ---- The state after the other calls
 
 reset-taken : (s : PieState) (moment : ℕ) → reset_refusal s moment ≡ 0 → (is_sound s ≡ true) × (moment < 2 ^ 60)
 unfolding reset_refusal

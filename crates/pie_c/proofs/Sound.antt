@@ -1,4 +1,4 @@
--- A state says what a controller holds, and is sound where that is.
+-- A state contains a controller's state, and is sound if that is.
 use Rattle.pie_c.specs.{Begun, count_of, flag, flag_of, start_of}
 use Rattle.pie_c.proofs.Names.{RawParams, params_of, ◌≡◌, ◌<◌, ◌^◌, ◌≤◌, ◌==◌, if◌then◌else◌, ℕ, suc, Bool, true, None, arith, refl, ap, nat_tests}
 use Rattle.pie_c.proofs.Names.{first_bad, One, Held, IsSound, PieParams, PieState, raw_of, are_in_range, held_in, is_activity_sound, is_rate_sound}
@@ -8,7 +8,7 @@ use Rattle.pie_event.specs.declared.profile.Profile.{Profile}
 use Rattle.pie_params.specs.declared.elements.Elements.{Elements}
 use Rattle.pie_aqm.specs.Held.{IsWithin}
 
--- ---- the optional elements by their flags
+-- ---- The optional elements of flags
 
 few-choices : (e : Elements) → choices_of e ≤ 31
 unfolding choices_of
@@ -22,20 +22,20 @@ pub choices-back : (n : ℕ) → n ≤ 31 → choices_of (elements_of n) ≡ n
 unfolding elements_of choices_of
 choices-back n few = grind (arith, nat_tests)
 
--- at most the first is chosen
+-- at most the first flag is set
 pub nearly_usual : (n : ℕ) → n ≤ 1 → elements_of n ≡ (if n == 1 then record usual { delay = Stamp } else usual)
 unfolding elements_of
 nearly_usual zero h = refl
 nearly_usual (suc zero) h = refl
 nearly_usual (suc (suc n)) h = absurd (omega (arith, h))
 
--- ---- what a state says of what is held is what is held
+-- ---- The controller's state of the state of a controller is the same
 
 pub held-state : (h : Held) → held_in (state_of h) ≡ h
 unfolding held_in state_of
 held-state h = let back = elements-back h.elements in grind (arith, nat_tests)
 
--- ---- sound
+-- ---- Soundness
 
 pub params-from : (p : PieParams) → are_in_range p ≡ true → first_bad (raw_of p) ≡ None
 unfolding are_in_range
@@ -45,7 +45,7 @@ params-to : (p : RawParams) → first_bad p ≡ None → are_in_range (params_of
 unfolding are_in_range
 params-to p e = ap is_none e
 
--- what of a sound state takes more than one number
+-- the facts about a sound state that involve more than one number
 fits : (s : PieState) → is_sound s ≡ true → (is_rate_sound s ≡ true) × (is_activity_sound s ≡ true) × (s.choices ≤ 31)
 unfolding is_sound
 fits s sound = (grind (arith, nat_tests), grind (arith, nat_tests), grind (arith, nat_tests))
@@ -93,7 +93,7 @@ state-sound h sound =
     let few : choices_of h.elements ≤ 31 = few-choices h.elements in
     grind (arith, nat_tests)
 
--- ---- what a sound state says is the state, so a call writes the fields that it changes alone
+-- ---- A sound state is the state of its controller, so a call may write only the changed fields
 
 pub state-held : (s : PieState) → is_sound s ≡ true → state_of (held_in s) ≡ s
 unfolding held_in state_of is_rate_sound is_activity_sound

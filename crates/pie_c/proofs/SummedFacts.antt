@@ -1,7 +1,7 @@
--- What the calls that sum up add to a period.
+-- Facts about the events that the summing calls add to a period.
 use Rattle.std.specs.Prelude.{Option}
-use Rattle.pie_c.specs.{Cause, answer_of, Clock, Explained, LivePeriod, Met, Holds, IsSet, Meets, clock_of, noted_of, updated_by, Adds, Tells}
-use Rattle.pie_c.specs.{met_by, cause_after, held_after, wait_of, deed_of, Setter, explanation, moment_of, with_after}
+use Rattle.pie_c.specs.{Cause, answer_of, Clock, Explained, LivePeriod, Met, Holds, IsSet, Meets, clock_of, noted_of, updated_by, Adds, ExplainsCall}
+use Rattle.pie_c.specs.{conditions_of, cause_after, held_after, wait_of, deed_of, Setter, explanation, moment_of, with_after}
 use Rattle.pie_c.proofs.Names.{◌≡◌, ◌≤◌, min, ◌==◌, arith, ℕ, Bool, true, false, nat_le, List, [], ◌∷◌, ◌++◌, refl, sym, ap, subst, nat_tests}
 use Rattle.pie_c.proofs.Names.{Event, Verdict, verdict_number, PieState, arrival_refusal, if_taken, moment_refusal, unless_refused, update_refusal}
 use Rattle.pie_c.proofs.Names.{held_in, with_departure, Held, waiting_after, Opening}
@@ -10,39 +10,39 @@ use Rattle.pie_summary.specs.Sums.{answer_place, size_by, size_in}
 use Rattle.std.specs.Bool.{Decides}
 use Rattle.pie_book.specs.Registers.{registers_after}
 
--- a departure leaves what it met, but for what it changes
+-- a departure does not change its conditions
 pub unmoved : (before after : PieState) (refusal : ℕ) (held : Held) → after ≡ if_taken refusal before (with_departure before held)
-    → met_by (after.active == 1) after.params.target after.last after ≡ met_by (before.active == 1) before.params.target before.last after
+    → conditions_of (after.active == 1) after.params.target after.last after ≡ conditions_of (before.active == 1) before.params.target before.last after
 unmoved before after refusal held is = grind (arith, nat_tests)
 
--- an event that is told so is noted so, where what its kind notes is noted
-pub told : (before after : PieState) (day : Option Clock) (made : Event) (decided : Option Cause) (wait : ℕ) (one : Explained) (met : Met) (noted : Noted)
-    → met ≡ met_by (before.active == 1) before.params.target before.last after → Tells before after day made decided wait one
+-- an event with this explanation is recorded as `noted` if the fields for its kind are
+pub explained-as : (before after : PieState) (day : Option Clock) (made : Event) (decided : Option Cause) (wait : ℕ) (one : Explained) (met : Met) (noted : Noted)
+    → met ≡ conditions_of (before.active == 1) before.params.target before.last after → ExplainsCall before after day made decided wait one
     → (Meets met one → one.told.event.answer ≡ made.answer → size_in one ≡ size_by made.command → noted ≡ noted_of one)
     → (noted ≡ noted_of one) × (one.told.clock ≡ day)
-told before after day made decided wait one met noted is tells notes = (
+explained-as before after day made decided wait one met noted is tells notes = (
   notes (subst (λ (m : Met). Meets m one) (sym is) tells.meets) (ap (λ (e : Event). e.answer) tells.event)
       (ap (λ (e : Event). size_by e.command) tells.event),
   tells.clock,
 )
 
--- what a call adds, by whether it was taken
-pub adds-by : (refusal : ℕ) (before after : LivePeriod) (told : Explained → Type 0) (taken : Bool) (noted : Noted) → IsSet before after
+-- the addition of a call, from whether it was accepted
+pub adds-by : (refusal : ℕ) (before after : LivePeriod) (explained-as : Explained → Type 0) (taken : Bool) (noted : Noted) → IsSet before after
     → (taken ≡ false → after ≡ before)
     → ((all : List Explained) (one : Explained) → taken ≡ true → noted ≡ noted_of one → one.told.clock ≡ clock_of before → Holds before all
     → Holds after (all ++ one ∷ []))
     → Decides taken (refusal ≡ 0)
-    → ((one : Explained) → refusal ≡ 0 → told one → (noted ≡ noted_of one) × (one.told.clock ≡ clock_of before))
-    → Adds refusal before after told
-adds-by refusal before after told taken noted set same adds decides is = record {
+    → ((one : Explained) → refusal ≡ 0 → explained-as one → (noted ≡ noted_of one) × (one.told.clock ≡ clock_of before))
+    → Adds refusal before after explained-as
+adds-by refusal before after explained-as taken noted set same adds decides is = record {
   refused = λ r. grind (arith, same, decides);
   settings = set;
   adds = λ all one free tells holds. adds all one (decides.1 free) (is one free tells).0 (is one free tells).1 holds;
 }
 
--- ---- what an answer says of the refusal
+-- ---- The refusal from the return value
 
--- an answer that is a verdict says that an arrival was taken, and no other
+-- the return value is a verdict exactly if the arrival was accepted
 pub arrival-decides : (queued size ecn moment answer : ℕ) (verdict : Verdict)
     → answer ≡ unless_refused (arrival_refusal queued size ecn moment) (verdict_number verdict)
     → Decides (nat_le answer 4) (arrival_refusal queued size ecn moment ≡ 0)
@@ -50,35 +50,35 @@ unfolding arrival_refusal
 arrival-decides queued size ecn moment answer verdict is =
     (λ few. grind (arith, nat_tests), λ free. grind (arith, nat_tests))
 
--- a call that answers its refusal
+-- a call that returns its refusal
 pub done-decides : (refusal answer : ℕ) → answer ≡ refusal → Decides (answer == 0) (refusal ≡ 0)
 done-decides refusal answer is = (λ so. grind (arith, nat_tests), λ free. grind (arith, nat_tests))
 
--- an arrival that is taken is answered by a verdict
+-- an accepted arrival returns a verdict
 pub arrival-few : (refusal answer : ℕ) (verdict : Verdict) → answer ≡ unless_refused refusal (verdict_number verdict) → refusal ≡ 0 → answer ≤ 4
 arrival-few refusal answer verdict is taken = grind (arith, nat_tests)
 
--- the place at which an arrival that was taken counts
+-- the counter of an accepted arrival
 pub arrival-place : (refusal answer : ℕ) (verdict : Verdict) → answer ≡ unless_refused refusal (verdict_number verdict) → refusal ≡ 0
     → min answer 8 ≡ answer_place (answer_of verdict)
 arrival-place refusal answer verdict is taken = grind (arith, nat_tests)
 
--- a departure that found no packet is answered by 5, which is no refusal
+-- a departure that found no packet returns 5, which is not a refusal
 pub none-decides : (moment answer : ℕ) → answer ≡ unless_refused (moment_refusal moment) 5 → Decides (answer == 5) (moment_refusal moment ≡ 0)
 unfolding moment_refusal
 none-decides moment answer is = (λ so. grind (arith, nat_tests), λ free. grind (arith, nat_tests))
 
--- an update's answer is 0 where it was made
+-- an update returns 0 exactly if it was made
 pub update-decides : (state : PieState) (queued moment answer : ℕ) → answer ≡ (updated_by state queued moment).code
     → Decides (answer == 0) (update_refusal state queued moment ≡ 0)
 update-decides state queued moment answer is = (λ so. grind (arith, nat_tests), λ free. grind (arith, nat_tests))
 
--- ---- what is told is what is explained
+-- ---- The added event is the explained one
 
 pub explained : (opening : Opening) (history : List Event) (made : Event) (before after : PieState) (number : ℕ) (set_by : Setter) (day : Option Clock)
     → held_in before ≡ held_after opening history → held_in after ≡ held_after opening (history ++ made ∷ [])
     → after.moment ≡ moment_of opening history made
-    → Tells before after day made (cause_after opening history made.command) (wait_of (deed_of made) after.moment (waiting_after opening history))
+    → ExplainsCall before after day made (cause_after opening history made.command) (wait_of (deed_of made) after.moment (waiting_after opening history))
     (with_after opening (history ++ made ∷ []) (explanation opening history number made set_by day))
 unfolding explanation held_in registers_after
 explained opening history made before after number set_by day held left moment = record {

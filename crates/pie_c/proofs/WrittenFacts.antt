@@ -1,16 +1,16 @@
--- What is written of packets that wait and of events is their records.
+-- The texts of waiting packets and of events are their records.
 use Rattle.std.specs.Prelude.{All, map, nat_le}
-use Rattle.pie_c.specs.{flat_map, Waiting, rows_text, text_of, event_row, written_rows, queued_row, part_rows, PieStats, Kept, opening_text}
-use Rattle.pie_c.specs.{stands_for, written_text, CanWait, bits_of, is_standing, queued_text, resume_of, resume_text, set_by_of, standing_in}
+use Rattle.pie_c.specs.{flat_map, Waiting, rows_text, text_of, event_row, written_rows, queued_row, part_rows, PieStats, WrittenEvent, opening_text}
+use Rattle.pie_c.specs.{event_of_written, written_text, CanWait, bits_of, is_snapshot, queued_text, resume_of, resume_text, set_by_of, standing_in}
 use Rattle.pie_c.specs.{waiting_text}
 use Rattle.pie_c.proofs.Names.{◌≡◌, ℕ, suc, ◌++◌, List, [], ◌∷◌, true, false, Some, refl, arith, nat_tests, Ecn, Event, waiting_after, PieOpening}
 use Rattle.pie_c.proofs.Names.{PieState, is_bad_size, opening_in, opening_of, opening_refusal, last_moment, is_sound}
 use Rattle.std.proofs.lemmas.Grind.{flat_map-append}
 
-event-written : (k : Kept) (e : Event) → stands_for k ≡ Some e → written_text k ≡ text_of (event_row e)
+event-written : (k : WrittenEvent) (e : Event) → event_of_written k ≡ Some e → written_text k ≡ text_of (event_row e)
 event-written k e is = grind (arith, nat_tests)
 
-events-written : (kept : List Kept) (events : List Event) → map stands_for kept ≡ map Some events
+events-written : (kept : List WrittenEvent) (events : List Event) → map event_of_written kept ≡ map Some events
     → flat_map written_text kept ≡ flat_map text_of (map event_row events)
 events-written [] [] is = refl
 events-written [] (e ∷ events) is = cc
@@ -30,14 +30,14 @@ packets-written (w ∷ packets) can =
     let early : nat_le w.since last_moment ≡ true = let since = first.since in grind (since, arith, nat_tests) in
     rw (packet-written w.packet.tag w.packet.size w.since w.packet.ecn first.size early, packets-written packets rest) refl
 
-pub whole_written : (o : PieOpening) (events : List Event) (kept : List Kept) → opening_refusal o ≡ 0 → map stands_for kept ≡ map Some events
+pub whole_written : (o : PieOpening) (events : List Event) (kept : List WrittenEvent) → opening_refusal o ≡ 0 → map event_of_written kept ≡ map Some events
     → opening_text (opening_of o) ++ flat_map written_text kept ≡ rows_text (written_rows (opening_in o) events)
 unfolding rows_text
 whole_written o events kept free is = rw (free, events-written kept events is) refl
 
-pub part_written : (o : PieOpening) (s : PieState) (t : PieStats) (count set_by packets bytes : ℕ) (past events : List Event) (kept : List Kept)
-    → opening_refusal o ≡ 0 → is_sound s ≡ true → is_standing o s count packets bytes ≡ true → All CanWait (waiting_after (opening_in o) past)
-    → map stands_for kept ≡ map Some events
+pub part_written : (o : PieOpening) (s : PieState) (t : PieStats) (count set_by packets bytes : ℕ) (past events : List Event) (kept : List WrittenEvent)
+    → opening_refusal o ≡ 0 → is_sound s ≡ true → is_snapshot o s count packets bytes ≡ true → All CanWait (waiting_after (opening_in o) past)
+    → map event_of_written kept ≡ map Some events
     → resume_text (resume_of o s t count set_by packets bytes)
     ++ (flat_map waiting_text (waiting_after (opening_in o) past) ++ flat_map written_text kept)
     ≡ rows_text (part_rows (opening_in o) (standing_in s t count packets bytes) past (set_by_of set_by) (map event_row events))

@@ -1,4 +1,4 @@
--- What definitions, code and proofs of this crate take from below, in one place.
+-- Names from lower crates that definitions, code and proofs of this crate use, in one place.
 pub use Rattle.std.specs.List.{flat_map}
 pub use Rattle.pie_abi.specs.Choices.{last_moment, profile_number, profile_of}
 unfoldable pub use Rattle.pie_abi.specs.Choices.{choices_of, elements_of}
@@ -13,7 +13,7 @@ pub use Rattle.pie_abi.specs.declared.event.PieEvent.{PieEvent}
 pub use Rattle.pie_abi.specs.declared.opening.PieOpening.{PieOpening}
 pub use Rattle.pie_abi.specs.declared.params.PieParams.{PieParams}
 pub use Rattle.pie_abi.specs.declared.stats.PieStats.{PieStats}
-pub use Rattle.pie_aqm.specs.Calls.{Arrive, Call, Change, Depart, IsTaken, Pass, Restart, after_call, shown_by}
+pub use Rattle.pie_aqm.specs.Calls.{Arrive, Call, Change, Depart, IsTaken, Pass, Restart, after_call, event_of_call}
 pub use Rattle.pie_aqm.specs.Events.{ControllerEvent, Opened}
 pub use Rattle.pie_aqm.specs.Held.{Held, IsSound}
 unfoldable pub use Rattle.pie_aqm.specs.History.{Shows}

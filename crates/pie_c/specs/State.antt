@@ -1,15 +1,15 @@
--- What a state says that a controller holds, and which states are sound; what an opening opens.
+-- The controller of a state, the soundness of states, and the state of an opening.
 use Rattle.std.specs.Prelude.{ℕ, ◌^◌, ◌%◌, Bool, not, ◌&&◌, ◌==◌, nat_lt, nat_le, Option, Some, None, if◌then◌else◌}
 use Rattle.pie_c.specs.Names.{Begun, Held, choices_of, elements_of, last_moment, profile_number, profile_of, are_in_range, params_of, raw_of}
 use Rattle.pie_c.specs.Names.{PieState, profile_for, Opened, opened, PieOpening}
 use Rattle.pie_rate.specs.declared.raw.RawCycle.{RawCycle}
 use Rattle.pie_aqm.specs.declared.raw.RawController.{RawController}
 
--- the cycle of the departure rate that is begun, where the flag says so
+-- the open cycle of the departure rate, if the flag is 1
 abbrev pub cycle_in : ℕ → ℕ → ℕ → Option RawCycle
 cycle_in measuring start count = if measuring == 1 then Some (record { start = start; count = count }) else None
 
--- the numbers of a cycle, 0 with none
+-- the numbers of an open cycle, 0 without one
 abbrev pub flag_of : Option Begun → ℕ
 flag_of None = 0
 flag_of (Some _) = 1
@@ -22,11 +22,11 @@ abbrev pub count_of : Option Begun → ℕ
 count_of None = 0
 count_of (Some cycle) = cycle.count
 
--- 1 where it is so, and else 0
+-- 1 if true, otherwise 0
 abbrev pub flag : Bool → ℕ
 flag so = if so then 1 else 0
 
--- what a controller holds, by this state, each number by itself
+-- the controller's state from this state, number by number
 abbrev pub controller_in : PieState → RawController
 controller_in s = record {
   profile = profile_of s.profile;
@@ -43,7 +43,7 @@ controller_in s = record {
 unfoldable pub held_in : PieState → Held
 held_in s = controller_in s
 
--- the state that says this
+-- the state that contains a controller's state
 unfoldable pub state_of : Held → PieState
 state_of h = record {
   params = params_of h.params;
@@ -63,7 +63,7 @@ state_of h = record {
   waited = h.waited;
 }
 
--- the state with this moment and this estimate of the departure rate; every other field stays, whatever it is
+-- the state with this moment and this estimate of the departure rate; every other field is unchanged
 abbrev pub with_rate : PieState → Held → PieState
 with_rate s h = record s {
   moment = h.moment;
@@ -73,14 +73,16 @@ with_rate s h = record s {
   cycle_count = count_of h.rate.begun;
 }
 
--- .. as a departure leaves it: where delays come from time stamps with this moment and this wait
+-- true if delays come from time stamps; below, the state after a departure: with this moment and time in the queue if
+-- they do
 abbrev pub takes_stamps : PieState → Bool
 takes_stamps s = s.choices % 2 == 1
 
 abbrev pub with_departure : PieState → Held → PieState
 with_departure s h = if takes_stamps s then record s { moment = h.moment; waited = h.waited } else with_rate s h
 
--- .. with every register, and whether the controller is active: all but the parameters, the profile and the choices
+-- the state with all numbers of the rules and the activity, that is, all but the parameters, the profile and the
+-- choices
 abbrev pub with_registers : PieState → Held → PieState
 with_registers s h = record (with_rate s h) {
   prob = h.control.prob;
@@ -92,13 +94,14 @@ with_registers s h = record (with_rate s h) {
   waited = h.waited;
 }
 
--- .. as an arrival leaves it: every register where it turned the controller on, and else the moment and the accumulated probability
+-- the state after an arrival: all numbers if it activated the controller, otherwise the moment and the accumulated
+-- probability
 abbrev pub with_arrival : PieState → Held → PieState
 with_arrival s h =
     if h.active && not (s.active == 1) then with_registers s h else record s { moment = h.moment; accu = h.accu }
 
--- the average is in its range; and the flag is 1, and the cycle began no later than now and has counted less than the threshold, or
--- the flag and the cycle's numbers are 0
+-- true if the average is in its range, and either the flag is 1 and the cycle opened at or before the moment and has
+-- counted less than the threshold, or the flag and the cycle's numbers are 0
 unfoldable pub is_rate_sound : PieState → Bool
 is_rate_sound s =
     nat_lt s.average (2 ^ 60)
@@ -106,18 +109,18 @@ is_rate_sound s =
     then nat_le s.cycle_start s.moment && nat_lt s.cycle_count s.params.dq_threshold
     else (s.measuring == 0) && (s.cycle_start == 0) && (s.cycle_count == 0))
 
--- in profile one the controller is active, and in profile two it is active or not
+-- true if the activity is possible: in profile one the controller is active, in profile two it is active or not
 unfoldable pub is_activity_sound : PieState → Bool
 is_activity_sound s = if s.profile == 1 then s.active == 1 else (s.profile == 2) && nat_le s.active 1
 
--- each field is in its range, and the fields fit one another: the last update wasn't later than now
+-- true if each field is in its range and the fields agree: no moment is later than the effective one
 unfoldable pub is_sound : PieState → Bool
 is_sound s =
     nat_le s.choices 31 && nat_le s.waited (2 ^ 40) && are_in_range s.params && nat_le s.moment last_moment
     && nat_le s.prob (10 ^ 12) && nat_le s.old_delay (2 ^ 40) && nat_le s.burst (10 ^ 12) && nat_le s.last s.moment
     && nat_lt s.accu 8_500_000_000_000 && is_rate_sound s && is_activity_sound s
 
--- ---- what an opening opens
+-- ---- Openings
 
 -- the default opening for a link of this rate
 abbrev pub default_opening : ℕ → PieOpening
@@ -132,7 +135,7 @@ default_opening rate = record {
   events = 2 ^ 47;
 }
 
--- what a controller holds that is opened by it, and was opened with
+-- the state and the opening of a controller with this opening
 abbrev pub held_by_opening : PieOpening → Held
 held_by_opening o = opened (profile_of o.profile) (elements_of o.choices) (raw_of o.params) o.moment
 

@@ -1,6 +1,6 @@
-//! The calls on a state. Those for each packet read the state's numbers as they are: their rules are total, so it need not be
-//! sound. The others refuse a state that isn't. Each refuses what it is handed out of its range, lets the controller
-//! make its step, and writes back what that changed.
+//! Calls on a state. Calls for a packet accept any state, sound or not, because their rules are total. The other calls
+//! refuse an unsound state. Each call refuses arguments out of range, executes the step of the controller, and writes
+//! the changed numbers back.
 ghost use Rattle.std.specs.Prelude.{◌≡◌, ◌<◌, ◌+◌, ◌-◌, ◌^◌, ◌≤◌, ℕ, if◌then◌else◌, min, true};
 ghost use Rattle.pie_c.specs.{Change, Depart, Restart, arrived, capped, cause, departed, verdict, raw_of, elements_of, held_in, is_sound};
 ghost use Rattle.pie_c.specs.{takes_stamps, with_departure, with_rate, KeepsSound, LooksBack, Arrives, Departs, Makes, Passes, Steps, Takes};
@@ -23,10 +23,10 @@ use pie_aqm::{ArrivingPacket, calls_keep_it_sound, calls_look_back};
 use pie_fixed::MAX_NANOS;
 use pie_params::Elements;
 
-/// The most bytes that a queue holds: the greatest byte limit.
+/// The greatest number of bytes in a queue, which is the greatest byte limit.
 const MAX_QUEUED: u64 = 1 << 30;
 
-/// What is held stays sound and shows each call. It does nothing.
+/// States that a sound state stays sound and represents each call. The body is empty.
 #[inline(always)]
 fn laws()
     ensures keeps { KeepsSound }
@@ -36,13 +36,13 @@ fn laws()
     calls_look_back();
 }
 
-/// Decides on an arriving packet, which the caller then queues, marks and queues, or drops: `queued`
-/// bytes are in the queue without it, `room` is how many more packets the caller's ring has room for,
-/// `bits` is the packet's ECN field, and `word` is random, every number as likely as any other (RFC
-/// 8033, sections 4.1, 5.1 and 5.4; RFC 3168, section 5).
+/// Decides on an arriving packet. The caller then queues the packet, marks and queues it, or drops it. `queued` is the
+/// number of bytes in the queue without the packet, `room` the number of packets for which the caller's ring has room,
+/// `bits` the packet's ECN field, and `word` a random word, uniformly distributed (RFC 8033, sections 4.1, 5.1 and 5.4;
+/// RFC 3168, section 5).
 ///
-/// Tail drop by bytes, then by packets, comes before all else. An inactive controller considers no packet; where three times the
-/// bytes in the queue then reach `limit_bytes`, it is turned on, as by a reset (RFC 8033, section 5.3).
+/// Tail drop by bytes is tested first, then tail drop by packets. An inactive controller considers no packet. If the
+/// queue then holds at least a third of `limit_bytes`, the controller is reset and activated (RFC 8033, section 5.3).
 #[inline(always)]
 #[unsafe(no_mangle)]
 pub extern "C" fn pie_arrive(
@@ -56,7 +56,7 @@ pub extern "C" fn pie_arrive(
 ) -> u32
     ensures { Arrives state.old (arrival_of queued size room bits word) (arrival_refusal queued size bits moment) moment result state.new }
 {
-    // One number: the other way is then compiled once, and is a jump.
+    // As one value, so that the other path is compiled once and is a jump.
     let is_usual = room != 0 && state.active == 1 && state.choices <= 1;
     if is_usual {
         let elements = usual_but_delay(state.choices);
@@ -66,9 +66,9 @@ pub extern "C" fn pie_arrive(
     }
 }
 
-/// The same, and the place of what decides it, to be compiled where it is called: where the controller is known to be active and the ring
-/// to have room, there is nothing of turning it on, nor of a full ring. The moment is written first, so that no register holds it from
-/// then on.
+/// Decides on an arriving packet and also returns the position of the cause. It is inlined: if the caller has tested
+/// that the controller is active and the ring has room, the code for activation and for a full ring is removed. The
+/// moment is written first, so that it occupies no processor register from then on.
 #[inline(always)]
 #[tactic(auto, unfolding(crate::specs::Calls::arrival_refusal))]
 pub(crate) fn arrive(
@@ -113,7 +113,8 @@ pub(crate) fn arrive(
     (of_verdict(verdict), place)
 }
 
-/// The same as a function of its own: the registers that turning on takes cost an active controller nothing then.
+/// Decides on an arriving packet in a function that is not inlined, so that the processor registers for activation cost
+/// an active controller nothing.
 #[inline(never)]
 fn arrive_apart(
     state: &mut PieState,
@@ -130,8 +131,9 @@ fn arrive_apart(
     arrive(state, elements, queued, size, room, bits, word, moment).0
 }
 
-/// Takes in a packet that left the queue, with `left` bytes after it (RFC 8033, section 5.2). An inactive controller takes in the
-/// moment alone. Where delays come from time stamps it is refused: `pie_depart_waited` says when the packet arrived.
+/// Adds the departure of a packet of `size` bytes that leaves `left` bytes in the queue (RFC 8033, section 5.2). For an
+/// inactive controller only the moment counts. If delays come from time stamps, the call is refused: use
+/// `pie_depart_waited`, which takes the packet's arrival.
 #[tactic(auto, using(crate::proofs::Packets::departs_by_rate))]
 #[unsafe(no_mangle)]
 pub extern "C" fn pie_depart(state: &mut PieState, size: u32, left: u64, moment: u64) -> u32
@@ -146,8 +148,8 @@ pub extern "C" fn pie_depart(state: &mut PieState, size: u32, left: u64, moment:
     depart_otherwise(state, moment, size, left)
 }
 
-/// Takes in a packet that leaves an open cycle of the departure rate open, and tells whether it was such a one: most are. The tests stand
-/// in the order that was measured to cost least.
+/// Adds a departure that leaves an open cycle of the departure rate open, as most departures do. Returns false, with
+/// nothing changed, for any other departure. The order of the tests was measured to cost least.
 #[inline(always)]
 fn depart_counted(state: &mut PieState, size: u32, left: u64, moment: u64) -> bool
     ensures taken { result ≡ true → departure_refusal state.old size left moment ≡ 0 }
@@ -162,7 +164,8 @@ fn depart_counted(state: &mut PieState, size: u32, left: u64, moment: u64) -> bo
     false
 }
 
-/// Takes in any other packet. A function of its own, and so is what it calls: what they take costs the others nothing then.
+/// Adds any other departure. Neither this function nor its callees are inlined, so that they cost the common departures
+/// nothing.
 #[inline(never)]
 fn depart_otherwise(state: &mut PieState, moment: u64, size: u32, left: u64) -> u32
     ensures { Takes state.old (departure_refusal state.old size left moment)
@@ -174,7 +177,8 @@ fn depart_otherwise(state: &mut PieState, moment: u64, size: u32, left: u64) -> 
     depart(state, size, left, moment)
 }
 
-/// Takes in a packet that meets no cycle and opens none, and tells whether it was such a one.
+/// Adds a departure that meets no open cycle and opens none. Returns false, with nothing changed, for any other
+/// departure.
 #[inline(always)]
 fn depart_unmeasured(state: &mut PieState, size: u32, left: u64, moment: u64) -> bool
     ensures taken { result ≡ true → departure_refusal state.old size left moment ≡ 0 }
@@ -187,7 +191,7 @@ fn depart_unmeasured(state: &mut PieState, size: u32, left: u64, moment: u64) ->
     true
 }
 
-/// Takes in any packet.
+/// Adds any departure.
 #[inline(never)]
 #[tactic(auto, unfolding(crate::specs::Calls::packet_refusal))]
 fn depart(state: &mut PieState, size: u32, left: u64, moment: u64) -> u32
@@ -212,8 +216,9 @@ fn depart(state: &mut PieState, size: u32, left: u64, moment: u64) -> u32
     DONE
 }
 
-/// Takes in a packet that left the queue, with `left` bytes after it, and that arrived then: the state's own moment, as it was right after
-/// its `pie_arrive` (RFC 8033, section 4.3). Where delays come from the departure rate it is `pie_depart`.
+/// Adds the departure of a packet of `size` bytes that leaves `left` bytes in the queue and arrived at the moment
+/// `arrived`, which is the state's moment right after its `pie_arrive` (RFC 8033, section 4.3). If delays come from the
+/// departure rate, it is equivalent to `pie_depart`.
 #[inline(always)]
 #[tactic(auto, using(crate::proofs::Packets::departs))]
 #[unsafe(no_mangle)]
@@ -235,7 +240,7 @@ pub extern "C" fn pie_depart_waited(
     }
 }
 
-/// The same where delays come from time stamps.
+/// Adds a departure if delays come from time stamps.
 #[inline(always)]
 #[tactic(auto, unfolding(crate::specs::Calls::packet_refusal))]
 fn depart_stamped(state: &mut PieState, size: u32, left: u64, arrived: u64, moment: u64) -> u32
@@ -262,7 +267,7 @@ fn depart_stamped(state: &mut PieState, size: u32, left: u64, arrived: u64, mome
     DONE
 }
 
-/// Takes in a departure that found the queue empty: its moment counts, and nothing else.
+/// Adds a departure that found the queue empty. Only its moment counts.
 #[inline(always)]
 #[tactic(auto, unfolding(crate::specs::Calls::moment_refusal))]
 #[unsafe(no_mangle)]
@@ -278,11 +283,11 @@ pub extern "C" fn pie_empty(state: &mut PieState, moment: u64) -> u32
     DONE
 }
 
-/// Makes an update where it is due, with `queued` bytes in the queue (RFC 8033, sections 4.2, 4.4 and
-/// 5.5). One before the last update's moment and `t_update` is refused as too soon.
+/// Makes an update that is due, with `queued` bytes in the queue (RFC 8033, sections 4.2, 4.4 and 5.5). An update
+/// before the due moment is refused as too soon.
 ///
-/// A calm update turns a controller of profile two off. That of an inactive controller takes in the moment alone, and its delay is
-/// 0 (RFC 8033, section 5.3).
+/// A calm update deactivates a controller of profile two. For an inactive controller only the moment counts, and the
+/// delay is 0 (RFC 8033, section 5.3).
 #[inline(always)]
 #[tactic(auto, unfolding(crate::specs::Calls::update_refusal))]
 #[unsafe(no_mangle)]
@@ -310,7 +315,8 @@ pub extern "C" fn pie_update(state: &mut PieState, queued: u64, moment: u64) -> 
     PieUpdated::made(DONE, delay, &held)
 }
 
-/// The moment from which the next update isn't too soon; of a state that isn't sound, where that is above `2^64 - 1`, this.
+/// Returns the due moment of the next update. If the sum is above `2^64 - 1`, which is possible for unsound states
+/// only, returns `2^64 - 1`.
 #[unsafe(no_mangle)]
 pub extern "C" fn pie_due(state: &PieState) -> u64
     ensures { result ≡ min (state.now.last + state.now.params.t_update) (2 ^ 64 - 1) }
@@ -318,8 +324,8 @@ pub extern "C" fn pie_due(state: &PieState) -> u64
     state.last.saturating_add(state.params.t_update)
 }
 
-/// Sets probability, old delay, accumulated probability and rate estimate to 0 and the burst allowance
-/// to `max_burst`, and keeps parameters, last update, and whether the controller is active.
+/// Sets probability, old delay, accumulated probability and rate estimate to 0 and the burst allowance to `max_burst`.
+/// Parameters, last update and activity are unchanged.
 #[inline(always)]
 #[tactic(auto, unfolding(crate::specs::Calls::reset_refusal))]
 #[unsafe(no_mangle)]
@@ -340,9 +346,9 @@ pub extern "C" fn pie_reset(state: &mut PieState, moment: u64) -> u32
     DONE
 }
 
-/// Puts new parameters in force, and clears the rate estimate; the other registers stay.
+/// Sets new parameters and clears the rate estimate. The rest of the state is unchanged.
 ///
-/// Refuses, of what is wrong, a state first, then parameters, then the moment.
+/// Refuses, in this order, an unsound state, parameters out of range, and a moment out of range.
 #[inline(always)]
 #[tactic(auto, unfolding(crate::specs::Calls::params_refusal))]
 #[unsafe(no_mangle)]
@@ -367,8 +373,8 @@ pub extern "C" fn pie_set_params(state: &mut PieState, params: &PieParams, momen
     DONE
 }
 
-/// Whether each field of a state is in its range and the fields fit one another, for a state that comes from elsewhere: 0, or
-/// refused as the other calls refuse it.
+/// Checks a state from any other source: returns 0 if each field is in its range and the fields agree, otherwise the
+/// code with which the other calls refuse it.
 #[unsafe(no_mangle)]
 pub extern "C" fn pie_check_state(state: &PieState) -> u32
     ensures { result ≡ state_refusal state.now }

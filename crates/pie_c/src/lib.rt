@@ -1,16 +1,17 @@
-//! The controller for callers in C: a static library that `include/pie.h` declares.
+//! The controller for callers in C: a static library with the header `include/pie.h`.
 //!
-//! The caller owns the state, a plain struct of numbers, and the queue of packets. The calls for each packet check what is handed in
-//! beside the state, and not whether it is sound; an update, a reset and new parameters check the state whole. Each refuses by a code with
-//! nothing changed.
+//! The caller owns the state, a plain struct of numbers, and the queue of packets. Calls for a packet check their
+//! arguments but not the soundness of the state. An update, a reset and new parameters check the whole state. Each call
+//! refuses with a code, and then nothing changes.
 //!
-//! For each call, whatever is handed in: what it answers (`answer`), with the refusals in their order. What a call for each
-//! packet leaves of any state is `fields` (specs/Calls.antt); `after` says it of a sound one, and of every state for the other calls. All of
-//! it is pie_aqm's, of whose rules there is none here: a call reads the numbers into a `RawController`, lets it decide, and
-//! writes back what that changed. A sound state stays sound (`sound`), so a state that `pie_open` made
-//! is never refused. If a state summarizes what the controller was shown since the opening, it does so with this call added (`shows`).
+//! - Clause `answer`: the return value of each call for any arguments, with the refusals in their order.
+//! - Clause `fields` (specs/Calls.antt): the state after a call for a packet, for any state before. Clause `after`: the
+//!   state after it for a sound state, and after any other call for every state.
+//! - Clause `sound`: a sound state stays sound, so a state from `pie_open` is never refused.
+//! - Clause `shows`: if a state represents the events since the opening, it then represents them with this call added.
 //!
-//! The calls that read a text with a unit are pie_units's, and touch no state.
+//! The rules are pie_aqm's, none of them is here: a call reads the numbers into a `RawController`, executes its step,
+//! and writes the changed numbers back. The calls that read a text with a unit are pie_units's and use no state.
 #![tactic(auto)]
 
 mod calls;

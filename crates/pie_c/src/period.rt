@@ -1,4 +1,4 @@
-//! A period that is summed up as it goes: its opening, the time of day, and its record.
+//! A period of a running summary: its opening, the wall-clock time, and its record.
 ghost use Rattle.std.specs.Prelude.{◌≡◌, ◌==◌, [], List, if◌then◌else◌};
 ghost use Rattle.pie_c.specs.{moment_refusal, after_writing, count_written, every_refusal, Explained, LivePeriod, Holds, form_in, length_of};
 ghost use Rattle.pie_summary.specs.Period.{at_last};
@@ -13,7 +13,7 @@ use pie_text::LongRow;
 /// Refused: a length of periods out of its range.
 pub const BAD_EVERY: u32 = 128;
 
-/// Opens periods of so many nanoseconds, 1 to 2^60 - 1, whose records end with the time of day where `wall` isn't 0.
+/// Opens periods of `every` nanoseconds, 1 to 2^60 - 1. If `wall` is not 0, their records end with the wall-clock time.
 #[unsafe(no_mangle)]
 pub extern "C" fn pie_open_period(period: &mut LivePeriod, every: u64, wall: u32) -> u32
     ensures code { result ≡ every_refusal every }
@@ -30,7 +30,8 @@ pub extern "C" fn pie_open_period(period: &mut LivePeriod, every: u64, wall: u32
     DONE
 }
 
-/// Tells the time of day: it was `unix` nanoseconds since 1970-01-01T00:00:00Z when the caller's clock showed `moment`.
+/// Sets the wall-clock time: `unix` nanoseconds since 1970-01-01T00:00:00Z at the moment `moment` of the caller's
+/// clock.
 #[unsafe(no_mangle)]
 #[tactic(auto, unfolding(crate::specs::Calls::moment_refusal))]
 pub extern "C" fn pie_period_clock(period: &mut LivePeriod, moment: u64, unix: u64) -> u32
@@ -48,8 +49,8 @@ pub extern "C" fn pie_period_clock(period: &mut LivePeriod, moment: u64, unix: u
     DONE
 }
 
-/// Writes the record of the period under way, as `pie explain --every --csv` writes it, with `--wall` if that was asked for. Before the first event
-/// there is none: returns 0, and `out` is unchanged.
+/// Writes the record of the current period, as `pie explain --every --csv` writes it, with `--wall` if the period was
+/// opened so. Before the first event there is no record: returns 0, and `out` is unchanged.
 #[unsafe(no_mangle)]
 pub extern "C" fn pie_write_period(period: &LivePeriod, out: &mut [u8]) -> usize
     ensures count { (all : List Explained) → Holds period.now all

@@ -1,7 +1,8 @@
-//! Reading texts with units: what pie_units reads, as a code and a number.
+//! Parsers of texts with units: the results of pie_units as a code and a number.
 //!
-//! Letters may be of any case; the number may have a point and at most 18 decimals, and comes to at most `2^60 - 1`. Refused are a text
-//! that tells none, one that comes to no whole number, and one that is too great; the number then stays as it was.
+//! Letters may have any case. The number may have a point and at most 18 decimals, and its value is at most `2^60 - 1`.
+//! A text without a number, with a value that is not whole, or with one that is too great is refused. The caller's
+//! number is then unchanged.
 ghost use Rattle.std.specs.Prelude.{◌≡◌};
 ghost use Rattle.pie_c.specs.{fault_number, read_code, read_or_kept};
 ghost use Rattle.pie_units.specs.declared.unit.Quantity.TheVariants.{Packets, Rate, Size, Time};
@@ -10,7 +11,7 @@ ghost use Rattle.pie_units.specs.Written.{value_of};
 use pie_abi::code::{DONE, NOT_A_NUMBER, TOO_GREAT, TOO_PRECISE};
 use pie_units::{Quantity, UnitFault, read};
 
-/// The number of a refusal.
+/// Returns the code of a refusal.
 fn of_fault(why: UnitFault) -> u32
     ensures { result ≡ fault_number why }
 {
@@ -21,7 +22,7 @@ fn of_fault(why: UnitFault) -> u32
     }
 }
 
-/// Puts what was read where a caller wants it; what is refused leaves that as it was.
+/// Stores the parsed value in `number`. If the text is refused, `number` is unchanged.
 fn kept(given: Result<u64, UnitFault>, number: &mut u64) -> u32
     ensures code { result ≡ read_code given }
     ensures number { number.new ≡ read_or_kept given number.old }
@@ -35,7 +36,7 @@ fn kept(given: Result<u64, UnitFault>, number: &mut u64) -> u32
     }
 }
 
-/// Reads a time in nanoseconds: a number with `ns`, `us`, `ms` or `s`, such as `1.5ms`, or their longer forms.
+/// Parses a time in nanoseconds: a number with `ns`, `us`, `ms` or `s`, such as `1.5ms`, or their longer forms.
 #[unsafe(no_mangle)]
 pub extern "C" fn pie_read_time(text: &[u8], nanoseconds: &mut u64) -> u32
     ensures code { result ≡ read_code (value_of Time text.now) }
@@ -44,8 +45,8 @@ pub extern "C" fn pie_read_time(text: &[u8], nanoseconds: &mut u64) -> u32
     kept(read(Quantity::Time, text), nanoseconds)
 }
 
-/// Reads a rate in bits a second: a number with `bit`, `kbit`, `mbit`, `gbit` or `tbit`, such as `100mbit`, or in bytes `bps`, `kbps`
-/// and so on.
+/// Parses a rate in bits per second: a number with `bit`, `kbit`, `mbit`, `gbit` or `tbit`, such as `100mbit`, or in
+/// bytes `bps`, `kbps` and so on.
 #[unsafe(no_mangle)]
 pub extern "C" fn pie_read_rate(text: &[u8], bits: &mut u64) -> u32
     ensures code { result ≡ read_code (value_of Rate text.now) }
@@ -54,7 +55,8 @@ pub extern "C" fn pie_read_rate(text: &[u8], bits: &mut u64) -> u32
     kept(read(Quantity::Rate, text), bits)
 }
 
-/// Reads a size in bytes: a number with `b`, `kb`, `mb` or `gb`, such as `256kb`, which count by 1024, or without a unit.
+/// Parses a size in bytes: a number with `b`, `kb`, `mb` or `gb`, such as `256kb`, which are multiples of 1024, or
+/// without a unit.
 #[unsafe(no_mangle)]
 pub extern "C" fn pie_read_size(text: &[u8], bytes: &mut u64) -> u32
     ensures code { result ≡ read_code (value_of Size text.now) }
@@ -63,7 +65,7 @@ pub extern "C" fn pie_read_size(text: &[u8], bytes: &mut u64) -> u32
     kept(read(Quantity::Size, text), bytes)
 }
 
-/// Reads a number of packets, with or without `p`, such as `1000p`.
+/// Parses a number of packets, with or without `p`, such as `1000p`.
 #[unsafe(no_mangle)]
 pub extern "C" fn pie_read_packets(text: &[u8], packets: &mut u64) -> u32
     ensures code { result ≡ read_code (value_of Packets text.now) }

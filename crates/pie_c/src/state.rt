@@ -4,19 +4,19 @@ ghost use Rattle.pie_c.specs.{held_in, is_sound, state_of, with_arrival, with_ra
 use pie_abi::PieParams;
 use pie_aqm::RawController;
 
-/// The controller's state, which its caller owns: the parameters in force, the registers, the profile and whether the controller is
-/// active. Times are in nanoseconds, probabilities in units of `10^-12` (RFC 8033, sections 4.2, 4.4, 5.2, 5.3 and 5.4; the scales
-/// are this project's own).
+/// The controller's state, which its caller owns: the parameters in force, the numbers of the rules, the profile and
+/// the activity. Times are in nanoseconds, probabilities in units of `10^-12` (RFC 8033, sections 4.2, 4.4, 5.2, 5.3
+/// and 5.4; the scales are this project's own).
 #[repr(C)]
 #[derive(Clone, Copy)]
 pub struct PieState {
     /// The parameters in force.
     pub params: PieParams,
-    /// The effective moment, the greatest so far, at most `2^60 - 1`.
+    /// The effective moment: the greatest of all moments up to now, at most `2^60 - 1`.
     pub moment: u64,
-    /// The probability of drop or mark, 0 to 10^12.
+    /// The probability of a drop or mark, 0 to 10^12.
     pub prob: u64,
-    /// The delay at the last update, at most `2^40`.
+    /// The delay of the last update, at most `2^40`.
     pub old_delay: u64,
     /// The burst allowance, at most 10^12.
     pub burst: u64,
@@ -24,28 +24,29 @@ pub struct PieState {
     pub last: u64,
     /// The accumulated probability, below 8.5.
     pub accu: u64,
-    /// The average time in which `dq_threshold` bytes depart, below `2^60`; 0 with no sample.
+    /// The average time in which `dq_threshold` bytes depart, below `2^60`; 0 without a sample.
     pub average: u64,
-    /// 1 where a cycle of the departure rate is begun, and else 0.
+    /// 1 if a cycle of the departure rate is open, otherwise 0.
     pub measuring: u64,
-    /// The moment at which that cycle began, and 0 with none.
+    /// The moment at which the open cycle opened; 0 without one.
     pub cycle_start: u64,
-    /// The bytes that it has counted, below `dq_threshold`, and 0 with none.
+    /// The bytes that the open cycle has counted, below `dq_threshold`; 0 without one.
     pub cycle_count: u64,
-    /// 1 or 2: in profile one the controller is always active, in profile two it turns itself on and off.
+    /// The profile: 1 or 2. In profile one the controller is always active, in profile two it switches itself.
     pub profile: u64,
-    /// 1 while the controller is active, and else 0; always 1 in profile one.
+    /// 1 if the controller is active, otherwise 0; always 1 in profile one.
     pub active: u64,
-    /// The optional elements of RFC 8033 that are chosen otherwise than usual, as flags: 1 the delay from time stamps, 2 random
+    /// The optional elements of RFC 8033 that differ from the default, as flags: 1 the delay from time stamps, 2 random
     /// picking, 4 steps without a cap, 8 packets scaled by their size, 16 the decay below half the target; at most 31.
     pub choices: u64,
-    /// What the packet that departed last had waited, at most `2^40`; 0 where delays don't come from time stamps.
+    /// The time that the last departed packet spent in the queue, at most `2^40`; 0 unless delays come from time
+    /// stamps.
     pub waited: u64,
 }
 
 impl PieState {
-    /// Moves the moment to this one, where it is later. By a test, and not by the greater of both: where the processor foresees its
-    /// outcome, the next call waits for no earlier one.
+    /// Moves the moment to `moment` if that is later. It uses a branch instead of a maximum: if the processor predicts
+    /// the branch, the next call does not depend on the result of this one.
     #[inline(always)]
     pub(crate) fn reach(&mut self, moment: u64)
         ensures { self.new ≡ record self.old { moment = max self.old.moment moment } }
@@ -55,8 +56,8 @@ impl PieState {
         }
     }
 
-    /// What an arrival changes beside the moment, which the state has: the accumulated probability, and each register where it turned
-    /// the controller on.
+    /// Writes the changes of an arrival except the moment, which the state already has: the accumulated probability,
+    /// and all numbers if the arrival activated the controller.
     #[inline(always)]
     pub(crate) fn keep_arrived(&mut self, held: &RawController)
         requires { held.now.moment ≡ self.old.moment }
@@ -69,7 +70,7 @@ impl PieState {
         self.accu = held.accu;
     }
 
-    /// Each register, and whether the controller is active.
+    /// Writes all numbers of the rules, and the activity.
     pub(crate) fn keep_registers(&mut self, held: &RawController)
         ensures { self.new ≡ with_registers self.old held.now }
     {
@@ -80,7 +81,8 @@ impl PieState {
         self.waited = held.waited;
     }
 
-    /// What a departure changes, and new parameters beside themselves: the moment and the estimate of the departure rate.
+    /// Writes the changes of a departure, and those of new parameters except the parameters: the moment and the
+    /// estimate of the departure rate.
     #[inline(always)]
     pub(crate) fn keep_departed(&mut self, held: &RawController)
         ensures { self.new ≡ with_rate self.old held.now }
@@ -93,7 +95,8 @@ impl PieState {
         };
     }
 
-    /// What a departure changes that leaves an open cycle of the departure rate open: its count and the moment.
+    /// Writes the changes of a departure that leaves an open cycle of the departure rate open: its count and the
+    /// moment.
     #[inline(always)]
     pub(crate) fn keep_counted(&mut self, count: u64, moment: u64)
         ensures { self.new ≡ record self.old { moment = max self.old.moment moment; cycle_count = count } }
@@ -102,7 +105,7 @@ impl PieState {
         self.cycle_count = count;
     }
 
-    /// What a departure changes that meets no cycle and opens none: the moment.
+    /// Writes the change of a departure that meets no open cycle and opens none: the moment.
     #[inline(always)]
     pub(crate) fn keep_unmeasured(&mut self, moment: u64)
         ensures { self.new ≡ record self.old { moment = max self.old.moment moment; measuring = 0; cycle_start = 0; cycle_count = 0 } }
@@ -111,7 +114,7 @@ impl PieState {
         self.moment = self.moment.max(moment);
     }
 
-    /// What an update changes: the moment, the control law's registers, and activity.
+    /// Writes the changes of an update: the moment, the state of the control law, and the activity.
     #[inline(always)]
     pub(crate) fn keep_updated(&mut self, held: &RawController)
         requires sound { is_sound self.old ≡ true }
@@ -124,7 +127,7 @@ impl PieState {
         self.active = u64::from(held.active);
     }
 
-    /// The control law's registers.
+    /// Writes the state of the control law.
     #[inline(always)]
     fn keep_control(&mut self, held: &RawController)
         ensures { self.new ≡ record self.old {
@@ -141,24 +144,24 @@ impl PieState {
     }
 }
 
-/// What an update answers.
+/// The result of an update.
 #[repr(C)]
 #[derive(Clone, Copy)]
 pub struct PieUpdated {
-    /// 0, or why the update is refused.
+    /// 0, or the code of the refusal.
     pub code: u64,
-    /// The moment from which the next update isn't too soon, in nanoseconds.
+    /// The due moment of the next update, in nanoseconds.
     pub due: u64,
-    /// The delay that the update took, in nanoseconds; 0 while the controller is inactive.
+    /// The delay of the update, in nanoseconds; 0 while the controller is inactive.
     pub delay: u64,
-    /// The probability after it, in units of `10^-12`.
+    /// The probability after the update, in units of `10^-12`.
     pub prob: u64,
-    /// The burst allowance after it, in nanoseconds.
+    /// The burst allowance after the update, in nanoseconds.
     pub burst: u64,
 }
 
 impl PieUpdated {
-    /// An update that is refused for what was handed in.
+    /// Makes the result of an update that is refused for its arguments or its state.
     pub(crate) fn refused(code: u32) -> PieUpdated
         ensures { result ≡ nothing_updated code }
     {
@@ -171,7 +174,7 @@ impl PieUpdated {
         }
     }
 
-    /// What an update answers with this number and this delay, from the registers.
+    /// Makes the result of an update with this code and this delay, from the controller.
     pub(crate) fn made(code: u32, delay: u64, held: &RawController) -> PieUpdated
         requires { IsSound held.now }
         ensures { result ≡ updated_with code delay held.now }

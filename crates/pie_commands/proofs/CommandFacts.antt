@@ -1,4 +1,4 @@
--- How a command of `clap` is put together from arguments and subcommands, one after the other.
+-- Facts about the construction of a command of `clap` from arguments and subcommands.
 use Rattle.pie_commands.proofs.OptionNames.{◌≡◌, ◌∙◌, ◌+◌, ◌<◌, ℕ, List, ◌∷◌, IfOk, Result, suc, add-one, drop, drop-cons, get_or, length, Bool, true}
 use Rattle.pie_commands.proofs.OptionNames.{false, refl, ap, ◌&&◌, not, AddsSubcommand, App, app_of, with_subcommand}
 use Rattle.pie_commands.proofs.OptionNames.{Subcommand, Run, Wants, app_for}

@@ -1,4 +1,4 @@
--- How a cut of the last events ends.
+-- Facts about the end of a cut of the last events.
 use Rattle.std.proofs.lemmas.Option.{IfSome_then}
 use Rattle.pie_commands.proofs.EndFacts.{if-all}
 use Rattle.pie_commands.proofs.Names.{ℕ, List, Option, inr, inl, refl, IfSome, Ok, Err, TraceFault, records_of, LastEither}

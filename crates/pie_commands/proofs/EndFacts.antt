@@ -1,4 +1,5 @@
--- How a subcommand ends that never began, one that meets no event that differs, and one whose text may hold more than is known.
+-- Facts about the end of a subcommand: one that never began, one that finds no difference, and one whose text may
+-- hold more than is known.
 use Rattle.std.proofs.lemmas.Bool.Decides.{nat_tests}
 use Rattle.pie_commands.proofs.Names.{◌≡◌, ◌≤◌, ℕ, List, Option, Some, arith, IfSome, EndsBy, End, status_of}
 use Rattle.pie_record.specs.Text.{Row}

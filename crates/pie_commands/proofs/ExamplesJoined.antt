@@ -1,4 +1,4 @@
--- What an audit of the files of one history writes of each, and how it ends, worked out.
+-- Worked examples: the lines of an audit of the files of one history, and its end.
 use Rattle.pie_commands.proofs.Names.{◌≡◌, [], Some, None, Ok, Err, true, false, codes, refl, Joined, is_broken, lines_of}
 use Rattle.std.specs.Fmt.{digits}
 use Rattle.pie_audit.specs.declared.auditor.Finding.TheVariants.{Clean, Differs}
@@ -21,7 +21,7 @@ lines : (lines_of (codes "a") (Ok (record { finding = Clean 100; joint = None })
 unfolding digits
 lines = (refl, refl, refl, refl, refl, refl)
 
--- a history is broken by events that are missing or told twice, by another state, and by an event that differs
+-- a history is broken by missing or repeated events, by another state, and by an event that differs
 broken : (is_broken (Ok (clean Follows)) ≡ false) × (is_broken (Ok (clean (Gap 100 104))) ≡ true)
     × (is_broken (Ok (clean (Gap 100 100))) ≡ true) × (is_broken (Ok (clean (Unlike 100))) ≡ true)
     × (is_broken (Ok (record { finding = Differs 120; joint = Some Follows })) ≡ true) × (is_broken (Err Unopened) ≡ false)

@@ -1,4 +1,4 @@
--- Which words ask for which subcommand, and what they give its options, worked out.
+-- Worked examples: the subcommand of a command line, and the values of its options.
 use Rattle.pie_commands.proofs.OptionNames.{◌≡◌, [], ◌∷◌, None, Some, codes, refl, true, Text, clap_on_literals, Asks, file_in, files_in, is_joined}
 use Rattle.pie_commands.proofs.OptionNames.{number_or, options_in, output_in}
 
@@ -32,7 +32,7 @@ alone name = (
   refl,
 )
 
--- .. and what other words give its options
+-- the values of options on other command lines
 files : (name : Text) → (files_in (options_in (name ∷ codes "audit" ∷ codes "a" ∷ codes "-" ∷ [])) ≡ codes "a" ∷ codes "-" ∷ [])
     × (is_joined (options_in (name ∷ codes "audit" ∷ codes "--joined" ∷ codes "a" ∷ codes "b" ∷ [])) ≡ true)
     × (file_in (options_in (name ∷ codes "run" ∷ codes "a" ∷ codes "--count" ∷ [])) ≡ Some (codes "a"))

@@ -14,7 +14,7 @@ use Rattle.std.proofs.Math.Seq.{take-suc}
 use Rattle.std.proofs.lemmas.List.Folds.{list_any-append}
 use Rattle.pie_record.specs.declared.fault.TraceFault.TheVariants as trace_fault
 
--- what is told of a file is told of its text
+-- the result of a file is the result of its text
 pub tells-given : {R : Type 0} (works joined : Bool) (remaining : R → Option (List ℕ)) (first : R) (input : Option R)
     (files : Text → Option (List ℕ)) (earlier : List Text) (name : Text) (before : Option EndView) (told : Result Joined Unaudited)
     (after : Option EndView) → IsLeft first earlier input
@@ -96,7 +96,7 @@ audits-more works joined input files names unfound broken end after before mid n
   any_broken = any-more (λ (t : Told). is_broken t.1) audits.told (name, told) broken audits.any_broken;
 }
 
--- the names so far
+-- the audits of the first names
 pub audits-taken : (works joined : Bool) (input : Option (List ℕ)) (files : Text → Option (List ℕ)) (names : List Text) (place : ℕ) (name : Text)
     (unfound broken : Bool) (end : Option EndView) (before now : Option (List ℕ)) → place < length names
     → name ≡ get_or names place [] → AuditsFiles works joined input files (take place names ++ name ∷ []) unfound broken end before now
@@ -105,7 +105,7 @@ audits-taken works joined input files names place name unfound broken end before
     rw (add-one place, take-suc names place [] within) (subst (λ (n : Text). AuditsFiles works joined input files (take place names ++ n ∷ []) unfound
     broken end before now) is audits)
 
--- .. and what is left of the reader
+-- the reader after the first names
 pub left-taken : {R : Type 0} (first : R) (names : List Text) (place : ℕ) (name : Text) (input : Option R) → place < length names
     → name ≡ get_or names place [] → IsLeft first (take place names ++ name ∷ []) input → IsLeft first (take (place + 1) names) input
 left-taken {R} first names place name input within is left =

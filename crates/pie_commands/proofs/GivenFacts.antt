@@ -1,4 +1,4 @@
--- What a getter of `clap` reads of an option is what the words give it.
+-- Facts about the getters of `clap`: they return the option's value on the command line.
 use Rattle.pie_commands.proofs.OptionNames.{◌≡◌, ◌∙◌, ◌-◌, ◌^◌, ℕ, List, Bool, true, false, Option, Some, None, arith, codes, refl, sym, ap, Result}
 use Rattle.pie_commands.proofs.OptionNames.{Ok, Err, option_and_then, unwrap_or, if◌then◌else◌, option_map_or, bytes_eq, ParsesBool, ParsesUnsigned}
 use Rattle.pie_commands.proofs.OptionNames.{digits_value, without_leading_plus, ReadsOne, number_of}
@@ -9,7 +9,7 @@ use Rattle.clap.proofs.ValueTestLemmas.{Accepts-accepts, accepts-Accepts}
 
 -- ---- a number
 
--- the number that was read from what an option was given
+-- the number that is read from an option's text
 pub number-given : {E : Type 0} (gives : List ℕ → Result ℕ E → Type 0)
     → ((text : List ℕ) (read : Result ℕ E) → gives text read → ParsesUnsigned 64 10 text read)
     → (given : Option (List ℕ)) (result : Option ℕ) → (given ≡ None → result ≡ None)

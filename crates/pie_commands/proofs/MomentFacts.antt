@@ -1,4 +1,4 @@
--- What a getter of `clap` reads of an option that is given a moment, or a bound of moments.
+-- Facts about the getters of `clap` for an option with a moment or a bound.
 use Rattle.pie_commands.proofs.Names.{◌≡◌, ℕ, List, Option, Some, None, refl, sym, ap, Result, Ok, Err, option_map, units_of}
 use Rattle.std.specs.Option.{option_transpose}
 use Rattle.clap.specs.Matches.{TriesOne}

@@ -1,4 +1,4 @@
--- What the proofs of the words and their options take from below, in one place.
+-- Definitions from lower crates that the proofs of the command line use.
 pub use Rattle.std.proofs.Common.{Bool, IfOk, List, None, Option, Result, Some, [], add-one, ap, arith, codes, drop, drop-cons, false, get_or, length}
 pub use Rattle.std.proofs.Common.{map, refl, subst, suc, sym, true, ℕ, ◌+◌, ◌-◌, ◌<◌, ◌^◌, ◌∙◌, ◌∷◌, ◌≡◌}
 pub use Rattle.std.specs.Option.{option_map_or}

@@ -1,4 +1,4 @@
--- What a subcommand writes, where the words name a file for it and where they don't, and what becomes of files.
+-- Facts about the output of a subcommand, to the caller's writer or to a named file, and about the files meanwhile.
 use Rattle.std.proofs.Common.{arith}
 use Rattle.std.proofs.lemmas.Bool.Decides.{nat_tests}
 use Rattle.pie_commands.proofs.Names.{◌≡◌, ℕ, List, Bool, true, false, Option, Some, None, refl, sym, inl, inr, IsSome, Text, file_of, Held, IsEmpty}
@@ -10,7 +10,8 @@ keeps-same held other text is = is
 pub keeps-both : (old mid new : Held) → Keeps old mid → Keeps mid new → Keeps old new
 keeps-both old mid new first second other text is = second other text (first other text is)
 
--- a file that was empty was put in its place; before that it was made, and what is read was seen to be another
+-- a new empty file, moved onto its name, replaces no file except the one that may be replaced, and not the file
+-- that is read
 places-since : (read : Option Text) (forced : Bool) (name : Text) (left : Option (List ℕ)) (old mid new : Held) → Keeps old mid
     → (IsSome (old name) → read ≡ Some name → ⊥) → Places None forced name left mid new → Places read forced name left old new
 places-since read forced name left old mid new kept another places = grind (arith, nat_tests)
@@ -39,7 +40,7 @@ pub ends-keep : (output read : Option Text) (forced : Bool) (fresh : Option (Lis
     (before now : Option (List ℕ)) → status_of end ≡ 1 → EndsIn output read forced fresh old new ends end before now → Keeps old new
 ends-keep output read forced fresh old new ends end before now one ended = grind (arith, settles-keeps)
 
--- to the writer that is handed in
+-- output to the caller's writer
 pub ends-output : (output read : Option Text) (forced : Bool) (fresh : Option (List ℕ)) (held : Held) (ends : End → Option (List ℕ) → Option (List ℕ) → Type 0) (end : End)
     (before now : Option (List ℕ)) → output ≡ None → ends end before now → EndsIn output read forced fresh held held ends end before now
 ends-output output read forced fresh held ends end before now is ended = grind (arith, keeps-same)

@@ -1,4 +1,4 @@
--- How a storm of the plan that the options ask for ends.
+-- Facts about the end of a storm of the requested plan.
 use Rattle.pie_commands.proofs.Names.{◌≡◌, ℕ, List, Option, Some, None, subst, sym, inr, refl, Elements, EndsStorm, elements_in, numbers_in}
 use Rattle.pie_commands.proofs.Names.{storm_ends, Done, Fault, Failed, TraceFault, IsWrite}
 use Rattle.clap.specs.Words.{Row}

@@ -1,4 +1,5 @@
--- What each subcommand promises, where it never began, where files hold more than they did, and where its words are found.
+-- Facts about the promises of each subcommand: if it never began, if files hold more than is known, and how the
+-- command line selects it.
 use Rattle.std.proofs.Common.{arith}
 use Rattle.std.proofs.lemmas.Bool.Decides.{nat_tests}
 use Rattle.pie_commands.proofs.Names.{◌≡◌, ◌∙◌, ℕ, List, [], ◌∷◌, Option, Some, Bool, true, subst, sym, IfErr, IfOk, Result, Ok, Err, option_map, App}
@@ -35,13 +36,13 @@ EndsTo-unable : (subcommand : Subcommand) (options : List Row) (works : Bool) (i
     → now ≡ before → EndsTo subcommand options works input fresh files files Unable before now
 EndsTo-unable subcommand options works input fresh files before now same = grind (arith, EndsAs-unable, keeps-same)
 
--- ---- what is said of files that may hold more than they did holds of what they held
+-- ---- A promise about files that keep their texts also holds of the old files
 
 given-kept : (input : Option (List ℕ)) (old new : Held) (file : Option Text) → Keeps old new
     → IsKept (text_given input old file) (text_given input new file)
 given-kept input old new file keeps = grind (arith, nat_tests)
 
--- what can be opened by what is known can be by more
+-- if a file can be opened, it can also be opened with more known files
 opens-kept : (old new : Held) (earlier : List Text) (name : Text) → Keeps old new → opens_after old earlier name ≡ true → opens_after new earlier name ≡ true
 opens-kept old new earlier name keeps opens = go (is_dash name) (old name) refl opens
   where
@@ -92,7 +93,7 @@ either-kept works joined input old new [] end before now keeps ended = ended
 either-kept works joined input old new (name ∷ names) end before now keeps ended =
     files-kept works joined input old new (name ∷ names) end before now keeps ended
 
--- .. of a text alone, which is what any other subcommand reads
+-- a subcommand other than an audit reads one text: its promise also holds of the old files
 text-kept : (subcommand : Subcommand) (options : List Row) (works : Bool) (input : Option (List ℕ)) (old new : Held) (end : End) (before now : Option (List ℕ))
     → (subcommand ≡ Audit → ⊥) → Keeps old new → EndsAs subcommand options works input new end before now
     → EndsAs subcommand options works input old end before now

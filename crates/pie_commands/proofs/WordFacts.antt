@@ -19,7 +19,7 @@ pub options-in : (words : List Text) (matches : ArgMatches) (rows : List Row) �
 options-in words matches rows has met =
     sym (ap (λ (o : Option (List Row)). unwrap_or o []) (met ∙ ap (option_map (λ (p : Text × List Row). p.1)) (has simple).1))
 
--- the name that `clap` tells of a subcommand stands before its options
+-- the subcommand's name in the result of `clap` comes before its options
 first-of : {A : Type 0} (g : A → Text × List Row) (o : Option A)
     → option_map (λ a. (g a).0) o ≡ option_map (λ (p : Text × List Row). p.0) (option_map g o)
 first-of g None = refl
@@ -30,11 +30,11 @@ name-rows matches =
     first-of (λ b. ((out-SubCommand (box_value b)).name.now, rows_of (found_of (out-SubCommand (box_value b)).matches)))
     (out-ArgMatches matches).subcommand
 
--- what `clap` tells of a subcommand is that of the words, if there is one
+-- the subcommand in the result of `clap` is the one of the command line
 pub name-found : (words : List Text) (matches : ArgMatches) → HasMatchesOf pie_app words matches → subcommand_name_of matches ≡ subcommand_in words
 name-found words matches has = name-rows matches ∙ ap (option_map (λ (p : Text × List Row). p.0)) (has simple).1
 
--- ---- no two subcommands are asked for by one word
+-- ---- Subcommands have different names
 abbrev asked_by : Text → Option Subcommand
 asked_by word = if bytes_eq word (codes "run") then Some Run
     else if bytes_eq word (codes "audit") then Some Audit
@@ -54,7 +54,7 @@ same-word one other same =
     let told : Some one ≡ Some other = sym (asked-word one) ∙ ap (option_and_then asked_by) same ∙ asked-word other in
     cc
 
--- .. so a word asks for no other
+-- a name selects at most one subcommand
 pub known-word : (word : Text) (one : Subcommand) → word ≡ word_of one → (other : Subcommand) → word ≡ word_of other → Some one ≡ Some other
 known-word word one is other same = ap Some (same-word one other (ap Some (sym is ∙ same)))
 

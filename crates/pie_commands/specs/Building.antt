@@ -1,4 +1,4 @@
--- How far `pie` or a subcommand of it has been put together, where there was memory for it.
+-- A command of `pie` under construction, if memory sufficed.
 use Rattle.std.specs.Prelude.{◌≡◌, IfOk, List, Result}
 use Rattle.clap.specs.Words.{App, app_of}
 use Rattle.clap.specs.declared.builder.command.Command.{Command}

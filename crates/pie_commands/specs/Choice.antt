@@ -57,11 +57,11 @@ is_digest options = flag_given (codes "digest") options
 abbrev pub flows_of : List Row → Option ℕ
 flows_of options = number_given (codes "flows") options
 
--- .. for summaries: of all chosen events, of each period, or by flow
+-- true if these options request summaries: of all chosen events, of each interval, or by flow
 abbrev pub is_summary : List Row → Bool
 is_summary options = (flag_given (codes "summary") options || is_some (every_of options)) || (is_digest options || is_some (flows_of options))
 
--- .. for either of what is said between summaries, and sums by flow
+-- true unless a digest and sums by flow are both requested
 abbrev pub is_either : Bool → Option ℕ → Bool
 is_either digest flows = not (digest && is_some flows)
 
@@ -108,8 +108,8 @@ choice_of options =
 abbrev pub form_of : List Row → Form
 form_of options = record { csv = flag_given (codes "csv") options; by_wall = flag_given (codes "wall") options }
 
--- what is told of the explained events: each; or sums by flow, of all or of each period; or such summaries, with the words for lost and marked
--- packets or without
+-- the kind of output about the chosen events: each event; sums by flow; or summaries, with or without a digest of
+-- lost and marked packets. Sums and summaries cover all events or each interval
 abbrev pub tale_by : Bool → Bool → Option ℕ → Option ℕ → Form → Tale
 tale_by true packets (Some most) every form = Flows (record { form = form; every = every; most = most })
 tale_by true packets None every form = Sums (record { form = form; every = every; packets = packets })
@@ -118,7 +118,7 @@ tale_by false packets flows every form = Each form
 abbrev pub tale_of : List Row → Tale
 tale_of options = tale_by (is_summary options) (is_digest options) (flows_of options) (every_of options) (form_of options)
 
--- .. in these words
+-- the output of a kind for these explained events
 abbrev pub told_by : Tale → List Explained → List ℕ
 told_by (Each form) = pages form
 told_by (Sums summaries) = summary_of summaries

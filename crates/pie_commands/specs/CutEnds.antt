@@ -26,7 +26,7 @@ use Rattle.pie_commands.specs.Ends.{EndsBy, WritesNothing}
 
 -- ---- the choice
 
--- the event with this number, and so many before it and after it
+-- the event with this number, with `more` events before it and `more` events after it
 abbrev pub around : ℕ → ℕ → Span
 around event more = record { first = event - more; last = min (event + more) (2 ^ 64 - 1); from = None; to = None }
 
@@ -34,7 +34,7 @@ around event more = record { first = event - more; last = min (event + more) (2 
 abbrev pub between : Option When → Option When → Span
 between from to = record { first = 0; last = 2 ^ 64 - 1; from = from; to = to }
 
--- the last so many of the events up to this number
+-- the last `many` of the events up to this number
 abbrev pub last_of : ℕ → ℕ → Span
 last_of number many = record { first = min (number - many + 1) (2 ^ 64 - 1); last = number; from = None; to = None }
 
@@ -51,7 +51,7 @@ chosen None None None (Some every) None = if every == 0 then None else Some (Onc
 chosen None None None None (Some span) = Some (Once (Part span))
 chosen _ _ _ _ _ = None
 
--- .. where both bounds can be read, and the one isn't after the other
+-- the request, if both bounds are valid and in order
 abbrev pub wanted_at : Option ℕ → Option ℕ → Option ℕ → Option ℕ → Option (Option When) → Option (Option When) → Option Wanted
 wanted_at event more last every (Some from) (Some to) = if in_order from to then chosen event more last every (within from to) else None
 wanted_at _ _ _ _ _ _ = None
@@ -84,7 +84,7 @@ abbrev pub CutsInto : Pieces → List Fields → Result ℕ CutFault → Option 
 CutsInto (Part span) rows given before now = CutsEither span rows given before now
 CutsInto (Every every) rows given before now = TextTold every_answer (IsInSegments every) (is_resumed rows) rows given before now
 
--- the last so many events, once this was found to be the number of the last, or a fault was found
+-- a cut of the last `many` events, after a first pass found the number of the last event or a fault
 abbrev pub CutsUpTo : ℕ → Result ℕ TraceFault → List Fields → Result ℕ CutFault → Option (List ℕ) → Option (List ℕ) → Type 0
 CutsUpTo many (Ok last) rows given before now = CutsEither (last_of last many) rows given before now
 CutsUpTo many (Err why) rows given before now = (given ≡ Err (fault.Trace why)) × (now ≡ before)
@@ -108,6 +108,6 @@ cut_ends None named known = WritesNothing
 cut_ends (Some (Once pieces)) named known = EndsBy end_of_cut (CutsInto pieces) known
 cut_ends (Some (Last many)) named known = ends_last named many known
 
--- .. what is chosen being what these options say, and the file that they name
+-- the end of a cut with the request and the file of these options
 abbrev pub EndsCut : List Row → Option Text → Option (List ℕ) → End → Option (List ℕ) → Option (List ℕ) → Type 0
 EndsCut options file = cut_ends (wanted_of options) (is_named file)

@@ -1,4 +1,4 @@
--- How a run, a migration and an audit end: the exit status, and what is written.
+-- The end of a run, a migration and an audit: the exit status and the output.
 use Rattle.std.specs.Prelude.{ℕ, ◌≡◌, ◌⊎◌, ◌^◌, ◌++◌, ◌&&◌, if◌then◌else◌, List, Bool, true, false, Option, Some, None, Result, Ok, Err, codes}
 use Rattle.std.specs.Prelude.{IfErr, IfOk, IfSome}
 use Rattle.std.specs.Fmt.{decimal}
@@ -27,7 +27,7 @@ abbrev pub is_unwritten : End → Bool
 is_unwritten (Fault trace_fault.Write) = true
 is_unwritten _ = false
 
--- .. which is 141 where the writer failed since nobody reads any more what is written
+-- the exit status of the program: 141 if the writer failed because its reader is gone
 abbrev pub told_status : Bool → End → ℕ
 told_status closed end = if closed && is_unwritten end then 141 else status_of end
 
@@ -37,7 +37,8 @@ told_status closed end = if closed && is_unwritten end then 141 else status_of e
 abbrev pub WritesNothing : End → Option (List ℕ) → Option (List ℕ) → Type 0
 WritesNothing end before now = ((end ≡ Unable) ⊎ (end ≡ Failed)) × (now ≡ before)
 
--- it could not begin, and nothing was written; or it ended by what it answered to the records of a text, where that is known
+-- the subcommand could not begin and nothing was written; or its end follows from its result for the records of the
+-- text, if the text is known
 abbrev pub EndsBy : {A : Type 0} → (A → End) → (List Row → A → Option (List ℕ) → Option (List ℕ) → Type 0) → Option (List ℕ) → End → Option (List ℕ)
     → Option (List ℕ) → Type 0
 EndsBy {A} end_for tells known end before now = ((end ≡ Unable) × (now ≡ before))
@@ -50,8 +51,9 @@ abbrev pub end_of : {A : Type 0} → Result A TraceFault → End
 end_of (Ok end) = Done
 end_of (Err why) = Fault why
 
--- of a trace, from its opening on, or of one that goes on from the middle of a history: it ends well where there is no fault, and its history text is
--- written; or it ends at the fault, and the history text of the records before it is written. Or the reader, the writer or memory failed
+-- the end of a run of a trace or an excerpt. Without a fault the history text is written; with a fault the history
+-- text of the records before it is written and the end is the fault; otherwise the reader, the writer or memory
+-- failed
 abbrev pub EndsRun : Option (List ℕ) → End → Option (List ℕ) → Option (List ℕ) → Type 0
 EndsRun = EndsBy end_of (RunsEither (2 ^ 32))
 
@@ -66,20 +68,22 @@ abbrev pub end_found : Finding → End
 end_found (finding.Clean events) = Done
 end_found (finding.Differs event) = Differs
 
--- an audit with this answer ended so: at a fault nothing was written, and else the line of the finding; or that could not be written
+-- the end of an audit with this result: at a fault nothing was written; otherwise the line of the finding was
+-- written, or the writer failed
 abbrev pub TellsFound : Result Finding TraceFault → End → Option (List ℕ) → Option (List ℕ) → Type 0
 TellsFound (Err why) end before now = (end ≡ Fault why) × (now ≡ before)
 TellsFound (Ok found) end before now = (end ≡ Fault trace_fault.Write) ⊎ ((end ≡ end_found found) × Appends before now (finding_line found))
 
--- of a history, or of one that goes on from the middle of a history: it is found to be so, and the line of that is written, or could not be; or it
--- has a fault, and nothing is written. Or the reader or memory failed, or it could not begin, and nothing is written
+-- the end of an audit of a history or an excerpt: the line of its finding is written, or the writer failed. If the
+-- text has a fault, the reader or memory failed, or the audit could not begin, nothing is written
 abbrev pub EndsAudit : Option (List ℕ) → End → Option (List ℕ) → Option (List ℕ) → Type 0
 EndsAudit known end before now = ((end ≡ Unable) × (now ≡ before))
     ⊎ ((found : Result Finding TraceFault) × TellsFound found end before now × IfSome known (λ text. FindsEither (records_of text) found))
 
 -- ---- `pie migrate`
 
--- a history of these records has no fault; or this is its first; and what is written are the records before that, in version two
+-- the result of a migration of these records: the number of events if there is no fault, otherwise the first fault.
+-- The records before the fault are written in version two
 abbrev pub Migrates : List Row → Result ℕ TraceFault → Option (List ℕ) → Option (List ℕ) → Type 0
 Migrates rows given before now = IfOk given (λ events. (history_fault (2 ^ 32) rows ≡ None) × (events ≡ history_events (2 ^ 32) rows))
     × IfErr given (λ why. is_device why ≡ false → history_fault (2 ^ 32) rows ≡ Some why)

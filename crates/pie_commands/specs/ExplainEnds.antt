@@ -1,4 +1,4 @@
--- How `pie explain` ends, and what it writes.
+-- The end of `pie explain`, and its output.
 use Rattle.std.specs.Prelude.{ℕ, List, Option, Some, None, Result, Ok, Err}
 use Rattle.clap.specs.Words.{Row}
 use Rattle.pie_explain.specs.declared.explanation.Explained.{Explained}
@@ -18,12 +18,13 @@ end_of_explain (Err (fault.Trace why)) = Fault why
 end_of_explain (Err (fault.Differs event)) = Differs
 end_of_explain (Err _) = Failed
 
--- a text of either kind is explained: what a tale tells of the chosen events is written, up to its first fault and the first event that differs, and
--- the end is that of the answer. Options that choose no events fail, and nothing is written
+-- the end of an explanation of a history or an excerpt: the output of `tale` for the chosen events is written, up
+-- to the first fault and the first event that differs, and the end follows from the result. If the options choose
+-- no event, the end is an error and nothing is written
 abbrev pub explain_ends : Option Selection → (List Explained → List ℕ) → Option (List ℕ) → End → Option (List ℕ) → Option (List ℕ) → Type 0
 explain_ends None tale known = WritesNothing
 explain_ends (Some choice) tale known = EndsBy end_of_explain (ExplainsEither choice tale) known
 
--- .. what is chosen, and how it is said, being what these options say
+-- the end of an explanation with the selection and the kind of output of these options
 abbrev pub EndsExplain : List Row → Option (List ℕ) → End → Option (List ℕ) → Option (List ℕ) → Type 0
 EndsExplain options = explain_ends (choice_of options) (told_by (tale_of options))

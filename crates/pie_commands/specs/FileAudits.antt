@@ -1,4 +1,4 @@
--- How an audit of files ends, of any or of those of one history, and what it writes.
+-- The end of an audit of files, of separate ones or of the files of one history, and its output.
 use Rattle.std.specs.Prelude.{ℕ, ◌≡◌, ◌⊎◌, ◌++◌, ◌||◌, List, [], ◌∷◌, Bool, true, false, Option, Some, None, Result, Ok, Err, IfSome, codes, map}
 use Rattle.std.specs.List.{flat_map, list_any}
 use Rattle.std.specs.Fmt.{decimal}
@@ -37,12 +37,12 @@ abbrev pub line_of_joint : Text → Option Joint → List ℕ
 line_of_joint name None = []
 line_of_joint name (Some joint) = joint_line name joint
 
--- the line of what was found of a file, and then that of its joint
+-- the line of a file's finding, and then the line of its joint
 abbrev pub lines_of : Text → Result Joined Unaudited → List ℕ
 lines_of name (Err why) = []
 lines_of name (Ok joined) = named_line name joined.finding ++ line_of_joint name joined.joint
 
--- a file's name, and what was found of it and its joint; or why it was not audited
+-- a file's name, with its finding and joint, or the reason why it was not audited
 abbrev pub Told : Type 0
 Told = Text × Result Joined Unaudited
 
@@ -67,12 +67,12 @@ is_apart (Some Follows) = false
 is_apart (Some (Gap last first)) = true
 is_apart (Some (Unlike last)) = true
 
--- an event of a file differs, or the file does not go on where the one before it ended
+-- true if an event of the file differs, or the file does not continue at the end of the file before it
 abbrev pub is_broken : Result Joined Unaudited → Bool
 is_broken (Err why) = false
 is_broken (Ok joined) = is_different joined.finding || is_apart joined.joint
 
--- the worst of all: something could not be audited, and else an event differs
+-- the worst end: `Failed` if a file could not be audited, otherwise `Differs` if an event differs
 abbrev pub worst : Bool → Bool → End
 worst true broken = Failed
 worst false true = Differs
@@ -80,9 +80,10 @@ worst false false = Done
 
 -- ---- the files
 
--- this is told of a text after such an end, and that end is left. Of one history it is what is found, and how the text joins that end; none is left
--- where it has a fault, or an event of it differs. Of any files it is what is found, and no joint. Nothing is found of a file that could not be
--- opened, nor of one whose first fault this is, or which could not be read, or for which there was no memory
+-- the result of a text after the end `before`, and the end `after` that it leaves. For one history: the finding,
+-- and how the text joins `before`; a text with a fault or a difference leaves no end. For separate files: the
+-- finding and no joint. There is no finding if the file could not be opened or read, if its text has a fault, and
+-- if memory is short
 abbrev pub TellsText : Bool → Type 0 → Option (List ℕ) → Option EndView → Result Joined Unaudited → Option EndView → Type 0
 TellsText joined opens known before (Err Unopened) after = (opens → ⊥) × (joined ≡ true → after ≡ None)
 TellsText joined opens known before (Err (Faulty why)) after =
@@ -91,20 +92,20 @@ TellsText true opens known before (Ok told) after = IsLeftBy told.finding after 
 TellsText false opens known before (Ok told) after =
     (told.joint ≡ None) × IfSome known (λ text. FindsEither (records_of text) (Ok told.finding))
 
--- .. of a text that was read so; or the file could not be opened
+-- the result of a text that was read by `reads`, or of a file that could not be opened
 abbrev pub TellsRead : Bool → Type 0 → (Option (List ℕ) → Type 0) → Option EndView → Result Joined Unaudited → Option EndView → Type 0
 TellsRead joined opens reads before (Err Unopened) after = (opens → ⊥) × (joined ≡ true → after ≡ None)
 TellsRead joined opens reads before told after = (known : Option (List ℕ)) × reads known × TellsText joined opens known before told after
 
--- .. of the text of one file after another, after files of these names. Where files fail to be opened for no other reason, one can be whose text is
--- known, and standard input once
+-- the results of one file after another, after files of the names `earlier`. If `works`, each file with a known
+-- text can be opened, and standard input once
 abbrev pub AreTold : Bool → Bool → Option (List ℕ) → (Text → Option (List ℕ)) → List Text → Option EndView → List Told → Option EndView → Type 0
 AreTold works joined input files earlier before [] after = after ≡ before
 AreTold works joined input files earlier before (told ∷ more) after = (between : Option EndView)
     × TellsText joined ((works ≡ true) × (opens_after files earlier told.0 ≡ true)) (text_given input files (Some told.0)) before told.1 between
     × AreTold works joined input files (earlier ++ told.0 ∷ []) between more after
 
--- each of these files was looked at in turn, and the lines of each were written; no end stands before the first
+-- each of these files was audited in turn, and the lines of each were written; no end comes before the first
 pub record AuditsFiles (works joined : Bool) (input : Option (List ℕ)) (files : Text → Option (List ℕ)) (names : List Text) (unfound broken : Bool)
     (end : Option EndView) (before now : Option (List ℕ)) : Type 0 where
   pub told : List Told
@@ -114,14 +115,15 @@ pub record AuditsFiles (works joined : Bool) (input : Option (List ℕ)) (files 
   pub any_unfound : unfound ≡ list_any (λ t. is_unfound t.1) told
   pub any_broken : broken ≡ list_any (λ t. is_broken t.1) told
 
--- .. and the end is the worst of all; or a line could not be written; or memory was wanting, and nothing was written
+-- the end of an audit of files: the worst end; or a line could not be written; or memory was short and nothing was
+-- written
 abbrev pub EndsFiles : Bool → Bool → Option (List ℕ) → (Text → Option (List ℕ)) → List Text → End → Option (List ℕ) → Option (List ℕ) → Type 0
 EndsFiles works joined input files names end before now =
     (end ≡ Fault trace_fault.Write) ⊎ ((end ≡ Unable) × (now ≡ before))
     ⊎ ((unfound : Bool) × (broken : Bool) × (last : Option EndView) × (end ≡ worst unfound broken)
     × AuditsFiles works joined input files names unfound broken last before now)
 
--- with no file it is the audit of the reader that is handed in, which has no joint
+-- without a file: an audit of the caller's reader, which has no joint
 abbrev pub EndsEither : Bool → Bool → Option (List ℕ) → (Text → Option (List ℕ)) → List Text → End → Option (List ℕ) → Option (List ℕ) → Type 0
 EndsEither works joined input files [] = EndsAudit input
 EndsEither works joined input files (name ∷ names) = EndsFiles works joined input files (name ∷ names)

@@ -1,4 +1,4 @@
--- What a clause reads of an output.
+-- The parts of an output that contracts name.
 use Rattle.std.specs.Prelude.{ℕ, ◌||◌, Bool, true, false, Result, Ok, Err}
 use Rattle.std.specs.IoError.{error_kind}
 use Rattle.std.specs.declared.io.Error.{Error}
@@ -15,7 +15,7 @@ abbrev pub is_broken : ErrorKind → Bool
 is_broken BrokenPipe = true
 is_broken _ = false
 
--- .. also since a write that was answered so
+-- true if the reader is gone after a write with this result
 abbrev pub has_closed : Bool → Result ℕ Error → Bool
 has_closed was (Ok count) = was
 has_closed was (Err why) = was || is_broken (error_kind why)

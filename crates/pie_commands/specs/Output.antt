@@ -1,4 +1,4 @@
--- What becomes of files where an output is made, and moved onto its name or left.
+-- The files before and after an output is created and moved onto its name or left.
 use Rattle.std.specs.Prelude.{ℕ, ◌≡◌, ◌⊎◌, List, [], Bool, true, false, Option, Some, None, IfSome}
 use Rattle.pie_commands.specs.Files.{Name}
 
@@ -10,7 +10,7 @@ Held = Name → Option (List ℕ)
 abbrev pub Keeps : Held → Held → Type 0
 Keeps old new = (other : Name) (text : List ℕ) → old other ≡ Some text → new other ≡ Some text
 
--- .. but the file of this name, where it may be replaced
+-- each file except the one of this name, if that may be replaced, holds what it held
 abbrev pub KeepsBut : Bool → Name → Held → Held → Type 0
 KeepsBut forced name old new = (other : Name) (text : List ℕ) → old other ≡ Some text
     → (new other ≡ Some text) ⊎ ((other ≡ name) × (forced ≡ true))
@@ -19,7 +19,8 @@ KeepsBut forced name old new = (other : Name) (text : List ℕ) → old other �
 abbrev pub MayHave : Bool → Option (List ℕ) → Type 0
 MayHave forced held = (forced ≡ true) ⊎ (held ≡ None)
 
--- .. and is not what is read
+-- each file except the one of this name, if that may be replaced and is not the file that is read, holds what it
+-- held
 abbrev pub Replaces : Option Name → Bool → Name → Held → Held → Type 0
 Replaces read forced name old new = (other : Name) (text : List ℕ) → old other ≡ Some text
     → (new other ≡ Some text) ⊎ ((other ≡ name) × (forced ≡ true) × (read ≡ Some name → ⊥))

@@ -1,4 +1,4 @@
--- What a subcommand writes that may write to a file, and what becomes of files meanwhile.
+-- The output of a subcommand that may write to a file, and the files before and after.
 use Rattle.std.specs.Prelude.{ℕ, ◌≡◌, ◌⊎◌, ◌&&◌, if◌then◌else◌, not, List, Bool, true, false, Option, Some, None}
 use Rattle.clap.specs.Words.{Text}
 use Rattle.pie_commands.specs.Files.{file_of}
@@ -16,14 +16,15 @@ is_whole _ = false
 abbrev pub settled : End → Bool → End
 settled end there = if is_whole end && not there then Unable else end
 
--- a subcommand ends so by what it writes to a new file, of which this is known: that it is empty, or nothing. The file is then in the place of this
--- name where all was written, and else in none; or it could not be made, or moved there, and nothing is in another place
+-- the end of a subcommand that writes to a new file with the known contents `fresh`: empty, or unknown. If the
+-- output is complete, the file has the name; otherwise it has not. If the file could not be created or moved, the
+-- end is `Unable`, and every file is unchanged
 abbrev pub EndsAt : Option Text → Bool → Text → Option (List ℕ) → Held → Held → (End → Option (List ℕ) → Option (List ℕ) → Type 0) → End → Type 0
 EndsAt read forced name fresh old new ends end = ((end ≡ Unable) × Keeps old new)
     ⊎ ((left : Option (List ℕ)) × IsEmpty fresh × ends end fresh left × Settles (is_whole end) read forced name left old new)
 
--- a subcommand ends so by what it writes: to the writer that is handed in, and every file holds what it held; or, where the words name one, to that
--- file, and nothing to that writer
+-- the end of a subcommand that writes to the caller's writer, with every file unchanged; or, if the options name an
+-- output file, to that file, with nothing written to the caller's writer
 abbrev pub EndsIn : Option Text → Option Text → Bool → Option (List ℕ) → Held → Held → (End → Option (List ℕ) → Option (List ℕ) → Type 0)
     → End → Option (List ℕ) → Option (List ℕ) → Type 0
 EndsIn None read forced fresh old new ends end before now = Keeps old new × ends end before now

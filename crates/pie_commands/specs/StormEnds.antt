@@ -1,4 +1,4 @@
--- How `pie storm` ends, and what it writes.
+-- The end of `pie storm`, and its output.
 use Rattle.std.specs.Prelude.{ℕ, ◌≡◌, ◌==◌, ◌-◌, ◌^◌, List, Option, Some, None, codes, option_and_then, if◌then◌else◌}
 use Rattle.clap.specs.Words.{Row, Text, first_of}
 use Rattle.pie_event.specs.declared.profile.Profile.{Profile}
@@ -31,7 +31,7 @@ abbrev pub choice_by : {T : Type 0} → List ℕ → T → List ℕ → T → Op
 choice_by first one second other None = Some one
 choice_by first one second other (Some word) = which_of first one second other word
 
--- .. that an option is given
+-- the choice that an option's text names
 abbrev pub choice_in : {T : Type 0} → Text → List ℕ → T → List ℕ → T → List Row → Option T
 choice_in name first one second other options = choice_by first one second other (first_of name options)
 
@@ -39,19 +39,19 @@ choice_in name first one second other options = choice_by first one second other
 abbrev pub delay_in : List Row → Option Delay
 delay_in options = choice_in (codes "delay") (delay_word Rate) Rate (delay_word Stamp) Stamp options
 
--- .. how a packet is picked
+-- RFC 8033's optional elements: the method that picks a packet
 abbrev pub picking_in : List Row → Option Picking
 picking_in options = choice_in (codes "picking") (picking_word Derandomized) Derandomized (picking_word Random) Random options
 
--- .. how far an update may raise the probability
+-- RFC 8033's optional elements: the limit of an update's rise
 abbrev pub step_in : List Row → Option Step
 step_in options = choice_in (codes "step") (step_word Capped) Capped (step_word Uncapped) Uncapped options
 
--- .. whether a packet's size counts
+-- RFC 8033's optional elements: the scaling by the packet's size
 abbrev pub size_in : List Row → Option Size
 size_in options = choice_in (codes "size") (size_word Unscaled) Unscaled (size_word Scaled) Scaled options
 
--- .. and at which delays the probability decays
+-- RFC 8033's optional elements: the delays at which the probability decays
 abbrev pub decay_in : List Row → Option Decay
 decay_in options = choice_in (codes "decay") (decay_word Zero) Zero (decay_word Half) Half options
 
@@ -90,6 +90,6 @@ storm_ends (Some elements) options (Fault why) before now = IsWrite why
 storm_ends (Some elements) options Unable before now = now ≡ before
 storm_ends (Some elements) options Failed before now = ⊥
 
--- .. these elements being those that the options name
+-- the end of a storm with the elements that the options name
 abbrev pub EndsStorm : List Row → End → Option (List ℕ) → Option (List ℕ) → Type 0
 EndsStorm options = storm_ends (elements_in options) options

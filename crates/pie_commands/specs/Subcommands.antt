@@ -1,4 +1,5 @@
--- What each subcommand promises: how it ends, and what it writes; and what the program does that finds one in words.
+-- The promise of each subcommand: its end and its output; and the promise of the program that selects one from the
+-- command line.
 use Rattle.std.specs.Prelude.{ℕ, ◌≡◌, Bool, true, false, List, Option, Some, None, Result, Ok, Err, ⊤}
 use Rattle.clap.specs.Words.{HasMatchesOf, Row, Text, kind_of, takes}
 use Rattle.clap.specs.declared.error.Error.{Error}
@@ -22,7 +23,7 @@ use Rattle.pie_commands.specs.Outputs.{EndsIn}
 use Rattle.pie_commands.specs.StormEnds.{EndsStorm}
 use Rattle.pie_commands.specs.Tuning.{EndsParams}
 
--- what is done with a text, by what it writes
+-- the end of a task over a text, with its output
 abbrev pub EndsTask : Task → List Row → Option (List ℕ) → End → Option (List ℕ) → Option (List ℕ) → Type 0
 EndsTask task.Run options = EndsRun
 EndsTask task.Audit options = EndsAudit
@@ -35,8 +36,8 @@ abbrev pub CanDo : Task → Type 0
 CanDo (task.Cut pieces) = HasSome pieces
 CanDo _ = ⊤
 
--- a subcommand with these options, over a reader of which this is known and files of which that is known, by what it writes; files fail to be opened
--- for no other reason, or for some
+-- the end of a subcommand with these options, with its output. `input` is the known text of the reader and `files`
+-- the known text of each file. If `works`, a known file can always be opened
 abbrev pub EndsAs : Subcommand → List Row → Bool → Option (List ℕ) → Held → End → Option (List ℕ) → Option (List ℕ) → Type 0
 EndsAs Run options works input files = EndsRun (text_given input files (file_in options))
 EndsAs Audit options works input files = EndsEither works (is_joined options) input files (files_in options)
@@ -46,14 +47,15 @@ EndsAs Migrate options works input files = EndsMigrate (text_given input files (
 EndsAs Storm options works input files = EndsStorm options
 EndsAs Params options works input files = EndsParams options
 
--- the file that a subcommand is to write in place of the writer that is handed in
+-- the name of the file that a subcommand writes instead of the caller's writer
 abbrev pub output_for : Subcommand → List Row → Option Text
 output_for Audit options = None
 output_for Storm options = None
 output_for Params options = None
 output_for _ options = output_in options
 
--- .. to the writer that is handed in, or to a new file that is for the name that the options give, with what becomes of files
+-- the end of a subcommand that writes to the caller's writer, or to a new file for the name in the options; with
+-- the files before and after
 abbrev pub EndsTo : Subcommand → List Row → Bool → Option (List ℕ) → Option (List ℕ) → Held → Held → End → Option (List ℕ) → Option (List ℕ) → Type 0
 EndsTo subcommand options works input fresh old new =
     EndsIn (output_for subcommand options) (file_in options) (is_forced options) fresh old new (EndsAs subcommand options works input old)
@@ -72,8 +74,8 @@ abbrev pub Finds : List Text → Result ArgMatches Error → Type 0
 Finds words (Ok matches) = HasMatchesOf pie_app words matches
 Finds words (Err why) = takes pie_app words ≡ true → kind_of why ≡ OutOfMemory
 
--- the program over words ends so: with the status 1 each file holds what it held; an event differs only in a subcommand in which one can; and the
--- subcommand that the words ask for ends as it promises
+-- the end of the program for a command line: with the status 1 each file is unchanged, only some subcommands can
+-- find a difference, and the selected subcommand ends as it promises
 pub record Answers (words : List Text) (works : Bool) (input fresh : Option (List ℕ)) (old new : Held) (end : End) (before now : Option (List ℕ)) : Type 0 where
   pub keeps : status_of end ≡ 1 → Keeps old new
   pub differs : end ≡ Differs → (subcommand : Subcommand) × (may_differ subcommand ≡ true) × (subcommand_in words ≡ Some (word_of subcommand))

@@ -15,7 +15,7 @@ use Rattle.pie_commands.specs.StormEnds.{decay_in}
 use Rattle.pie_commands.specs.declared.end.End.{End}
 use Rattle.pie_commands.specs.declared.end.End.TheVariants.{Done, Differs, Fault, Unable, Failed}
 
--- what an option's text comes to, and another number where it isn't given
+-- the number that an option's text gives, or `unnamed` if the option isn't given
 abbrev pub given_or : (Text → Result ℕ OptionFault) → ℕ → Option Text → Result ℕ OptionFault
 given_or reads unnamed None = Ok unnamed
 given_or reads unnamed (Some text) = reads text
@@ -36,7 +36,8 @@ pub record AsksFor (options : List Row) (asked : TuningOptions) : Type 0 where
   pub no_cap_drop_adjustment : asked.no_cap_drop_adjustment ≡ flag_given (codes "no_cap_drop_adjustment") options
   pub decay : decay_in options ≡ Some asked.decay
 
--- the record of what the options ask for was written: its parameters are in their ranges, and so many packets may wait
+-- the record of the requested parameters was written: the parameters are in their ranges, and the limit of packets
+-- is 1 to 2^20
 pub record WritesParams (options : List Row) (before now : Option (List ℕ)) : Type 0 where
   pub asked : TuningOptions
   pub asks : AsksFor options asked
@@ -44,14 +45,16 @@ pub record WritesParams (options : List Row) (before now : Option (List ℕ)) : 
   pub packets : (1 ≤ asked.packets) × (asked.packets ≤ 2 ^ 20)
   pub written : Appends before now (text_of (opening_row (opening_for asked.packets (elements_for asked) (params_for asked))))
 
--- no such record is asked for: a text writes no number of its kind or names no choice, or a number is out of its range
+-- the options request no such record: a number is out of its range, or a text is no valid number of its kind or
+-- names no choice
 abbrev pub IsOutOfRange : TuningOptions → Type 0
 IsOutOfRange asked = (IsInRange (params_for asked) → ⊥) ⊎ (asked.packets ≡ 0) ⊎ (2 ^ 20 < asked.packets)
 
 abbrev pub RefusesParams : List Row → Type 0
 RefusesParams options = ((asked : TuningOptions) → AsksFor options asked → ⊥) ⊎ ((asked : TuningOptions) × AsksFor options asked × IsOutOfRange asked)
 
--- that record is written; or the writer failed; or no such record is asked for, and nothing is written; or it could not begin
+-- the end of `pie params`: the record is written; or the writer failed; or the options request no such record and
+-- nothing is written; or it could not begin
 abbrev pub EndsParams : List Row → End → Option (List ℕ) → Option (List ℕ) → Type 0
 EndsParams options Done before now = WritesParams options before now
 EndsParams options Differs before now = ⊥

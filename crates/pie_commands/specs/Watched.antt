@@ -1,4 +1,4 @@
--- What a clause reads of a watched reader.
+-- The parts of a watched reader that contracts name.
 use Rattle.std.specs.Prelude.{ℕ, List, Option}
 use Rattle.pie_commands.specs.declared.watched.Watched.{Watched}
 

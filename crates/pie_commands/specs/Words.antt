@@ -1,4 +1,5 @@
--- The command line: what `pie` takes, which words ask for which subcommand, and what they give its options.
+-- The command line: the arguments that `pie` takes, the subcommand that a command line selects, and the values of
+-- its options.
 use Rattle.std.specs.Prelude.{ℕ, ◌≡◌, ◌-◌, ◌^◌, List, [], ◌∷◌, Bool, true, false, Option, Some, None, option_and_then, option_map, unwrap_or, codes}
 use Rattle.std.specs.Prelude.{if◌then◌else◌, max, min}
 use Rattle.std.specs.Option.{option_map_or}
@@ -32,11 +33,11 @@ text_rule name = record (new_rule name) { long = Some name; value_names = 1 }
 abbrev pub file_rule : Rule
 file_rule = record (new_rule (codes "file")) { value_names = 1 }
 
--- files, of which any number may be named
+-- the files argument: any number of files
 abbrev pub files_rule : Rule
 files_rule = record (new_rule (codes "file")) { value_names = 1; action = Some Append }
 
--- the options of what tells how far reading has come, and of what may write to a file: which, and that one which is there may be replaced
+-- the option for progress reports; below, the options that name an output file and that allow it to be replaced
 abbrev pub progress_rule : Rule
 progress_rule = flag_rule (codes "progress")
 
@@ -46,12 +47,12 @@ output_rule = record (new_rule (codes "output")) { long = Some (codes "output");
 abbrev pub force_rule : Rule
 force_rule = flag_rule (codes "force")
 
--- a command to which each of a list is added, one after the other
+-- a command after each element of a list is added in turn
 abbrev pub with_each : {A : Type 0} → (App → A → App) → App → List A → App
 with_each add app [] = app
 with_each add app (one ∷ more) = with_each add (add app one) more
 
--- .. these rules
+-- a command with these rules
 abbrev pub with_rules : App → List Rule → App
 with_rules = with_each with_rule
 

@@ -28,7 +28,8 @@ fn end_of(found: Finding) -> End
     }
 }
 
-/// The end of an audit with this answer: the line of a finding is written, and a fault is told on `errors`.
+/// Returns the end of an audit with the result `found`. Writes the line of a finding to `output`, or the line of a
+/// fault to `errors`.
 pub(crate) fn ended<W: Write, E: Write>(
     found: Result<Finding, TraceFault>,
     output: &mut W,
@@ -45,7 +46,8 @@ pub(crate) fn ended<W: Write, E: Write>(
     }
 }
 
-/// Audits these files, which are those of one history where the options say so, or with none what is handed in.
+/// Audits the files `names`. With `--joined` they are the files of one history. If `names` is empty, audits
+/// `input`.
 fn audit_any<H: NamedFiles + Screen, R: Read + Drop, W: Write, E: Write>(
     rt: &H,
     alloc: Global,
@@ -60,7 +62,7 @@ fn audit_any<H: NamedFiles + Screen, R: Read + Drop, W: Write, E: Write>(
 {
     let is_shown = shows_progress(rt, options, false);
     if names.is_empty() {
-        // Of the same type as what is read of a file, so that an audit is compiled once.
+        // The type equals the type of a file's reader, so an audit is compiled once.
         let given: Either<R, H::File> = Left(input);
         return perform_over(
             rt,
@@ -79,7 +81,7 @@ fn audit_any<H: NamedFiles + Screen, R: Read + Drop, W: Write, E: Write>(
     )
 }
 
-/// `pie audit`: of what is handed in, or of the files that the options name.
+/// `pie audit`: audits the files that the options name, or `input` if they name none.
 pub(crate) fn audit<H: NamedFiles + Screen, R: Read + Drop, W: Write, E: Write>(
     rt: &H,
     alloc: Global,

@@ -27,29 +27,29 @@ use std::alloc::Global;
 use std::io::{Read, Write};
 use std::time::Clock;
 
-/// What is cut out of a text while it is read.
+/// The pieces to cut out of a text in one pass.
 #[derive(Clone, Copy)]
 pub(crate) enum Pieces {
     /// One part, of these events.
     Part(Span),
-    /// All events, in segments of so many.
+    /// All events, in segments of this number of events.
     Every(u64),
 }
 
-/// What is to be cut out of a text.
+/// The request of a cut.
 #[derive(Clone, Copy)]
 pub(crate) enum Wanted {
     /// These pieces of a text, which is read once.
     Once(Pieces),
-    /// The last so many events of a text, which is read twice.
+    /// The last events of a text, this number of them. The text is read twice.
     Last(u64),
 }
 
-/// What is said where the words don't choose events in exactly one way.
+/// The message for options that don't choose events in exactly one way.
 const NO_PART: &str =
     "cut takes --from, --to or both, or --event N, which may have --around M, or --last N, or --every N; see pie cut --help";
 
-/// What is said where the last events are asked of what can't be read twice.
+/// The message for `--last` with an input that can't be read twice.
 const NO_NAME: &str = "cut --last reads a file twice, so it takes one that has a name";
 
 /// The events within these bounds, where there is one.
@@ -62,7 +62,7 @@ fn within(from: Option<When>, to: Option<When>) -> Option<Span>
     }
 }
 
-/// What is chosen, where it is in exactly one way.
+/// Returns the request if the options choose events in exactly one way.
 fn chosen(
     event: Option<u64>,
     around: Option<u64>,
@@ -87,7 +87,8 @@ fn chosen(
     }
 }
 
-/// What these options choose, with a line on `errors` where they don't say it as they have to.
+/// Returns the request of these options. If they are not valid together, writes a line to `errors` and returns
+/// `None`.
 #[tactic(auto, unfolding(crate::specs::CutEnds::wanted_of))]
 fn wanted_of<E: Write>(options: &ArgMatches<'_>, errors: &mut E) -> Option<Wanted>
     ensures chosen { result ≡ wanted_of (rows_of (found_of options.now)) }
@@ -152,7 +153,7 @@ fn last_named<H: NamedFiles + Clock, R: Read + Drop, E: Write>(
 {
     match rt.open_named(name) {
         Ok(file) => {
-            // Of the same type as what the cut reads, so that reading is compiled once.
+            // The type equals the type of the cut's reader, so reading is compiled once.
             let reader: Either<R, H::File> = Right(file);
             let watched = Watched::new(reader, &mut *errors, rt, is_shown);
             Some(last_number(alloc, watched))
@@ -164,7 +165,7 @@ fn last_named<H: NamedFiles + Clock, R: Read + Drop, E: Write>(
     }
 }
 
-/// Cuts the last so many events out of the file of this name, which the options name and which is read twice.
+/// Cuts the last `many` events out of the file `name`, which the options name. The file is read twice.
 fn cut_last<H: NamedFiles + Screen, R: Read + Drop, W: Write, E: Write>(
     rt: &H,
     alloc: Global,
@@ -189,7 +190,8 @@ fn cut_last<H: NamedFiles + Screen, R: Read + Drop, W: Write, E: Write>(
     }
 }
 
-/// Cuts the last so many events out of a file that has a name, which the options name. Standard input has none, which is told on `errors`.
+/// Cuts the last `many` events out of the named file. If the options name no file, or `-`, writes a line to
+/// `errors`: standard input can't be read twice.
 fn cut_last_of<H: NamedFiles + Screen, R: Read + Drop, W: Write, E: Write>(
     rt: &H,
     alloc: Global,
@@ -216,7 +218,7 @@ fn cut_last_of<H: NamedFiles + Screen, R: Read + Drop, W: Write, E: Write>(
     }
 }
 
-/// `pie cut` of what the options name.
+/// `pie cut`: cuts the pieces that the options choose.
 pub(crate) fn cut<H: NamedFiles + Screen, R: Read + Drop, W: Write, E: Write>(
     rt: &H,
     alloc: Global,

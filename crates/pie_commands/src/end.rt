@@ -1,4 +1,4 @@
-//! How the program ends, and the exit status that says so.
+//! The result of the program and its exit status.
 ghost use Rattle.std.specs.Prelude.{◌≡◌, false, true};
 ghost use Rattle.pie_commands.specs.Ends.{end_of, is_unwritten, status_of, told_status};
 ghost use Rattle.pie_commands.specs.Outputs.{is_whole, settled};
@@ -17,14 +17,16 @@ pub enum End {
     Differs,
     /// The trace or the history has this fault, or else the reader, the writer or memory failed.
     Fault(TraceFault),
-    /// A file can't be opened, made or moved, or there is no memory or no thread to begin with: nothing was written to what was handed in.
+    /// A file can't be opened, created or moved, or memory or a thread is missing at the start. Nothing was written
+    /// to the caller's writer.
     Unable,
-    /// The words ask for what there is not, or one of several files has a fault: the error stream tells which.
+    /// The options select nothing that exists, or one of several files has a fault. The error stream has a line for
+    /// it.
     Failed,
 }
 
 impl End {
-    /// The exit status: 0 done, 2 an event that differs, and else 1.
+    /// Returns the exit status: 0 if done, 2 if an event differs, otherwise 1.
     fn status(self) -> u8
         ensures { result ≡ status_of self }
     {
@@ -35,15 +37,16 @@ impl End {
         }
     }
 
-    /// Whether the writer failed.
+    /// Returns true if the writer failed.
     fn is_unwritten(self) -> bool
         ensures { result ≡ is_unwritten self }
     {
         matches!(self, End::Fault(TraceFault::Write))
     }
 
-    /// The exit status, with a line on `errors` where the writer failed. Where that is since nobody reads any more what is written, as behind `head`,
-    /// nothing is said, and the status is 141, as a shell has it of a program that SIGPIPE ended.
+    /// Returns the exit status and reports a failure of the writer with a line on `errors`. If the writer failed because
+    /// its reader is gone (`is_closed`), as with `head`, nothing is written and the status is 141. A shell gives this
+    /// status to a program that SIGPIPE ended.
     pub fn told<E: Write>(self, is_closed: bool, errors: &mut E) -> u8
         ensures status { result ≡ told_status is_closed self }
         ensures quiet { is_closed ≡ true → E.contents errors.new ≡ E.contents errors.old }
@@ -59,7 +62,7 @@ impl End {
         1
     }
 
-    /// Whether all that there was to write was written.
+    /// Returns true if the output is complete.
     pub(crate) fn is_whole(self) -> bool
         ensures { result ≡ is_whole self }
     {
@@ -87,7 +90,8 @@ pub(crate) fn ended<T: Copy, E: Write>(errors: &mut E, given: Result<T, TraceFau
     }
 }
 
-/// The end at a fault, with its line on `errors`, but of the writer: of that it isn't known yet whether it is to be told (`End::told`).
+/// Returns the end for a fault and writes its line to `errors`. A writer's fault has no line here: `End::told`
+/// decides later if it is reported.
 pub(crate) fn faulted<E: Write>(errors: &mut E, why: TraceFault) -> End
     ensures { result ≡ End.Fault why }
 {
@@ -106,7 +110,7 @@ pub(crate) fn unable<E: Write, D: Display + Drop>(errors: &mut E, text: D) -> En
     End::Unable
 }
 
-/// The end where there is nothing of what is asked for, with its line on `errors`.
+/// Returns the end for a request that selects nothing, and writes its line to `errors`.
 pub(crate) fn failed<E: Write, D: Display + Drop>(errors: &mut E, text: D) -> End
     ensures { result ≡ End.Failed }
 {

@@ -18,14 +18,14 @@ use std::alloc::Global;
 use std::io::{Read, Write};
 use std::time::Clock;
 
-/// What is said where the words don't choose events by exactly one option.
+/// The message for options that don't choose events by exactly one option.
 const NO_CHOICE: &str =
     "explain takes one of --event N, --tag T, --lost, --marked and --all, or --summary, --every, --flows or --digest; see pie explain --help";
 
-/// What is said where a period has no length.
+/// The message for an interval of length 0.
 const NO_PERIOD: &str = "--every: a period lasts at least 1 ns";
 
-/// What is said where both are asked for.
+/// The message for `--flows` together with `--digest`.
 const NOT_BOTH: &str = "--flows and --digest: explain takes one of them";
 
 /// The events that are chosen, where exactly one of the five options chooses some; a summary is of all where none does.
@@ -60,7 +60,7 @@ fn every_of(options: &ArgMatches<'_>) -> Option<u64>
     }
 }
 
-/// Whether these options ask for summaries, of all chosen events, of each period or by flow.
+/// Returns true if these options request summaries: of all chosen events, of each interval, or by flow.
 fn is_summary(options: &ArgMatches<'_>) -> bool
     ensures { result ≡ is_summary (rows_of (found_of options.now)) }
 {
@@ -68,14 +68,14 @@ fn is_summary(options: &ArgMatches<'_>) -> bool
     (flag(options, "summary") || every_of(options).is_some()) || (digest || flows)
 }
 
-/// Whether at most one is asked for: what is said between summaries, and sums by flow.
+/// Returns true unless a digest and sums by flow are both requested.
 fn is_either(digest: bool, flows: Option<u64>) -> bool
     ensures { result ≡ is_either digest flows }
 {
     !(digest && flows.is_some())
 }
 
-/// Whether a period lasts some time.
+/// Returns true if the length of an interval, if one is given, is above 0.
 fn lasts(every: Option<u64>) -> bool
     ensures { result ≡ lasts every }
 {
@@ -96,7 +96,8 @@ fn which_of(options: &ArgMatches<'_>) -> Option<Which>
     chosen(summary, event, tag, lost, marked, all)
 }
 
-/// What these options choose, with a line on `errors` where they don't say it as they have to.
+/// Returns the selection of these options. If they are not valid together, writes a line to `errors` and returns
+/// `None`.
 #[tactic(auto, unfolding(crate::specs::Choice::choice_of))]
 fn choice_of<E: Write>(options: &ArgMatches<'_>, errors: &mut E) -> Option<Selection>
     ensures { result ≡ choice_of (rows_of (found_of options.now)) }
@@ -133,13 +134,13 @@ fn form_of(options: &ArgMatches<'_>) -> Form
     }
 }
 
-/// What is told of the chosen events.
+/// The kind of output about the chosen events.
 pub(crate) enum Tale {
     /// Each of them.
     Each(Form),
     /// Summaries, of all or of each period, with what there is to say of lost and marked packets between them or without.
     Sums(Summary),
-    /// Sums by flow, so many with a row of their own.
+    /// Sums by flow, with rows for a limited number of flows.
     Flows(ByFlow),
 }
 
@@ -158,7 +159,7 @@ fn tale_by(summary: bool, packets: bool, flows: Option<u64>, every: Option<u64>,
     }
 }
 
-/// What these options want to be told.
+/// Returns the kind of output that these options request.
 fn tale_of(options: &ArgMatches<'_>) -> Tale
     ensures { result ≡ tale_of (rows_of (found_of options.now)) }
 {
@@ -200,10 +201,11 @@ fn ended<E: Write>(errors: &mut E, given: Result<u64, ExplainFault>) -> End
     }
 }
 
-/// `pie explain`: writes what there is to say of the chosen events of a history, or of a text that goes on from the middle of one, up to its first
-/// fault and the first event that differs, at which it ends so. It has failed where the history has a fault, where the options choose no events,
-/// where no event is the chosen one, and where the reader, the writer or memory fails: each is told on `errors`. Progress is told there too, where it
-/// `is_shown`.
+/// `pie explain`: explains the chosen events of a history or an excerpt, up to its first fault or the first event
+/// that differs. Returns a difference as `End::Differs`. If the text has a fault, the options choose no event, no
+/// event matches, or the reader, the writer or memory fails, the end is an error. Each error has a line on
+/// `errors`; a writer's fault is reported later (`End::told`). If it `is_shown`, progress is reported on `errors`
+/// too.
 pub(crate) fn explain<H: Clock, R: Read + Drop, W: Write, E: Write>(
     rt: &H,
     alloc: Global,

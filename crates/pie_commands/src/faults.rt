@@ -1,4 +1,4 @@
-//! The lines of what goes wrong.
+//! The lines on the error stream.
 
 use std::fmt::Display;
 use std::io::Write;
@@ -8,7 +8,7 @@ pub(crate) fn fault<E: Write, D: Display + Drop>(errors: &mut E, text: D) {
     let _ = writeln!(errors, "pie: {text}");
 }
 
-/// Writes the line of what is wrong with the file of this name.
+/// Writes the line of a fault of the file `name`.
 pub(crate) fn named_fault<E: Write, D: Display + Drop>(errors: &mut E, name: &str, text: D) {
     let _ = writeln!(errors, "pie: {name}: {text}");
 }

@@ -28,7 +28,8 @@ pub enum Unaudited {
     Faulty(TraceFault),
 }
 
-/// What an audit finds of a text; and, where it is one of several of one history, how it joins one that ended so.
+/// Audits one text. If `are_joined`, also compares its beginning with `end`, the end of the text before it, and
+/// stores the end of this text in `end`.
 fn found_in<R: Read + Drop>(
     alloc: Global,
     are_joined: bool,
@@ -102,7 +103,7 @@ fn put_joint<W: Write>(name: &str, joint: Option<Joint>, output: &mut W) -> io::
     }
 }
 
-/// Writes the line of what was found of a file, and that of its joint, and flushes the writer.
+/// Writes the line of a file's finding and the line of its joint, and flushes the writer.
 fn write_joined<W: Write>(name: &str, joined: Joined, output: &mut W) -> io::Result<()>
     ensures { OnOk result (Appends (W.contents output.old) (W.contents output.new) (lines_of name.now (Ok joined))) }
 {
@@ -111,7 +112,7 @@ fn write_joined<W: Write>(name: &str, joined: Joined, output: &mut W) -> io::Res
     output.flush()
 }
 
-/// Audits the file of this name, after one that ended so, and writes what is told of it.
+/// Audits the file `name` after a file that ended with `end`, and writes the lines of the result.
 fn audit_named<H: NamedFiles + Clock, R: Read + Drop, W: Write, E: Write>(
     rt: &H,
     alloc: Global,
@@ -137,7 +138,7 @@ fn audit_named<H: NamedFiles + Clock, R: Read + Drop, W: Write, E: Write>(
     }
 }
 
-/// Whether an event of a file differs, or it does not go on where the one before it ended.
+/// Returns true if an event of the file differs, or if the file does not continue at the end of the file before it.
 fn is_broken(told: Result<Joined, Unaudited>) -> bool
     ensures { result ≡ is_broken told }
 {
@@ -153,7 +154,7 @@ fn is_broken(told: Result<Joined, Unaudited>) -> bool
     }
 }
 
-/// Whether that is so of one of the files before, or of this one.
+/// Returns `before`, or true if this file is broken.
 fn any_broken(before: bool, told: Result<Joined, Unaudited>) -> bool
     ensures { result ≡ (before || is_broken told) }
 {
@@ -186,9 +187,10 @@ fn name_at<'a>(names: &[&'a str], place: usize) -> &'a str
     names[place]
 }
 
-/// `pie audit FILE..`: audits each file in turn, and writes what was found of it; and with `--joined` how it joins the one before, if that one was
-/// clean. A file that has a fault, or can't be read, is told on `errors`. Ends with the worst of all, where a joint that isn't met is a
-/// difference; or the end says that a line could not be written.
+/// `pie audit FILE..`: audits each file in turn and writes its finding. With `--joined` also writes how the file
+/// joins the file before it, if that file was clean. If a file has a fault or can't be read, a line is written to
+/// `errors`. Returns the worst end of all files; a gap or a difference at a joint counts as a difference. If a line
+/// can't be written, returns the writer's fault.
 pub(crate) fn audit_files<H: NamedFiles + Clock, R: Read + Drop, W: Write, E: Write>(
     rt: &H,
     alloc: Global,

@@ -1,23 +1,24 @@
-//! What opens, makes and moves files by their names.
+//! The interface that opens, creates and moves files by their names.
 ghost use Rattle.std.specs.Prelude.{◌≡◌, ℕ, true, Bool, List, Option, IfErr, IfOk, IfSome, IsOk, IsSome, Some, option_map};
 ghost use Rattle.pie_commands.specs.Output.{IsEmpty, Keeps, KeepsBut, MayHave};
 
 use std::io;
 use std::io::{Read, Write};
 
-/// What opens, makes and moves files by their names. What a file holds is known where this says it.
+/// An interface that opens, creates and moves files by their names. `holds` is the known text of each file.
 ///
-/// No name of a file is `-`, which the words of `pie` have for standard input: whoever calls this has looked at that.
+/// No name of a file is `-`: on the command line of `pie` it stands for standard input, and the caller has checked
+/// for it.
 pub trait NamedFiles {
     /// A file that was opened to be read.
     type File: Read + Drop;
 
     ghost holds: { Self → List ℕ → Option (List ℕ) };
 
-    // What is known of a file that was just made: that it is empty, or nothing.
+    // The known contents of a new file: empty, or unknown.
     ghost fresh: { Option (List ℕ) };
 
-    // Whether a call here fails for no other reason than what is said of it.
+    // True if a call fails only for the reasons that its contract gives.
     ghost works: { Bool };
 
     /// Opens the file of this name to read it.
@@ -29,7 +30,7 @@ pub trait NamedFiles {
         ensures opened { IfOk result (λ file. Self.File.remaining file ≡ holds self.now name.now) }
         ensures works { works ≡ true → IsSome (holds self.now name.now) → IsOk result };
 
-    /// Whether a name leads to the file of another name, by that or by any other; or, with none, to standard input.
+    /// Returns true if `name` leads to the file `other`, under any name, or to standard input if `other` is `None`.
     fn is_one(&self, name: &str, other: Option<&str>) -> bool
         ensures { IsSome (holds self.now name.now) → option_map (λ other. other.now) other.entry ≡ Some name.now → result ≡ true };
 
@@ -46,11 +47,11 @@ pub trait NamedFiles {
         ensures empty { IsEmpty fresh }
         ensures keeps { Keeps (holds self.old) (holds self.new) };
 
-    /// Moves what was made onto this name, whose file, if there is one, has to be one that may be replaced.
+    /// Moves the new file onto `name`. An existing file of that name must be one that may be replaced.
     ///
     /// # Errors
     ///
-    /// Where such a file is there that must not be, or what was made can't be kept or moved.
+    /// Returns an error if an existing file must not be replaced, or if the new file can't be kept or moved.
     fn place(&mut self, made: &mut Self::Made, name: &str, is_forced: bool) -> io::Result<()>
         ensures placed { IfOk result (λ _. IfSome (Self.Made.contents made.old) (λ text. holds self.new name.now ≡ Some text)) }
         ensures keeps { KeepsBut is_forced name.now (holds self.old) (holds self.new) }

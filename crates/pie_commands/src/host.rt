@@ -11,7 +11,7 @@ use std::io::{Error, ErrorKind, Read, Stdout, Write};
 use std::os::unix::fs::{MetadataExt, OpenOptionsExt, PermissionsExt};
 use std::{fs, io};
 
-/// How many names are tried for a file that is made beside another.
+/// The number of names that are tried for a file created beside another.
 const MOST_NAMES: u32 = 100;
 
 /// Where a program writes: standard output, a file that it made beside the one that it is for, or a pipe or a device. As one type of all, what
@@ -26,7 +26,7 @@ pub struct Output {
 }
 
 impl Output {
-    /// What writes there, of a file with this other name until it is moved.
+    /// Returns an output that writes to `to`. `made` is the temporary name of the file until it is moved.
     fn new(to: Either<Stdout, File>, made: Option<String>) -> Output
         ensures { is_closed result ≡ false }
     {
@@ -44,7 +44,7 @@ impl Output {
         Output::new(Left(output), None)
     }
 
-    /// Whether a write has failed since nobody reads it any more, as a pipe whose reader has ended.
+    /// Returns true if a write has failed because the reader is gone, as with a pipe whose reader has ended.
     pub fn is_closed(&self) -> bool
         ensures { result ≡ is_closed self.now }
     {
@@ -79,7 +79,7 @@ impl Write for Output {
     }
 }
 
-/// Whether this is a name of standard output.
+/// Returns true for a name of standard output.
 fn is_standard(name: &str) -> bool {
     matches!(name, "/dev/stdout" | "/dev/fd/1" | "/proc/self/fd/1")
 }
@@ -136,7 +136,7 @@ fn open_as_it_is(rt: &HostRuntime, name: &str) -> io::Result<Output> {
     Ok(Output::new(Right(to), None))
 }
 
-/// Whether nothing has this name, not even a link.
+/// Returns true if no file and no link has this name.
 fn is_free(rt: &HostRuntime, name: &str) -> bool {
     match fs::symlink_metadata(rt, name) {
         Ok(_) => false,

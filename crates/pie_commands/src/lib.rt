@@ -1,16 +1,19 @@
-//! The command line of `pie`: its words (options.rt), the files that they name (files.rt), what each subcommand does (perform.rt) with a text
-//! (tasks.rt) or with several histories (file_audits.rt), and `command`, which does what the words ask for.
+//! The command line of `pie`. `options` parses the arguments, `files` opens and creates the named files, `perform`
+//! runs a subcommand, `tasks` processes one text, and `file_audits` audits several files. `command` runs the whole
+//! program.
 //!
-//! Each subcommand answers an `End`, which says what was read, what was written and what the exit status is. What it writes goes to a writer: the one
-//! that is handed in, or a file that `perform_for` makes, and moves onto the name that `-o` gives it once all was written.
+//! Each subcommand returns an `End`. Contracts relate the end to the text that was read, the text that was written
+//! and the exit status. The output goes to the caller's writer, or to a file that `perform_for` creates. This file
+//! moves to the name given by `-o` once the output is complete.
 //!
-//! `NamedFiles` is what opens, makes and moves files, and `HostRuntime` does it. An output is made under another name beside its own
-//! (`make_for`), and moved onto that once all of it was written (`settle`): so what was there is there until then, whatever happens.
+//! `NamedFiles` opens, creates and moves files; `HostRuntime` implements it for the system's files. `make_for`
+//! creates an output under another name beside its own, and `settle` moves it once the output is complete. Until
+//! then an existing file of that name is unchanged.
 //!
-//! `Watched` is a reader around a reader. It hands on exactly the bytes of the inner one (`remaining` is the inner one's, by its impl of
-//! `Read`). Where it is asked to it counts them, and at each 8 megabytes writes over the line that it wrote before how many records and
-//! megabytes there were, and how many megabytes a second. At the end of the input, or when it is dropped, it wipes that line. A write
-//! to the error stream that fails is passed over, and so is a clock that can't be read.
+//! `Watched` wraps a reader. It returns exactly the bytes of the inner reader: `remaining` is the inner reader's.
+//! If progress is requested, it counts these bytes. After each 8 megabytes it overwrites its last line with the
+//! number of records and megabytes and the rate in megabytes per second. It clears the line at the end of the
+//! input, or when it is dropped. It ignores failed writes to the error stream and a clock that can't be read.
 #![tactic(auto)]
 
 mod audit;

@@ -34,7 +34,8 @@ pub(crate) fn bound(options: &ArgMatches<'_>, name: &str) -> Result<Option<When>
     options.try_get_one::<When>(name)
 }
 
-/// What was read of an option; none, with a line on `errors`, where its text is none of its kind.
+/// Returns the value that was read from the option `name`. If its text is not valid, writes a line to `errors` and
+/// returns `None`.
 pub(crate) fn said<T: Copy, F: Copy + Display, E: Write>(
     read: Result<T, F>,
     name: &str,
@@ -51,10 +52,11 @@ pub(crate) fn said<T: Copy, F: Copy + Display, E: Write>(
     }
 }
 
-/// What is said where no moment is both late and early enough.
+/// The message for bounds that exclude every moment.
 pub(crate) const NO_ORDER: &str = "--from is after --to: no event is at both";
 
-/// Whether the one bound isn't after the other, where there are both, and both are moments or times of day.
+/// Returns true unless both bounds are given, are of one kind (moments or wall-clock times), and `from` is after
+/// `to`.
 pub(crate) fn in_order(from: Option<When>, to: Option<When>) -> bool
     ensures { result ≡ in_order from to }
 {

@@ -1,7 +1,8 @@
-//! The words of the command line: which ask for which subcommand, and what they give its options.
+//! The parser of the command line: its subcommands and their options.
 //!
-//! `options` answers exactly the command `pie_app` of `clap` (specs/Words.antt), or that there was no memory for it; `number`, `flag`, `file` and
-//! the others of given.rt read of the options that `clap` matched what the words give them, and `Subcommand::named` the subcommand of a word.
+//! `options` returns the command `pie_app` of `clap` (specs/Words.antt), or an error if memory is short. `number`,
+//! `flag`, `file` and the other functions of given.rt read the options that `clap` matched. `Subcommand::named`
+//! returns the subcommand of a name.
 
 mod argument;
 mod audit;

@@ -18,7 +18,7 @@ use pie_units::{
 };
 use std::io::Write;
 
-/// The rate that an option tells, and else none.
+/// Returns the rate of the option `--rate`, or 0 if it isn't given.
 fn rate_in(options: &ArgMatches<'_>) -> Result<u64, OptionFault>
     ensures { result ≡ given_or rate_of 0 (first_of (codes "rate") (rows_of (found_of options.now))) }
 {
@@ -28,7 +28,7 @@ fn rate_in(options: &ArgMatches<'_>) -> Result<u64, OptionFault>
     }
 }
 
-/// The time that the option of this name tells, and else 15 ms.
+/// Returns the time of the option `name` in nanoseconds, or 15 ms if it isn't given.
 fn time_in(options: &ArgMatches<'_>, name: &str) -> Result<u64, OptionFault>
     ensures { result ≡ given_or time_of 15_000_000 (first_of name.now (rows_of (found_of options.now))) }
 {
@@ -38,7 +38,7 @@ fn time_in(options: &ArgMatches<'_>, name: &str) -> Result<u64, OptionFault>
     }
 }
 
-/// The packets that an option tells, and else 1000.
+/// Returns the number of packets of the option `--limit`, or 1000 if it isn't given.
 fn packets_in(options: &ArgMatches<'_>) -> Result<u64, OptionFault>
     ensures { result ≡ given_or packets_of 1000 (first_of (codes "limit") (rows_of (found_of options.now))) }
 {
@@ -48,7 +48,7 @@ fn packets_in(options: &ArgMatches<'_>) -> Result<u64, OptionFault>
     }
 }
 
-/// The number that an option tells; none, with a line on `errors`, where it tells none.
+/// Returns the number of the option `name`. If its text is not valid, writes a line to `errors` and returns `None`.
 fn read_of<E: Write>(read: Result<u64, OptionFault>, name: &str, errors: &mut E) -> Option<u64>
     ensures read { IfSome result (λ number. read ≡ Ok number) }
     ensures none { result ≡ None → (number : ℕ) → read ≡ Ok number → ⊥ }
@@ -62,7 +62,8 @@ fn read_of<E: Write>(read: Result<u64, OptionFault>, name: &str, errors: &mut E)
     }
 }
 
-/// What the options ask for; none, with a line on `errors`, where a text writes no number of its kind or names no choice.
+/// Returns the values of all options. If a text is not a valid number of its kind or names no choice, writes a line
+/// to `errors` and returns `None`.
 fn asked_in<E: Write>(options: &ArgMatches<'_>, errors: &mut E) -> Option<TuningOptions>
     ensures asked { IfSome result (AsksFor (rows_of (found_of options.now))) }
     ensures none { result ≡ None → (asked : TuningOptions) → AsksFor (rows_of (found_of options.now)) asked → ⊥ }
@@ -126,7 +127,7 @@ fn say_stall<E: Write>(asked: &TuningOptions, params: &RawParams, errors: &mut E
     }
 }
 
-/// `pie params`: writes the record that opens a book with what the options ask for.
+/// `pie params`: writes the record that opens a book with the parameters of these options.
 pub(crate) fn params<W: Write, E: Write>(
     options: &ArgMatches<'_>,
     output: &mut W,

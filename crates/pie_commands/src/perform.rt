@@ -1,4 +1,4 @@
-//! A subcommand with its options, over the writer that is handed in or the file that the options name.
+//! The execution of a subcommand with its options, whose output goes to the caller's writer or to a named file.
 ghost use Rattle.std.specs.Prelude.{◌≡◌, option_map};
 ghost use Rattle.clap.specs.Words.{found_of, rows_of};
 ghost use Rattle.pie_commands.specs.Files.{file_of};
@@ -69,7 +69,7 @@ fn perform_for<H: Threads + Wait + Sync + NamedFiles + Screen, R: Read + Drop, E
     end.settled(is_there)
 }
 
-/// The file that a subcommand is to write in place of the writer that is handed in.
+/// Returns the name of the file that a subcommand writes instead of the caller's writer.
 fn output_for<'a>(subcommand: Subcommand, options: &ArgMatches<'a>) -> Option<&'a str>
     ensures { option_map (λ name. name.now) result ≡ output_for subcommand (rows_of (found_of options.now)) }
 {

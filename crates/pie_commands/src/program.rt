@@ -25,49 +25,54 @@ use std::marker::Sync;
 use std::sync::Wait;
 use std::thread::Threads;
 
-/// Runs `pie` with these words, of which the first is the program's own name, and answers how it ended, which gives the exit status: 0
-/// done, 1 a fault, whose text stands on `errors`, 2 an audit, an explanation or a cut that met an event that differs. A mistake in the words
-/// prints what `clap` says of it on `errors` and ends with 1; a request for help prints it on `output` and ends with 0. That `output` could not be
-/// written is told by `End::told` alone.
+/// Runs `pie` with the command line `words`, which begins with the program's name, and returns its end. The exit
+/// status is 0 if done, 1 for a fault, whose line is on `errors`, and 2 if an audit, an explanation or a cut found
+/// an event that differs. For a mistake in the command line, the message of `clap` is written to `errors` and the
+/// status is 1. A request for help is written to `output` and the status is 0. Only `End::told` reports a failure
+/// of `output`.
 ///
-/// A `FILE` among the words is opened by `rt`, and then all that is said here of the reader holds of that file's text, where `rt` knows it; `-` is
-/// the reader. A file that can't be opened ends with 1, and nothing was written.
+/// If the command line names a `FILE`, `rt` opens it. Everything below about the reader then applies to the file's
+/// text, if `rt` knows it; `-` names the reader. If a file can't be opened, the status is 1 and nothing is written.
 ///
-/// Where `-o` names a file, what is said here of `output` holds of a new file, which was empty, and to `output` nothing is written. With the status 0
-/// or 2 that file then has the name. With the status 1 each file that was there holds what it held; so does each but the one of that name in any case,
-/// and that one too without `--force`, and where it is the file that is read.
+/// If `-o` names a file, everything below about `output` applies to a new empty file, and nothing is written to
+/// `output`. With the status 0 or 2 that file then has the name. With the status 1 each existing file is unchanged.
+/// With any status every existing file except the one of that name is unchanged. That one is also unchanged without
+/// `--force`, and if it is the file that is read.
 ///
-/// While `pie run`, `audit`, `explain`, `cut` and `migrate` read, `errors` is told how far they have come, where `rt` has it at a terminal or the option
-/// `--progress` is there; it is wiped before anything else is written there, and nothing that is said here changes by it.
+/// While `pie run`, `audit`, `explain`, `cut` and `migrate` read, progress is reported on `errors` if `rt` has it
+/// at a terminal or `--progress` is given. The report is cleared before anything else is written there. It changes
+/// nothing of the following.
 ///
-/// For the words `pie run` a trace without a fault writes its whole history text and is done; one with a fault writes the history text of
-/// the records before it, and ends at that fault; or the end says which of the reader, the writer and memory failed. Refused records
-/// are no fault.
+/// `pie run`: without a fault the whole history text is written and the end is `Done`. With a fault the history
+/// text of the records before it is written, and the end is that fault. Otherwise the end names the failure of the
+/// reader, the writer or memory. Refused records are no fault.
 ///
-/// For the words `pie audit` a history with a fault ends at it and writes nothing to `output`; any other writes exactly the line of its
-/// finding, and is done where it is clean, and else ends so that an event differs; or the end says which of the reader, the writer and
-/// memory failed: where it isn't the writer, nothing was written.
+/// `pie audit`: for a history with a fault the end is that fault, and nothing is written to `output`. For any other
+/// history exactly the line of its finding is written, and the end is `Done` if it is clean, otherwise `Differs`.
+/// If the reader, the writer or memory fails, the end names the failure; unless it is the writer's, nothing is
+/// written.
 ///
-/// For the words `pie audit FILE..` each file is audited in turn, and the line of its finding is written. A file is passed over, and the end is `Failed`,
-/// only if it can't be opened or read, its text has a fault, or memory is short.
+/// `pie audit FILE..`: each file is audited in turn and the line of its finding is written. A file has no line, and
+/// the end is `Failed`, only if the file can't be opened or read, its text has a fault, or memory is short.
 ///
-/// For the words `pie migrate` the history is written in version two up to its first fault, at which it ends; without a fault it is done; or
-/// the end says what failed, as of a run.
+/// `pie migrate`: the history is written in version two up to its first fault, and the end is that fault. Without a
+/// fault the end is `Done`. Failures are reported as for `pie run`.
 ///
-/// For any words that ask for `pie explain`, exactly one option chooses events, and what `--from` and `--to` are given are moments; or the
-/// status is 1 and nothing is written. What is said of the chosen events at these moments is written, up to the first fault and the first
-/// event that differs, and the status is 2 where an event differs, 1 for a fault and where no event is the chosen one, and else 0; or 1,
-/// where the reader, the writer or memory fails.
+/// `pie explain`: if not exactly one option chooses events, or the value of `--from` or `--to` is not valid, the
+/// status is 1 and nothing is written. Otherwise the explanations of the chosen events are written, up to the first
+/// fault and the first event that differs. The status is 2 if an event differs, 1 for a fault and if no event
+/// matches, otherwise 0. If the reader, the writer or memory fails, it is 1.
 ///
-/// For any words that ask for `pie cut`, they choose events in exactly one way; or the end is `Failed` and nothing is written. The excerpt of these
-/// events is written, or all segments are, up to the first that differs, at which it ends so; at a fault it ends at that, and where no event is
-/// chosen it has failed. What can't be read twice has no last events: then it has failed, and nothing is written.
+/// `pie cut`: if the options don't choose events in exactly one way, the end is `Failed` and nothing is written.
+/// Otherwise the excerpt of these events, or each segment, is written. An event that differs ends the cut as
+/// `Differs`, a fault ends it with that fault, and if no event is chosen the end is `Failed`. The last events of a
+/// text that can't be read twice can't be cut: the end is `Failed` and nothing is written.
 ///
-/// For any words that ask for `pie storm`, the threads of the runtime make a storm of the plan that the options ask for. Its
-/// history is written, which is legal and clean, and the status is 0; or it is 1, where memory, a thread or the writer fails.
+/// `pie storm`: the threads of the runtime run the storm of the requested plan. Its history, which is legal and
+/// clean, is written, and the status is 0. If memory, a thread or the writer fails, the status is 1.
 ///
-/// For any words that ask for `pie params`, the record that opens a book with the parameters that the options ask for is written, and the
-/// status is 0; or it is 1, where a text is no number of its kind, a number is out of its range, or the writer fails.
+/// `pie params`: the record that opens a book with the requested parameters is written, and the status is 0. If a
+/// text is not a valid number of its kind, a number is out of its range, or the writer fails, the status is 1.
 pub fn command<H: Threads + Wait + Sync + NamedFiles + Screen, R: Read + Drop, W: Write, E: Write>(
     rt: &mut H,
     alloc: Global,
@@ -90,7 +95,7 @@ pub fn command<H: Threads + Wait + Sync + NamedFiles + Screen, R: Read + Drop, W
     end
 }
 
-/// What `clap` finds in the words; or what it says of them, help or a mistake.
+/// Parses the command line with `clap`. An error is a request for help, a mistake, or a lack of memory.
 fn matches_of<'a>(alloc: Global, words: &'a [String]) -> Result<ArgMatches<'a>, Error>
     ensures { Finds (map string_bytes words.now) result }
 {
@@ -120,7 +125,7 @@ fn answer<H: Threads + Wait + Sync + NamedFiles + Screen, R: Read + Drop, W: Wri
     }
 }
 
-/// The subcommand that the words ask for, and what they give its options; none where they ask for none.
+/// Returns the subcommand of the command line with its options, or `None` if there is no subcommand.
 fn asked_of<'a, 'b>(matches: &'b ArgMatches<'a>) -> Option<(Subcommand, &'b ArgMatches<'a>)>
     ensures name { IfSome result (λ asked. Some (word_of asked.0) ≡ subcommand_name_of matches.now) }
     ensures rows { IfSome result (λ asked. Some (rows_of (found_of asked.1.now))

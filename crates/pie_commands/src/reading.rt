@@ -8,8 +8,8 @@ use crate::files::NamedFiles;
 use either::{Either, Left, Right};
 use std::io::{Read, Write};
 
-/// The reader of the file of this name, where `-` is the one that is handed in, which can be taken but once; or none, with a line on
-/// `errors`, where the file can't be opened.
+/// Opens the file `name` for reading. The name `-` takes the reader from `input`; this is possible once. If the
+/// file can't be opened, or `input` is already taken, a line is written to `errors` and the result is `None`.
 pub(crate) fn reader_named<H: NamedFiles, R: Read + Drop, E: Write>(
     rt: &H,
     name: &str,
@@ -39,7 +39,7 @@ pub(crate) fn reader_named<H: NamedFiles, R: Read + Drop, E: Write>(
     }
 }
 
-/// What a subcommand reads that takes one file: that file, or with none the reader that is handed in.
+/// Returns the reader of a subcommand that reads one text: the named `file`, or `input` if no file is named.
 pub(crate) fn reader_of<H: NamedFiles, R: Read + Drop, E: Write>(
     rt: &H,
     file: Option<&str>,

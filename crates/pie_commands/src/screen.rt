@@ -1,16 +1,16 @@
-//! Whether progress is told while a subcommand reads.
+//! The choice to show progress while a subcommand reads.
 
 use crate::options::{flag, output};
 use clap::ArgMatches;
 use std::io::IsTerminal;
 use std::time::Clock;
 
-/// What reads the clock, and knows which standard streams are terminals.
+/// A clock that also knows if the standard streams are terminals.
 pub trait Screen: Clock {
-    /// Whether standard output is a terminal.
+    /// Returns true if standard output is a terminal.
     fn has_output_terminal(&self) -> bool;
 
-    /// Whether standard error is a terminal.
+    /// Returns true if standard error is a terminal.
     fn has_error_terminal(&self) -> bool;
 }
 
@@ -24,8 +24,8 @@ impl Screen for HostRuntime {
     }
 }
 
-/// Whether these options ask to be told of progress, or else standard error is a terminal. What `is_written` meanwhile must not go to a terminal
-/// too, on which both would stand mixed.
+/// Returns true if `--progress` is given or standard error is a terminal. A terminal alone is not enough if output
+/// `is_written` meanwhile to standard output and that is a terminal too: the lines would mix.
 pub(crate) fn shows_progress<H: Screen>(
     rt: &H,
     options: &ArgMatches<'_>,

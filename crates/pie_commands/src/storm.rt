@@ -21,7 +21,7 @@ use std::sync::Wait;
 use std::thread::Threads;
 use std::time::Clock;
 
-/// What is said where the word of a choice is none of its own.
+/// The message for an option whose text names none of its choices.
 const NO_CHOICE: &str =
     "storm: --delay is rate or stamp, --picking derandomized or random, --step capped or uncapped, --size unscaled or scaled, \
 --decay zero or half";
@@ -36,7 +36,7 @@ fn choice<T: Copy>(word: Option<&str>, first: &[u8], one: T, second: &[u8], othe
     }
 }
 
-/// Which of two choices an option names, whose words a function tells.
+/// The choice that an option names, of two choices whose keywords the function `$word` returns.
 macro_rules! chosen {
     ($name:literal in $options:ident: $word:ident, $one:expr, $other:expr) => {
         choice(text($options, $name), $word($one), $one, $word($other), $other)
@@ -99,8 +99,9 @@ fn numbers_of(options: &ArgMatches<'_>, elements: Elements) -> StormNumbers
     }
 }
 
-/// `pie storm`: makes the storm that these options ask for, audits its events and writes their history. It has failed
-/// where the word of a choice is none of its own, could not begin where memory or a thread was wanting, and else is done, or the writer failed.
+/// `pie storm`: runs the storm of these options, audits its events and writes their history. If a text names no
+/// choice, the end is `Failed`; if memory or a thread is missing, `Unable`; if the writer fails or memory is short
+/// meanwhile, a fault; otherwise `Done`.
 pub(crate) fn make_storm<H: Threads + Wait + Clock + Sync, W: Write, E: Write>(
     rt: &H,
     alloc: Global,
@@ -128,7 +129,7 @@ pub(crate) fn make_storm<H: Threads + Wait + Clock + Sync, W: Write, E: Write>(
     }
 }
 
-/// How often the caller of an event is another than that of the event before it.
+/// Returns the number of events whose caller is not the caller of the event before.
 fn changes_of_caller(events: &[Event]) -> u64 {
     let mut changes = 0;
     for place in 1..events.len() {

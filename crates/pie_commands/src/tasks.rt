@@ -1,4 +1,4 @@
-//! What is done with one text, from its beginning to its end.
+//! The tasks that process one text from its beginning to its end.
 ghost use Rattle.std.specs.Prelude.{OnOk};
 ghost use Rattle.std.specs.Io.KnownBytes.{Appends};
 ghost use Rattle.clap.specs.Words.{found_of, rows_of};
@@ -23,7 +23,7 @@ use std::io;
 use std::io::{Read, Write};
 use std::time::Clock;
 
-/// What is done with a text.
+/// A task for one text.
 #[derive(Clone, Copy)]
 pub(crate) enum Task {
     Run,
@@ -54,8 +54,8 @@ fn say_counts<E: Write>(
     }
 }
 
-/// Does this with what is handed in. Progress is told on `errors` where it `is_shown`, and after a run without a fault how many events and refused
-/// records there were, where the options ask for it.
+/// Performs `task` with the text of `input`. If progress `is_shown`, it is reported on `errors`. After a run
+/// without a fault the numbers of events and refused records are written there, if the options request it.
 pub(crate) fn perform_over<H: Clock, R: Read + Drop, W: Write, E: Write>(
     rt: &H,
     alloc: Global,
@@ -95,7 +95,7 @@ pub(crate) fn perform_over<H: Clock, R: Read + Drop, W: Write, E: Write>(
     }
 }
 
-/// .. with the file that the options name, or with none what is handed in.
+/// Performs `task` with the file that the options name, or with `input` if they name none.
 pub(crate) fn of_options<H: NamedFiles + Screen, R: Read + Drop, W: Write, E: Write>(
     rt: &H,
     alloc: Global,

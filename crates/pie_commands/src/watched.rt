@@ -1,4 +1,4 @@
-//! A reader that tells how far it has come.
+//! A reader that reports its progress.
 ghost use Rattle.std.specs.Prelude.{◌≡◌};
 ghost use Rattle.pie_commands.specs.Watched.{inner_of, remaining_of};
 
@@ -6,27 +6,28 @@ use std::io;
 use std::io::{Read, Write};
 use std::time::{Clock, Instant};
 
-/// How many bytes are read from one telling to the next.
+/// The number of bytes between two reports.
 const STEP: u64 = 8_000_000;
 
-/// What wipes a line of a terminal: back to its beginning, and clear it from there.
+/// The terminal sequence that clears a line: return to its beginning and erase from there.
 const WIPE: &[u8] = b"\r\x1b[K";
 
-/// A reader around a reader: it hands on what that one gives and, where it is asked to, tells on `errors` how far it has come.
+/// A wrapper of a reader. It returns the bytes of the inner reader and, if requested, reports the progress on
+/// `errors`.
 pub(crate) struct Watched<R: Drop, W: Write + Drop, C: Clock + Drop> {
     inner: R,
     errors: W,
     clock: C,
     /// When reading began, where the clock could be read.
     begun: Option<Instant>,
-    /// It is asked to tell.
+    /// Reports are requested.
     is_shown: bool,
     bytes: u64,
     records: u64,
     next: u64,
 }
 
-/// How many lines end in these bytes.
+/// Returns the number of line ends in these bytes.
 fn ends(bytes: &[u8]) -> u64 {
     let mut count: u64 = 0;
     for byte in bytes {
@@ -43,7 +44,7 @@ fn wipe<W: Write>(errors: &mut W) {
     let _ = errors.flush();
 }
 
-/// Writes how far reading has come in so many milliseconds, over the line before.
+/// Writes the progress after `milliseconds` over the line before.
 fn tell<W: Write>(errors: &mut W, bytes: u64, records: u64, milliseconds: Option<u64>) {
     let (millions, tenths) = (records / 1_000_000, records % 1_000_000 / 100_000);
     let megabytes = bytes / 1_000_000;
@@ -58,7 +59,7 @@ fn tell<W: Write>(errors: &mut W, bytes: u64, records: u64, milliseconds: Option
     let _ = errors.flush();
 }
 
-/// The megabytes a second of so many bytes in so many milliseconds.
+/// Returns the rate in megabytes per second of `bytes` read in `milliseconds`.
 fn rate_of(bytes: u64, milliseconds: Option<u64>) -> Option<u64> {
     (bytes / 1000).checked_div(milliseconds?)
 }
@@ -72,7 +73,7 @@ fn since<C: Clock>(begun: Option<Instant>, clock: &C) -> Option<u64> {
 }
 
 impl<R: Drop, W: Write + Drop, C: Clock + Drop> Watched<R, W, C> {
-    /// Counts bytes that were read, and tells how far reading has come where it is time to.
+    /// Counts bytes that were read, and reports the progress if a report is due.
     fn count(&mut self, bytes: &[u8])
         ensures { inner_of self.new ≡ inner_of self.old }
     {
@@ -85,7 +86,7 @@ impl<R: Drop, W: Write + Drop, C: Clock + Drop> Watched<R, W, C> {
         }
     }
 
-    /// Wipes what was told, if there was something.
+    /// Clears the report if there is one.
     fn wipe(&mut self)
         ensures { inner_of self.new ≡ inner_of self.old }
     {
@@ -97,7 +98,7 @@ impl<R: Drop, W: Write + Drop, C: Clock + Drop> Watched<R, W, C> {
 }
 
 impl<R: Read + Drop, W: Write + Drop, C: Clock + Drop> Watched<R, W, C> {
-    /// Watches a reader, and tells how far it has come where that is to be shown.
+    /// Wraps a reader. The wrapper reports its progress if it `is_shown`.
     pub(crate) fn new(inner: R, errors: W, clock: C, is_shown: bool) -> Watched<R, W, C>
         ensures { remaining_of R.remaining result ≡ R.remaining inner }
     {

@@ -1,4 +1,4 @@
--- Bounds of a gain times a difference of two times, and those that the roundings of an update keep.
+-- Bounds of a gain times a difference of two times, and bounds that the roundings of an update keep.
 use Rattle.std.proofs.Common.{ℕ, suc, ◌≤◌, ◌+◌, ◌^◌, arith}
 use Rattle.std.specs.Prelude.{ℤ, pos, negsuc, ◌≤ℤ◌, ◌*ℤ◌, int_div}
 use Rattle.std.proofs.lemmas.Int.{ints}
@@ -24,7 +24,7 @@ pub int_div-below : (z : ℤ) (d n : ℕ) → z ≤ℤ pos n → int_div z (pos 
 int_div-below (pos a) d n h = omega (arith, ints, div-le_self a d)
 int_div-below (negsuc a) d n h = omega (arith, ints)
 
--- 98 hundredths are no larger, where the whole is not below zero
+-- 98 per cent of a number is at most the number, if it is not negative
 pub decay-below : (z : ℤ) (n : ℕ) → z ≤ℤ pos n → int_div (z *ℤ pos 98) (pos 100) ≤ℤ pos n
 decay-below (pos a) n h = omega (arith, ints)
 decay-below (negsuc a) n h = omega (arith, ints)
@@ -33,4 +33,4 @@ pub bounded_of-below : (z : ℤ) (n : ℕ) → z ≤ℤ pos n → bounded_of z �
 bounded_of-below (pos a) n h = omega (arith, ints)
 bounded_of-below (negsuc a) n h = omega (arith, ints)
 
-pub ruleset quotients = (int_div-above, int_div-below, decay-below)
+pub ruleset quotients = (int_div-above, int_div-below)

@@ -1,4 +1,5 @@
--- The definitions on worked rows: each theorem computes. Registers along updates and resets are rows of tests/rows and bindings/c/rows.c.
+-- Examples of the definitions: each theorem computes. tests/rows and bindings/c/rows.c have rows for the state after
+-- updates and resets.
 use Rattle.std.proofs.Common.{◌≡◌, ℕ, ◌*◌, ◌-◌, ◌^◌, [], ◌∷◌, refl}
 use Rattle.std.specs.Prelude.{pos, map, true, false}
 use Rattle.pie_fixed.specs.declared.TheConstants.{ONE}
@@ -11,8 +12,8 @@ use Rattle.pie_params.specs.declared.elements.Step.TheVariants.{Uncapped}
 use Rattle.pie_control.specs.{delay_of, ControlEvent, idled, update_at, probability, last_delay, granted_burst}
 use Rattle.pie_control.specs.{is_calm_after, raw_step, tuning_divisor, tuned_step, decayed, next}
 
--- the constants: the greatest delay, which clauses and definitions name, is 2 ^ 40 nanoseconds, the cap begins
--- at a tenth, and the largest step is two hundredths
+-- values of the constants: the greatest delay is 2 ^ 40 nanoseconds, the cap begins at 0.1, and the largest step is
+-- 0.02
 constants : (MAX_DELAY ≡ 2 ^ 40) × (ONE ≡ 10 ^ 12) × (CAPPED_FROM * 10 ≡ ONE) × (LARGEST_STEP ≡ pos (2 * 10 ^ 10))
 constants = (refl, refl, refl, refl)
 
@@ -26,11 +27,11 @@ delays : (delay_of 49152 14_000_000 16384 ≡ 42_000_000) × (delay_of 49152 0 1
 unfolding delay_of
 delays = (refl, refl, refl)
 
--- the next probability by the usual elements, of which bindings/c/rows.c has rows
+-- the next probability with the default elements; bindings/c/rows.c has rows for it
 abbrev next_of : ℕ → ℕ → ℕ → ℕ
 next_of prob delay old = next usual default_profile prob delay old
 
--- .. and where steps are not capped: the whole step, tuned by 1 and by 2
+-- the next probability without the cap: the whole step, tuned by 1 and by 2
 abbrev uncapped_next : ℕ → ℕ
 uncapped_next prob = next (record usual { step = Uncapped }) default_profile prob 60_000_000 15_000_000
 
@@ -38,8 +39,9 @@ uncapped : map uncapped_next (100_000_000_000 ∷ 99_999_999_999 ∷ 990_000_000
 unfolding next raw_step tuning_divisor tuned_step decayed
 uncapped = refl
 
--- .. and with the decay below half the target: by the step downward, 1.9 per cent of a probability of 1, and then by a fiftieth, to the last
--- nanosecond below half the target, and where either delay is there only by the step
+-- the next probability with the decay below half the target. The step reduces a probability of 1 by 1.9 per cent, and
+-- the decay by another 2 per cent, up to the last nanosecond below half the target. If either delay is half the target,
+-- only the step applies
 abbrev half_of : ℕ → ℕ → ℕ
 half_of delay old = next (record usual { decay = Half }) default_profile (10 ^ 12) delay old
 
@@ -52,7 +54,7 @@ decays_below_half = (refl, refl, refl, refl)
 abbrev load : ℕ → ControlEvent
 load moment = update_at default_profile usual 30_000_000 moment
 
--- a calm update, here under a smaller `max_burst`, grants the burst allowance anew
+-- a calm update, here with a smaller `max_burst`, refills the burst allowance
 abbrev calm : ControlEvent
 calm = update_at (record default_profile { max_burst = 40_000_000 }) usual 1_000_000 3
 
@@ -60,8 +62,8 @@ grants : (granted_burst default_profile (load 1 ∷ calm ∷ []) ≡ 150_000_000
 unfolding granted_burst next raw_step tuning_divisor tuned_step decayed
 grants = (refl, refl)
 
--- with no weight on the delay's change the probability stays 0 below the target, and an update is calm exactly where both delays
--- are below half of it
+-- without a weight on the change of the delay, the probability stays 0 below the target, and an update is calm exactly
+-- if both delays are below half the target
 abbrev by_level : RawParams
 by_level = record default_profile { beta = 0 }
 

@@ -1,4 +1,4 @@
--- What one more update or reset at the end of the events does to what looking back gives.
+-- The change of the look-backs when an update or reset is added at the end of the events.
 use Rattle.std.proofs.Common.{◌≡◌, refl, ℕ, ◌-◌, ◌≤◌, Bool, if◌then◌else◌, List, [], ◌∷◌, ◌++◌, reverse, arith, sum_by}
 use Rattle.std.proofs.lemmas.List.{reverse-append}
 use Rattle.std.proofs.lemmas.List.Sums.{sum_by-cons}
@@ -9,7 +9,7 @@ use Rattle.pie_control.specs.{ControlEvent, updated, idled, reset, Update, updat
 use Rattle.pie_control.specs.{granted_burst, burst_allowance, burst_after, ends_calm, is_calm, updates_after_refill, burst_after_refill, Shows, next}
 use Rattle.pie_control.specs.Parts.{Parts}
 
--- seen from the newest, the event added at the end comes first
+-- the event added at the end is the first of the reversed list
 reversed : (events : List ControlEvent) (e : ControlEvent) → reverse (events ++ e ∷ []) ≡ e ∷ reverse events
 reversed events e = reverse-append events (e ∷ [])
 
@@ -17,7 +17,7 @@ reversed events e = reverse-append events (e ∷ [])
 abbrev interval : Update → ℕ
 interval u = u.params.t_update
 
--- a refill starts over, and any other update takes its `t_update` off
+-- a refill sets the allowance to the whole, and any other update subtracts its `t_update`
 refilled : (calm : Bool) (whole granted : ℕ) (u : Update) (spent : List Update)
     → (if calm then whole else granted) - sum_by interval (if calm then [] else (u ∷ spent))
     ≡ (if calm then whole else (granted - sum_by interval spent - interval u))
@@ -41,7 +41,7 @@ unfolding burst_allowance
 burst_granted opening events = omega arith
 
 module _ (opening : RawParams) (start : ℕ) (events : List ControlEvent) (before after : Parts) (shows : Shows opening start events before) where
-  pub shows_updated : (params : RawParams) (elements : Elements) (delay moment : ℕ)
+  pub represents_updated : (params : RawParams) (elements : Elements) (delay moment : ℕ)
       → after ≡ record {
         prob = next elements params before.prob delay before.old_delay;
         old_delay = delay;
@@ -50,27 +50,27 @@ module _ (opening : RawParams) (start : ℕ) (events : List ControlEvent) (befor
       }
       → Shows opening start (events ++ update_at params elements delay moment ∷ []) after
   unfolding probability last_delay last_moment
-  shows_updated params elements delay moment is = record {
+  represents_updated params elements delay moment is = record {
     prob = rw (is, reversed events (update_at params elements delay moment), shows.prob, shows.old_delay) refl;
     old_delay = rw (is, reversed events (update_at params elements delay moment)) refl;
     burst = rw (is, burst-updated opening events params elements delay moment, shows.burst, shows.prob, shows.old_delay) refl;
     last = rw (is, reversed events (update_at params elements delay moment)) refl;
   }
 
-  -- an idle update leaves all but the last moment
-  pub shows_idled : (moment : ℕ) → after ≡ record before { last = moment } → Shows opening start (events ++ idled moment ∷ []) after
+  -- an idle update changes only the last moment
+  pub represents_idled : (moment : ℕ) → after ≡ record before { last = moment } → Shows opening start (events ++ idled moment ∷ []) after
   unfolding probability last_delay last_moment burst_allowance granted_burst
-  shows_idled moment is = record {
+  represents_idled moment is = record {
     prob = rw (is, reversed events (idled moment)) shows.prob;
     old_delay = rw (is, reversed events (idled moment)) shows.old_delay;
     burst = rw (is, reversed events (idled moment)) shows.burst;
     last = rw (is, reversed events (idled moment)) refl;
   }
 
-  pub shows_reset : (params : RawParams) → after ≡ record before { prob = 0; old_delay = 0; burst = params.max_burst }
+  pub represents_reset : (params : RawParams) → after ≡ record before { prob = 0; old_delay = 0; burst = params.max_burst }
       → Shows opening start (events ++ reset params ∷ []) after
   unfolding probability last_delay last_moment burst_allowance granted_burst
-  shows_reset params is = record {
+  represents_reset params is = record {
     prob = rw (is, reversed events (reset params)) refl;
     old_delay = rw (is, reversed events (reset params)) refl;
     burst = rw (is, reversed events (reset params)) (omega arith);

@@ -2,6 +2,6 @@
 use Rattle.std.specs.Prelude.{ℕ, ◌*◌, ◌/◌, min}
 use Rattle.pie_control.specs.declared.update.TheConstants.{MAX_DELAY}
 
--- the bytes that wait, times the average time in which `threshold` bytes leave, by `threshold`
+-- the bytes in the queue, times the average time in which `threshold` bytes depart, divided by `threshold`
 unfoldable pub delay_of : ℕ → ℕ → ℕ → ℕ
 delay_of bytes average threshold = min MAX_DELAY (bytes * average / threshold)

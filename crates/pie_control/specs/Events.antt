@@ -1,4 +1,4 @@
--- What a `Control` is shown: updates, idle updates and resets, in the order in which they came.
+-- Inputs of a `Control`: updates, idle updates and resets, in order.
 use Rattle.std.specs.Prelude.{ℕ, List, [], ◌∷◌}
 use Rattle.pie_params.specs.declared.raw.RawParams.{RawParams}
 use Rattle.pie_params.specs.declared.elements.Elements.{Elements}
@@ -19,14 +19,14 @@ pub data ControlEvent : Type 0 where
 abbrev pub update_at : RawParams → Elements → ℕ → ℕ → ControlEvent
 update_at params elements delay moment = updated (record { params = params; elements = elements; delay = delay; moment = moment })
 
--- of events with the newest first, the moments of the updates and of the idle updates
+-- the moments of the updates and of the idle updates; the events are the newest first
 abbrev pub all_moments : List ControlEvent → List ℕ
 all_moments [] = []
 all_moments (updated u ∷ earlier) = u.moment ∷ all_moments earlier
 all_moments (idled moment ∷ earlier) = moment ∷ all_moments earlier
 all_moments (reset _ ∷ earlier) = all_moments earlier
 
--- of events with the newest first, the updates after the last reset; an idle update is none of them
+-- the updates after the last reset, without idle updates; the events are the newest first
 abbrev pub updates_after_reset : List ControlEvent → List Update
 updates_after_reset [] = []
 updates_after_reset (updated u ∷ earlier) = u ∷ updates_after_reset earlier

@@ -1,12 +1,12 @@
--- What a `Control` holds, as its readers give it.
+-- The model of a `Control`: the numbers that its readers return.
 use Rattle.std.specs.Prelude.{◌^◌, ◌<◌, ◌≤◌}
 use Rattle.pie_control.specs.declared.raw.RawControl.{RawControl}
 
--- the probability, the old delay, the burst allowance and the last update's moment: their numbers
+-- the probability, the old delay, the burst allowance and the moment of the last update
 abbrev pub Parts : Type 0
 Parts = RawControl
 
--- each is in its range
+-- parts that are each in range
 pub record IsWithin (parts : Parts) : Type 0 where
   pub prob : parts.prob ≤ 10 ^ 12
   pub old_delay : parts.old_delay ≤ 2 ^ 40

@@ -8,8 +8,7 @@ use pie_fixed::{Nanos, Prob};
 use pie_params::{Elements, Params};
 use std::marker::Model;
 
-/// The controller's registers: the probability, the old delay, the burst allowance and the moment of
-/// the last update.
+/// State of the control law: the probability, the old delay, the burst allowance and the moment of the last update.
 #[derive(Clone, Copy)]
 pub struct Control {
     raw: RawControl,
@@ -28,8 +27,8 @@ impl Model for Control {
 }
 
 impl Control {
-    /// The controller at its opening: probability and old delay 0, the whole burst allowance, and the
-    /// opening's moment as that of the last update (RFC 8033, sections 4.2 and 4.4).
+    /// Makes the state at an opening: probability and old delay are 0, the burst allowance is `max_burst`, and the
+    /// moment of the last update is `moment`, the opening's (RFC 8033, sections 4.2 and 4.4).
     pub fn opened(params: &Params, moment: Nanos) -> Self
         ensures prob { result.prob ≡ 0 }
         ensures old { result.old_delay ≡ 0 }
@@ -42,8 +41,8 @@ impl Control {
         }
     }
 
-    /// A controller in any state: the old delay is at most [`MAX_DELAY`](crate::MAX_DELAY), the burst
-    /// allowance at most 10^12 nanoseconds.
+    /// Makes a state from its numbers. `old` is at most [`MAX_DELAY`](crate::MAX_DELAY), `burst` at most 10^12
+    /// nanoseconds.
     pub fn from_parts(prob: Prob, old: u64, burst: u64, last: Nanos) -> Self
         requires old { old ≤ MAX_DELAY }
         requires burst { burst ≤ 10 ^ 12 }
@@ -62,13 +61,16 @@ impl Control {
         }
     }
 
-    /// Makes an update: the next probability from the given delay and the old one, by the elements' step
-    /// and decay, and the burst allowance less `t_update`, or whole again after a calm update. The delay, at most
-    /// [`MAX_DELAY`](crate::MAX_DELAY) nanoseconds, becomes the old delay, and the moment that of the
-    /// last update (RFC 8033, sections 4.2, 4.4 and 5.5).
+    /// Makes an update. `delay` is at most [`MAX_DELAY`](crate::MAX_DELAY) nanoseconds.
     ///
-    /// The answer is whether the update was calm: the probability after it is 0, and its delay and the
-    /// old one are each below half the target (RFC 8033, section 4.4).
+    /// - The probability becomes the next one, computed from `delay` and the old delay, with the step and decay of
+    ///   `elements`.
+    /// - The burst allowance decreases by `t_update`. After a calm update it becomes `max_burst`.
+    /// - `delay` becomes the old delay, and `moment` the moment of the last update (RFC 8033, sections 4.2, 4.4 and
+    ///   5.5).
+    ///
+    /// Returns true if the update is calm: the probability after it is 0, and `delay` and the old delay are each below
+    /// half the target (RFC 8033, section 4.4).
     pub fn update(&mut self, params: &Params, elements: Elements, delay: u64, moment: Nanos) -> bool
         requires { delay ≤ MAX_DELAY }
         ensures calm { result ≡ ends_calm params.now self.new.prob delay self.old.old_delay }
@@ -86,7 +88,7 @@ impl Control {
             .update(&params.raw(), elements, delay, moment.units())
     }
 
-    /// Makes an idle update: the moment becomes that of the last update, and all else is kept (this
+    /// Makes an idle update: `moment` becomes the moment of the last update, and everything else is unchanged (this
     /// project's own).
     pub fn idle(&mut self, moment: Nanos)
         ensures after { self.new ≡ record self.old { last = moment } }
@@ -97,8 +99,8 @@ impl Control {
         self.raw.idle(moment.units());
     }
 
-    /// Sets probability and old delay to 0 and the burst allowance to `max_burst`, and keeps the
-    /// moment of the last update (this project's own).
+    /// Sets probability and old delay to 0 and the burst allowance to `max_burst`. The moment of the last update is
+    /// unchanged (this project's own).
     pub fn reset(&mut self, params: &Params)
         ensures prob { self.new.prob ≡ 0 }
         ensures old { self.new.old_delay ≡ 0 }
@@ -111,15 +113,15 @@ impl Control {
         self.raw.reset(params.max_burst().units());
     }
 
-    /// The probability of drop or mark (RFC 8033, section 4.2).
+    /// Returns the probability of a drop or mark (RFC 8033, section 4.2).
     pub fn prob(&self) -> Prob
         ensures { result ≡ self.now.prob }
     {
         Prob::of_units(self.raw.prob)
     }
 
-    /// The old delay, that of the last update, in nanoseconds, at most
-    /// [`MAX_DELAY`](crate::MAX_DELAY) (RFC 8033, section 4.2).
+    /// Returns the old delay, the delay of the last update, in nanoseconds, at most [`MAX_DELAY`](crate::MAX_DELAY)
+    /// (RFC 8033, section 4.2).
     pub fn old(&self) -> u64
         ensures value { result ≡ self.now.old_delay }
         ensures within { self.now.old_delay ≤ MAX_DELAY }
@@ -127,27 +129,27 @@ impl Control {
         self.raw.old_delay
     }
 
-    /// The burst allowance, in nanoseconds, at most 10^12 (RFC 8033, section 4.4).
+    /// Returns the burst allowance, in nanoseconds, at most 10^12 (RFC 8033, section 4.4).
     #[tactic(auto, using(crate::proofs::Laws::burst_granted))]
     pub fn burst(&self) -> u64
         ensures value { result ≡ self.now.burst }
         ensures within { self.now.burst ≤ 10 ^ 12 }
 
-        // It never exceeds the `max_burst` in force when it was last set to that.
+        // at most the `max_burst` in force when the allowance was last set to it
         ensures granted { (opening : RawParams) (start : ℕ) (events : List ControlEvent) →
             Shows opening start events self.now → self.now.burst ≤ granted_burst opening events }
     {
         self.raw.burst
     }
 
-    /// The moment of the last update, or of the opening (RFC 8033, section 4.2).
+    /// Returns the moment of the last update, or of the opening (RFC 8033, section 4.2).
     pub fn last(&self) -> Nanos
         ensures { result ≡ self.now.last }
     {
         Nanos::of_units(self.raw.last)
     }
 
-    /// The registers as plain numbers.
+    /// Returns the state as plain numbers.
     #[inline(always)]
     pub fn raw(&self) -> RawControl
         ensures { result ≡ self.now }

@@ -1,9 +1,10 @@
-//! The PIE controller: the queueing delay, the probability update and the burst allowance (RFC 8033, sections 4.2, 4.4, 5.2
-//! and 5.5).
+//! The control law of PIE: the queueing delay, the probability update and the burst allowance (RFC 8033, sections 4.2,
+//! 4.4, 5.2 and 5.5).
 //!
-//! `delay` and `next_probability` are exact over their whole ranges. If a `Control` summarizes a list of updates, idle updates
-//! and resets, `update`, `idle` and `reset` make it summarize that list with this one at its end (clause `shows`). `update`
-//! also answers whether it was calm (`calm`, `look_back`). Each is `RawControl`'s, over plain numbers.
+//! `delay` and `next_probability` are exact over their whole ranges. If a `Control` represents a list of updates, idle
+//! updates and resets, `update`, `idle` and `reset` make it represent that list with this one at its end (clause
+//! `shows`). `update` also returns whether it was calm (clauses `calm`, `look_back`). Each calls `RawControl`, which
+//! has plain numbers.
 #![tactic(auto)]
 
 mod control;

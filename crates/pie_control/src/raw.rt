@@ -7,12 +7,12 @@ ghost use Rattle.pie_control.specs.{burst_after, ends_calm, next};
 use crate::update::{are_below_half, next};
 use pie_params::{Elements, RawParams};
 
-/// The control law's registers as plain numbers, each in its range or not: their rules are [`Control`](crate::Control)'s.
+/// State of the control law as plain numbers, which may be out of range. Its rules are [`Control`](crate::Control)'s.
 #[derive(Clone, Copy, PartialEq, Eq)]
 pub struct RawControl {
-    /// The probability of drop or mark, in units of `10^-12` (RFC 8033, section 4.2).
+    /// The probability of a drop or mark, in units of `10^-12` (RFC 8033, section 4.2).
     pub prob: u64,
-    /// The old delay, that of the last update, in nanoseconds (RFC 8033, section 4.2).
+    /// The old delay, the delay of the last update, in nanoseconds (RFC 8033, section 4.2).
     pub old_delay: u64,
     /// The burst allowance, in nanoseconds (RFC 8033, section 4.4).
     pub burst: u64,
@@ -21,7 +21,7 @@ pub struct RawControl {
 }
 
 impl RawControl {
-    /// At an opening, as [`Control::opened`](crate::Control::opened) says it.
+    /// Makes the state at an opening, as [`Control::opened`](crate::Control::opened) does.
     #[inline(always)]
     pub fn opened(max_burst: u64, moment: u64) -> RawControl
         ensures { result ≡ record { prob = 0; old_delay = 0; burst = max_burst; last = moment } }
@@ -50,8 +50,8 @@ impl RawControl {
         self.last = moment;
     }
 
-    /// Makes an update, as [`Control::update`](crate::Control::update) does, where probability and old delay are in their ranges. Compiled where
-    /// it is called, as all that it calls: handed over, parameters and registers would go through memory.
+    /// Makes an update, as [`Control::update`](crate::Control::update) does. Probability and old delay are in their
+    /// ranges. This function and its callees are inlined, so that parameters and state stay in processor registers.
     #[inline(always)]
     pub fn update(
         &mut self,

@@ -1,6 +1,7 @@
-ghost use Rattle.std.specs.Prelude.{◌≡◌, ℕ, ◌+◌, ◌^◌, ◌<◌, ◌≤◌, ◌&&◌, nat_le, if◌then◌else◌, pos, negsuc, ◌-ℤ◌, ◌*ℤ◌, ◌≤ℤ◌};
+ghost use Rattle.std.specs.Prelude.{◌≡◌, ℕ, ◌+◌, ◌^◌, ◌<◌, ◌≤◌, ◌&&◌, nat_le, if◌then◌else◌, pos, negsuc, ◌-ℤ◌, ◌*ℤ◌, ◌≤ℤ◌, ◌/◌, int_div};
 ghost use Rattle.std.specs.Int.{int_min};
 ghost use Rattle.pie_fixed.specs.declared.TheConstants.{ONE};
+ghost use Rattle.pie_fixed.specs.Fixed.{bounded_of};
 ghost use Rattle.pie_params.specs.Range.{IsInRange};
 ghost use Rattle.pie_control.specs.{delay_of, are_below_half, decayed, decays, next, raw_step, tuned_step, tuning_divisor};
 ghost use Rattle.pie_params.specs.Elements.{is_capped, usual};
@@ -9,18 +10,20 @@ ghost use Rattle.pie_params.specs.declared.elements.Step.TheVariants.{Capped};
 use pie_fixed::{Prob, bounded};
 use pie_params::{Decay, Elements, Params, RawParams, Step};
 
-/// The greatest delay, `2^40` nanoseconds, at which an estimate is cut off (this project's own).
+/// The greatest delay, `2^40` nanoseconds: a greater estimate is replaced by it (this project's own).
 pub const MAX_DELAY: u64 = 1 << 40;
 
-/// A tenth, the probability from which a step upward is capped, where steps are (RFC 8033, section 5.5).
+/// The probability 0.1, from which on a step upward is capped if steps are (RFC 8033, section 5.5).
 const CAPPED_FROM: u64 = 100_000_000_000;
 
-/// Two hundredths, the largest step upward from there (RFC 8033, section 5.5).
+/// The largest step upward from there on, 0.02 (RFC 8033, section 5.5).
 const LARGEST_STEP: i64 = 20_000_000_000;
 
-/// The queueing delay in nanoseconds, at most [`MAX_DELAY`]: `bytes * average / threshold`, rounded
-/// down, where `average` nanoseconds is the average time in which `threshold` bytes leave (RFC
-/// 8033, section 5.2).
+/// The probability 2. The decay leaves this sum, and each larger one, above the probability 1.
+const LARGEST_SUM: i64 = 2_000_000_000_000;
+
+/// Returns the queueing delay in nanoseconds, at most [`MAX_DELAY`]: `bytes * average / threshold`, rounded down.
+/// `average` is the average time, in nanoseconds, in which `threshold` bytes depart (RFC 8033, section 5.2).
 #[tactic(auto, unfolding(crate::specs::Delay::delay_of))]
 pub fn delay(bytes: u64, average: u64, threshold: u64) -> u64
     requires bytes { bytes ≤ 2 ^ 30 }
@@ -29,11 +32,30 @@ pub fn delay(bytes: u64, average: u64, threshold: u64) -> u64
     ensures value { result ≡ delay_of bytes average threshold }
     ensures within { result ≤ MAX_DELAY }
 {
-    let estimate = u128::from(bytes) * u128::from(average) / u128::from(threshold);
+    let estimate = quotient(u128::from(bytes) * u128::from(average), threshold);
     estimate.min(u128::from(MAX_DELAY)) as u64
 }
 
-/// A gain times the difference of two times, in units of `10^-12`.
+/// Returns `product / threshold`, rounded down. The thresholds that parameters can have are constant powers of two here,
+/// which the compiler turns into shifts.
+#[inline(always)]
+fn quotient(product: u128, threshold: u64) -> u128
+    requires { 0 < threshold }
+    ensures { result ≡ product / threshold }
+{
+    match threshold {
+        1024 => product / 1024,
+        2048 => product / 2048,
+        4096 => product / 4096,
+        8192 => product / 8192,
+        16384 => product / 16384,
+        32768 => product / 32768,
+        65536 => product / 65536,
+        _ => product / u128::from(threshold),
+    }
+}
+
+/// Multiplies `gain` by the difference `time - from`, in units of `10^-12`.
 #[inline(always)]
 fn weighted(gain: u64, time: u64, from: u64) -> i64
     requires gain { gain ≤ 10 ^ 6 }
@@ -46,7 +68,7 @@ fn weighted(gain: u64, time: u64, from: u64) -> i64
     product(gain, time as i64 - from as i64)
 }
 
-/// A gain times a difference of two times.
+/// Multiplies `gain` by a difference of two times.
 #[inline(always)]
 fn product(gain: u64, difference: i64) -> i64
     requires gain { gain ≤ 10 ^ 6 }
@@ -59,7 +81,7 @@ fn product(gain: u64, difference: i64) -> i64
     gain as i64 * difference
 }
 
-/// By how much the probability would change, before auto-tuning.
+/// Returns the change of the probability before auto-tuning.
 #[inline(always)]
 #[tactic(auto, unfolding(crate::specs::Next::raw_step))]
 fn raw_step(params: &RawParams, delay: u64, old: u64) -> i64
@@ -73,24 +95,29 @@ fn raw_step(params: &RawParams, delay: u64, old: u64) -> i64
     weighted(params.alpha, delay, params.target) + weighted(params.beta, delay, old)
 }
 
-/// What auto-tuning divides a step by, at the probability before the update.
-#[tactic(auto, unfolding(crate::specs::Next::tuning_divisor))]
-fn tuning_divisor(prob: u64) -> u32
-    ensures value { result ≡ tuning_divisor prob }
-    ensures positive { 0 < result }
+/// Divides `step` by the divisor of auto-tuning at `prob`, the probability before the update. Each divisor is a constant
+/// power of two, which the compiler turns into a shift.
+#[inline(always)]
+#[tactic(auto, using(crate::proofs::Bounds::quotients), unfolding(crate::specs::Next::tuning_divisor))]
+fn tuned(prob: u64, step: i64) -> i64
+    requires above { negsuc (2 ^ 62) ≤ℤ step }
+    requires below { step ≤ℤ pos (2 ^ 62) }
+    ensures value { result ≡ int_div step (pos (tuning_divisor prob)) }
+    ensures above { negsuc (2 ^ 62) ≤ℤ result }
+    ensures below { result ≤ℤ pos (2 ^ 62) }
 {
     match prob {
-        ..1_000_000 => 2048,
-        ..10_000_000 => 512,
-        ..100_000_000 => 128,
-        ..1_000_000_000 => 32,
-        ..10_000_000_000 => 8,
-        ..100_000_000_000 => 2,
-        _ => 1,
+        ..1_000_000 => step / 2048,
+        ..10_000_000 => step / 512,
+        ..100_000_000 => step / 128,
+        ..1_000_000_000 => step / 32,
+        ..10_000_000_000 => step / 8,
+        ..100_000_000_000 => step / 2,
+        _ => step / 1,
     }
 }
 
-/// The step after auto-tuning, and after the cap where that is chosen, at the probability before the update.
+/// Returns the step after auto-tuning, and after the cap if it is chosen. `prob` is the probability before the update.
 #[inline(always)]
 #[tactic(auto, using(crate::proofs::Bounds::quotients), unfolding(crate::specs::Next::tuned_step))]
 fn tuned_step(choice: Step, prob: u64, step: i64) -> i64
@@ -101,10 +128,11 @@ fn tuned_step(choice: Step, prob: u64, step: i64) -> i64
     ensures below { result ≤ℤ pos (2 ^ 62) }
     ensures cap { choice ≡ Capped → 10 ^ 11 ≤ prob → result ≤ℤ pos 20_000_000_000 }
 {
-    capped(choice, prob, step / i64::from(tuning_divisor(prob)))
+    capped(choice, prob, tuned(prob, step))
 }
 
-/// The step after the cap, where that is chosen, at the probability before the update: apart, since no quotient stands in its proof.
+/// Returns the step after the cap, if it is chosen. `prob` is the probability before the update. It is a function of
+/// its own to keep the quotient out of its proof.
 #[inline(always)]
 fn capped(choice: Step, prob: u64, tuned: i64) -> i64
     requires above { negsuc (2 ^ 62) ≤ℤ tuned }
@@ -120,7 +148,7 @@ fn capped(choice: Step, prob: u64, tuned: i64) -> i64
     }
 }
 
-/// Whether the delay and the old delay are both below half the target.
+/// Returns true if `delay` and `old` are both below half the target.
 #[inline(always)]
 pub(crate) fn are_below_half(params: &RawParams, delay: u64, old: u64) -> bool
     requires delay { delay ≤ MAX_DELAY }
@@ -130,7 +158,7 @@ pub(crate) fn are_below_half(params: &RawParams, delay: u64, old: u64) -> bool
     2 * delay < params.target && 2 * old < params.target
 }
 
-/// Whether the probability decays at these delays.
+/// Returns true if the probability decays at these delays.
 #[inline(always)]
 fn decays(decay: Decay, params: &RawParams, delay: u64, old: u64) -> bool
     requires delay { delay ≤ MAX_DELAY }
@@ -143,21 +171,32 @@ fn decays(decay: Decay, params: &RawParams, delay: u64, old: u64) -> bool
     }
 }
 
-/// The sum of probability and step, after the decay where there is one.
+/// Returns the probability nearest to `value`, in units of `10^-12`.
 #[inline(always)]
-#[tactic(auto, using(crate::proofs::Bounds::quotients), unfolding(crate::specs::Next::decayed))]
-fn decayed(decays: bool, sum: i128) -> i128
-    requires above { negsuc (2 ^ 63) ≤ℤ sum }
-    requires below { sum ≤ℤ pos (2 ^ 63) }
-    ensures value { result ≡ decayed decays sum }
-    ensures shrinks { (n : ℕ) → sum ≤ℤ pos n → result ≤ℤ pos n }
+fn as_probability(value: i64) -> Prob
+    ensures { result ≡ bounded_of value }
 {
-    if decays { sum * 98 / 100 } else { sum }
+    bounded(i128::from(value))
 }
 
-/// The probability after an update with the given delay, from that before it and the old delay (RFC
-/// 8033, sections 4.2 and 5.5), with its rise capped or not, and the decay where both delays are 0. Delays are in nanoseconds, at most
-/// [`MAX_DELAY`].
+/// Returns `sum`, of probability and step, as a probability, after the decay if `decays` is true. The sum is bounded
+/// before the decay too, so that its product fits in 64 bits.
+#[inline(always)]
+#[tactic(auto, unfolding(crate::specs::Next::decayed))]
+fn decayed(decays: bool, sum: i64) -> Prob
+    ensures value { result ≡ bounded_of (decayed decays sum) }
+    ensures shrinks { (n : ℕ) → sum ≤ℤ pos n → result ≤ n }
+{
+    as_probability(if decays {
+        sum.clamp(0, LARGEST_SUM) * 98 / 100
+    } else {
+        sum
+    })
+}
+
+/// Returns the probability after an update with delay `delay`, from the probability `prob` before it and the old delay
+/// `old` (RFC 8033, sections 4.2 and 5.5). Its rise is capped or not by `choice`. It decays if both delays are 0.
+/// Delays are in nanoseconds, at most [`MAX_DELAY`].
 #[inline(always)]
 pub fn next_probability(params: &Params, choice: Step, prob: Prob, delay: u64, old: u64) -> Prob
     requires delay { delay ≤ MAX_DELAY }
@@ -171,7 +210,7 @@ pub fn next_probability(params: &Params, choice: Step, prob: Prob, delay: u64, o
     next(&params.raw(), elements, prob.units(), delay, old)
 }
 
-/// The probability after an update by these elements, over plain numbers that are in their ranges.
+/// Returns the probability after an update with these elements, for plain numbers in their ranges.
 #[inline(always)]
 #[tactic(auto, unfolding(crate::specs::Next::next))]
 pub(crate) fn next(params: &RawParams, elements: Elements, prob: u64, delay: u64, old: u64) -> Prob
@@ -185,5 +224,5 @@ pub(crate) fn next(params: &RawParams, elements: Elements, prob: u64, delay: u64
 {
     let step = tuned_step(elements.step, prob, raw_step(params, delay, old));
     let decays = decays(elements.decay, params, delay, old);
-    bounded(decayed(decays, i128::from(prob) + i128::from(step)))
+    decayed(decays, prob as i64 + step)
 }

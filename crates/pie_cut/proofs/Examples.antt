@@ -33,15 +33,16 @@ at_times from to = within (Some (Unix from)) (Some (Unix to))
 abbrev met : ℕ → ℕ → Option ℕ → Met
 met number moment time = record { number = number; moment = moment; time = time }
 
--- of a text before which 100 events were: event 100 is none of it, 101 is the first wanted, 103 the last, and 104 is past it
+-- a text after 100 events: event 100 is not in it, 101 is the first selected event, 103 the last, and 104 is after
+-- it
 wanted : (is_reached (numbers 1 103) 100 (met 100 7 None) ≡ false) × (is_reached (numbers 1 103) 100 (met 101 7 None) ≡ true)
     × (is_past (numbers 1 103) 100 false (met 103 7 None) ≡ false) × (is_past (numbers 1 103) 100 false (met 104 7 None) ≡ true)
     × (is_reached (moments 8 9) 100 (met 101 7 None) ≡ false) × (is_reached (moments 7 9) 100 (met 101 7 None) ≡ true)
     × (is_past (moments 7 9) 100 false (met 101 9 None) ≡ false) × (is_past (moments 7 9) 100 false (met 101 10 None) ≡ true)
 wanted = (refl, refl, refl, refl, refl, refl, refl, refl)
 
--- times of day are no moments, and may go back: one later than the last ends an excerpt that has begun, and is not the first that is wanted; nor is
--- an event whose time no record tells, which ends it too
+-- wall-clock times are no moments and may decrease. An event later than the last time ends an excerpt that has
+-- begun, and is not the first selected event. An event without a wall-clock time does the same
 wanted-times : (is_reached (at_times 8 9) 0 (met 1 8 (Some 7)) ≡ false) × (is_reached (at_times 8 9) 0 (met 1 0 (Some 8)) ≡ true)
     × (is_reached (at_times 8 9) 0 (met 1 0 (Some 9)) ≡ true) × (is_reached (at_times 8 9) 0 (met 1 0 (Some 10)) ≡ false)
     × (is_reached (at_times 8 9) 0 (met 1 8 None) ≡ false) × (is_reached (within None (Some (Unix 9))) 0 (met 1 8 None) ≡ false)
@@ -57,12 +58,13 @@ segments = (refl, refl, refl)
 
 -- ---- joints
 
--- what a text ends with after so many events
+-- the end of a text after `count` events
 abbrev ended : Opening → CoreView → ℕ → EndView
 ended opening core count = record { opening = opening; core = record core { count = count } }
 
--- after an end at event 100: what begins with exactly that follows; after event 103 three events are missing, after event 99 one is in both; with
--- the same number and another limit of packets it stands on something else
+-- after an end at event 100: a text that begins with exactly this end follows. A text that begins after event 103
+-- misses three events, and one that begins after event 99 repeats one. A text with the same number and another
+-- limit of packets is unlike
 joints : (opening : Opening) (core : CoreView)
     → JoinsBy (ended opening core 100) opening (record core { count = 100 }) Follows
     × JoinsBy (ended opening core 100) opening (record core { count = 103 }) (Gap 100 104)

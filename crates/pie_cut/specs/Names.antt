@@ -1,4 +1,4 @@
--- What definitions, code and proofs of this crate take from below, in one place.
+-- Definitions from lower crates that this crate's definitions, code and proofs use.
 pub use Rattle.std.specs.Io.KnownBytes.{Appends, append_known}
 pub use Rattle.std.specs.List.{cons_option, flat_map}
 pub use Rattle.std.specs.Option.{is_some}

@@ -3,7 +3,7 @@
 use pie_record::TraceFault;
 use thiserror::Error;
 
-/// Whether rows were written, or why not.
+/// The result of writing rows.
 pub(crate) type Written = Result<(), TraceFault>;
 
 /// Why no excerpt was written, or none to its end (this project's own).

@@ -1,11 +1,11 @@
-//! A part of a saved history, as a text of its own: what the controller stood on before the first event that is wanted, the packets that
-//! waited then, and the events up to the last one that is wanted. Times of day go along: the last that was told before, and those between the
-//! events.
+//! Excerpts of a saved history. An excerpt is a text of its own: the controller's registers before the first
+//! selected event, the packets that waited then, and the events up to the last selected one. It also has clock
+//! records: the last one before the first event, and those between the events.
 //!
-//! `cut` reads a history, or a text that goes on from the middle of one, as an audit does, and decides each event again up to the last
-//! that is wanted. `cut_every` cuts all of it into excerpts of so many events each. The definitions that the contracts cite stand in `specs/`:
-//! wherever no reader, writer or memory failed, `cut` answers exactly what `answer_since` says of the text, and has written exactly the
-//! excerpt (`IsCut`); of a text that resumes, what the whole history gives from there on (`CutsEither`).
+//! `cut` reads a history or an excerpt as an audit does, and decides each event again up to the last selected one.
+//! `cut_every` cuts the whole text into segments of equally many events. The definitions that the contracts cite
+//! are in `specs/`. If no reader, writer or memory failed, the result of `cut` is `answer_since` and its output is
+//! the excerpt (`IsCut`). For an excerpt as input both are those of the whole history from there on (`CutsEither`).
 #![tactic(auto)]
 
 mod alike;

@@ -1,4 +1,5 @@
--- The definitions on worked arrivals: each theorem computes. The bounds of what is considered, picked and marked are rows of bindings/c/rows.c.
+-- Examples of the definitions: each theorem computes. bindings/c/rows.c has rows for the bounds of considered, picked
+-- and marked arrivals.
 use Rattle.pie_early.proofs.Names.{Elements, Random, Parts, Ecn, Offered, Enqueue, Drop, a_fifth, accu_after}
 use Rattle.pie_early.proofs.Names.{always_picked, choice_of, is_considered, is_picked, never_picked, arrival, accumulated}
 use Rattle.std.specs.Prelude.{◌≡◌, ℕ, ◌^◌, ◌*◌, ◌-◌, true, [], ◌∷◌, map, refl}
@@ -10,7 +11,7 @@ use Rattle.pie_queue.specs.declared.ecn.Ecn.TheVariants.{NotEct, Ect0}
 use Rattle.pie_early.specs.declared.early.TheConstants.{LOW_PROB, NEVER_PICKED}
 use Rattle.pie_early.specs.Decision.{counted_as}
 
--- the bounds, of the definitions and of the code: a fifth, 0.85 and 8.5
+-- the bounds in the definitions and in the code: 0.2, 0.85 and 8.5
 one : ONE ≡ 10 ^ 12
 one = refl
 
@@ -27,16 +28,16 @@ always = (refl, refl)
 abbrev control : ℕ → ℕ → Parts
 control prob old = record { prob = prob; old_delay = old; burst = 0; last = 0 }
 
--- a packet of so many bytes at a queue of so many, with its random word
+-- a packet of `size` bytes at a queue of `bytes` bytes, with its random word
 abbrev packet : ℕ → ℕ → Ecn → ℕ → Offered
 packet size bytes ecn word = record { bytes = bytes; size = size; ecn = ecn; word = word }
 
--- ---- random picking: by the word alone, whatever was accumulated, and nothing is added
+-- ---- Random picking: the word alone decides, and nothing accumulates
 
 abbrev random : Elements
 random = record usual { picking = Random }
 
--- a tenth of 2^64, rounded up, is the first word that is not below a tenth
+-- 2^64 / 10, rounded up, is the first word that is not below the probability 0.1
 picks_at_random : map (λ word. choice_of random default_profile (control (10 ^ 11) 15000000) (packet 1024 3000 NotEct word) 0)
     (1_844_674_407_370_955_161 ∷ 1_844_674_407_370_955_162 ∷ []) ≡ Drop ∷ Enqueue ∷ []
 unfolding is_considered is_picked
@@ -49,7 +50,7 @@ adds_nothing : (accu_after random default_profile (control (10 ^ 11) 15000000) (
 unfolding accumulated is_considered is_picked
 adds_nothing = (refl, refl, refl, refl)
 
--- ---- scaled: a packet smaller than the mean by its size, rounded down
+-- ---- Scaled sizes: the probability of a packet smaller than the mean is reduced in proportion, rounded down
 
 abbrev scaled : Elements
 scaled = record usual { size = Scaled }
@@ -59,8 +60,8 @@ counts_as : (map (λ size. counted_as Scaled default_profile size (10 ^ 11)) (1 
     × (counted_as Scaled default_profile 64 15 ≡ 0) × (counted_as Unscaled default_profile 64 15 ≡ 15)
 counts_as = (refl, refl, refl)
 
--- half the mean: half the probability joins the sum, and is beside the word; one that comes to nothing clears, as probability 0 does; and
--- whether it is marked goes by the probability itself
+-- at half the mean size, half the probability is added to the sum and compared with the word. An effective probability
+-- of 0 clears the sum, as probability 0 does. The probability itself decides between mark and drop
 scales : (accu_after scaled default_profile (control (10 ^ 11) 15000000) (packet 512 3000 NotEct 0) 5 ≡ 50_000_000_005)
     × (accu_after scaled default_profile (control 15 15000000) (packet 64 3000 NotEct 0) 5 ≡ 0)
     × (map (λ word. choice_of scaled default_profile (control (10 ^ 11) 15000000) (packet 512 3000 NotEct word) 850_000_000_000)

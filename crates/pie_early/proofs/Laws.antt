@@ -1,4 +1,4 @@
--- How the accumulated probability changes when one more event joins the list at its end.
+-- The change of the accumulated probability when an event is added at the end of the list.
 use Rattle.pie_early.proofs.Names.{◌≡◌, ℕ, ◌+◌, ◌*◌, ◌<◌, Bool, true, false, cond, List, [], ◌∷◌, ◌++◌, refl, sym, ap, ◌∙◌, arith, if◌then◌else◌}
 use Rattle.pie_early.proofs.Names.{ne_eqb, Derandomized, Enqueue, EarlyEvent, arrival, accumulated, Shows, ◌≤◌, nat_tests, RawParams, Picking}
 use Rattle.pie_early.proofs.Names.{accumulates, cleared, Parts, Ecn, Choice, always_picked, is_considered, is_picked, picked_choice, accu_at}
@@ -20,14 +20,14 @@ use Rattle.std.proofs.Math.Nat.{div-le_of_le-mul}
 suffix_len-push : {X : Type 0} (p : X → Bool) (xs : List X) (x : X) → suffix_len p (xs ++ x ∷ []) ≡ cond (p x) (1 + suffix_len p xs) 0
 suffix_len-push p xs x = rw reverse-append refl
 
--- nothing stands after the last, where it passes
+-- nothing is after the last element that passes, if that is the added one
 pub after_last-push_yes : {X : Type 0} (p : X → Bool) (xs : List X) (x : X) → p x ≡ true → after_last p (xs ++ x ∷ []) ≡ []
 after_last-push_yes p xs x e =
     let none : suffix_len (λ y. not (p y)) (xs ++ x ∷ []) ≡ 0 = suffix_len-push (λ y. not (p y)) xs x
     ∙ ap (λ b. cond (not b) (1 + suffix_len (λ y. not (p y)) xs) 0) e in
     drop_all _ (xs ++ x ∷ []) (omega arith)
 
--- .. and else it joins those that stand after the last that does
+-- otherwise the added element is appended to the elements after the last one that passes
 pub after_last-push_no : {X : Type 0} (p : X → Bool) (xs : List X) (x : X) → p x ≡ false → after_last p (xs ++ x ∷ []) ≡ after_last p xs ++ x ∷ []
 after_last-push_no p xs x e =
     let one : suffix_len (λ y. not (p y)) (xs ++ x ∷ []) ≡ 1 + suffix_len (λ y. not (p y)) xs = suffix_len-push (λ y. not (p y)) xs x
@@ -54,8 +54,8 @@ accumulated-push events event e =
     ∙ ap (λ n. sum_by prob_of (filter joins (after_last is_clearing events)) + n)
     (considered_sum event (joins event)))
 
--- after a clearing event and n more arrivals, considered at one probability and queued, it is n
--- times that
+-- after a clearing event and n more queued arrivals, each considered at one probability, the sum is n times this
+-- probability
 pub accumulated-run : (before : List EarlyEvent) (clearing : EarlyEvent) (n prob : ℕ) → is_clearing clearing ≡ true → 0 < prob
     → accumulated (before ++ clearing ∷ replicate n (arrival true prob Derandomized Enqueue)) ≡ n * prob
 accumulated-run before clearing zero prob e some = accumulated-clearing before clearing e ∙ omega arith
@@ -68,19 +68,19 @@ accumulated-run before clearing (suc n) prob e some =
     rw more (accumulated-push (before ++ clearing ∷ replicate n (arrival true prob Derandomized Enqueue)) (arrival true prob Derandomized Enqueue) quiet
     ∙ ap (λ k. k + prob) (accumulated-run before clearing n prob e some) ∙ omega arith)
 
--- what is held after one more event
+-- the accumulated probability after one more event
 abbrev pub accu_next : ℕ → EarlyEvent → ℕ
 accu_next held event = if is_clearing event then 0 else if joins event then held + prob_of event else held
 
-pub shows-next : (events : List EarlyEvent) (held : ℕ) (event : EarlyEvent) → Shows events held → Shows (events ++ event ∷ []) (accu_next held event)
-shows-next events held event shown = by (is_clearing event) refl
+pub represents-next : (events : List EarlyEvent) (held : ℕ) (event : EarlyEvent) → Shows events held → Shows (events ++ event ∷ []) (accu_next held event)
+represents-next events held event shown = by (is_clearing event) refl
   where
     by : (clears : Bool) → is_clearing event ≡ clears
         → (if clears then 0 else if joins event then held + prob_of event else held) ≡ accumulated (events ++ event ∷ [])
     by true is = sym (accumulated-clearing events event is)
     by false is = let sum = accumulated-push events event is in grind (arith, nat_tests)
 
--- ---- What the tests of the decision say in facts
+-- ---- The tests of the decision as facts
 
 picked_facts : (picking : Picking) (params : RawParams) (control : Parts) (prob bytes word accu : ℕ)
     → (is_considered params control bytes && is_picked picking prob (accu + prob) word) ≡ true
@@ -102,12 +102,12 @@ unfolding is_considered is_picked
 picked_from picking params control prob bytes word accu p =
     let enough = p.enough in grind (arith, nat_tests, p.no_burst, p.above_two_packets, p.not_calm, p.some_prob, p.by_sum_or_word)
 
--- a picked packet's choice is a pick, and no other
+-- the choice is a pick exactly if the packet is picked
 pub is_pick-at : (params : RawParams) (prob : ℕ) (ecn : Ecn) (b : Bool) → is_pick (cond b (picked_choice params prob ecn) Enqueue) ≡ b
 is_pick-at params prob ecn b = grind (arith, nat_tests)
 
 module _ (picking : Picking) (params : RawParams) (control : Parts) (prob bytes : ℕ) (ecn : Ecn) (word accu : ℕ) where
-  -- a packet is marked or dropped exactly where it is picked
+  -- a packet is marked or dropped exactly if it is picked
   pub picked : (choice : Choice) → choice ≡ choice_at picking params control prob bytes ecn word accu
       → IsTrue (is_pick choice) ↔ IsPicked picking params control prob bytes word accu
   picked choice e =
@@ -117,22 +117,22 @@ module _ (picking : Picking) (params : RawParams) (control : Parts) (prob bytes 
         λ p. same ∙ picked_from picking params control prob bytes word accu p,
       )
 
--- where probabilities accumulate, the sum grows by that of a considered arrival that isn't picked
+-- if probabilities accumulate, the sum grows by the probability of a considered arrival that is not picked
 pub grown : (picking : Picking) (params : RawParams) (control : Parts) (prob bytes : ℕ) (ecn : Ecn) (word accu after : ℕ) (choice : Choice)
     → picking ≡ Derandomized → is_considered params control bytes ≡ true → 0 < prob → choice ≡ Enqueue
     → choice ≡ choice_at picking params control prob bytes ecn word accu → after ≡ accu_at picking params control prob bytes word accu
     → after ≡ accu + prob
 grown picking params control prob bytes ecn word accu after choice accumulates considered some queued chosen is = grind (arith, nat_tests)
 
--- ---- What an arrival leaves of the accumulated probability, and what early drop shows after it
+-- ---- The accumulated probability after an arrival, and the events that it represents
 
--- it stays below 8.5
+-- the accumulated probability stays below 8.5
 pub accu_below : (picking : Picking) (params : RawParams) (control : Parts) (prob bytes word held : ℕ) → held < always_picked
     → accu_at picking params control prob bytes word held < always_picked
 unfolding is_picked
 accu_below picking params control prob bytes word held h = grind (arith, nat_tests)
 
--- it is what the look-back says of the arrival
+-- the accumulated probability is the look-back's after the arrival
 arrival-is : (picking : Picking) (params : RawParams) (control : Parts) (prob bytes word held : ℕ) (ecn : Ecn)
     → accu_at picking params control prob bytes word held
     ≡ accu_next held (arrival (is_considered params control bytes) prob picking (choice_at picking params control prob bytes ecn word held))
@@ -140,46 +140,46 @@ arrival-is picking params control prob bytes word held ecn =
     rw (is_pick-at params control.prob ecn (is_considered params control bytes && is_picked picking prob (held + prob) word))
     (grind (arith, nat_tests))
 
-pub shows_arrival : (picking : Picking) (params : RawParams) (control : Parts) (prob bytes word held : ℕ) (events : List EarlyEvent) (ecn : Ecn)
+pub represents_arrival : (picking : Picking) (params : RawParams) (control : Parts) (prob bytes word held : ℕ) (events : List EarlyEvent) (ecn : Ecn)
     → Shows events held
     → Shows (events ++ arrival (is_considered params control bytes) prob picking (choice_at picking params control prob bytes ecn word held) ∷ [])
     (accu_at picking params control prob bytes word held)
-shows_arrival picking params control prob bytes word held events ecn shown =
+represents_arrival picking params control prob bytes word held events ecn shown =
     arrival-is picking params control prob bytes word held ecn
-    ∙ shows-next events held (arrival (is_considered params control bytes) prob picking (choice_at picking params control prob bytes ecn word held))
+    ∙ represents-next events held (arrival (is_considered params control bytes) prob picking (choice_at picking params control prob bytes ecn word held))
     shown
 
--- .. and a clear
-pub shows_cleared : (events : List EarlyEvent) (held : ℕ) → held ≡ 0 → Shows (events ++ cleared ∷ []) held
-shows_cleared events held is = is ∙ sym (accumulated-clearing events cleared refl)
+-- the look-back after a clear
+pub represents_cleared : (events : List EarlyEvent) (held : ℕ) → held ≡ 0 → Shows (events ++ cleared ∷ []) held
+represents_cleared events held is = is ∙ sym (accumulated-clearing events cleared refl)
 
--- ---- The cause of a considered arrival is that of its case, and the verdict of a choice that depends on a test
+-- ---- The cause of a considered arrival, and the verdict of a choice that depends on a test
 
 pub chosen-if : (picked : Bool) (choice : Choice) → (if picked then chosen choice else Enqueued) ≡ chosen (if picked then choice else Enqueue)
 chosen-if picked choice = grind (arith, nat_tests)
 
 module _ (elements : Elements) (params : RawParams) (parts : Parts) (offered : Offered) (accu : ℕ) where
-  -- the cause where it is considered
+  -- the cause of a considered arrival
   pub cause-considered : is_considered params parts offered.bytes ≡ true → early_cause elements params parts offered accu
       ≡ considered_cause elements.picking (counted elements params parts offered) accu (fate_of params parts.prob offered.ecn) offered.word
   unfolding early_cause is_considered
   cause-considered e = grind (arith, nat_tests)
 
--- .. where it is picked: by the sum, or by the word
+-- the cause of a picked arrival: the sum, or the word
 pub cause-picked : (picking : Picking) (prob accu : ℕ) (fate : Fate) (word : ℕ) → is_picked picking prob (accu + prob) word ≡ true
     → considered_cause picking prob accu fate word
     ≡ (if accumulates picking && nat_le always_picked (accu + prob) then PickedBySum accu prob fate else PickedByWord accu prob word fate)
 unfolding considered_cause is_picked
 cause-picked picking prob accu fate word picked = grind (arith, nat_tests)
 
--- the place of a picked arrival's cause, by two numbers
+-- the position of a picked arrival's cause, as two numbers
 pub place-picked : (by_sum : Bool) (accu prob word : ℕ) (fate : Fate) (first behind : ℕ) → first ≡ (if by_sum then 8 else 11)
     → (place_of_cause (name_of (PickedBySum accu prob fate)) ≡ 8 + behind)
     × (place_of_cause (name_of (PickedByWord accu prob word fate)) ≡ 11 + behind)
     → first + behind ≡ place_of_cause (name_of (if by_sum then PickedBySum accu prob fate else PickedByWord accu prob word fate))
 place-picked by_sum accu prob word fate first behind is places = grind (arith, nat_tests)
 
--- ---- What a scaled probability is at most
+-- ---- Bounds of a scaled probability
 
 -- a part of a whole is at most the whole
 pub scaled_below : (prob size whole : ℕ) → size < whole → prob * size / whole ≤ prob

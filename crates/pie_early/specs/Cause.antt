@@ -1,5 +1,6 @@
--- What decides an arrival that the queue has room for: the first case of the rules that holds, with the numbers that it compares (RFC 8033,
--- sections 4.1, 4.4, 5.1 and 5.4; the comparison by a random word of 64 bits is this project's own).
+-- The cause of the decision on an arrival that fits into the queue: the first case of the rules that holds, with the
+-- numbers that it compares (RFC 8033, sections 4.1, 4.4, 5.1 and 5.4; the comparison with a random word of 64 bits is
+-- this project's own).
 use Rattle.std.specs.Prelude.{ℕ, ◌+◌, ◌*◌, ◌==◌, not, ◌&&◌, nat_lt, nat_le, if◌then◌else◌}
 use Rattle.pie_params.specs.declared.raw.RawParams.{RawParams}
 use Rattle.pie_params.specs.declared.elements.Elements.{Elements}
@@ -16,15 +17,16 @@ use Rattle.pie_event.specs.declared.cause.Fate.TheVariants.{Marked, NotCapable, 
 use Rattle.pie_early.specs.declared.decision.Offered.{Offered}
 use Rattle.pie_early.specs.Decision.{a_fifth, always_picked, counted, is_below, never_picked}
 
--- why a picked packet is marked or dropped
+-- the reason why a picked packet is marked or dropped
 abbrev pub fate_of : RawParams → ℕ → Ecn → Fate
 fate_of params prob ecn =
     if not (is_capable ecn) then NotCapable
     else if nat_lt prob params.mark_ecnth then Marked params.mark_ecnth
     else NotBelow params.mark_ecnth
 
--- what decides an arrival that is considered, where the probability counts as this one: nothing can pick at probability 0; where
--- probabilities accumulate, the accumulated one with this one is below 0.85, or at least 8.5; and else the random word decides
+-- the cause of the decision on a considered arrival, at this effective probability. At probability 0 nothing is picked.
+-- If probabilities accumulate and the sum with this one is below 0.85 or at least 8.5, the sum decides. Otherwise the
+-- random word decides
 unfoldable pub considered_cause : Picking → ℕ → ℕ → Fate → ℕ → Cause
 considered_cause picking prob accu fate word =
     if prob == 0 then NoProbability
@@ -33,7 +35,8 @@ considered_cause picking prob accu fate word =
     else if is_below word prob then PickedByWord accu prob word fate
     else WordNotBelow accu prob word
 
--- what decides an arrival that the queue has room for: three cases in which it is not considered, and then those in which it is
+-- the cause of the decision on an arrival that fits into the queue: three cases that are not considered, then the
+-- considered ones
 unfoldable pub early_cause : Elements → RawParams → Parts → Offered → ℕ → Cause
 early_cause elements params parts offered accu =
     if nat_lt 0 parts.burst then BurstAllowed parts.burst

@@ -1,5 +1,6 @@
--- Which arrivals early drop considers, what the probability counts as for each, which of these it picks, and what becomes of a picked
--- packet (RFC 8033, sections 4.1, 5.1 and 5.4; the comparison by a random word of 64 bits is this project's own).
+-- Decisions of early drop: the considered arrivals, the effective probability of each, the picked arrivals, and the
+-- choice for a picked packet (RFC 8033, sections 4.1, 5.1 and 5.4; the comparison with a random word of 64 bits is this
+-- project's own).
 use Rattle.std.specs.Prelude.{◌≡◌, ℕ, ◌+◌, ◌*◌, ◌/◌, ◌^◌, ◌<◌, ◌≤◌, ◌⊎◌, Bool, true, false, not, ◌&&◌, ◌||◌, ◌==◌, nat_lt, nat_le, if◌then◌else◌}
 use Rattle.pie_fixed.specs.Fixed.{Picks}
 use Rattle.pie_params.specs.declared.raw.RawParams.{RawParams}
@@ -18,7 +19,7 @@ use Rattle.pie_early.specs.declared.early.Choice.TheVariants.{Enqueue, Mark, Dro
 use Rattle.pie_event.specs.declared.verdict.Verdict.{Verdict}
 use Rattle.pie_event.specs.declared.verdict.Verdict.TheVariants.{Enqueued, Marked, DroppedEarly}
 
--- a fifth, 0.85 and 8.5, in units of 10^-12
+-- 0.2, 0.85 and 8.5, in units of 10^-12
 abbrev pub a_fifth : ℕ
 a_fifth = 200_000_000_000
 
@@ -28,62 +29,62 @@ never_picked = 850_000_000_000
 abbrev pub always_picked : ℕ
 always_picked = 8_500_000_000_000
 
--- an arrival is considered: no burst is allowed, the queue holds more than two packets of the mean
--- size, and not both is the old delay below half the target and the probability below a fifth
+-- true if an arrival is considered: the burst allowance is 0, the queue holds more than two packets of the mean size,
+-- and the old delay is at least half the target or the probability at least 0.2
 unfoldable pub is_considered : RawParams → Parts → ℕ → Bool
 is_considered params control bytes =
     (control.burst == 0) && nat_lt (2 * params.mean_pkt) bytes
     && not (nat_lt (2 * control.old_delay) params.target && nat_lt control.prob a_fifth)
 
--- what a probability counts as for a packet of this size: where sizes are scaled, for a packet smaller than the mean in proportion to
--- its size, rounded down
+-- the effective probability for a packet of this size: if sizes are scaled and the packet is smaller than the mean, in
+-- proportion to its size, rounded down
 abbrev pub counted_as : Size → RawParams → ℕ → ℕ → ℕ
 counted_as Unscaled params size prob = prob
 counted_as Scaled params size prob = if nat_lt size params.mean_pkt then prob * size / params.mean_pkt else prob
 
--- the random word, as a fraction of 2^64, is below this probability
+-- true if the random word, as a fraction of 2^64, is below this probability
 abbrev pub is_below : ℕ → ℕ → Bool
 is_below word prob = nat_lt (word * 10 ^ 12) (prob * 2 ^ 64)
 
--- a considered arrival is picked, at this probability, the sum of the accumulated probability and
--- this one, and a random word: not at probability 0; where probabilities accumulate, not while the
--- sum is below 0.85, and always once it is at least 8.5; and else by the random word
+-- true if a considered arrival is picked, from its probability, the sum of that and the accumulated probability, and a
+-- random word. At probability 0 it is not picked. If probabilities accumulate, it is not picked while the sum is below
+-- 0.85 and always picked if the sum is at least 8.5. Otherwise the random word decides
 unfoldable pub is_picked : Picking → ℕ → ℕ → ℕ → Bool
 is_picked Derandomized prob sum word =
     not (prob == 0) && nat_le never_picked sum && (nat_le always_picked sum || is_below word prob)
 is_picked Random prob sum word = not (prob == 0) && is_below word prob
 
--- the accumulated probability with this one
+-- the accumulated probability including this one
 abbrev pub joined : Picking → ℕ → ℕ → ℕ
 joined Derandomized accu prob = accu + prob
 joined Random accu prob = accu
 
--- a picked packet is marked, if its endpoints understand a mark and the probability is below the
--- parameter's, and else it is dropped
+-- the choice for a picked packet: marked if its endpoints understand a mark and the probability is below the
+-- parameter's, otherwise dropped
 abbrev pub picked_choice : RawParams → ℕ → Ecn → Choice
 picked_choice params prob ecn = if is_capable ecn && nat_lt prob params.mark_ecnth then Mark else Drop
 
--- what becomes of an arrival that the queue has room for, where the probability counts as this one; a picked packet is marked or
--- dropped by the probability itself
+-- the choice for an arrival that fits into the queue, at the effective probability `prob`. Whether a picked packet is
+-- marked depends on the probability itself
 abbrev pub choice_at : Picking → RawParams → Parts → ℕ → ℕ → Ecn → ℕ → ℕ → Choice
 choice_at picking params control prob bytes ecn word accu =
     if is_considered params control bytes && is_picked picking prob (accu + prob) word
     then picked_choice params control.prob ecn
     else Enqueue
 
--- the accumulated probability after such an arrival: as it was where it isn't considered, 0 where it
--- is considered at probability 0 or picked, and else grown by the probability
+-- the accumulated probability after such an arrival: unchanged if it is not considered; 0 if it is considered at
+-- probability 0 or picked; otherwise it grows by the probability
 abbrev pub accu_at : Picking → RawParams → Parts → ℕ → ℕ → ℕ → ℕ → ℕ
 accu_at picking params control prob bytes word accu =
     if not (is_considered params control bytes) then accu
     else if (prob == 0) || is_picked picking prob (accu + prob) word then 0
     else joined picking accu prob
 
--- what the probability counts as for this arrival
+-- the effective probability for this arrival
 abbrev pub counted : Elements → RawParams → Parts → Offered → ℕ
 counted elements params control offered = counted_as elements.size params offered.size control.prob
 
--- what becomes of this arrival, and the accumulated probability after it
+-- the choice for this arrival, and the accumulated probability after it
 abbrev pub choice_of : Elements → RawParams → Parts → Offered → ℕ → Choice
 choice_of elements params control offered accu =
     choice_at elements.picking params control (counted elements params control offered) offered.bytes offered.ecn offered.word accu
@@ -92,7 +93,7 @@ abbrev pub accu_after : Elements → RawParams → Parts → Offered → ℕ →
 accu_after elements params control offered accu =
     accu_at elements.picking params control (counted elements params control offered) offered.bytes offered.word accu
 
--- the same in facts: the arrival is considered and picked, where the probability counts as this one
+-- the conditions for a pick as facts: the arrival is considered and picked, at the effective probability `prob`
 pub record IsPicked (picking : Picking) (params : RawParams) (control : Parts) (prob bytes word accu : ℕ) : Type 0 where
   pub no_burst : control.burst ≡ 0
   pub above_two_packets : 2 * params.mean_pkt < bytes
@@ -101,13 +102,13 @@ pub record IsPicked (picking : Picking) (params : RawParams) (control : Parts) (
   pub enough : accumulates picking ≡ true → never_picked ≤ accu + prob
   pub by_sum_or_word : ((accumulates picking ≡ true) × (always_picked ≤ accu + prob)) ⊎ Picks prob word
 
--- whether a choice is that of a picked packet
+-- true for the choice of a picked packet
 abbrev pub is_pick : Choice → Bool
 is_pick Enqueue = false
 is_pick Mark = true
 is_pick Drop = true
 
--- a choice as the verdict on an arrival
+-- the verdict on an arrival with this choice
 abbrev pub chosen : Choice → Verdict
 chosen Enqueue = Enqueued
 chosen Mark = Marked

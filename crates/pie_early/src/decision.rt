@@ -16,34 +16,34 @@ use pie_fixed::{ALWAYS_PICKED, picks};
 use pie_params::{Elements, Picking, RawParams, Size};
 use pie_queue::Ecn;
 
-/// An arriving packet that the queue has room for, and the bytes that it meets there.
+/// An arriving packet that fits into the queue, and the bytes in the queue before it.
 #[derive(Clone, Copy)]
 pub struct Offered {
     /// The bytes in the queue, without the packet.
     pub bytes: u64,
     /// The packet's size, in bytes.
     pub size: u32,
-    /// Its ECN field.
+    /// The packet's ECN field.
     pub ecn: Ecn,
-    /// A random word, every `u64` as likely as any other.
+    /// A random word, uniformly distributed over `u64`.
     pub word: u64,
 }
 
-/// What becomes of an arriving packet, and the accumulated probability after it.
+/// The choice for an arriving packet, and the accumulated probability after it.
 #[derive(Clone, Copy)]
 pub struct Decision {
-    /// What becomes of the packet.
+    /// The choice.
     pub choice: Choice,
     /// The accumulated probability, in units of `10^-12`.
     pub accu: u64,
-    /// The place of what decided it, in the order of the decision: that of the name of its [`cause`].
+    /// The position of the cause in the order of the decision: that of the name of its [`cause`].
     pub place: usize,
 }
 
-/// Decides by plain numbers, whether they are in their ranges or not, as [`Early::consider`](crate::Early::consider) does by
-/// checked ones: `accu` is the accumulated probability before it (RFC 8033, sections 4.1, 5.1 and 5.4).
+/// Decides on plain numbers, which may be out of range, as [`Early::consider`](crate::Early::consider) does on checked
+/// ones. `accu` is the accumulated probability before the arrival (RFC 8033, sections 4.1, 5.1 and 5.4).
 ///
-/// No numbers make a sum or a product overflow, so the answer is the rule's for all of them.
+/// No sum or product overflows, so the result follows the rule for all numbers.
 #[inline(always)]
 #[tactic(auto, using(std::proofs::lemmas::Bool::Decides::nat_tests), unfolding(crate::specs::Decision::is_considered, crate::specs::Decision::is_picked, crate::specs::Cause::early_cause, crate::specs::Cause::considered_cause))]
 pub fn decide(
@@ -91,7 +91,7 @@ pub fn decide(
     }
 }
 
-/// The place of why an arrival isn't considered.
+/// Returns the position of the reason why an arrival is not considered.
 #[inline(always)]
 #[tactic(auto, using(std::proofs::lemmas::Bool::Decides::nat_tests), unfolding(crate::specs::Decision::is_considered, crate::specs::Cause::early_cause))]
 fn unconsidered_place(params: &RawParams, control: &RawControl, bytes: u64) -> usize
@@ -110,7 +110,7 @@ fn unconsidered_place(params: &RawParams, control: &RawControl, bytes: u64) -> u
     name.place()
 }
 
-/// The place of why a considered arrival isn't picked, at a probability that isn't 0.
+/// Returns the position of the reason why a considered arrival is not picked, at a probability above 0.
 #[inline(always)]
 fn unpicked_place(picking: Picking, prob: u64, accu: u64) -> usize
     ensures { result ≡ (if accumulates picking && nat_lt (accu + prob) never_picked then 7 else 14) }
@@ -122,7 +122,7 @@ fn unpicked_place(picking: Picking, prob: u64, accu: u64) -> usize
     name.place()
 }
 
-/// The place of what picks an arrival, were it marked: by the sum, or by the word.
+/// Returns the position of the cause that picks an arrival if the packet is marked: by the sum, or by the word.
 #[inline(always)]
 fn picked_place(picking: Picking, prob: u64, accu: u64) -> usize
     ensures { result ≡ (if accumulates picking && nat_le always_picked (accu + prob) then 8 else 11) }
@@ -135,8 +135,8 @@ fn picked_place(picking: Picking, prob: u64, accu: u64) -> usize
     name.place()
 }
 
-/// How far behind that place is that of what becomes of the picked packet. A number, since the name of each fate cost all arrivals five
-/// instructions.
+/// Returns the offset of a picked packet's fate from that position. It is a number because an enum of fates cost all
+/// arrivals five instructions.
 #[inline(always)]
 fn fate_place(params: &RawParams, prob: u64, ecn: Ecn) -> usize
     ensures place { (accu counted word : ℕ) → let fate = fate_of params.now prob ecn in
@@ -154,7 +154,7 @@ fn fate_place(params: &RawParams, prob: u64, ecn: Ecn) -> usize
     }
 }
 
-/// Whether an arrival is considered (RFC 8033, section 4.1).
+/// Returns true if an arrival is considered (RFC 8033, section 4.1).
 #[inline(always)]
 #[tactic(auto, using(std::proofs::lemmas::Bool::Decides::nat_tests), unfolding(crate::specs::Decision::is_considered))]
 fn is_considered(params: &RawParams, control: &RawControl, bytes: u64) -> bool
@@ -165,7 +165,8 @@ fn is_considered(params: &RawParams, control: &RawControl, bytes: u64) -> bool
         && (control.old_delay >= half(params.target) || control.prob >= LOW_PROB)
 }
 
-/// Half of a number, rounded up: what is below it is below that number when doubled, and nothing here overflows.
+/// Returns half of `number`, rounded up, without overflow. A number is below the result if its double is below
+/// `number`.
 #[inline(always)]
 fn half(number: u64) -> u64
     ensures at_least { number ≤ 2 * result }
@@ -174,8 +175,9 @@ fn half(number: u64) -> u64
     number - number / 2
 }
 
-/// What a probability, in units of `10^-12`, counts as for a packet of so many bytes: where sizes are scaled, for one smaller than
-/// `mean_pkt` in proportion to its size, rounded down (this project's own; Linux's `bytemode` where `mean_pkt` is the link's MTU).
+/// Returns the effective value of the probability `prob`, in units of `10^-12`, for a packet of `size` bytes. If sizes
+/// are scaled and the packet is smaller than `mean_pkt`, it is reduced in proportion to the size and rounded down (this
+/// project's own; Linux's `bytemode` if `mean_pkt` is the link's MTU).
 #[inline(always)]
 fn counted_as(sizes: Size, params: &RawParams, size: u32, prob: u64) -> u64
     ensures value { result ≡ counted_as sizes params.now size prob }
@@ -187,7 +189,7 @@ fn counted_as(sizes: Size, params: &RawParams, size: u32, prob: u64) -> u64
     }
 }
 
-/// The same where sizes are scaled.
+/// Returns the effective value of the probability if sizes are scaled.
 #[inline(never)]
 #[tactic(auto, using(std::proofs::lemmas::Bool::Decides::nat_tests, crate::proofs::Laws::scaled_below))]
 fn scaled(params: &RawParams, size: u32, prob: u64) -> u64
@@ -201,8 +203,9 @@ fn scaled(params: &RawParams, size: u32, prob: u64) -> u64
     }
 }
 
-/// Whether a considered arrival is picked, at a probability which isn't 0: by the sum, which it joins, and the word (RFC 8033, section
-/// 5.4), or by the word alone (section 4.1). A sum that no `u64` holds is above 8.5.
+/// Returns true if a considered arrival is picked, at a probability above 0. With accumulation the sum with `prob` and
+/// the word decide (RFC 8033, section 5.4), otherwise the word alone (section 4.1). A sum that exceeds `u64` is above
+/// 8.5.
 #[inline(always)]
 #[tactic(auto, using(std::proofs::lemmas::Bool::Decides::nat_tests), unfolding(crate::specs::Decision::is_picked))]
 fn is_picked(picking: Picking, prob: u64, accu: u64, word: u64) -> bool
@@ -220,7 +223,7 @@ fn is_picked(picking: Picking, prob: u64, accu: u64, word: u64) -> bool
     }
 }
 
-/// Whether a random word picks a packet at a probability.
+/// Returns true if the random word `word` picks a packet at the probability `prob`.
 #[inline(always)]
 fn is_below(word: u64, prob: u64) -> bool
     ensures { result ≡ is_below word prob }
@@ -228,7 +231,7 @@ fn is_below(word: u64, prob: u64) -> bool
     picks(prob, word)
 }
 
-/// What becomes of a picked packet (RFC 8033, section 5.1).
+/// Returns the choice for a picked packet (RFC 8033, section 5.1).
 #[inline(always)]
 fn picked_choice(params: &RawParams, prob: u64, ecn: Ecn) -> Choice
     ensures { result ≡ picked_choice params.now prob ecn }
@@ -240,9 +243,10 @@ fn picked_choice(params: &RawParams, prob: u64, ecn: Ecn) -> Choice
     }
 }
 
-/// What decides an arrival, by the same numbers as [`decide`]: the first case of the rules that holds, with the numbers that it compared.
-/// Its verdict is that choice, and its name has that place. It stands beside `decide`, and not within it: a verdict that was read off the
-/// cause cost a considered arrival five instructions more, of 59.
+/// Returns the cause of the decision on an arrival, from the numbers that [`decide`] uses: the first case of the rules
+/// that holds, with the numbers that it compared. Its verdict is that of `decide`, and its name has the position that
+/// `decide` returns. `decide` does not call it: to derive the verdict from the cause cost a considered arrival 5
+/// instructions more, of 59.
 #[tactic(auto, using(std::proofs::lemmas::Bool::Decides::nat_tests), unfolding(crate::specs::Decision::is_considered, crate::specs::Cause::early_cause))]
 pub fn cause(
     params: &RawParams,
@@ -262,7 +266,7 @@ pub fn cause(
     considered_cause(elements.picking, prob, accu, fate, offered.word)
 }
 
-/// Why an arrival isn't considered.
+/// Returns the reason why an arrival is not considered.
 #[tactic(auto, using(std::proofs::lemmas::Bool::Decides::nat_tests), unfolding(crate::specs::Decision::is_considered, crate::specs::Cause::early_cause))]
 fn unconsidered_cause(params: &RawParams, control: &RawControl, offered: Offered) -> Cause
     requires { is_considered params.now control.now offered.bytes ≡ false }
@@ -287,7 +291,7 @@ fn unconsidered_cause(params: &RawParams, control: &RawControl, offered: Offered
     }
 }
 
-/// Why a picked packet is marked or dropped (RFC 8033, section 5.1).
+/// Returns the reason why a picked packet is marked or dropped (RFC 8033, section 5.1).
 fn fate_of(params: &RawParams, prob: u64, ecn: Ecn) -> Fate
     ensures fate { result ≡ fate_of params.now prob ecn }
     ensures verdict { verdict_on_picked result ≡ chosen (picked_choice params.now prob ecn) }
@@ -302,7 +306,8 @@ fn fate_of(params: &RawParams, prob: u64, ecn: Ecn) -> Fate
     }
 }
 
-/// What decides an arrival that is considered, where the probability counts as this one. A sum that no `u64` holds is above 8.5.
+/// Returns the cause of the decision on a considered arrival, at the effective probability `prob`. A sum that exceeds
+/// `u64` is above 8.5.
 #[tactic(auto, using(std::proofs::lemmas::Bool::Decides::nat_tests), unfolding(crate::specs::Cause::considered_cause, crate::specs::Decision::is_picked))]
 fn considered_cause(picking: Picking, prob: u64, accu: u64, fate: Fate, word: u64) -> Cause
     ensures cause { result ≡ considered_cause picking prob accu fate word }

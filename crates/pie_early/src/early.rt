@@ -11,30 +11,28 @@ use pie_fixed::Accu;
 use pie_params::{Elements, Params};
 use std::marker::Model;
 
-/// A fifth, in units of `10^-12`: below it a packet is let through while the old delay is below half
-/// the target (RFC 8033, section 4.1).
+/// The probability 0.2, in units of `10^-12`. Below it a packet is queued while the old delay is below half the target
+/// (RFC 8033, section 4.1).
 pub const LOW_PROB: u64 = 200_000_000_000;
 
-/// The accumulated probability 0.85, in units of `10^-12`, below which no packet is picked (RFC
-/// 8033, section 5.4).
+/// The accumulated probability 0.85, in units of `10^-12`. Below it no packet is picked (RFC 8033, section 5.4).
 pub const NEVER_PICKED: u64 = 850_000_000_000;
 
-/// What becomes of an arriving packet that the queue has room for.
+/// The choice for an arriving packet that fits into the queue.
 #[derive(Clone, Copy, PartialEq, Eq)]
 pub enum Choice {
-    /// It is queued as it is.
+    /// The packet is queued unchanged.
     Enqueue,
-    /// It is queued, marked as having met congestion (RFC 8033, section 5.1).
+    /// The packet is queued and marked with congestion experienced (RFC 8033, section 5.1).
     Mark,
-    /// It is dropped.
+    /// The packet is dropped.
     Drop,
 }
 
-/// The accumulated probability, by which picked packets come neither too close together nor too far
-/// apart (RFC 8033, section 5.4).
+/// The accumulated probability, which spaces the picked packets neither too close together nor too far apart (RFC 8033,
+/// section 5.4).
 ///
-/// Contracts see it as its number of units of `10^-12`. They speak of the list of arrivals and
-/// clears that it was shown.
+/// Contracts see its number of units of `10^-12`, and compare it with the list of arrivals and clears.
 #[derive(Clone, Copy)]
 pub struct Early {
     accu: u64,
@@ -54,7 +52,7 @@ impl Model for Early {
 }
 
 impl Early {
-    /// Early drop before any arrival, with nothing accumulated.
+    /// Makes early drop before any arrival, with the accumulated probability 0.
     #[tactic(auto, unfolding(crate::specs::History::accumulated))]
     pub fn opened() -> Self
         ensures value { result ≡ 0 }
@@ -63,22 +61,26 @@ impl Early {
         Early { accu: 0 }
     }
 
-    /// Decides on an arriving packet that is no tail drop (RFC 8033, sections 4.1, 5.1 and 5.4; the
-    /// comparison by a random word of 64 bits is this project's own).
+    /// Decides on an arriving packet that is not a tail drop (RFC 8033, sections 4.1, 5.1 and 5.4; the comparison with
+    /// a random word of 64 bits is this project's own).
     ///
-    /// An arrival isn't considered while a burst is allowed, while the queue holds at most two packets
-    /// of the mean size, or while the old delay is below half the target and the probability below a
-    /// fifth; it is then queued, and the accumulated probability stays as it is. A considered arrival
-    /// at probability 0 clears the accumulated probability and is queued. A considered arrival at a
-    /// probability above 0 adds that probability to the accumulated one. While the sum is below 0.85 the
-    /// packet is queued, from 8.5 on it is picked, and between the two it is picked where the random
-    /// word lies below the probability. A picked packet is marked where its endpoints understand a mark
-    /// and the probability is below `mark_ecnth`, and dropped otherwise; either clears the accumulated
-    /// probability.
+    /// An arrival is not considered in three cases: the burst allowance is above 0; the queue holds at most two packets
+    /// of the mean size; the old delay is below half the target and the probability below 0.2. It is then queued, and
+    /// the accumulated probability is unchanged.
     ///
-    /// Where picking is random, a considered arrival at a probability above 0 is picked exactly where the word lies below it, and
-    /// nothing accumulates. Where sizes are scaled, the probability counts as its part for a packet smaller than `mean_pkt`: in the
-    /// sum, beside the word, and where it is asked whether it is 0.
+    /// A considered arrival is decided by its probability:
+    ///
+    /// - At probability 0 the accumulated probability becomes 0 and the packet is queued.
+    /// - Otherwise the probability is added to the accumulated one. Below 0.85 the packet is queued. From 8.5 on it is
+    ///   picked. Between the two it is picked if the random word is below the probability.
+    ///
+    /// A picked packet is marked if its endpoints understand a mark and the probability is below `mark_ecnth`.
+    /// Otherwise it is dropped. In both cases the accumulated probability becomes 0.
+    ///
+    /// If picking is random, a considered arrival at a probability above 0 is picked exactly if the word is below the
+    /// probability, and nothing accumulates. If sizes are scaled, the effective probability of a packet smaller than
+    /// `mean_pkt` takes the place of the probability in the sum, in the comparison with the word, and in the test for
+    /// 0.
     #[inline(always)]
     pub fn consider(
         &mut self,
@@ -91,10 +93,10 @@ impl Early {
         ensures picked { IsTrue (is_pick result) ↔ IsPicked elements.picking params.now control.now (counted elements params.now control.now offered)
             offered.bytes offered.word self.old }
 
-        // told from the accumulated probability before it, whichever arrivals that shows
+        // from the accumulated probability before the arrival, for any list of arrivals
         ensures accu { self.new ≡ accu_after elements params.now control.now offered self.old }
 
-        // looking back over all that it was shown
+        // the look-back over all inputs
         ensures look_back { (events : List EarlyEvent) →
             Shows events self.old →
             result ≡ choice_of elements params.now control.now offered (accumulated events) }
@@ -103,8 +105,8 @@ impl Early {
             Shows events self.old →
             Shows (events ++ arrival considered (counted elements params.now control.now offered) elements.picking result ∷ []) self.new }
 
-        // where probabilities accumulate, it grows between two picks by the probability at each
-        // arrival that is considered at a probability above 0
+        // if probabilities accumulate, the accumulated one grows between two picks by the probability at each arrival
+        // that is considered at a probability above 0
         ensures grows { elements.picking ≡ Derandomized →
             IsTrue (is_considered params.now control.now offered.bytes) →
             0 < counted elements params.now control.now offered →
@@ -117,7 +119,7 @@ impl Early {
     }
 
     /// Sets the accumulated probability to 0, as a tail drop and a reset do (RFC 8033, section 5.4).
-    #[tactic(auto, using(crate::proofs::Laws::shows_cleared))]
+    #[tactic(auto, using(crate::proofs::Laws::represents_cleared))]
     pub fn clear(&mut self)
         ensures value { self.new ≡ 0 }
         ensures shows { (events : List EarlyEvent) →
@@ -126,15 +128,15 @@ impl Early {
         self.accu = 0;
     }
 
-    /// The accumulated probability, below 8.5 (RFC 8033, section 5.4).
+    /// Returns the accumulated probability, below 8.5 (RFC 8033, section 5.4).
     pub fn accu(&self) -> Accu
         ensures value { result ≡ self.now }
         ensures bound { result < ALWAYS_PICKED }
         ensures look_back { (events : List EarlyEvent) →
             Shows events self.now → result ≡ accumulated events }
 
-        // after a clearing event and n arrivals, considered at one probability above 0 that
-        // accumulates, and queued, it is n times that
+        // after a clearing event and n queued arrivals, each considered at one probability above 0 that accumulates, it
+        // is n times this probability
         ensures run { (before : List EarlyEvent) (clearing : EarlyEvent) (n prob : ℕ) →
             IsTrue (is_clearing clearing) →
             0 < prob →

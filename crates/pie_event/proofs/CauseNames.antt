@@ -1,4 +1,4 @@
--- Each name stands at its place in the list of all.
+-- The position of each name in the list of all names.
 use Rattle.std.proofs.Common.{◌≡◌, map, refl}
 use Rattle.std.specs.List.{range_with_len}
 use Rattle.pie_event.specs.CauseName.{cause_names, place_of_cause}

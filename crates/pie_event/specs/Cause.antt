@@ -1,4 +1,4 @@
--- The verdict on an arrival, by what decided it.
+-- The verdict on an arrival, from its cause.
 use Rattle.pie_event.specs.declared.cause.Cause.{Cause}
 use Rattle.pie_event.specs.declared.cause.Cause.TheVariants.{NoRoomInBytes, NoRoomInPackets, PickedBySum, PickedByWord}
 use Rattle.pie_event.specs.declared.cause.Fate.{Fate}
@@ -11,7 +11,7 @@ abbrev pub verdict_on_picked : Fate → Verdict
 verdict_on_picked (Marked threshold) = verdict.Marked
 verdict_on_picked _ = verdict.DroppedEarly
 
--- the verdict that a cause gives
+-- the verdict of a cause
 abbrev pub verdict_of : Cause → Verdict
 verdict_of (NoRoomInBytes bytes size limit) = verdict.DroppedBytes
 verdict_of (NoRoomInPackets packets) = verdict.DroppedPackets

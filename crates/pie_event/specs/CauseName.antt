@@ -1,4 +1,4 @@
--- The names of what decides arrivals.
+-- Names of causes.
 use Rattle.std.specs.Prelude.{ℕ, List, [], ◌∷◌, codes}
 use Rattle.pie_event.specs.declared.cause.Cause.{Cause}
 use Rattle.pie_event.specs.declared.cause.Cause.TheVariants as cause
@@ -9,7 +9,7 @@ use Rattle.pie_event.specs.declared.cause_name.CauseName.TheVariants.{NoProbabil
 use Rattle.pie_event.specs.declared.cause_name.CauseName.TheVariants.{PickedBySumNotBelow, PickedByWord, PickedByWordNotCapable}
 use Rattle.pie_event.specs.declared.cause_name.CauseName.TheVariants.{PickedByWordNotBelow, WordNotBelow}
 
--- the name of a cause, that of a picked packet by its fate
+-- the name of a cause; for a picked packet it depends on the fate
 abbrev pub name_of : Cause → CauseName
 name_of (cause.NoRoomInBytes bytes size limit) = NoRoomInBytes
 name_of (cause.NoRoomInPackets packets) = NoRoomInPackets
@@ -34,7 +34,7 @@ cause_names =
     ∷ PickedBySum ∷ PickedBySumNotCapable ∷ PickedBySumNotBelow ∷ PickedByWord ∷ PickedByWordNotCapable ∷ PickedByWordNotBelow
     ∷ WordNotBelow ∷ []
 
--- the place of a name among them
+-- the position of a name in `cause_names`
 abbrev pub place_of_cause : CauseName → ℕ
 place_of_cause NoRoomInBytes = 0
 place_of_cause NoRoomInPackets = 1
@@ -52,7 +52,7 @@ place_of_cause PickedByWordNotCapable = 12
 place_of_cause PickedByWordNotBelow = 13
 place_of_cause WordNotBelow = 14
 
--- the word of a name
+-- the keyword of a name
 unfoldable pub word_of_cause : CauseName → List ℕ
 word_of_cause NoRoomInBytes = codes "no_room_in_bytes"
 word_of_cause NoRoomInPackets = codes "no_room_in_packets"

@@ -1,4 +1,4 @@
--- The types that definitions here speak of, and their cases.
+-- Types that the definitions use, and their cases.
 pub use Rattle.pie_params.specs.declared.{raw.RawParams.RawParams, elements.Elements.Elements}
 pub use Rattle.pie_queue.specs.declared.{packet.Packet.Packet, packet.Waiting.Waiting}
 pub use Rattle.pie_event.specs.declared.{profile.Profile.Profile, verdict.Verdict.Verdict, command.Command.Command, command.Answer.Answer}

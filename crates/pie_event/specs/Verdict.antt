@@ -1,11 +1,11 @@
--- What becomes of an arriving packet, and what its arrival is answered.
+-- The verdict on an arriving packet, and the answer to its arrival.
 use Rattle.std.specs.Prelude.{Bool, true, false}
 use Rattle.pie_event.specs.declared.command.Answer.{Answer}
 use Rattle.pie_event.specs.declared.command.Answer.TheVariants as answer
 use Rattle.pie_event.specs.declared.verdict.Verdict.{Verdict}
 use Rattle.pie_event.specs.declared.verdict.Verdict.TheVariants.{Enqueued, Marked, DroppedEarly, DroppedBytes, DroppedPackets}
 
--- the packet is queued
+-- true if the packet is queued
 abbrev pub is_queued : Verdict → Bool
 is_queued Enqueued = true
 is_queued Marked = true

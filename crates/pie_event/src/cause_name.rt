@@ -1,10 +1,10 @@
-//! The names of what decides arrivals.
+//! Names of causes.
 ghost use Rattle.std.specs.Prelude.{◌≡◌, ◌<◌};
 ghost use Rattle.pie_event.specs.CauseName.{name_of, place_of_cause, word_of_cause};
 
 use crate::{Cause, Fate};
 
-/// What decided an arrival, and what became of it where it was picked: a `Cause` without its numbers, in the order of the decision.
+/// The name of a cause, with the fate of a picked packet: a `Cause` without its numbers, in the order of the decision.
 #[derive(Clone, Copy)]
 pub enum CauseName {
     /// Tail drop: no room in bytes.
@@ -13,34 +13,34 @@ pub enum CauseName {
     NoRoomInPackets,
     /// Queued: the controller is inactive.
     Inactive,
-    /// Queued: a burst is allowed.
+    /// Queued: the burst allowance is not used up.
     BurstAllowed,
-    /// Queued: little delay and a small probability.
+    /// Queued: the old delay is low, and the probability is small.
     LowDelay,
     /// Queued: the queue is short.
     ShortQueue,
     /// Queued: the probability is 0.
     NoProbability,
-    /// Queued: little is accumulated.
+    /// Queued: the accumulated probability is small.
     LittleAccumulated,
     /// Picked by the accumulated probability, and marked.
     PickedBySum,
-    /// Picked so, and dropped: its endpoints do not understand a mark.
+    /// Picked by the accumulated probability, and dropped: the packet's endpoints do not understand a mark.
     PickedBySumNotCapable,
-    /// Picked so, and dropped: the probability is not below `mark_ecnth`.
+    /// Picked by the accumulated probability, and dropped: the probability is at least `mark_ecnth`.
     PickedBySumNotBelow,
     /// Picked by the random word, and marked.
     PickedByWord,
-    /// Picked so, and dropped: its endpoints do not understand a mark.
+    /// Picked by the random word, and dropped: the packet's endpoints do not understand a mark.
     PickedByWordNotCapable,
-    /// Picked so, and dropped: the probability is not below `mark_ecnth`.
+    /// Picked by the random word, and dropped: the probability is at least `mark_ecnth`.
     PickedByWordNotBelow,
     /// Queued: the random word is not below the probability.
     WordNotBelow,
 }
 
 impl CauseName {
-    /// Its word, as in the records of explanations and summaries.
+    /// Returns the keyword of the cause in records of explanations and summaries.
     #[tactic(auto, unfolding(crate::specs::CauseName::word_of_cause))]
     pub fn word(self) -> &'static str
         ensures { result.now ≡ word_of_cause self }
@@ -64,7 +64,7 @@ impl CauseName {
         }
     }
 
-    /// Its place in the order of the decision, 0 to 14.
+    /// Returns the position in the order of the decision, 0 to 14.
     pub fn place(self) -> usize
         ensures place { result ≡ place_of_cause self }
         ensures within { result < 15 }
@@ -74,7 +74,7 @@ impl CauseName {
 }
 
 impl Cause {
-    /// Its name.
+    /// Returns the name of the cause.
     pub fn name(self) -> CauseName
         ensures { result ≡ name_of self }
     {

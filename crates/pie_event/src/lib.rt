@@ -1,8 +1,8 @@
-//! What a controller and a book are asked, what decides an arrival, what they answer, what a book records and tells, and which event set a
-//! probability: the types that rules, controller, books, links and texts share. `pie_aqm` and `pie_book` hand theirs on.
+//! Types that rules, controller, books, links and texts share: commands, answers, causes of decisions, events and
+//! snapshots of a book, and the event that set a probability. `pie_aqm` and `pie_book` re-export their own.
 //!
-//! The definitions in `specs/` say what an event did (`Deed`), which verdict a cause gives (`Cause`), what an arrival is answered (`Verdict`), what a
-//! book may be opened with (`Opening`), and which numbers the types hold (`Ranges`).
+//! The definitions in `specs/` are the effect of an event (`Deed`), the verdict of a cause (`Cause`), the answer to an
+//! arrival (`Verdict`), the permitted openings of a book (`Opening`), and the ranges of the types' numbers (`Ranges`).
 #![tactic(auto)]
 
 pub mod cause;

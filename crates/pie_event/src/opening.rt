@@ -1,4 +1,4 @@
-//! What a book is opened with.
+//! The opening of a book.
 
 ghost use Rattle.std.specs.Prelude.{◌≡◌};
 ghost use Rattle.pie_event.specs.Opening.{are_in_range, are_of_version_two};
@@ -9,14 +9,14 @@ pub use crate::profile::Profile;
 pub use pie_params::Elements;
 use pie_params::Params;
 
-/// The limits of a book (this project's own), not yet looked at.
+/// The limits of a book (this project's own), not yet checked.
 #[derive(Clone, Copy, Debug, PartialEq, Eq)]
 pub struct Limits {
-    /// How many packets the ring holds: 1 to `2^20`.
+    /// The greatest number of packets in the ring: 1 to `2^20`.
     pub packets: u32,
-    /// How many events the tail holds: 1 to 1048576.
+    /// The greatest number of events in the tail: 1 to 1048576.
     pub tail: u32,
-    /// How many events there may be in all: 1 to `2^47`.
+    /// The greatest number of events in all: 1 to `2^47`.
     pub events: u64,
 }
 
@@ -25,10 +25,11 @@ impl Limits {
     pub const MOST_PACKETS: u32 = 1_048_576;
     /// The longest tail, in events.
     pub const LONGEST_TAIL: u32 = 1_048_576;
-    /// The most events: about a month and a half of the smallest frames at 10 Gbit/s, each with its departure.
+    /// The greatest number of events: about a month and a half of the smallest frames at 10 Gbit/s, each with its
+    /// departure.
     pub const MOST_EVENTS: u64 = 1 << 47;
 
-    /// Whether each limit is in its range.
+    /// Returns true if each limit is in its range.
     pub fn are_in_range(self) -> bool
         ensures { result ≡ are_in_range self }
     {
@@ -37,8 +38,8 @@ impl Limits {
             && (1 <= self.events && self.events <= Self::MOST_EVENTS)
     }
 
-    /// Whether a text of version one or two can open with these limits, which are in their ranges: at most 65536 packets, and at
-    /// most `2^40` events.
+    /// Returns true if a text of version one or two can open with these limits: at most 65536 packets and at most
+    /// `2^40` events. The limits are in their ranges.
     pub fn are_of_version_two(self) -> bool
         ensures { result ≡ are_of_version_two self }
     {
@@ -46,27 +47,27 @@ impl Limits {
     }
 }
 
-/// What a full tail does (this project's own).
+/// The behaviour of a full tail (this project's own).
 #[derive(Clone, Copy, Debug, PartialEq, Eq)]
 pub enum Mode {
-    /// A command that would add an event to a full tail is refused: events leave the tail by folds alone.
+    /// A command that would add an event to a full tail is refused. Only folds remove events from the tail.
     Bounded,
-    /// The oldest event of a full tail goes into the checkpoint, and is not handed out.
+    /// The oldest event of a full tail moves into the checkpoint. The caller does not receive it.
     Rolling,
 }
 
-/// What else is chosen at an opening, for as long as the book lasts (this project's own).
+/// Further choices of an opening, fixed for the life of the book (this project's own).
 #[derive(Clone, Copy, Debug, PartialEq, Eq)]
 pub struct Choices {
-    /// What a full tail does.
+    /// The behaviour of a full tail.
     pub mode: Mode,
-    /// When the controller works.
+    /// The times at which the controller is active.
     pub profile: Profile,
-    /// RFC 8033's optional elements (its section 5).
+    /// Optional elements of RFC 8033 (section 5).
     pub elements: Elements,
 }
 
-/// What a book was opened with, kept as it was handed in.
+/// The opening of a book, stored unchanged.
 #[derive(Clone, Copy, Debug, PartialEq, Eq)]
 pub struct Opening {
     /// The opening moment, in nanoseconds: at most `2^60 - 1`.
@@ -75,12 +76,12 @@ pub struct Opening {
     pub limits: Limits,
     /// The parameters.
     pub params: Params,
-    /// What a full tail does, when the controller works, and its optional elements.
+    /// The behaviour of a full tail, the times at which the controller is active, and its optional elements.
     pub choices: Choices,
 }
 
 impl Opening {
-    /// With the usual choices: a bounded tail, profile one, and the usual elements.
+    /// Returns an opening with the default choices: a bounded tail, profile one, and the default elements.
     pub fn usual(limits: Limits, params: Params, moment: u64) -> Opening
         ensures { result ≡ record { moment = moment; limits = limits; params = params; choices = record { mode = Bounded; profile = One; elements = usual } } }
     {

@@ -1,12 +1,13 @@
-//! When a controller works.
+//! The times at which a controller is active.
 
-/// When the controller works (after RFC 8033, section 5.3; what turns it off and on, and what that resets, is this
-/// project's own).
+/// The times at which the controller is active (after RFC 8033, section 5.3; the conditions for switching, and the
+/// state that is reset, are this project's own).
 #[derive(Clone, Copy, Debug, PartialEq, Eq)]
 pub enum Profile {
-    /// It always works.
+    /// Always.
     One,
-    /// It is off at the opening. An arrival after which a third of `limit_bytes` waits turns it on, as a reset does; a calm
-    /// update turns it off. While it is off no packet is marked or dropped early, and updates compute nothing.
+    /// Inactive at the opening. An arrival after which a third of `limit_bytes` is queued activates the controller, and
+    /// so does a reset. A calm update deactivates it. While it is inactive, no packet is marked or dropped early, and
+    /// updates compute nothing.
     Two,
 }

@@ -1,8 +1,8 @@
-//! Why a book was not opened, why a command was not taken, and why nothing was folded.
+//! Refusals of openings, commands and folds.
 
 use thiserror::Error;
 
-/// Why a book was not opened (this project's own). The refusals are looked for in this order.
+/// The reason why a book is not opened (this project's own). The reasons are tested in this order.
 #[derive(Clone, Copy, Debug, PartialEq, Eq, Error)]
 pub enum OpenRefusal {
     /// A limit is out of its range.
@@ -11,15 +11,16 @@ pub enum OpenRefusal {
     /// The opening moment is above `2^60 - 1`.
     #[error("moment out of range")]
     Moment,
-    /// There was no memory for the queue and the tail.
+    /// There is no memory for the queue and the tail.
     #[error("out of memory")]
     Memory,
 }
 
-/// Why a command was not taken (this project's own); the book is as it was. The refusals are looked for in this order.
+/// The reason why a command is refused (this project's own). The book is unchanged. The reasons are tested in this
+/// order.
 #[derive(Clone, Copy, Debug, PartialEq, Eq, Error)]
 pub enum Refusal {
-    /// The moment handed in is above `2^60 - 1`.
+    /// The caller's moment is above `2^60 - 1`.
     #[error("moment out of range")]
     Moment,
     /// The arriving packet's size is outside 1 to 65535 bytes.
@@ -28,32 +29,32 @@ pub enum Refusal {
     /// The update's effective moment is before the due moment.
     #[error("the update is due at {due}")]
     TooSoon {
-        /// The moment of the last update, or of the opening, and `t_update` after it, in nanoseconds.
+        /// The sum of `t_update` and the moment of the last update, or of the opening, in nanoseconds.
         due: u64,
     },
-    /// The book has recorded as many events as its limits allow in all.
+    /// The book has recorded the greatest number of events that its limits allow.
     #[error("no more events")]
     Exhausted,
-    /// The tail of a bounded book holds as many events as its limits allow.
+    /// The tail of a bounded book holds the greatest number of events that its limits allow.
     #[error("the tail is full")]
     HistoryFull,
 }
 
-/// Why nothing was folded (this project's own); the book is as it was. The refusals are looked for in this order.
+/// The reason why a fold is refused (this project's own). The book is unchanged. The reasons are tested in this order.
 #[derive(Clone, Copy, Debug, PartialEq, Eq, Error)]
 pub enum FoldRefusal {
-    /// The tail holds fewer events.
+    /// The tail holds fewer events than requested.
     #[error("the tail holds {held} events")]
     TooMany {
-        /// How many events the tail holds.
+        /// The number of events in the tail.
         held: u64,
     },
-    /// There was no memory for the list of the events that are handed out.
+    /// There is no memory for the list of folded events.
     #[error("out of memory")]
     Memory,
 }
 
-/// The excerpt has less room than a book may need with its limits (this project's own). Nothing was copied.
+/// The excerpt has less room than a book with these limits may need (this project's own). Nothing was copied.
 #[derive(Clone, Copy, Debug, PartialEq, Eq, Error)]
 #[error("the excerpt has too little room")]
 pub struct TooSmall;

@@ -1,6 +1,6 @@
-//! The numbers that a controller holds, by name.
+//! Names of the numbers in a controller's state.
 
-/// A number that a controller holds, or several that are believed together.
+/// A number of a controller's state, or several that are checked together.
 #[derive(Clone, Copy, Debug, PartialEq, Eq)]
 pub enum Register {
     /// The parameters in force: each is in its range.
@@ -19,12 +19,12 @@ pub enum Register {
     Last,
     /// The average of the departure rate: at most `2^60 - 1`.
     Average,
-    /// The moment at which the open cycle of the departure rate began: not after the effective moment.
+    /// The moment at which the open cycle of the departure rate opened: not after the effective moment.
     CycleStart,
-    /// The bytes that it has counted: fewer than `dq_threshold`.
+    /// The bytes that the open cycle has counted: fewer than `dq_threshold`.
     CycleCount,
-    /// What the packet that departed last had waited: at most `2^40`.
+    /// The time that the last departed packet spent in the queue: at most `2^40`.
     Waited,
-    /// Whether the controller works: always in profile one.
+    /// The activity of the controller: always active in profile one.
     Active,
 }

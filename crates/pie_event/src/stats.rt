@@ -1,12 +1,12 @@
 //! The statistics of a book.
 
-/// Counts, sums and greatest values over the whole history (this project's own). Refused commands and folds count in
-/// none of them.
+/// Counts, sums and greatest values over the whole history (this project's own). They do not count refused commands and
+/// folds.
 #[derive(Clone, Copy, Debug, PartialEq, Eq)]
 pub struct Stats {
-    /// Arrivals, whatever their verdict: the sum of the five after it.
+    /// Arrivals with any verdict: the sum of the next five fields.
     pub arrivals: u64,
-    /// Arrivals that were queued as they came.
+    /// Arrivals that were queued unchanged.
     pub enqueued: u64,
     /// Arrivals that were queued and marked.
     pub marked: u64,
@@ -16,9 +16,9 @@ pub struct Stats {
     pub over_bytes: u64,
     /// Arrivals that were dropped by the limit in packets.
     pub over_packets: u64,
-    /// Packets that left.
+    /// Departed packets.
     pub left: u64,
-    /// The sum of their sizes, in bytes.
+    /// The sum of the sizes of the departed packets, in bytes.
     pub left_bytes: u64,
     /// Departures that found no packet.
     pub empty: u64,
@@ -32,7 +32,7 @@ pub struct Stats {
     pub largest_queue: u64,
     /// The greatest delay of an update, in nanoseconds.
     pub largest_delay: u64,
-    /// The time that the packets which left had waited, summed, in nanoseconds: of each the effective moment of its
-    /// departure less that of its arrival.
+    /// The sum of the times that the departed packets spent in the queue, in nanoseconds. The time of a packet is the
+    /// effective moment of its departure less that of its arrival.
     pub waited: u128,
 }

@@ -1,4 +1,4 @@
--- What the files of this folder take from below, in one place.
+-- Definitions from lower crates that the files of this folder use.
 pub use Rattle.std.proofs.Common.{Bool, List, [], add-one, ap, append_assoc, arith, drop, false, if◌then◌else◌, length, map, refl, subst, suc, sym}
 pub use Rattle.std.proofs.Common.{take, true, zero, ℕ, ◌++◌, ◌+◌, ◌-◌, ◌<◌, ◌==◌, ◌^◌, ◌∙◌, ◌∷◌, ◌≡◌, ◌≤◌}
 pub use Rattle.std.proofs.KnownBytes.{Appends-nil, Appends-trans, Keeps-refl, append_known-grown}
@@ -12,7 +12,7 @@ pub use Rattle.pie_excerpt.specs.{All, Appends, BeginsWell, CoreView, Draft, End
 pub use Rattle.pie_excerpt.specs.{None, Ok, Opening, Option, Packet, QueueRefusal, RawCycle, Result, Resume, ResumeFits, ResumeRefusal, ResumingView}
 pub use Rattle.pie_excerpt.specs.{Row, SetterFits, Some, Standing, TraceFault, Waiting, WaitingFits, and_then, append_known, are_plain, are_registers}
 pub use Rattle.pie_excerpt.specs.{begun_at, begun_by, begun_with, checked_opening, choices_of, chosen_row, codes, core_by, core_of, cycle_bytes}
-pub use Rattle.pie_excerpt.specs.{cycle_start, draft_of, ecn_word, end_refusal, ended_by, event_row, excerpt_rows, fields_of, fields_read, first_bad}
+pub use Rattle.pie_excerpt.specs.{cycle_start, draft_of, ecn_word, end_refusal, ended_by, event_row, excerpt_rows, fields_read, first_bad}
 pub use Rattle.pie_excerpt.specs.{flag, held_numbers, is_device, is_kind, is_resumed, measuring, missing, most_u128, most_u64, nat_le, needs_quotes}
 pub use Rattle.pie_excerpt.specs.{number_at, numbers_fault, onto, opened_numbers, opening_row, part_rows, placed_numbers, queue_refusal, queued_after}
 pub use Rattle.pie_excerpt.specs.{queued_by, records_of, resume_of_excerpt, resume_refusal, resume_with, resumed_by, rows_setup, setter_at}

@@ -1,10 +1,9 @@
--- What definitions, code and proofs of this crate take from below, in one place.
+-- Definitions from lower crates that this crate's definitions, code and proofs use.
 pub use Rattle.std.specs.Fmt.{decimal}
 pub use Rattle.std.specs.Io.KnownBytes.{Appends, append_known}
 pub use Rattle.std.specs.Option.{ok_or, option_and_then}
 pub use Rattle.std.specs.Prelude.{All, Bool, Err, IfErr, IfOk, IfSome, List, None, Ok, OnOk, Option, Result, Some, [], codes, false, get_or, length}
 pub use Rattle.std.specs.Prelude.{map, nat_le, option_map, suc, take, true, zero, ℕ, ⊤}
-pub use Rattle.csv.specs.Records.{fields_of}
 unfoldable pub use Rattle.csv.specs.Records.{field_at}
 pub use Rattle.csv.specs.Writing.{needs_quotes}
 pub use Rattle.pie_book.specs.Core.{CoreView, Shows}

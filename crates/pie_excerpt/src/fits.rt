@@ -60,7 +60,7 @@ fn stats_fit(s: Stats)
     let _ = s.waited;
 }
 
-/// What the first record says.
+/// The contents of the first record fit the types of their fields.
 pub fn resume_fits(resume: Resume)
     ensures { ResumeFits resume }
 {

@@ -1,4 +1,4 @@
-//! What is written is read back.
+//! The laws of reading back.
 ghost use Rattle.std.specs.Prelude.{◌≡◌, ◌∷◌, ◌++◌};
 ghost use Rattle.pie_excerpt.specs.{ℕ, All, List, Ok, Option, map, take, true, CommandFits, Event, Opening, waiting_after, Standing, Waiting};
 ghost use Rattle.pie_excerpt.specs.{HasField, Row, records_of, rows_text, BeginsWell, GoesOn, is_resumed, resumed_of, ResumeFits, WaitingFits};
@@ -8,10 +8,10 @@ ghost use Rattle.pie_excerpt.specs.Beginning.{Beginning};
 use pie_book::packets_that_waited_are_taken;
 use pie_record::openings_are_checked;
 
-/// What a core stands on, and each packet that waits, is read back from its record as it was written, each register and statistic with it,
-/// whatever the numbers that their types hold (this project's own).
+/// The law of records. The state of a core, with each register and statistic, and each waiting packet are read back
+/// from their records as they were written, for all numbers of their types (this project's own).
 ///
-/// It does nothing: its contract is the law.
+/// The function does nothing: its contract is the law.
 #[tactic(auto, using(crate::proofs::BackFacts::resume_back, crate::proofs::BackFacts::queued_back))]
 pub fn records_are_read_back()
     ensures resume { (r : Resume) → ResumeFits r → resume_of (resume_row r) ≡ Ok r }
@@ -35,10 +35,11 @@ pub fn beginnings_are_written_again()
     openings_are_checked();
 }
 
-/// A text that begins with what was written of the numbers that stand for a history, and of the packets that waited after it, is one that goes on
-/// after that history, whatever follows (`goes_on`), and its beginning is read back as it was written (`read_back`; this project's own).
+/// The law of preambles. A text begins with the records of registers that represent a history, and of the packets
+/// that waited after it. Then it is an excerpt after that history, whatever follows (`goes_on`), and its preamble
+/// is read back as it was written (`read_back`; this project's own).
 ///
-/// It does nothing: its contract is the law.
+/// The function does nothing: its contract is the law.
 pub fn beginnings_go_on()
     ensures resumes { (opening : Opening) (standing : Standing) (set_by : Option ℕ) (rows : List Row)
         → is_resumed (resume_row (resume_with opening standing set_by) ∷ rows) ≡ true }

@@ -1,7 +1,7 @@
-//! The records with which a text begins that goes on from the middle of a history: what a core stands on, and the packets that wait.
+//! The preamble of an excerpt: the state of a core, and the packets that wait.
 //!
-//! What they mean is pie_book's (`Standing`, `Core::resume`); here they are written (`make_resume`, `put_queued`, and a whole excerpt by
-//! `write_excerpt`) and read (a whole beginning by `begin_resumed`).
+//! pie_book defines their meaning (`Standing`, `Core::resume`). This crate writes them (`make_resume`,
+//! `put_queued`, and a whole excerpt by `write_excerpt`) and reads them (a whole preamble by `begin_resumed`).
 #![tactic(auto)]
 
 pub mod beginning;

@@ -1,21 +1,21 @@
--- Texts that go on from the middle of a history: what they tell, worked out by hand.
+-- Worked examples: excerpts and the event that set the probability before them.
 use Rattle.pie_explain.proofs.Names.{◌≡◌, Bool, true, false, Some, None, refl, no_event, Start, from_opening, setter_told}
 use Rattle.pie_explain.specs.declared.fault.ExplainFault.TheVariants.{Earlier, NoEvent}
 use Rattle.pie_event.specs.declared.setter.Setter.TheVariants.{Event, Opening, Untold}
 use Rattle.pie_event.specs.Setter.{setter_number, setter_from}
 
--- a text of the events from 101 on, which tells what set the probability before them or not
+-- an excerpt of the events from 101 on. If `tells`, it names the event that set the probability before it
 abbrev after_100 : Bool → Start
 after_100 tells = record { events = 100; tells = tells }
 
--- event 97 set the probability, or nothing did: told or not; event 101 is one of the text
+-- event 97 set the probability, or no event did; named or not. Event 101 is in the excerpt
 told : (setter_told (after_100 true) (Event 97) ≡ Event 97) × (setter_told (after_100 true) Opening ≡ Opening)
     × (setter_told (after_100 false) (Event 97) ≡ Untold) × (setter_told (after_100 false) (Event 100) ≡ Untold)
     × (setter_told (after_100 false) Opening ≡ Untold) × (setter_told (after_100 false) (Event 101) ≡ Event 101)
     × (setter_told from_opening Opening ≡ Opening) × (setter_told from_opening (Event 3) ≡ Event 3)
 told = (refl, refl, refl, refl, refl, refl, refl, refl)
 
--- .. by the number in its first record
+-- the event by the number in the first record
 numbers : (setter_from None ≡ Untold) × (setter_from (Some 0) ≡ Opening) × (setter_from (Some 97) ≡ Event 97)
     × (setter_number Untold ≡ None) × (setter_number Opening ≡ None) × (setter_number (Event 97) ≡ Some 97)
 numbers = (refl, refl, refl, refl, refl, refl)

@@ -1,4 +1,4 @@
--- What the files of this folder take from below, in one place.
+-- Definitions from lower crates that the files of this folder use.
 pub use Rattle.std.proofs.Common.{Bool, List, None, Option, Some, [], ap, false, refl, rules, true, ℕ, ◌++◌, ◌+◌, ◌∙◌, ◌∷◌, ◌≡◌}
 pub use Rattle.std.proofs.lemmas.Bool.Decides.{nat_tests}
 pub use Rattle.std.proofs.lemmas.List.{append-nil}

@@ -1,4 +1,4 @@
--- What is written: numbers with zeros before them, records put together from their fields, and reports.
+-- Facts about the output: numbers with leading zeros, records built from their fields, and reports.
 use Rattle.std.proofs.Common.{List, [], ap, append-nil, append_assoc, arith, codes, length, refl, sym, ℕ, ◌++◌, ◌-◌, ◌∙◌, ◌∷◌, ◌≡◌}
 use Rattle.std.specs.Prelude.{false}
 use Rattle.std.specs.Fmt.{char_count, decimal, format_spec, padded_integral}
@@ -20,7 +20,7 @@ padded width n =
 
 -- ==== A record is put together
 
--- fields before the last, which stands at the end of the line
+-- fields before the last one, which ends the line
 pub line-onto : (fields : List (List ℕ)) (last : List ℕ) → line_of (fields ++ last ∷ []) ≡ onto fields (last ++ codes "\n")
 line-onto [] last = refl
 line-onto (f ∷ []) last = append_assoc f (codes ",") (last ++ codes "\n")

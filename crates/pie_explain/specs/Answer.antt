@@ -1,4 +1,4 @@
--- How explaining a history ends: as its audit would, or with nothing to explain.
+-- The result of an explanation: as the audit's, or an error if no event was explained.
 use Rattle.std.specs.Prelude.{◌≡◌, ◌==◌, ◌≤◌, nat_le, ◌&&◌, Ok, if◌then◌else◌}
 use Rattle.pie_explain.specs.Names.{ℕ, nat_lt, List, length, Bool, true, false, Option, Some, None, Result, Err, Appends, TraceFault, Line}
 use Rattle.pie_explain.specs.Names.{Finding, AuditsFrom, AuditorView, count_after, Explained, Setter, Selection, is_whole, Start, Origin}
@@ -14,11 +14,13 @@ use Rattle.pie_explain.specs.declared.which.Which.TheVariants.{Number, Tag, Lost
 use Rattle.pie_explain.specs.Explanations.{explanations_since}
 use Rattle.pie_audit.specs.declared.auditor.Finding.TheVariants as finding
 
--- why an event is not explained that is none of those of a text: so many were before it, and so many are up to its end
+-- the error for an event that is not in the text. `before` is the number of events before the text, and `events`
+-- the number up to its end
 abbrev pub no_event : ℕ → ℕ → ℕ → ExplainFault
 no_event before event events = if nat_lt 0 event && nat_le event before then Earlier event before else NoEvent event events
 
--- the answer where nothing was explained of the events after the first so many, up to this one, of which every moment was asked for or not
+-- the result if no event was explained, by the selection (`whole` if it has no bounds), the number of events before
+-- the text, and the number up to its end
 abbrev pub none_picked : Bool → Which → ℕ → ℕ → Result ℕ ExplainFault
 none_picked true (Number event) before events = Err (no_event before event events)
 none_picked true (Tag tag) before events = Err (NoTag tag)
@@ -28,12 +30,13 @@ none_picked whole Lost before events = Ok 0
 none_picked whole Marked before events = Ok 0
 none_picked whole All before events = Ok 0
 
--- the answer where so many events were before a text, this many of its own were explained, and the audit of the history finds this
+-- the result by the number of events before the text, the number of explained events, and the finding of the audit
 abbrev pub answered : Selection → ℕ → ℕ → Finding → Result ℕ ExplainFault
 answered choice before explained (finding.Differs event) = Err (Differs event)
 answered choice before explained (Clean events) = if explained == 0 then none_picked (is_whole choice) choice.which before events else Ok explained
 
--- the answer to these lines, which come after that origin, and of which a text has those after its beginning, and the fault after them
+-- the result for these lines after `origin` and the fault after them. `start` gives the number of events before the
+-- text
 abbrev pub answer_since : Selection → Start → Origin → List Line → Option TraceFault → Result ℕ ExplainFault
 answer_since choice start origin lines (Some why) = Err (Trace why)
 answer_since choice start origin lines None =
@@ -48,8 +51,8 @@ IsAsAudited audited other = (events : ℕ) × (audited ≡ Ok (Clean events))
 
 -- ---- how far explaining has come
 
--- these lines were looked at, of which a text has those after its beginning, and were shown their chosen events, of which the tale joined what was
--- there before, and which were counted
+-- the state after these lines: the report received the explanations of the chosen events after `start`, their text
+-- was appended to the output, and they were counted
 pub record Explains (start : Start) (origin : Origin) (choice : Selection) (tale : List Explained → List ℕ) (shows : List Explained → Type 0)
     (lines : List Line) (auditor : AuditorView) (set_by : Setter) (explained : ℕ) (before now : Option (List ℕ)) : Type 0 where
   pub follows : Follows start origin lines auditor set_by

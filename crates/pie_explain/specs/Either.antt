@@ -1,4 +1,4 @@
--- What explaining a text answers and writes: a whole history, or one that goes on from the middle of a history.
+-- The result and the output of an explanation of a text: a whole history or an excerpt.
 use Rattle.pie_explain.specs.Names.{ℕ, List, Option, Result, Err, Selection, Explained}
 use Rattle.pie_record.specs.Text.{Row}
 use Rattle.pie_excerpt.specs.Beginning.{is_resumed}
@@ -7,9 +7,10 @@ use Rattle.pie_explain.specs.declared.fault.ExplainFault.{ExplainFault}
 use Rattle.pie_explain.specs.declared.fault.ExplainFault.TheVariants.{Trace}
 use Rattle.pie_explain.specs.Answer.{IsSaid, answer_since}
 
--- the first fault of its beginning is answered; else, of a text that goes on, what its core explains of its lines, whatever numbers the text begins with;
--- and of either kind, whatever history it goes on after, if it tells truly what set the probability: the answer to that history and its explanations, both
--- of the events of the text
+-- the result is the first fault of the preamble. Otherwise, for an excerpt, result and explanations are those of
+-- the excerpt's core for its lines, whatever numbers the preamble has. For both kinds of text they are those of
+-- every history that the text continues, if it names the event that set the probability correctly, restricted to
+-- the events of the text
 abbrev pub ExplainsEither : Selection → (List Explained → List ℕ) → List Row → Result ℕ ExplainFault → Option (List ℕ) → Option (List ℕ) → Type 0
 ExplainsEither choice whole rows result old now =
     TextToldBy (λ why. Err (Trace why)) (answer_since choice) (IsSaid choice whole) (is_resumed rows) rows result old now

@@ -1,4 +1,4 @@
--- What there is to say of an event after a history: the numbers that it met, and what decided it.
+-- The explanation of an event after a history: the numbers before it, and its cause.
 use Rattle.std.specs.Prelude.{ℕ, max, List, Option}
 use Rattle.pie_aqm.specs.Steps.{delay_in}
 use Rattle.pie_audit.specs.Origin.{Origin, at_core, at_opening}
@@ -21,7 +21,8 @@ use Rattle.pie_event.specs.declared.setter.Setter.{Setter}
 abbrev pub moment_of : Opening → List Event → Event → ℕ
 moment_of opening history event = max (effective_moment opening history) (handed_in event.command)
 
--- the event with this number after this history, all numbers being those of before it, where this record tells the time of day
+-- the explanation of the event with this number after this history, with the numbers before it. `clock` is the last
+-- clock record
 unfoldable pub explanation : Opening → List Event → ℕ → Event → Setter → Option Clock → Explanation
 explanation opening history number event set_by clock = record {
   number = number;
@@ -36,7 +37,7 @@ explanation opening history number event set_by clock = record {
   clock = clock;
 }
 
--- .. with what the controller holds after this history, whose last event it is
+-- an explanation with the controller's numbers after this history, which ends with the event
 abbrev pub with_after : Opening → List Event → Explanation → Explained
 with_after opening history told = record {
   told = told;
@@ -50,7 +51,8 @@ with_after opening history told = record {
 abbrev pub moment_met : CoreView → Event → ℕ
 moment_met core event = max core.held.moment (handed_in event.command)
 
--- the event with this number that a core is about to decide, all numbers being the core's, where this record tells the time of day
+-- the explanation of the event with this number that a core is about to decide, with the core's numbers. `clock` is
+-- the last clock record
 unfoldable pub explanation_in : CoreView → ℕ → Event → Setter → Option Clock → Explanation
 explanation_in core number event set_by clock = record {
   number = number;
@@ -65,7 +67,7 @@ explanation_in core number event set_by clock = record {
   clock = clock;
 }
 
--- .. with what a core holds that has decided it
+-- an explanation with the numbers of a core that has decided the event
 abbrev pub with_core : CoreView → Explanation → Explained
 with_core core told = record { told = told; after = registers_of core; delay = delay_in core.held (bytes_of core.waiting) }
 
@@ -81,7 +83,7 @@ abbrev pub explanation_after : Origin → List Event → ℕ → Event → Sette
 explanation_after (at_opening opening) events number event set_by clock = explanation opening events number event set_by clock
 explanation_after (at_core opening core told) events number event set_by clock = explanation_in (core_along core events) number event set_by clock
 
--- .. with what the controller holds after these, whose last it is
+-- an explanation with the controller's numbers after these events, which end with the event
 abbrev pub ended_after : Origin → List Event → Explanation → Explained
 ended_after (at_opening opening) events told = with_after opening events told
 ended_after (at_core opening core set_by) events told = with_core (core_along core events) told

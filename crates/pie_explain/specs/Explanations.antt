@@ -1,4 +1,4 @@
--- What there is to say of the events of a history's lines.
+-- The explanations of the events of a history's lines.
 use Rattle.std.specs.Prelude.{◌+◌, ◌∷◌, ◌++◌, if◌then◌else◌}
 use Rattle.pie_explain.specs.Names.{ℕ, Bool, true, false, List, [], Option, Some, None, option_map, filter_map, Line, Made, latest_clock, events_of}
 use Rattle.pie_explain.specs.Names.{Explained, Explanation, Selection, Setter, picks, setter_told, nat_lt, Start, Origin, count_after, difference_from}
@@ -10,7 +10,7 @@ abbrev pub told_if : Bool → Explanation → Option Explanation
 told_if true told = Some told
 told_if false told = None
 
--- what there is to say of a line after these lines: it tells an event, which has the next number and is chosen
+-- the explanation of a line after these lines, if the line is an event with the next number that is chosen
 abbrev pub told_after : Origin → Selection → List Line → Setter → Line → Option Explanation
 told_after origin choice lines set_by (Made event) =
     told_if (picks choice (count_after origin lines + 1) (moment_after origin (events_of lines) event) (latest_clock lines) event)
@@ -36,7 +36,7 @@ told_at origin choice place =
 unfoldable pub explanations : Origin → Selection → List Line → List Explained
 explanations origin choice lines = filter_map (told_at origin choice) (line_places lines)
 
--- ---- of a text that goes on from the middle of a history: of the events after its beginning
+-- ---- Excerpts: the events after the preamble
 
 -- an explanation, as the text gives it
 abbrev pub as_told : Start → Explained → Explained

@@ -1,4 +1,4 @@
--- What definitions, code and proofs of this crate take from below, in one place.
+-- Definitions from lower crates that this crate's definitions, code and proofs use.
 pub use Rattle.std.specs.Io.KnownBytes.{Appends, append_known}
 pub use Rattle.std.specs.List.{filter_map}
 pub use Rattle.std.specs.Prelude.{Bool, Err, List, None, Option, Result, Some, [], false, length, nat_lt, option_map, true, ℕ}

@@ -1,4 +1,4 @@
--- What is written of explanations.
+-- The output of explanations.
 use Rattle.std.specs.Prelude.{ℕ, List, [], ◌∷◌, ◌++◌, codes, Option, None, if◌then◌else◌}
 use Rattle.std.specs.List.{flat_map}
 use Rattle.pie_explain.specs.declared.form.Form.{Form}
@@ -17,14 +17,14 @@ field_names =
     ∷ codes "bytes_after" ∷ codes "packets_after" ∷ codes "delay_after" ∷ codes "probability_after" ∷ codes "accumulated_probability_after"
     ∷ codes "burst_allowance_after" ∷ codes "active_after" ∷ []
 
--- what stands before the first row: for CSV the header row of these names
+-- the text before the first row: for CSV the header row of these names
 abbrev pub header_of : List (List ℕ) → Form → List ℕ
 header_of names form = if form.csv then line_of (if form.by_wall then names ++ codes "wall" ∷ [] else names) else []
 
 unfoldable pub header : Form → List ℕ
 header form = header_of field_names form
 
--- the record by which moments are told as times of day
+-- the clock record for wall-clock times, if the form has them
 abbrev pub clock_for : Form → Option Clock → Option Clock
 clock_for form told = if form.by_wall then told else None
 
@@ -32,10 +32,10 @@ clock_for form told = if form.by_wall then told else None
 unfoldable pub said_of : Form → Explained → List ℕ
 said_of form told = if form.csv then line_of (record_by form.by_wall told) else words_by (clock_for form told.told.clock) told
 
--- .. of each of these, one after the other
+-- the text of several explanations, one after the other
 unfoldable pub said : Form → List Explained → List ℕ
 said form all = flat_map (said_of form) all
 
--- .. with what stands before the first
+-- the whole report: the text before the first explanation, and the explanations
 abbrev pub pages : Form → List Explained → List ℕ
 pages form all = header form ++ said form all

@@ -75,7 +75,7 @@ abbrev pub active_field : Bool → List ℕ
 active_field true = codes "1"
 active_field false = codes "0"
 
--- the event, when it was handed in, and when it was
+-- the event, the moment of its command, and its effective moment
 abbrev pub head_fields : Explanation → List (List ℕ)
 head_fields told =
     decimal told.number ∷ kind_word told.event.command ∷ decimal told.event.caller ∷ decimal (handed_in told.event.command)
@@ -117,7 +117,7 @@ abbrev pub wall_field : Option ℕ → List ℕ
 wall_field None = []
 wall_field (Some unix) = utc_text unix
 
--- .. with that of the effective moment behind the others, or not
+-- the record, with the wall-clock time of the effective moment as a last field if `by_wall`
 abbrev pub record_by : Bool → Explained → List (List ℕ)
 record_by by_wall all =
     if by_wall then record_of all ++ wall_field (time_of all.told.clock all.told.moment) ∷ [] else record_of all

@@ -8,7 +8,7 @@ use Rattle.pie_units.specs.declared.when.When.{When}
 use Rattle.pie_units.specs.declared.when.When.TheVariants.{Moment, Unix}
 use Rattle.pie_explain.specs.Which.{chooses}
 
--- the time of day at a moment, where a record tells it
+-- the wall-clock time at a moment, by a clock record
 abbrev pub time_of : Option Clock → ℕ → Option ℕ
 time_of None moment = None
 time_of (Some clock) moment = Some (unix_at clock moment)
@@ -20,14 +20,14 @@ is_from (Some (Moment first)) moment time = nat_le first moment
 is_from (Some (Unix first)) moment (Some time) = nat_le first time
 is_from (Some (Unix first)) moment None = false
 
--- .. and not after the last
+-- true if a moment is not after the last bound, or there is no last bound
 abbrev pub is_to : Option When → ℕ → Option ℕ → Bool
 is_to None moment time = true
 is_to (Some (Moment last)) moment time = nat_le moment last
 is_to (Some (Unix last)) moment (Some time) = nat_le time last
 is_to (Some (Unix last)) moment None = false
 
--- the event with this number and this effective moment is explained, where this is the last record before it that tells the time of day
+-- true if the event with this number and effective moment is selected. `clock` is the last clock record before it
 abbrev pub picks : Selection → ℕ → ℕ → Option Clock → Event → Bool
 picks choice number moment clock event = chooses choice.which number event
     && (is_from choice.from moment (time_of clock moment) && is_to choice.to moment (time_of clock moment))

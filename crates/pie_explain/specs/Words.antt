@@ -35,7 +35,7 @@ joined (text ∷ (next ∷ texts)) = text ++ joined (next ∷ texts)
 unfoldable pub millis : ℕ → List ℕ
 millis time = joined (decimal (time / 10 ^ 6) ∷ codes "." ∷ with_zeros 6 (time % 10 ^ 6) ∷ codes " ms (" ∷ decimal time ∷ codes " ns)" ∷ [])
 
--- a moment: its time of day, where a record tells it, and else its time since the trace's clock began
+-- a moment: its wall-clock time with a clock record, otherwise its time since the trace's clock began
 unfoldable pub moment_words : Option Clock → ℕ → List ℕ
 moment_words None moment = millis moment
 moment_words (Some clock) moment = joined (utc_text (unix_at clock moment) ∷ codes " (" ∷ decimal moment ∷ codes " ns)" ∷ [])
@@ -108,13 +108,14 @@ picked_words (fate.Marked threshold) = joined (codes "  marked: its endpoints un
 picked_words fate.NotCapable = codes "  dropped: its endpoints do not understand a mark\n"
 picked_words (fate.NotBelow threshold) = joined (codes "  dropped, not marked: the probability is not below " ∷ per_cent threshold ∷ codes "\n" ∷ [])
 
--- what the probability comes to for a packet whose size scales it; nothing where that is the probability itself
+-- the scaled probability of a packet, or nothing if it is the probability itself
 unfoldable pub scaled_words : ℕ → ℕ → List ℕ
 scaled_words prob counted =
     if counted == prob then []
     else joined (codes "  the probability, " ∷ per_cent prob ∷ codes ", comes to " ∷ per_cent counted ∷ codes " for a packet of this size\n" ∷ [])
 
--- what was accumulated, with what the probability counts as for this arrival, below what that comes to
+-- the accumulated probability with this arrival's share, after the scaled probability, if that is not the
+-- probability itself
 unfoldable pub sum_words : ℕ → ℕ → ℕ → List ℕ
 sum_words prob accu counted =
     joined (scaled_words prob counted ∷ codes "  the accumulated probability, with this one, is " ∷ per_cent (min (accu + counted) (2 ^ 64 - 1)) ∷ [])
@@ -128,7 +129,7 @@ accumulated_words prob accu counted =
 unfoldable pub counted_name : ℕ → ℕ → List ℕ
 counted_name prob counted = if counted == prob then codes "the probability" else codes "what that comes to"
 
--- how the random word compares with what the probability, by this name, counts as
+-- the comparison of the random word with the scaled probability, which has the name `name`
 unfoldable pub compared_words : List ℕ → ℕ → ℕ → List ℕ → List ℕ → List ℕ
 compared_words name word counted outcome compares =
     joined (codes "  " ∷ outcome ∷ codes ": its random word, " ∷ word_text word ∷ codes ", " ∷ compares ∷ codes " " ∷ name ∷ codes ", "
@@ -166,10 +167,11 @@ cause_words shown (ShortQueue bytes mean_pkt) =
 cause_words shown NoProbability = never_words shown
 cause_words shown cause = considered_words shown cause
 
--- ---- how long what decided it goes on, by the laws of docs/GUARANTEES.md
+-- ---- The duration of a cause, by the laws of docs/GUARANTEES.md
 
--- while a burst is allowed: what is left of it is used up by updates after the last one (`bursts_are_let_in_so_long`); while little is accumulated: how
--- many considered packets come to 0.85 (`picks_are_far_apart`)
+-- the duration of a burst allowance: updates after the last one use it up (`bursts_are_let_in_so_long`); the
+-- duration of a low accumulated probability: the number of considered packets whose shares reach 0.85
+-- (`picks_are_far_apart`)
 unfoldable pub lasting_words : Option Clock → ℕ → Cause → List ℕ
 lasting_words clock last (BurstAllowed burst) =
     joined (codes "  with unchanged parameters nothing is marked or dropped early before " ∷ moment_words clock (min (last + burst) (2 ^ 64 - 1))
@@ -179,14 +181,14 @@ lasting_words clock last (LittleAccumulated accu counted) =
     ∷ codes " considered packets in a row is picked\n" ∷ [])
 lasting_words clock last _ = codes ""
 
--- why an event was decided so, and how long that goes on, by what was held before it; nothing of one that is no arrival
+-- the cause of an arrival and its duration, by the numbers before the event; nothing for any other event
 unfoldable pub reason_words : Option Clock → Registers → Option Cause → List ℕ
 reason_words clock before None = codes ""
 reason_words clock before (Some cause) = joined (cause_words before.prob cause ∷ lasting_words clock before.last cause ∷ [])
 
 -- ---- whether the event turned the controller on or off
 
--- .. where it was active before it or not, and is active after it or not
+-- the line for a change of activity, by the activity before and after the event
 unfoldable pub turned_words : Bool → Bool → List ℕ
 turned_words false true = codes "  this event turned the controller on\n"
 turned_words true false = codes "  this event turned the controller off\n"
@@ -195,7 +197,7 @@ turned_words false false = codes ""
 
 -- ---- what the controller held before the event
 
--- the last of so many updates, at this moment
+-- the moment of the last of `updates` updates, unless there was none
 unfoldable pub last_words : Option Clock → ℕ → ℕ → List ℕ
 last_words clock updates last =
     if updates == 0 then codes " no update so far;" else joined (codes " last update at " ∷ moment_words clock last ∷ codes ";" ∷ [])
@@ -214,7 +216,7 @@ before_words clock told =
 
 -- ---- the whole
 
--- .. whose moments are told as times of day, where this record tells them
+-- an explanation in words. With a clock record its moments are wall-clock times
 unfoldable pub words_by : Option Clock → Explained → List ℕ
 words_by clock all =
     joined (deed_words all.told.number all.told.before.active all.told.event.command all.told.event.answer all.told.waited

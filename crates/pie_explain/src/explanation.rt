@@ -1,4 +1,4 @@
-//! What there is to say of one event.
+//! The explanation of one event.
 ghost use Rattle.std.specs.Prelude.{◌≡◌, List};
 ghost use Rattle.pie_event.specs.declared.command.Event.{Event};
 ghost use Rattle.pie_event.specs.declared.opening.Opening.{Opening};
@@ -19,37 +19,37 @@ pub struct Explanation {
     pub number: u64,
     /// The event.
     pub event: Event,
-    /// Its effective moment: the greatest handed in up to it.
+    /// Its effective moment: the greatest moment of all commands up to it.
     pub moment: u64,
-    /// What the controller held before it.
+    /// The controller's numbers before it.
     pub before: Registers,
     /// The queueing delay before it (RFC 8033, section 5.2).
     pub delay: u64,
-    /// What decided it, where it is an arrival.
+    /// The cause, if the event is an arrival.
     pub cause: Option<Cause>,
-    /// How long the packet had waited that left, and 0 for any other event.
+    /// The departed packet's time in the queue, or 0 for any other event.
     pub waited: u64,
     /// The last event before it that set the probability: an update while the controller was active, a reset, or an arrival that turned
     /// it on.
     pub set_by: Setter,
-    /// How many updates there were before it.
+    /// The number of updates before it.
     pub updates: u64,
-    /// The last record before it that tells the time of day.
+    /// The last clock record before it.
     pub clock: Option<Clock>,
 }
 
-/// An explanation, and what the controller held after the event.
+/// An explanation, and the controller's numbers after the event.
 #[derive(Clone, Copy)]
 pub struct Explained {
     /// The event and the numbers that it met.
     pub told: Explanation,
-    /// What the controller held after it.
+    /// The controller's numbers after it.
     pub after: Registers,
     /// The queueing delay after it (RFC 8033, section 5.2).
     pub delay: u64,
 }
 
-/// How long the packet had waited that an event let go, at its effective moment, and 0 for any other event.
+/// Returns the departing packet's time in the queue at the effective moment `now`, or 0 for any other event.
 fn waited(core: &Core, event: &Event, now: u64) -> u64
     ensures { result ≡ wait_of (deed_of event.now) now core.now.waiting }
 {
@@ -79,9 +79,9 @@ pub fn moment_of(core: &Core, event: &Event) -> u64
 impl Explained {
     ghost use Rattle.pie_explain.specs.Explanation.{explanation, explanation_in, with_after, with_core};
 
-    /// What there is to say of an event with this number that a core is about to decide, where `set_by` is what last set the probability, and
-    /// `clock` the last record that tells the time of day; made where it stays: as long as the core has not decided it, what it held before stands
-    /// in the place of what it holds after.
+    /// Explains the event with this number before a core decides it. `set_by` is the event that last set the
+    /// probability, and `clock` the last clock record. The result is built in its final place. Until `end` the
+    /// numbers after the event are those before it.
     #[inline(always)]
     pub(crate) fn begin(
         core: &Core,

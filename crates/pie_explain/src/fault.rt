@@ -15,12 +15,12 @@ pub enum ExplainFault {
         /// The number of the event, counted from 1.
         event: u64,
     },
-    /// The event with this number was before the text, which goes on from the middle of its history.
+    /// The requested event is before the text, which is an excerpt.
     #[error("event {event} is not in this text, which goes on after event {before}")]
     Earlier {
         /// The number that was asked for.
         event: u64,
-        /// How many events were before the text.
+        /// The number of events before the text.
         before: u64,
     },
     /// There is no event with this number.
@@ -28,7 +28,7 @@ pub enum ExplainFault {
     NoEvent {
         /// The number that was asked for.
         event: u64,
-        /// How many events there are, with those before the text.
+        /// The number of events, with those before the text.
         events: u64,
     },
     /// No event is about a packet with this tag.

@@ -1,20 +1,21 @@
-//! How explanations are written.
+//! The form of explanations.
 ghost use Rattle.std.specs.Prelude.{◌≡◌, None, if◌then◌else◌};
 
 use pie_record::Clock;
 
-/// How explanations are written.
+/// The form of explanations.
 #[derive(Clone, Copy)]
 pub struct Form {
     /// As CSV: a header row, and then one record an event; else in words, some lines an event.
     pub csv: bool,
-    /// With moments as times of day, by the last record before the event that tells one. In words they stand in place of moments where one does; a
-    /// record of CSV has that of the effective moment as a last field, empty where none does.
+    /// With wall-clock times, by the last clock record before the event. In words they replace the moments, if
+    /// there is such a record. A CSV record has the wall-clock time of the effective moment as an additional last
+    /// field, which is empty without such a record.
     pub by_wall: bool,
 }
 
 impl Form {
-    /// The record by which moments are told as times of day.
+    /// Returns the clock record for wall-clock times, or `None` if the form has none.
     pub fn clock(self, told: Option<Clock>) -> Option<Clock>
         ensures { result ≡ (if self.by_wall then told else None) }
     {

@@ -1,14 +1,14 @@
-//! How the explanations of an excerpt are those of the whole history.
+//! The law of excerpts: their explanations are those of the whole history.
 ghost use Rattle.std.specs.Prelude.{◌≡◌, ◌++◌, map};
 ghost use Rattle.pie_explain.specs.{List, Option, length, true, false, Event, Opening, Line, Made, TraceFault, Start, from_opening, at_opening};
 ghost use Rattle.pie_explain.specs.{IsAsAudited, answer_since, explanations, as_told, explanations_since};
 ghost use Rattle.pie_explain.specs.Names.{Selection};
 ghost use Rattle.pie_audit.specs.Text.{judged};
 
-/// The law of excerpts. A whole history gives all explanations (`whole`). A text that goes on after some events of a history, and tells what set the
-/// probability before it, gives exactly the
-/// explanations that the whole history gives after those of these events (`rest`). One that doesn't tell it gives the same, but for what set
-/// the probability as long as no event of the text did (`untold`). It does nothing: its contract is the law.
+/// The law of excerpts. A whole history gives all explanations (`whole`). An excerpt that names the event which set
+/// the probability before it gives exactly the explanations of the whole history for its own events (`rest`). An
+/// excerpt that doesn't name it gives these explanations, except that the event is unknown until an event of the
+/// excerpt sets the probability (`untold`). The function does nothing: its contract is the law.
 #[tactic(auto, using(crate::proofs::ExplainFacts::since_opening, crate::proofs::ExplainFacts::rest_said, crate::proofs::ExplainFacts::as_untold))]
 pub fn excerpts_are_explained_as_the_whole()
     ensures whole { (opening : Opening) (choice : Selection) (lines : List Line)
@@ -22,9 +22,10 @@ pub fn excerpts_are_explained_as_the_whole()
         (explanations_since (record { events = length past; tells = true }) (at_opening opening) choice (map Made past ++ lines)) }
 {}
 
-/// What is answered of a text says what its audit finds: its fault, its first difference, or that there is none.
+/// The law of results. The result of an explanation agrees with the audit's finding: the fault, the first
+/// difference, or none.
 ///
-/// It does nothing: its contract is the law.
+/// The function does nothing: its contract is the law.
 #[tactic(auto, using(crate::proofs::ExplainFacts::since_audited))]
 pub fn explaining_is_auditing()
     ensures { (start : Start) (choice : Selection) (opening : Opening) (lines : List Line) (fault : Option TraceFault)

@@ -1,13 +1,15 @@
-//! Why an event of a saved history went as it did: which case of the rules decided it, and on which numbers, as values, in words or as CSV.
+//! Explanations of the events of a saved history: the case of the rules that decided an event and the numbers that
+//! it depended on, as values, in words or as CSV.
 //!
-//! `Explained::begin` answers, over every history that the core shows, exactly the look-back's numbers and the first case of the decision that
-//! holds there; `Explained` adds what the controller held after it; `Selection::picks` says which events are explained. `Report` is what writes
-//! explanations one after another, and `Form` the reports in words and as CSV.
+//! For every history that the core represents, `Explained::begin` returns exactly the numbers of the look-back and
+//! the first case of the decision that applies. `Explained` adds the controller's numbers after the event.
+//! `Selection::picks` selects the events to explain. A `Report` writes explanations one after another, and `Form`
+//! implements the reports in words and as CSV.
 //!
-//! `explain` reads a history as an audit does and decides each event again; it explains the chosen ones from what the core held
-//! before them. The definitions that the contracts cite stand in `specs/`. Wherever no reader, writer or memory failed,
-//! `explain` answers exactly what `answer_since` says, and has written exactly what `IsSaid` has: the record or the words of each chosen
-//! event, in order; and of a text that goes on what the whole history gives from there on (`ExplainsEither`).
+//! `explain` reads a history as an audit does and decides each event again. It explains the chosen events from the
+//! core before them. The definitions that the contracts cite are in `specs/`. If no reader, writer or memory
+//! failed, the result of `explain` is `answer_since` and its output is `IsSaid`: the record or the words of each
+//! chosen event, in order. For an excerpt both are those of the whole history from there on (`ExplainsEither`).
 #![tactic(auto)]
 
 pub mod explainer;

@@ -1,4 +1,4 @@
-//! What is written of the explained events.
+//! The interface of reports about explained events.
 ghost use Rattle.std.specs.Prelude.{◌≡◌, ◌++◌, ◌∷◌, [], ℕ, List, IfOk, OnOk, codes};
 ghost use Rattle.pie_explain.specs.declared.explanation.Explained.{Explained};
 ghost use Rattle.pie_explain.specs.Output.{header_of, said_of};
@@ -14,12 +14,12 @@ use pie_record::Clock;
 use pie_text::Page;
 use std::alloc::AllocError;
 
-/// What is written of the explained events, one after another.
+/// A report about explained events, one after another.
 ///
-/// `so_far all` is the text of these events while more may come, and `whole all` the text where none comes any more. `shows state all` says
-/// that what is kept was shown these events.
+/// `so_far all` is the text of the events `all` if more may follow, and `whole all` the text if none follows.
+/// `shows state all` relates a state to the events that it has received.
 pub trait Report: Drop {
-    /// What is kept from event to event.
+    /// The state of a report between two events.
     type State: Drop;
 
     ghost shows: { Self → Self.State → List Explained → Type 0 };
@@ -28,7 +28,7 @@ pub trait Report: Drop {
 
     ghost whole: { Self → List Explained → List ℕ };
 
-    /// Writes onto a page what stands before the first event.
+    /// Writes the text before the first event onto `page`.
     fn begin(&self, page: &mut Page) -> Result<Self::State, AllocError>
         ensures shown { IfOk result (λ state. shows self.now state []) }
         ensures written { OnOk result (page.new ≡ page.old ++ so_far self.now []) };
@@ -44,7 +44,7 @@ pub trait Report: Drop {
             → OnOk result (shows self.now state.new (all ++ told.now ∷ [])
             × Grows (so_far self.now all) (so_far self.now (all ++ told.now ∷ [])) page.old page.new) };
 
-    /// Writes onto a page what stands behind the last event.
+    /// Writes the text after the last event onto `page`.
     fn end(&self, state: &Self::State, page: &mut Page) -> Result<(), AllocError>
         ensures { (all : List Explained) → shows self.now state.now all
             → OnOk result (Grows (so_far self.now all) (whole self.now all) page.old page.new) };
@@ -58,11 +58,12 @@ fn push_names(page: &mut Page, names: &str, end: &str) -> Written
     page.push(end.as_bytes())
 }
 
-/// Writes what stands before the first row of a report: for CSV the header row of these names, with commas between them.
+/// Writes the text before the first row of a report: for CSV the header row. `names` are the names of its fields,
+/// separated by commas.
 ///
 /// # Errors
 ///
-/// `AllocError` where there is no memory.
+/// Returns `AllocError` if memory is short.
 pub fn push_header(page: &mut Page, names: &str, form: Form) -> Result<(), AllocError>
     ensures { (fields : List (List ℕ)) → line_of fields ≡ names.now ++ codes "\n"
         → line_of (fields ++ codes "wall" ∷ []) ≡ names.now ++ codes ",wall\n" → OnOk result (page.new ≡ page.old ++ header_of fields form) }
@@ -74,11 +75,11 @@ pub fn push_header(page: &mut Page, names: &str, form: Form) -> Result<(), Alloc
     }
 }
 
-/// Writes an explanation in words onto the page, its moments as times of day where this record tells them.
+/// Writes an explanation in words onto `page`. With a `clock` its moments are written as wall-clock times.
 ///
 /// # Errors
 ///
-/// `AllocError` where there is no memory.
+/// Returns `AllocError` if memory is short.
 pub fn push_words(page: &mut Page, clock: Option<Clock>, told: &Explained) -> Result<(), AllocError>
     ensures { OnOk result (page.new ≡ page.old ++ words_by clock told.now) }
 {

@@ -18,7 +18,7 @@ pub struct Selection {
     pub to: Option<When>,
 }
 
-/// The time of day at an effective moment, by the last record before the event that tells it.
+/// Returns the wall-clock time at an effective moment, by the last clock record before the event.
 pub fn time_of(clock: Option<Clock>, moment: u64) -> Option<u64>
     ensures { result ≡ time_of clock moment }
 {
@@ -28,8 +28,8 @@ pub fn time_of(clock: Option<Clock>, moment: u64) -> Option<u64>
     }
 }
 
-/// Whether a moment with this time of day is not before the first that is wanted, if there is one. One that has no time of day is before
-/// each.
+/// Returns true if a moment is not before the first bound, or there is no first bound. `time` is its wall-clock
+/// time. Without a wall-clock time the moment is before every bound in wall-clock time.
 pub fn is_from(first: Option<When>, moment: u64, time: Option<u64>) -> bool
     ensures { result ≡ is_from first moment time }
 {
@@ -41,7 +41,8 @@ pub fn is_from(first: Option<When>, moment: u64, time: Option<u64>) -> bool
     }
 }
 
-/// Whether it is not after the last that is wanted, if there is one. One that has no time of day is after each.
+/// Returns true if a moment is not after the last bound, or there is no last bound. Without a wall-clock time the
+/// moment is after every bound in wall-clock time.
 pub fn is_to(last: Option<When>, moment: u64, time: Option<u64>) -> bool
     ensures { result ≡ is_to last moment time }
 {
@@ -68,8 +69,8 @@ impl Selection {
         }
     }
 
-    /// Whether the event with this number and this effective moment is explained, where this is the last record before it that tells the
-    /// time of day.
+    /// Returns true if the event with this number and effective moment is selected. `clock` is the last clock
+    /// record before it.
     pub(crate) fn picks(self, number: u64, moment: u64, clock: Option<Clock>, event: &Event) -> bool
         ensures { result ≡ picks self number moment clock event.now }
     {
@@ -78,7 +79,7 @@ impl Selection {
             && (is_from(self.from, moment, time) && is_to(self.to, moment, time))
     }
 
-    /// Whether every moment is wanted.
+    /// Returns true if the selection has no bounds.
     pub fn is_whole(self) -> bool
         ensures { result ≡ is_whole self }
     {

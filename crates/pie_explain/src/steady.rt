@@ -43,7 +43,7 @@ impl Steady {
         }
     }
 
-    /// Takes these numbers in place of the earlier ones, and tells whether they are the same.
+    /// Replaces the stored numbers. Returns true if they are unchanged.
     fn take(&mut self, held: &Registers) -> bool
         ensures text { self.new ≡ onto (steady_fields held.now.prob held.now.accu held.now.burst) [] }
         ensures same { result ≡ true → self.new ≡ self.old }

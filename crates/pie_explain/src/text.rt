@@ -14,7 +14,7 @@ use pie_queue::{Ecn, Packet};
 use pie_record::Clock;
 use std::alloc::AllocError;
 
-/// Whether something was written: it is, unless there is no memory.
+/// The result of a write: an error if memory is short.
 pub(crate) type Written = Result<(), AllocError>;
 
 /// An ECN field as RFC 3168 names it.
@@ -29,7 +29,7 @@ fn ecn_name(ecn: Ecn) -> &'static str
     }
 }
 
-/// What became of an arriving packet.
+/// Returns the words for the verdict on an arriving packet.
 fn verdict_text(answer: Answer) -> &'static str
     ensures { result.now ≡ verdict_text answer }
 {
@@ -53,7 +53,7 @@ fn push_packet(page: &mut String, number: u64, packet: Packet) -> Written
     write!(page, "event {number}: packet {tag}, {size} bytes, {ecn}: ")
 }
 
-/// The first line of an event with no packet, and what follows there.
+/// Writes the first line of an event without a packet, with `rest` after the number.
 fn push_event(page: &mut String, number: u64, rest: &str) -> Written
     ensures { OnOk result (string_bytes page.new ≡ string_bytes page.old ++ joined (codes "event " ∷ decimal number ∷ rest.now ∷ [])) }
 {
@@ -135,7 +135,7 @@ fn push_fate(page: &mut String, fate: Fate) -> Written
     }
 }
 
-/// What the probability comes to for a packet whose size scales it; nothing where that is the probability itself.
+/// Writes the scaled probability of a packet, if it is not the probability itself.
 #[tactic(auto, unfolding(crate::specs::Words::scaled_words))]
 fn push_scaled(page: &mut String, prob: u64, counted: u64) -> Written
     ensures { OnOk result (string_bytes page.new ≡ string_bytes page.old ++ scaled_words prob counted) }
@@ -150,7 +150,8 @@ fn push_scaled(page: &mut String, prob: u64, counted: u64) -> Written
     )
 }
 
-/// What was accumulated, with what the probability counts as for this arrival, below what that comes to.
+/// Writes the accumulated probability with this arrival's share, and before it the scaled probability, if it is not
+/// the probability itself.
 #[tactic(auto, unfolding(crate::specs::Words::sum_words))]
 fn push_sum(page: &mut String, prob: u64, accu: u64, counted: u64) -> Written
     ensures { OnOk result (string_bytes page.new ≡ string_bytes page.old ++ sum_words prob accu counted) }
@@ -175,7 +176,7 @@ fn push_accumulated(page: &mut String, prob: u64, accu: u64, counted: u64) -> Wr
     page.push_str("\n")
 }
 
-/// What the random word is compared with.
+/// Returns the name of the number that the random word is compared with.
 #[tactic(auto, unfolding(crate::specs::Words::counted_name))]
 fn counted_name(prob: u64, counted: u64) -> &'static str
     ensures { result.now ≡ counted_name prob counted }
@@ -187,7 +188,7 @@ fn counted_name(prob: u64, counted: u64) -> &'static str
     }
 }
 
-/// Why nothing could pick an arrival: the probability is 0, or comes to it.
+/// Writes the reason why the arrival could not be picked: the probability is 0, or its scaled value is 0.
 #[tactic(auto, unfolding(crate::specs::Words::never_words))]
 fn push_never(page: &mut String, prob: u64) -> Written
     ensures { OnOk result (string_bytes page.new ≡ string_bytes page.old ++ never_words prob) }
@@ -239,7 +240,7 @@ fn push_cause(page: &mut String, shown: u64, cause: Cause) -> Written
     }
 }
 
-/// What was accumulated, and what it is compared with.
+/// Writes the accumulated probability and `against`, the bound that it is compared with.
 fn push_against(page: &mut String, shown: u64, accu: u64, prob: u64, against: &str) -> Written
     ensures { OnOk result (string_bytes page.new ≡ string_bytes page.old ++ joined (sum_words shown accu prob ∷ against.now ∷ [])) }
 {
@@ -247,7 +248,8 @@ fn push_against(page: &mut String, shown: u64, accu: u64, prob: u64, against: &s
     page.push_str(against)
 }
 
-/// What was accumulated, if something was, and how the random word compares with what the probability counts as.
+/// Writes the accumulated probability, unless it is 0, and the comparison of the random word with the scaled
+/// probability.
 #[tactic(auto, unfolding(crate::specs::Words::compared_words))]
 fn push_compared(
     page: &mut String,
@@ -298,7 +300,7 @@ fn push_considered(page: &mut String, shown: u64, cause: Cause) -> Written
     }
 }
 
-/// How long what decided an arrival goes on, where a bound says it, the last update having been at this moment.
+/// Writes how long the cause of an arrival lasts, if a bound is known. `last` is the moment of the last update.
 #[tactic(auto, unfolding(crate::specs::Words::lasting_words))]
 fn push_lasting(page: &mut String, clock: Option<Clock>, last: u64, cause: Cause) -> Written
     ensures { OnOk result (string_bytes page.new ≡ string_bytes page.old ++ lasting_words clock last cause) }
@@ -325,7 +327,7 @@ fn push_lasting(page: &mut String, clock: Option<Clock>, last: u64, cause: Cause
     }
 }
 
-/// Why an event was decided so, at this probability, and how long that goes on; nothing of one that is no arrival.
+/// Writes the cause of an arrival and how long it lasts. For any other event it writes nothing.
 #[tactic(auto, unfolding(crate::specs::Words::reason_words))]
 fn push_reason(
     page: &mut String,
@@ -360,7 +362,7 @@ fn push_setter(page: &mut String, set_by: Setter, before: &Registers) -> Written
     }
 }
 
-/// When the last of so many updates was.
+/// Writes the moment of the last update, unless there was none.
 #[tactic(auto, unfolding(crate::specs::Words::last_words))]
 fn push_last(page: &mut String, clock: Option<Clock>, updates: u64, last: u64) -> Written
     ensures { OnOk result (string_bytes page.new ≡ string_bytes page.old ++ last_words clock updates last) }
@@ -375,7 +377,7 @@ fn push_last(page: &mut String, clock: Option<Clock>, updates: u64, last: u64) -
     write!(page, " last update at {last};")
 }
 
-/// Whether the event turned the controller on or off.
+/// Returns the line that says if the event turned the controller on or off.
 #[tactic(auto, unfolding(crate::specs::Words::turned_words))]
 fn turned_text(was_active: bool, is_active: bool) -> &'static str
     ensures { result.now ≡ turned_words was_active is_active }
@@ -387,7 +389,7 @@ fn turned_text(was_active: bool, is_active: bool) -> &'static str
     }
 }
 
-/// What the controller held before the event.
+/// Writes the controller's numbers before the event.
 #[tactic(auto, unfolding(crate::specs::Words::before_words))]
 fn push_before(page: &mut String, clock: Option<Clock>, told: &Explanation) -> Written
     ensures { OnOk result (string_bytes page.new ≡ string_bytes page.old ++ before_words clock told.now) }
@@ -404,7 +406,7 @@ fn push_before(page: &mut String, clock: Option<Clock>, told: &Explanation) -> W
     write!(page, " burst allowance {burst}\n")
 }
 
-/// Writes an explanation in words, its moments as times of day where this record tells them.
+/// Writes an explanation in words. With a `clock` its moments are written as wall-clock times.
 #[tactic(auto, unfolding(crate::specs::Words::words_by))]
 pub(crate) fn push_text(page: &mut String, clock: Option<Clock>, all: &Explained) -> Written
     ensures { OnOk result (string_bytes page.new ≡ string_bytes page.old ++ words_by clock all.now) }

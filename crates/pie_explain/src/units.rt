@@ -39,7 +39,8 @@ impl Display for Millis {
     }
 }
 
-/// A moment in nanoseconds: its time of day, where a record tells it, and else in milliseconds since the trace's clock began.
+/// A moment in nanoseconds. With a clock record it is written as wall-clock time, otherwise in milliseconds since
+/// the trace's clock began.
 #[derive(Clone, Copy)]
 pub(crate) struct MomentWords {
     pub(crate) clock: Option<Clock>,
@@ -106,9 +107,9 @@ impl Display for Word {
 /// A count as a part of all, in per cent, rounded down; 0 where there are none.
 #[derive(Clone, Copy)]
 pub struct Share {
-    /// How many of them.
+    /// The count.
     pub count: u64,
-    /// How many there are in all.
+    /// The count of all.
     pub all: u64,
 }
 

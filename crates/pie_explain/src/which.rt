@@ -33,7 +33,7 @@ pub(crate) fn packet_of(event: &Event) -> Option<Packet>
     }
 }
 
-/// Whether an event is about a packet with this tag.
+/// Returns true if the event is about a packet with this tag.
 fn has_tag(tag: u64, event: &Event) -> bool
     ensures { result ≡ has_tag tag event.now }
 {
@@ -43,7 +43,7 @@ fn has_tag(tag: u64, event: &Event) -> bool
     }
 }
 
-/// Whether an answer says that a packet was dropped.
+/// Returns true if the packet was dropped.
 fn is_lost(answer: Answer) -> bool
     ensures { result ≡ is_lost answer }
 {
@@ -53,7 +53,7 @@ fn is_lost(answer: Answer) -> bool
     )
 }
 
-/// Whether an answer says that a packet was marked.
+/// Returns true if the packet was marked.
 fn is_marked(answer: Answer) -> bool
     ensures { result ≡ is_marked answer }
 {
@@ -63,7 +63,7 @@ fn is_marked(answer: Answer) -> bool
 impl Which {
     ghost use Rattle.pie_explain.specs.Which.{chooses};
 
-    /// Whether the event with this number is explained.
+    /// Returns true if the event with this number is chosen.
     pub fn chooses(self, number: u64, event: &Event) -> bool
         ensures { result ≡ chooses self number event.now }
     {

@@ -1,11 +1,11 @@
--- The definitions at examples worked out by hand.
+-- Examples of the definitions, worked out by hand.
 use Rattle.std.proofs.Common.{◌≡◌, ℕ, ◌+◌, ◌<◌, ◌^◌, refl, lit<, arith}
 use Rattle.std.specs.Prelude.{pos, negsuc}
 use Rattle.pie_fixed.specs.declared.TheConstants.{ALWAYS_PICKED, MAX_ACCU, MAX_GAIN, MAX_NANOS, ONE}
 use Rattle.pie_fixed.specs.Fixed.{Picks, bounded_of}
 
--- the constants that the clauses name are these numbers: 1, a thousand per second in thousandths, the
--- latest moment, and the accumulated probabilities 8.5 and 9.5
+-- values of the constants that clauses name: the probability 1; 1000 per second in thousandths; the latest moment; the
+-- accumulated probabilities 8.5 and 9.5
 one : ONE ≡ 10 ^ 12
 one = refl
 
@@ -21,7 +21,7 @@ always_picked = refl
 max_accu : MAX_ACCU ≡ 9_500_000_000_000
 max_accu = refl
 
--- at a tenth, a word is picked up to 1844674407370955161
+-- at the probability 0.1 the words up to 1844674407370955161 pick
 picked : Picks 100_000_000_000 1_844_674_407_370_955_161
 picked = lit< tt
 

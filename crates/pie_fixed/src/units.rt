@@ -6,8 +6,8 @@ ghost use Rattle.pie_fixed.specs.Fixed.{bounded_of};
 use crate::{MAX_GAIN, MAX_NANOS, ONE};
 use std::marker::Model;
 
-/// A probability of drop or mark, 0 to [`ONE`], in units of `10^-12` (RFC 8033, section 4.2; the
-/// scale is this project's own).
+/// A probability of a drop or a mark, 0 to [`ONE`], in units of `10^-12` (RFC 8033, section 4.2; the scale is this
+/// project's own).
 #[derive(Clone, Copy, Debug, PartialEq, Eq)]
 pub struct Prob {
     trillionths: u64,
@@ -24,7 +24,7 @@ impl Model for Prob {
 }
 
 impl Prob {
-    /// The probability of that many units of `10^-12`, `None` above [`ONE`].
+    /// Returns the probability of `units` times `10^-12`, or `None` if `units` is above [`ONE`].
     pub fn from_units(units: u64) -> Option<Self>
         ensures { SomeIff result (units ≤ ONE) units }
     {
@@ -35,7 +35,7 @@ impl Prob {
         }
     }
 
-    /// The probability of that many units of `10^-12`, for a number that is known to be at most [`ONE`]: nothing is looked at.
+    /// Returns the probability of `units` times `10^-12` without a check. `units` is at most [`ONE`].
     #[inline(always)]
     pub fn of_units(units: u64) -> Self
         requires { units ≤ ONE }
@@ -44,7 +44,7 @@ impl Prob {
         Prob { trillionths: units }
     }
 
-    /// The number of units of `10^-12`, 0 to [`ONE`].
+    /// Returns the number of units of `10^-12`, 0 to [`ONE`].
     pub fn units(self) -> u64
         ensures value { result ≡ self }
         ensures within { self ≤ ONE }
@@ -53,7 +53,8 @@ impl Prob {
     }
 }
 
-/// The value bounded to 0 to [`ONE`], in units of `10^-12` (RFC 8033, section 4.2).
+/// Returns the probability nearest to `value`, in units of `10^-12`: 0 if `value` is negative, [`ONE`] if it is above
+/// `ONE` (RFC 8033, section 4.2).
 pub fn bounded(value: i128) -> Prob
     ensures { result ≡ bounded_of value }
 {
@@ -68,10 +69,10 @@ pub fn bounded(value: i128) -> Prob
     }
 }
 
-/// A gain of the controller, alpha or beta, in thousandths per second, 0 to 10^6 (RFC 8033, section
-/// 4.2; the scale is this project's own).
+/// A gain of the controller, alpha or beta, 0 to 10^6 thousandths per second (RFC 8033, section 4.2; the scale is this
+/// project's own).
 ///
-/// A gain times a time in nanoseconds is a probability without rounding.
+/// The product of a gain and a time in nanoseconds is a probability without rounding.
 #[derive(Clone, Copy, Debug, PartialEq, Eq)]
 pub struct Gain {
     thousandths: u32,
@@ -88,7 +89,7 @@ impl Model for Gain {
 }
 
 impl Gain {
-    /// The gain of that many thousandths per second, `None` above 10^6.
+    /// Returns the gain of `units` thousandths per second, or `None` if `units` is above 10^6.
     pub fn from_units(units: u64) -> Option<Self>
         ensures { SomeIff result (units ≤ MAX_GAIN) units }
     {
@@ -101,7 +102,7 @@ impl Gain {
         }
     }
 
-    /// The gain of that many thousandths per second, for a number that is known to be at most 10^6: nothing is looked at.
+    /// Returns the gain of `units` thousandths per second without a check. `units` is at most 10^6.
     #[inline(always)]
     pub fn of_units(units: u64) -> Self
         requires { units ≤ MAX_GAIN }
@@ -112,7 +113,7 @@ impl Gain {
         }
     }
 
-    /// The number of thousandths per second, 0 to 10^6.
+    /// Returns the number of thousandths per second, 0 to 10^6.
     pub fn units(self) -> u64
         ensures value { result ≡ self }
         ensures within { self ≤ MAX_GAIN }
@@ -121,8 +122,8 @@ impl Gain {
     }
 }
 
-/// A moment, counted from a start of the caller's choosing, or a time, in whole nanoseconds, 0 to
-/// `2^60 - 1` (this project's own).
+/// A moment, counted from a start of the caller's choice, or a time: 0 to `2^60 - 1` whole nanoseconds (this project's
+/// own).
 #[derive(Clone, Copy, Debug, PartialEq, Eq, PartialOrd, Ord)]
 pub struct Nanos {
     nanos: u64,
@@ -139,7 +140,7 @@ impl Model for Nanos {
 }
 
 impl Nanos {
-    /// That many nanoseconds, `None` above `2^60 - 1`.
+    /// Returns a moment or time of `units` nanoseconds, or `None` if `units` is above `2^60 - 1`.
     pub fn from_units(units: u64) -> Option<Self>
         ensures { SomeIff result (units ≤ MAX_NANOS) units }
     {
@@ -150,7 +151,7 @@ impl Nanos {
         }
     }
 
-    /// That many nanoseconds, for a number that is known to be at most `2^60 - 1`: nothing is looked at.
+    /// Returns a moment or time of `units` nanoseconds without a check. `units` is at most `2^60 - 1`.
     #[inline(always)]
     pub fn of_units(units: u64) -> Self
         requires { units ≤ MAX_NANOS }
@@ -159,7 +160,7 @@ impl Nanos {
         Nanos { nanos: units }
     }
 
-    /// The number of nanoseconds, 0 to `2^60 - 1`.
+    /// Returns the number of nanoseconds, 0 to `2^60 - 1`.
     pub fn units(self) -> u64
         ensures value { result ≡ self }
         ensures within { self ≤ MAX_NANOS }
@@ -185,15 +186,15 @@ impl Model for Accu {
 }
 
 impl Accu {
-    /// No accumulated probability, as after each picked packet.
+    /// Returns the accumulated probability 0, the value after each picked packet.
     pub fn zero() -> Self
         ensures { result ≡ 0 }
     {
         Accu { sum: 0 }
     }
 
-    /// The accumulated probability of that many units of `10^-12`, for a number that is known to be at most 9_500_000_000_000: nothing is
-    /// looked at.
+    /// Returns the accumulated probability of `units` times `10^-12` without a check. `units` is at most
+    /// 9_500_000_000_000.
     #[inline(always)]
     pub fn of_units(units: u64) -> Self
         requires { units ≤ MAX_ACCU }
@@ -202,7 +203,7 @@ impl Accu {
         Accu { sum: units }
     }
 
-    /// The sum with one more probability, for an accumulated probability below 8.5.
+    /// Adds `prob` to an accumulated probability below 8.5.
     pub fn plus(self, prob: Prob) -> Self
         requires { self < ALWAYS_PICKED }
         ensures { result ≡ self + prob }
@@ -212,7 +213,7 @@ impl Accu {
         }
     }
 
-    /// The number of units of `10^-12`, at most 9_500_000_000_000.
+    /// Returns the number of units of `10^-12`, at most 9_500_000_000_000.
     pub fn units(self) -> u64
         ensures value { result ≡ self }
         ensures within { self ≤ MAX_ACCU }

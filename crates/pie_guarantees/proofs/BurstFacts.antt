@@ -1,4 +1,4 @@
--- How the burst allowance goes down from update to update, and how far updates are apart.
+-- The decrease of the burst allowance from update to update, and the distance of updates.
 use Rattle.pie_guarantees.proofs.Names.{◌≡◌, ◌≤◌, ◌+◌, ◌*◌, ℕ, List, [], ◌∷◌, ◌++◌, true, false, sym, cond, arith, subst, max, All}
 use Rattle.pie_guarantees.proofs.Names.{append_assoc, deed, is_update, after_call, Held, Waiting, Command}
 use Rattle.pie_guarantees.proofs.Names.{Update, Answer, Event, Opening, call_of, is_too_soon, held_after}
@@ -23,7 +23,7 @@ pub counted-with : (command : Command) (answer : Answer) (n : ℕ) → n + cond 
 counted-with command answer n = grind (arith, nat_tests)
 
 module _ (burst least most start last : ℕ) where
-  -- after so many updates since a moment: what is left of a burst, the last update's moment, and now
+  -- after n updates since a moment: the remaining burst allowance, the last update's moment, and the present moment
   record Holds (n : ℕ) (h : Held) : Type 0 where
     allows : Allows burst least most h.params
     whole : burst ≤ h.control.burst + n * most
@@ -49,7 +49,7 @@ module _ (burst least most start last : ℕ) where
 -- ---- along a lawful history
 
 module _ (burst least most : ℕ) (opening : Opening) (before between : List Event) where
-  -- so many updates after these events
+  -- n updates after these events
   abbrev HoldsAfter : ℕ → List Event → Type 0
   HoldsAfter n history =
       Holds burst least most (effective_moment opening before) (held_after opening before).control.last n (held_after opening history)

@@ -1,4 +1,4 @@
--- What becomes of every packet.
+-- The verdict of every packet.
 use Rattle.pie_guarantees.proofs.Names.{◌≡◌, ◌≤◌, ◌+◌, ◌*◌, ◌^◌, ℕ, List, [], ◌∷◌, ◌++◌, map, Bool, refl, sym, ap, ◌∙◌, cond, ◌⊎◌}
 use Rattle.pie_guarantees.proofs.Names.{AtEachEvent, BetweenAny, if◌then◌else◌}
 use Rattle.pie_guarantees.proofs.Names.{inl, length, arith, subst, All, Some, Option, sum_by, append-nil, append_assoc, length-map, map-append}
@@ -26,7 +26,7 @@ count-push : (test : Deed → Bool) (before : List Event) (event : Event)
     → count_of test (before ++ event ∷ []) ≡ count_of test before + cond (test (deed_of event)) 1 0
 count-push test before event = sum_by_push (λ (e : Event). cond (test (deed_of e)) 1 0) before event
 
--- what the event did, by what was held before it
+-- the effect of the event, by the state before it
 deed-is : (opening : Opening) (before : List Event) (event : Event) → IsStep opening before event
     → deed_of event ≡ deed event.command (answer_by (held_after opening before) (waiting_after opening before) opening.limits.packets event.command)
 deed-is opening before event step = ap (λ (a : Answer). deed event.command a) step.here.answered

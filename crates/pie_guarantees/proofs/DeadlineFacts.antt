@@ -1,4 +1,4 @@
--- What a delay that lasts makes of the probability and of the burst allowance.
+-- The effect of a lasting delay on the probability and on the burst allowance.
 use Rattle.pie_guarantees.proofs.Names.{◌≡◌, ◌≤◌, ◌<◌, ◌+◌, ◌*◌, ◌-◌, ◌^◌, ℕ, suc, List, [], ◌∷◌, ◌++◌, true, false, refl, sym, ◌∙◌, arith}
 use Rattle.pie_guarantees.proofs.Names.{subst, nat_tests, BetweenAny, AllAlong, IsLawful, RawParams, in-range}
 use Rattle.pie_guarantees.proofs.Names.{deed, deed_of, is_update, is_reset, after_call, call_of, Held, Waiting, Command, Update, Answer, Empty, Event}
@@ -15,7 +15,7 @@ use Rattle.pie_guarantees.proofs.SteadyFacts.{low_none, lows, low_rise, low_tent
 
 -- ---- from call to call
 
--- after so many updates of a delay that lasts, where so much burst allowance was left before them
+-- after n updates of a lasting delay, from this burst allowance
 record Climbs (least burst n : ℕ) (params : RawParams) (h : Held) : Type 0 where
   same : h.params ≡ params
   prob : lows params least n ≤ h.control.prob

@@ -1,4 +1,4 @@
--- What is known of a packet that was marked or dropped early.
+-- Properties of a packet that was marked or dropped early.
 use Rattle.pie_guarantees.proofs.Names.{◌≡◌, ◌≤◌, ◌<◌, ◌+◌, ◌*◌, ◌⊎◌, ℕ, List, ◌∷◌, ◌++◌, true, false, refl, sym, ap, ◌∙◌, arith, nat_tests}
 use Rattle.pie_guarantees.proofs.Names.{is_capable, bytes_of, counted, is_considered, is_picked, picked_choice, Held, chosen, offered, verdict}
 use Rattle.pie_guarantees.proofs.Names.{answer_of, Packet, Waiting, ArrivingPacket, Arrive, Answer, DroppedEarly, Marked, Command}

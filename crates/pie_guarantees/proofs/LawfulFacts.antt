@@ -1,4 +1,5 @@
--- At each place of a lawful history a core stands that shows the events before it, and each event makes of what it holds what its call does.
+-- At each place of a lawful history a core represents the events before it, and each event changes the core as its
+-- call does.
 use Rattle.pie_guarantees.proofs.Names.{◌≡◌, ◌≤◌, ◌<◌, ◌+◌, ℕ, List, [], ◌∷◌, ◌++◌, false, sym, subst, ap, ◌∙◌, arith, ⊤, All, None, length, ◌^◌}
 use Rattle.pie_guarantees.proofs.Names.{AtEachEvent}
 use Rattle.pie_guarantees.proofs.Names.{append-nil, append_assoc, All-head, All-tail, first_bad, deed_of, handed_in, IsTaken, after_call, Held}
@@ -15,7 +16,7 @@ use Rattle.pie_event.specs.Opening as Opens
 
 -- ---- which commands are taken
 
--- a command that is taken: its moment can be handed in, and an update isn't too soon
+-- an accepted command: its moment is in range, and an update is not too soon
 pub record IsFree (opening : Opening) (before : List Event) (command : Command) : Type 0 where
   pub moment : handed_in command < 2 ^ 60
   pub size : has_bad_size command ≡ false
@@ -28,7 +29,7 @@ is_free opening before command e =
 
 -- ---- what a core holds at a place
 
--- a core shows these events, and what it holds is sound
+-- a core represents these events, and its numbers are sound
 pub record Stands (opening : Opening) (history : List Event) : Type 0 where
   pub core : CoreView
   pub shows : Shows opening core history
@@ -58,7 +59,7 @@ stands-next opening before event old here fit =
       sound = Sound_call core.held old.sound (call_in core event.command) (call-taken core event.command handed fit);
     }
 
--- an event of a lawful history: what the events before it leave, and what it makes of that
+-- an event of a lawful history: the state after the events before it, and the state after the event
 pub record IsStep (opening : Opening) (before : List Event) (event : Event) : Type 0 where
   pub here : IsLegalAt opening (place_of before event)
   pub free : IsFree opening before event.command
@@ -70,7 +71,7 @@ pub record IsStep (opening : Opening) (before : List Event) (event : Event) : Ty
   pub same_moment : (held_after opening before).moment ≡ effective_moment opening before
   pub next_moment : (held_after opening (before ++ event ∷ [])).moment ≡ effective_moment opening (before ++ event ∷ [])
 
--- what is so of the answer to a command, and of what is held after it, is so at the step
+-- a property of the answer to a command, and of the state after it, holds at the step
 pub at-step : (opening : Opening) (before : List Event) (event : Event) → IsStep opening before event → (P : Answer → Held → Type 0)
     → P (answer_by (held_after opening before) (waiting_after opening before) opening.limits.packets event.command)
     (after_call (held_after opening before) (call_of (waiting_after opening before) opening.limits.packets event.command))

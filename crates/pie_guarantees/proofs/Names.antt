@@ -1,4 +1,4 @@
--- What the files of this folder take from below, in one place.
+-- Imports of this folder's files from lower crates, in one place.
 pub use Rattle.std.proofs.Common.{All, Bool, List, None, Option, Some, [], ap, arith, cond, drop, false, fold, if◌then◌else◌, inl, inr, length, map}
 pub use Rattle.std.proofs.Common.{max, min, nat_le, nat_lt, refl, subst, suc, sym, true, zero, ℕ, ◌&&◌, ◌*◌, ◌++◌, ◌+◌, ◌-◌, ◌/◌, ◌<◌, ◌==◌, ◌^◌, ◌∙◌}
 pub use Rattle.std.proofs.Common.{◌∷◌, ◌≡◌, ◌≤◌, ◌⊎◌}

@@ -1,4 +1,4 @@
--- How the next probability follows the delay.
+-- The relation of the next probability to the delay.
 use Rattle.pie_guarantees.proofs.Names.{◌≡◌, ◌≤◌, ◌<◌, ◌+◌, ◌*◌, ◌/◌, ◌^◌, ℕ, true, false, arith, ℤ, pos}
 use Rattle.pie_guarantees.proofs.Names.{◌-ℤ◌, ◌*ℤ◌, ◌≤ℤ◌, int_div, nat_tests, clamps, ints, le-div, mul-le}
 use Rattle.pie_guarantees.proofs.Names.{div-mul-le_self, Elements, Step, is_capped, decayed, decays, next, raw_step, tuned_step}

@@ -1,4 +1,4 @@
--- How the probability follows the delay, at each event of a lawful history.
+-- The relation of the probability to the delay, at each event of a lawful history.
 use Rattle.pie_guarantees.proofs.Names.{◌≡◌, ◌≤◌, ◌<◌, ◌+◌, ◌*◌, ◌-◌, ◌^◌, ◌⊎◌, ℕ, zero, suc, List, [], ◌∷◌, ◌++◌, Bool, true, false, refl}
 use Rattle.pie_guarantees.proofs.Names.{BetweenAny, nat_tests}
 use Rattle.pie_guarantees.proofs.Names.{sym, ap, ◌∙◌, cond, if◌then◌else◌, arith, subst, mul-le, le_of_mul-le-mul_right, pow-suc, usual}

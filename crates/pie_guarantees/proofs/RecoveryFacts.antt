@@ -1,4 +1,4 @@
--- How fast the probability falls without delay, from any state.
+-- The decrease of the probability without delay, from any state.
 use Rattle.pie_guarantees.proofs.Names.{◌≡◌, ◌≤◌, ◌<◌, ◌+◌, ◌*◌, ◌-◌, ◌/◌, ◌^◌, ℕ, zero, suc, List, [], ◌∷◌, ◌++◌, true, false, refl, sym, ap, ◌∙◌}
 use Rattle.pie_guarantees.proofs.Names.{arith, subst, min, max, nat_tests, clamps, ints, BetweenAny, AllAlong, IsLawful}
 use Rattle.pie_guarantees.proofs.Names.{Elements, RawParams, decayed, decays, next, tuned_step, raw_step, tuning_divisor, next-hold, in-range}
@@ -29,7 +29,7 @@ fades-to elements params prob some =
 in-row : ℕ → ℕ → ℕ → ℕ → ℕ
 in-row fall most divisor prob = (min prob most - fall / divisor) * 98 / 100
 
--- .. in any row of the table of auto-tuning
+-- the decrease in any row of the table of auto-tuning
 under : ℕ → ℕ → ℕ
 under fall prob =
     max (in-row fall 999_999 2048 prob) (max (in-row fall 9_999_999 512 prob) (max (in-row fall 99_999_999 128 prob)
@@ -120,7 +120,8 @@ next-under elements params fall prob most some far low within =
 
 -- ---- several updates
 
--- the most that the first of so many updates without delay, at any old delay, and then the others leave of any probability
+-- the greatest probability after n updates without delay, the first of which has any old delay, from any
+-- probability
 bound : ℕ → ℕ → ℕ
 bound fall zero = 10 ^ 12
 bound fall (suc zero) = 10 ^ 12
@@ -137,7 +138,7 @@ bound-falls fall m (suc n) =
 
 -- ---- what a controller holds, from call to call
 
--- after so many updates without delay
+-- after n updates without delay
 record Falls (fall n : ℕ) (h : Held) : Type 0 where
   prob : h.control.prob ≤ bound fall n
   old : 1 ≤ n → h.active ≡ true → h.control.old_delay ≡ 0

@@ -1,4 +1,5 @@
--- How the accumulated probability grows, where it starts anew, and how picks share the sum of all that was counted.
+-- The growth of the accumulated probability, its restarts, and the shares of picks in the sum of counted
+-- probabilities.
 use Rattle.pie_guarantees.proofs.Names.{◌≡◌, ◌≤◌, ◌<◌, ◌+◌, ◌*◌, ◌/◌, ◌^◌, ◌&&◌, ◌||◌, ◌==◌, not, ⊤, ℕ, List, [], ◌∷◌, ◌++◌, Bool, true}
 use Rattle.pie_guarantees.proofs.Names.{refl, sym, ap, ◌∙◌, if◌then◌else◌, AtEachEvent, BetweenAny, Packet, append_assoc, sum_by-cons, mul-le}
 use Rattle.pie_guarantees.proofs.Names.{arith, nat_tests, Elements, bytes_of, counted_as, is_considered, div-le_of_le-mul, RawParams}
@@ -155,7 +156,7 @@ module _ (opening : Opening) (before between : List Event) where
       along Balance (λ earlier event. ⊤) opening (λ earlier event left step passed. balance-next spaced earlier event left step) before between later
       lawful (all_along (λ event. ⊤) before between (λ k d within. tt)) (record { at_least = omega arith; at_most = omega arith })
 
--- the sum of what the probability counted as is shared by the picks and the other restarts
+-- the sum of counted probabilities is divided among the picks and the other restarts
 pub shared : (opening : Opening) (before between later : List Event) → IsLawful opening (before ++ between ++ later)
     → opening.choices.elements.picking ≡ Derandomized
     → (picks_in between * 850_000_000_000 + Book.accu_after opening (before ++ between)

@@ -1,4 +1,4 @@
--- How far updates at one delay move the probability, by the table of auto-tuning.
+-- The change of the probability by updates at one delay, by the table of auto-tuning.
 use Rattle.pie_guarantees.proofs.Names.{◌≡◌, ◌≤◌, ◌<◌, ◌+◌, ◌*◌, ◌-◌, ◌/◌, ◌^◌, ℕ, zero, suc, false, refl, ap, ◌∙◌, arith, min, ℤ, pos}
 use Rattle.pie_guarantees.proofs.Names.{◌-ℤ◌, int_div, nat_tests, clamps, ints, le-div, mul-le, div-mul-le_self, lt-mul-div-succ}
 use Rattle.pie_guarantees.proofs.Names.{Elements, Step, decayed, decays, next, raw_step, tuned_step, tuning_divisor}
@@ -76,12 +76,12 @@ rise-grows params delay low high le =
 pub more-times : (n rise : ℕ) → suc n * rise ≡ rise + n * rise
 more-times n rise = grind arith
 
--- so many steps go so far
+-- the distance of n steps
 enough : (far by : ℕ) → 0 < by → far ≤ (far / by + 1) * by
 enough far by some = let rest = lt-mul-div-succ far some in omega (arith, rest)
 
 module _ (params : RawParams) (delay : ℕ) where
-  -- the least that so many updates leave of any probability, if the delay stays as high
+  -- the least probability after n updates, from any probability, if the delay does not fall
   pub lows : ℕ → ℕ
   lows zero = 0
   lows (suc n) = min (10 ^ 12) (lows n + least_rise params delay (lows n))
@@ -116,7 +116,7 @@ module _ (params : RawParams) (delay : ℕ) where
         (let top = divisor-falls 0 low (omega arith) in let first = first-divisor in omega (arith, steep, top, first)) in
         omega (arith, one)
 
-    -- where so many updates have come so far, so many more come further
+    -- if n updates reach this value, more updates reach further
     further : (m low high : ℕ) → high ≤ 10 ^ 12 → low ≤ lows m → high ≤ lows (m + updates_from params delay low high)
     further m low high top there =
         let far = (lows-rise m (updates_from params delay low high)).1 in
@@ -140,7 +140,7 @@ module _ (params : RawParams) (delay : ℕ) where
         omega (arith, tenth, stays)
 
 module _ (elements : Elements) (params : RawParams) (delay : ℕ) where
-  -- after one update, and after so many
+  -- after one update, and after n updates
   abbrev once : ℕ → ℕ
   once prob = next elements params prob delay delay
 
@@ -162,7 +162,7 @@ module _ (elements : Elements) (params : RawParams) (delay : ℕ) where
       let one : suc m + n ≡ suc (m + n) = omega arith in ap (λ (k : ℕ). after k prob) one ∙ after_both m n (once prob)
 
   module _ (some : 0 < params.target) (above : params.target ≤ delay) where
-    -- it never falls, and rises by so much an update at least, and by so much at most
+    -- it never falls; each update increases it by at least the first and at most the second amount
     rises : (n rise most prob : ℕ) → rise ≤ least_rise params delay prob → prob ≤ 10 ^ 12
         → (prob ≤ after n prob) × (min (10 ^ 12) (prob + n * rise) ≤ after n prob)
         × (after n prob ≤ most → after n prob ≤ prob + n * (untuned_rise params delay / tuning_divisor most))
@@ -192,7 +192,8 @@ module _ (elements : Elements) (params : RawParams) (delay : ℕ) where
     rises_at_most n prob most within below = (rises n 0 most prob (omega arith) within).2 below
 
   module _ (below : delay ≤ params.target) where
-    -- it never rises, and falls by so much an update at least, and where it does not decay by so much at most
+    -- it never rises; each update decreases it by at least the first amount, and if it does not decay by at most
+    -- the second
     falls : (n fall least prob : ℕ) → (after n prob ≤ prob)
         × (0 < least → least ≤ after n prob → after n prob + n * (untuned_fall params delay / tuning_divisor least) ≤ prob)
         × (prob ≤ 10 ^ 12 → decays elements.decay params delay delay ≡ false → untuned_fall params delay / tuning_divisor prob ≤ fall

@@ -1,4 +1,4 @@
--- What a text can tell: an opening that is accepted, and parameters that are in their ranges.
+-- The contents of a valid text: an accepted opening, and parameters in their ranges.
 use Rattle.pie_guarantees.proofs.Names.{◌≡◌, ◌^◌, ℕ, List, [], ◌∷◌, subst, ap, All, None, Some, Option, Result, Ok, Err, All-cons, All-head, All-nil}
 use Rattle.pie_guarantees.proofs.Names.{All-tail, first_bad, Command, SetParams, Event, Opening, SetsInRange}
 use Rattle.std.specs.List.{filter_map}

@@ -1,4 +1,4 @@
--- How long a burst is let in (RFC 8033, section 4.4).
+-- The time for which a burst passes (RFC 8033, section 4.4).
 use Rattle.std.specs.Prelude.{◌≡◌, ◌≤◌, ℕ, List, All, ⊤}
 use Rattle.pie_guarantees.specs.Names.{is_update, RawParams, Command, SetParams, Event, Opening, params_after, parts_after, count_of}
 
@@ -6,7 +6,7 @@ use Rattle.pie_guarantees.specs.Names.{is_update, RawParams, Command, SetParams,
 abbrev pub IsWhole : Opening → List Event → Type 0
 IsWhole opening before = (parts_after opening before).burst ≡ (params_after opening before).max_burst
 
--- so much of the burst allowance is left after these events
+-- the remaining burst allowance after these events
 abbrev pub burst_left : Opening → List Event → ℕ
 burst_left opening before = (parts_after opening before).burst
 
@@ -14,7 +14,8 @@ burst_left opening before = (parts_after opening before).burst
 abbrev pub IsAllowed : Opening → List Event → Type 0
 IsAllowed opening before = burst_left opening before ≤ (params_after opening before).max_burst
 
--- parameters that allow a burst of at least so many nanoseconds, with updates at least `least` and at most `most` nanoseconds apart
+-- parameters that allow a burst of at least this many nanoseconds, with updates at least `least` and at most `most`
+-- nanoseconds apart
 pub record Allows (burst least most : ℕ) (params : RawParams) : Type 0 where
   pub allowance : burst ≤ params.max_burst
   pub apart : least ≤ params.t_update

@@ -1,15 +1,15 @@
--- What becomes of every packet that arrives, and how much waits.
+-- The verdicts of arriving packets, and the queued bytes.
 use Rattle.std.specs.Prelude.{◌≤◌, ◌*◌, ◌-◌, ◌^◌, ◌++◌, ℕ, Bool, true, false, List, map, Option, Some, None, count_by, sum_by, ⊤}
 use Rattle.std.specs.List.{filter_map}
 use Rattle.pie_guarantees.specs.Names.{Deed, deed_of, departure, marked, queued, Ce, Packet, Waiting, Command, Arrive, SetParams, Event, Opening}
 use Rattle.pie_guarantees.specs.Names.{effective_moment, waiting_after}
 
--- the command hands in a packet
+-- the command is an arrival
 abbrev pub hands_in : Command → Bool
 hands_in (Arrive moment packet word) = true
 hands_in _ = false
 
--- how many packets were handed in
+-- the number of arrivals
 abbrev pub packets_handed_in : List Event → ℕ
 packets_handed_in history = count_by (λ event. hands_in event.command) history
 
@@ -33,7 +33,7 @@ packets_waiting opening history = map (λ (entry : Waiting). entry.packet) (wait
 abbrev pub bytes_departed : List Event → ℕ
 bytes_departed history = sum_by (λ (packet : Packet). packet.size) (packets_departed history)
 
--- new parameters have a limit of at most so many bytes
+-- new parameters have a limit of at most this many bytes
 abbrev pub SetsLimit : ℕ → Command → Type 0
 SetsLimit most (SetParams moment params) = params.limit_bytes ≤ most
 SetsLimit most _ = ⊤
@@ -42,7 +42,7 @@ SetsLimit most _ = ⊤
 abbrev pub time_of : Opening → List Event → List Event → ℕ
 time_of opening before between = effective_moment opening (before ++ between) - effective_moment opening before
 
--- in that time the link carried at least so many bits a second: the packets that departed have their share of 8 bits a byte and 10^9
--- nanoseconds a second
+-- in that time the link carried at least this many bits per second, computed from the packets that departed, with 8
+-- bits in a byte and 10^9 nanoseconds in a second
 abbrev pub Carries : ℕ → Opening → List Event → List Event → Type 0
 Carries rate opening before between = rate * time_of opening before between ≤ 8 * 10 ^ 9 * bytes_departed between

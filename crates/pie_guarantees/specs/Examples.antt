@@ -1,4 +1,4 @@
--- Worked histories, in which a law that one might expect fails, or in which a bound is all but reached.
+-- Worked histories in which an expected law fails, or a bound is nearly reached.
 use Rattle.std.specs.Prelude.{ℕ, List, [], ◌∷◌, ◌&&◌, ◌==◌, count_by}
 use Rattle.pie_params.specs.Elements.{usual}
 use Rattle.pie_params.specs.declared.elements.Delay.TheVariants.{Stamp}
@@ -22,7 +22,7 @@ opened elements params = record {
   choices = record { mode = Bounded; profile = One; elements = elements };
 }
 
--- a limit of so many bytes
+-- a limit of this many bytes
 abbrev pub limited : ℕ → RawParams
 limited bytes = record {
   target = 2;

@@ -1,4 +1,4 @@
--- The histories of which all laws here hold: those that the rules give from an opening on, whatever made them.
+-- The histories for which all laws hold: those that the rules give from an opening on, whatever wrote them.
 use Rattle.std.specs.Prelude.{◌≡◌, ◌++◌, List, [], ◌∷◌, None, All, ⊤}
 use Rattle.pie_params.specs.Range.{first_bad}
 use Rattle.pie_event.specs.Opening.{opening_refusal}
@@ -28,7 +28,7 @@ abbrev pub AtEachEvent : (Opening → List Event → Event → Type 0) → Type 
 AtEachEvent P = (opening : Opening) (before : List Event) (event : Event) (later : List Event) → IsLawful opening (before ++ event ∷ later)
     → P opening before event
 
--- .. between any two places of each lawful history: with the events before the first, and those from there to the second
+-- between any two places of each lawful history: the events before the first, and those from there to the second
 abbrev pub BetweenAny : (Opening → List Event → List Event → Type 0) → Type 0
 BetweenAny P = (opening : Opening) (before : List Event) (between : List Event) (later : List Event) → IsLawful opening (before ++ between ++ later)
     → P opening before between

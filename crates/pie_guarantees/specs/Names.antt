@@ -1,4 +1,4 @@
--- What the files of this folder take from below, in one place.
+-- Imports of this folder's files from lower crates, in one place.
 pub use Rattle.pie_aqm.specs.History.{considered_where}
 unfoldable pub use Rattle.pie_aqm.specs.History.{departures_shown}
 pub use Rattle.pie_book.specs.Estimates.{active_after, delay_after, params_after, parts_after}

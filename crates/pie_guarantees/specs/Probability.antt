@@ -1,4 +1,4 @@
--- How the probability follows the delay (RFC 8033, sections 4.2, 5.1 and 5.5).
+-- The relation of the probability to the delay (RFC 8033, sections 4.2, 5.1 and 5.5).
 use Rattle.std.specs.Prelude.{◌≡◌, ◌≤◌, ◌<◌, ◌+◌, ◌*◌, ◌-◌, ◌/◌, ◌^◌, ◌++◌, ◌∷◌, [], min, ℕ, zero, suc, List, true, false}
 use Rattle.pie_params.specs.declared.elements.Elements.{Elements}
 use Rattle.pie_control.specs.Next.{next, tuning_divisor}
@@ -18,7 +18,7 @@ probability_after opening history = (parts_after opening history).prob
 abbrev pub old_delay_after : Opening → List Event → ℕ
 old_delay_after opening history = (parts_after opening history).old_delay
 
--- what a probability comes to by so many updates at one delay
+-- the probability after n updates at one delay
 unfoldable pub after_updates : ℕ → Elements → RawParams → ℕ → ℕ → ℕ
 after_updates zero elements params delay prob = prob
 after_updates (suc n) elements params delay prob = after_updates n elements params delay (next elements params prob delay delay)
@@ -27,7 +27,8 @@ after_updates (suc n) elements params delay prob = after_updates n elements para
 abbrev pub untuned_rise : RawParams → ℕ → ℕ
 untuned_rise params delay = params.alpha * (delay - params.target)
 
--- .. or lowers it by alpha times what the delay is below the target
+-- before auto-tuning each update at one delay lowers the probability by alpha times the difference of the delay
+-- below the target
 abbrev pub untuned_fall : RawParams → ℕ → ℕ
 untuned_fall params delay = params.alpha * (params.target - delay)
 
@@ -35,11 +36,11 @@ untuned_fall params delay = params.alpha * (params.target - delay)
 abbrev pub least_rise : RawParams → ℕ → ℕ → ℕ
 least_rise params delay prob = min (untuned_rise params delay / tuning_divisor prob) 20_000_000_000
 
--- so many updates raise the probability from the first to the second
+-- this many updates increase the probability from the first to the second
 abbrev pub updates_from : RawParams → ℕ → ℕ → ℕ → ℕ
 updates_from params delay low high = (high - low) / least_rise params delay low + 1
 
--- .. from 0 to a tenth, through each row of the table of auto-tuning
+-- the increase from 0 to a tenth, through each row of the table of auto-tuning
 abbrev pub updates_to_a_tenth : RawParams → ℕ → ℕ
 updates_to_a_tenth params delay =
     updates_from params delay 0 (10 ^ 6) + updates_from params delay (10 ^ 6) (10 ^ 7) + updates_from params delay (10 ^ 7) (10 ^ 8)

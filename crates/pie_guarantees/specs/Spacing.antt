@@ -1,4 +1,4 @@
--- How far picked packets are apart, where probabilities accumulate (RFC 8033, section 5.4).
+-- The distance between picked packets if probabilities accumulate (RFC 8033, section 5.4).
 use Rattle.std.specs.Prelude.{◌≡◌, ◌≤◌, ◌+◌, ◌++◌, ℕ, Bool, true, false, ◌&&◌, ◌||◌, ◌==◌, not, List, [], ◌∷◌, count_by, if◌then◌else◌}
 use Rattle.pie_early.specs.Decision.{counted_as}
 use Rattle.pie_guarantees.specs.Names.{considered_where, Deed, deed_of, dropped_early, marked, queued, Event, Opening, active_after, params_after}
@@ -12,7 +12,7 @@ had_room (marked packet) = true
 had_room dropped_early = true
 had_room _ = false
 
--- .. and early drop considered it
+-- the event is an arrival that early drop considered
 abbrev pub was_considered : Opening → List Event → Event → Bool
 was_considered opening before event =
     had_room (deed_of event)
@@ -40,7 +40,7 @@ sum_along f before (event ∷ later) = f before event + sum_along f (before ++ e
 abbrev pub considered_in : Opening → List Event → List Event → ℕ
 considered_in opening = sum_along (λ before event. if was_considered opening before event then 1 else 0)
 
--- the sum of what the probability counted as for each of them
+-- the sum of the counted probabilities over them
 abbrev pub counted_in : Opening → List Event → List Event → ℕ
 counted_in opening = sum_along (λ before event. if was_considered opening before event then counted_at opening before event else 0)
 
@@ -56,7 +56,7 @@ picks_in events = count_by (λ event. is_early event.answer) events
 abbrev pub CountsAtMost : ℕ → Opening → List Event → Event → Type 0
 CountsAtMost most opening before event = was_considered opening before event ≡ true → counted_at opening before event ≤ most
 
--- .. as this at least
+-- the counted probability of a considered packet is at least `least`
 abbrev pub CountsAtLeast : ℕ → Opening → List Event → Event → Type 0
 CountsAtLeast least opening before event = was_considered opening before event ≡ true → least ≤ counted_at opening before event
 

@@ -1,4 +1,4 @@
--- What early drop does to a packet, and by what that is known.
+-- The effect of early drop on a packet, and its signs.
 use Rattle.std.specs.Prelude.{◌≡◌, ◌<◌, ℕ, Bool, true, false, List}
 use Rattle.pie_queue.specs.Ecn.{is_capable}
 use Rattle.pie_guarantees.specs.Names.{Packet, Arrive, Answer, Event, Opening, DroppedEarly, Marked, params_after, parts_after}
@@ -17,7 +17,7 @@ IsEarly event = is_early event.answer ≡ true
 abbrev pub IsArrivalOf : Event → Packet → Type 0
 IsArrivalOf event packet = (moment : ℕ) × (word : ℕ) × (event.command ≡ Arrive moment packet word)
 
--- after these events the probability is below that from which packets of capable endpoints are dropped too
+-- after these events the probability is below the one from which ECN-capable packets are dropped too
 abbrev pub OnlyMarks : Opening → List Event → Type 0
 OnlyMarks opening before = (parts_after opening before).prob < (params_after opening before).mark_ecnth
 

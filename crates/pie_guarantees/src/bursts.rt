@@ -1,4 +1,4 @@
-//! How long a burst is let in (RFC 8033, section 4.4).
+//! The time for which a burst passes (RFC 8033, section 4.4).
 ghost use Rattle.std.specs.Prelude.{◌≡◌, ◌≤◌, ◌+◌, ◌*◌, ◌++◌, ◌∷◌, [], All, List, ℕ, false, true};
 ghost use Rattle.pie_guarantees.specs.{Event, Opening, active_after, params_after, parts_after, effective_moment, AllAllow, IsAllowed, IsWhole};
 ghost use Rattle.pie_guarantees.specs.{AtEachEvent, BetweenAny, IsCalmUpdate};
@@ -15,13 +15,14 @@ pub fn allowances_begin_whole()
     ensures calm { AtEachEvent (λ opening before event. IsCalmUpdate opening before event → IsWhole opening (before ++ event ∷ [])) }
 {}
 
-/// From any moment on, by what is left then of the burst allowance: before the first packet is marked or dropped early there are as many updates
-/// as it takes to use that up, what is left over `t_update`, rounded up (`updates`, RFC 8033, section 4.4); and since updates are `t_update`
-/// apart, it comes no sooner than what is left, less one `t_update`, after that moment (`earliest`), and no sooner than what is left after the last
-/// update before it, or the opening (`since_last_update`). From a whole allowance these are, with the defaults, 10 updates, 135 and 150 milliseconds.
+/// From any moment on, by the remaining burst allowance: ⌈remaining allowance / `t_update`⌉ updates come before the
+/// first packet that is marked or dropped early (`updates`, RFC 8033, section 4.4). Since updates are `t_update`
+/// apart, this packet comes no sooner than the remaining allowance, less one `t_update`, after that moment
+/// (`earliest`), and no sooner than the remaining allowance after the last update before it, or after the opening
+/// (`since_last_update`). From a whole allowance with the defaults these are 10 updates, 135 and 150 milliseconds.
 ///
-/// Parameters may change between: then the least allowance and the longest and shortest distances of all count (`apart` for the time). What is left
-/// is no more than `max_burst` where parameters never changed (`allowed`).
+/// If parameters change, the least allowance and the greatest and least intervals of all apply (`apart` for the
+/// time). The remaining allowance is at most `max_burst` if parameters never changed (`allowed`).
 pub fn bursts_are_let_in_so_long()
     ensures updates { (burst : ℕ) (least : ℕ) (most : ℕ) (opening : Opening) (before : List Event) (between : List Event) (event : Event)
         (later : List Event) → IsLawful opening (before ++ between ++ event ∷ later) → burst ≤ burst_left opening before

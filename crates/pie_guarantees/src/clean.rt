@@ -1,4 +1,4 @@
-//! A history that an audit finds clean is one of which the laws hold.
+//! The laws hold for each history that an audit finds clean.
 ghost use Rattle.std.specs.Prelude.{◌≡◌, List, ℕ, Ok};
 ghost use Rattle.pie_guarantees.specs.{Opening, IsLawful};
 ghost use Rattle.pie_record.specs.ReadBack.{TellsHistory};
@@ -10,8 +10,8 @@ ghost use Rattle.pie_audit.specs.Text.{text_finding};
 
 use pie_audit::clean_is_legal;
 
-/// All laws here hold of the events that a text tells which an audit finds `Clean`, from the opening that it tells, whatever wrote it (this
-/// project's own). `audit` of pie_audit is proved to answer what is found.
+/// All laws hold for the events of a text for which an audit finds `Clean`, from the opening of the text, whatever
+/// wrote it (this project's own). `audit` of pie_audit is proved to return this finding.
 pub fn clean_histories_are_lawful()
     ensures { (text : List ℕ) (opening : Opening) (lines : List Line) (events : ℕ) → TellsHistory text opening lines
         → text_finding (records_of text) ≡ Ok (Clean events) → IsLawful opening (events_of lines) }

@@ -1,13 +1,14 @@
-//! What a moment that is far ahead does to updates.
+//! The effect of a moment that is far ahead on updates.
 ghost use Rattle.std.specs.Prelude.{◌≡◌, ◌≤◌, ◌<◌, ◌+◌, ◌++◌, ◌∷◌, [], List, ℕ, Some, true};
 ghost use Rattle.pie_book.specs.Decision.{refusal_by_rule};
 ghost use Rattle.pie_event.specs.declared.refusal.Refusal.TheVariants.{TooSoon};
 ghost use Rattle.pie_event.specs.Deed.{handed_in};
 ghost use Rattle.pie_guarantees.specs.{Event, Opening, Update, deed_of, is_update, params_after, effective_moment, IsLawful, AtEachEvent};
 
-/// After a moment that is `ahead` nanoseconds ahead of the greatest moment before it, an update is refused as too soon only if its own moment is less
-/// than `ahead` plus one `t_update` after that greatest moment (`ahead`). So a moment far ahead delays updates by `ahead` nanoseconds at most. In
-/// general, only an update less than one `t_update` after the greatest moment so far is refused (`at_most`), and after an update each such update is
+/// After a moment that is `ahead` nanoseconds above the greatest moment before it, an update is refused as too soon
+/// only if its own moment is less than `ahead` plus one `t_update` after that greatest moment (`ahead`). So a
+/// moment far ahead delays updates by at most `ahead` nanoseconds. In general, an update is refused only if it is
+/// less than one `t_update` after the greatest moment so far (`at_most`), and after an update each such update is
 /// (`exactly`; RFC 8033, section 4.2; the effective moment is this project's own).
 pub fn a_clock_ahead_delays_updates_by_as_much()
     ensures at_most { (opening : Opening) (before : List Event) (later : List Event) → IsLawful opening (before ++ later) → (moment : ℕ) (due : ℕ)

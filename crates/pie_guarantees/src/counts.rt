@@ -6,9 +6,10 @@ ghost use Rattle.pie_guarantees.specs.{is_dropped_packets, Carries, SetsLimit, p
 ghost use Rattle.pie_guarantees.specs.{packets_waiting, time_of, IsLawful};
 ghost use Rattle.pie_book.specs.Statistics.{is_dropped_early, is_marked, is_queued};
 
-/// Every packet that was handed in was queued, marked, dropped early, or dropped for want of room, exactly once (`once`); those that departed,
-/// and then those that wait, are exactly those that were queued or marked, in the order in which they arrived, unchanged but for CE where one was
-/// marked (`order`; both are this project's own).
+/// Every arriving packet is queued, marked, dropped early, or dropped because there is no room, exactly once
+/// (`once`). The packets that departed, followed by the queued ones, are exactly those that were queued or marked,
+/// in the order of their arrivals, unchanged except for CE if one was marked (`order`; both are this project's
+/// own).
 pub fn every_packet_is_accounted_for()
     ensures once { (opening : Opening) (history : List Event) → IsLawful opening history
         → packets_handed_in history ≡ count_of is_queued history + count_of is_marked history + count_of is_dropped_early history
@@ -29,9 +30,10 @@ pub fn queues_stay_within_their_limits()
         → All (λ event. SetsLimit most event.command) history → bytes_after opening history ≤ most }
 {}
 
-/// Where as many packets depart as wait at some moment, they are those, in their order (`first_in_first_out`). So a packet that is queued, and
-/// departs with the last of the events between, has waited for at most `limit_bytes` over the rate at which the link carried packets in that
-/// time, in which at least this one waited (`waits`; both are this project's own): 262144 bytes at 10 Mbit/s are 210 milliseconds.
+/// If as many packets depart as are queued at some moment, they are the queued packets, in order
+/// (`first_in_first_out`). So a packet that is queued then, and departs with the last of the events between, waits
+/// at most `limit_bytes` divided by the rate at which the link carried packets in that time (`waits`; both are this
+/// project's own): 262144 bytes at 10 Mbit/s are 210 milliseconds.
 pub fn waits_are_bounded()
     ensures first_in_first_out { BetweenAny (λ opening before between. length (packets_departed between) ≡ length (waiting_after opening before)
         → packets_departed between ≡ packets_waiting opening before) }

@@ -1,7 +1,7 @@
-//! What follows from the rules: guarantees that hold of every history that an audit finds clean, whatever made it.
+//! Guarantees that follow from the rules and hold for every history that an audit finds clean, whatever wrote it.
 //!
-//! Each law, and each worked example, is a function that does nothing: its contract is the law, or the example, which computes. The
-//! definitions that the contracts cite stand in `specs/`.
+//! Each law, and each worked example, is a function with an empty body: its contract is the law, or the example,
+//! which computes. `specs/` has the definitions that the contracts cite.
 #![tactic(auto)]
 
 pub mod bursts;

@@ -1,4 +1,4 @@
-//! How the probability follows the delay (RFC 8033, sections 4.2, 5.1 and 5.5).
+//! The relation of the probability to the delay (RFC 8033, sections 4.2, 5.1 and 5.5).
 ghost use Rattle.std.specs.Prelude.{◌≡◌, ◌≤◌, ◌<◌, ◌+◌, ◌*◌, ◌/◌, ◌^◌, min, ◌⊎◌, ◌++◌, ◌∷◌, [], List, ℕ, true, false};
 ghost use Rattle.pie_control.specs.Next.{decays, next, tuning_divisor};
 ghost use Rattle.pie_guarantees.specs.{deed_of, is_update, Event, Opening, RawParams, active_after, delay_after, params_after, updates_in, AllAlong};
@@ -9,10 +9,11 @@ ghost use Rattle.pie_params.specs.Elements.{is_capped, usual};
 ghost use Rattle.pie_params.specs.Profile.{default_profile};
 ghost use Rattle.pie_params.specs.declared.elements.Elements.{Elements};
 
-/// The probability is always 0 to 1, in units of 10^-12 (`bounded`). An update of an active controller that finds the delay at or above the
-/// target and not fallen doesn't lower it (`rises`); one that finds it at or below the target and not risen doesn't raise it (`falls`). From 10 per
-/// cent on a rise is at most 2 points, where rises are capped (`capped`); and an update that finds delays at which the probability decays, and none
-/// that rises, leaves at most 98 hundredths (`decays`). No other event raises it (`nothing_else_raises`).
+/// The probability is always 0 to 1, in units of 10^-12 (`bounded`). An update of an active controller does not
+/// decrease it if the delay is at least the target and has not fallen (`rises`), and does not increase it if the
+/// delay is at most the target and has not risen (`falls`). From 10 per cent on an increase is at most 2 points if
+/// steps are capped (`capped`). An update with delays at which the probability decays, and neither of which has
+/// risen, leaves at most 98 hundredths of it (`decays`). No other event increases it (`nothing_else_raises`).
 pub fn the_probability_follows_the_delay()
     ensures bounded { (opening : Opening) (history : List Event) → IsLawful opening history → probability_after opening history ≤ 10 ^ 12 }
     ensures rises { AtEachEvent (λ opening before event. IsActiveUpdate opening before event
@@ -42,10 +43,12 @@ pub fn what_gives_a_higher_probability()
     ensures from_a_tenth { next usual default_profile 100_000_000_000 1_000_000_000 0 ≡ 120_000_000_000 }
 {}
 
-/// While each update finds the same delay the probability is that after so many updates of one delay (`steady`). With the defaults, from 0 at
-/// twice the target it is at least 10 per cent after 162 updates, 2.43 seconds, if the update before these found that delay too (`tenth_at_last`,
-/// `not_before`), and after 158 updates, 2.37 seconds, if it found none (`from_rest`, `not_from_rest_before`). Where it decays it falls by 2 per
-/// cent an update at least (`fades`); with no delay from 1 to a tenth in 87 updates, 1.3 seconds (`faded`, `not_yet_faded`).
+/// While each update has the same delay, the probability is that after the number of updates of one delay
+/// (`steady`). With the defaults, from 0 at twice the target it is at least 10 per cent after 162 updates, 2.43
+/// seconds, if the update before these had that delay too (`tenth_at_last`, `not_before`), and after 158 updates,
+/// 2.37 seconds, if it had no delay (`from_rest`, `not_from_rest_before`). If it decays, it falls by at least 2 per
+/// cent with each update (`fades`); without delay from 1 to a tenth in 87 updates, 1.3 seconds (`faded`,
+/// `not_yet_faded`).
 pub fn how_fast_the_probability_changes()
     ensures steady { (delay : ℕ) → BetweenAny (λ opening before between. AllAlong (IsSteady delay opening) before between
         → probability_after opening (before ++ between)
@@ -61,12 +64,14 @@ pub fn how_fast_the_probability_changes()
     ensures not_yet_faded { after_updates 86 usual default_profile 0 1_000_000_000_000 ≡ 100_263_958_315 }
 {}
 
-/// What n updates of one delay make of a probability, by the table of auto-tuning (RFC 8033, section 4.2), whatever the parameters: from a
-/// probability they raise it by at least n times alpha over the divisor there for each nanosecond above the target, at most 2 points each (`rises`),
-/// and while it has come no further than `most` by no more than that over the divisor at `most` (`rises_no_faster`); below the target they lower it
-/// so (`falls`, and where it does not decay `falls_no_faster`). So it is at 10 per cent after the updates that each row of the table takes, one after
-/// the other (`to_a_tenth`): with the defaults at twice the target after 164 (`at_twice_the_target`), where the exact number is 162. Where it decays
-/// 114 updates leave at most a tenth (`fades_to_a_tenth`).
+/// The effect of n updates of one delay on a probability, by the table of auto-tuning (RFC 8033, section 4.2), for
+/// any parameters. They increase the probability by at least n times alpha over the divisor of the first
+/// probability for each nanosecond above the target, at most 2 points each (`rises`), and while it is at most
+/// `most`, by at most that over the divisor at `most` (`rises_no_faster`). Below the target they decrease it in the
+/// same way (`falls`, and if it does not decay `falls_no_faster`). So it is at 10 per cent after the sum of the
+/// updates that each row of the table takes (`to_a_tenth`): with the defaults at twice the target after 164
+/// (`at_twice_the_target`); the exact number is 162. If it decays, 114 updates leave at most a tenth
+/// (`fades_to_a_tenth`).
 pub fn steady_delays_move_the_probability()
     ensures rises { (elements : Elements) (params : RawParams) (delay : ℕ) → 0 < params.target → params.target ≤ delay → (n : ℕ) (prob : ℕ)
         → prob ≤ 10 ^ 12 → min (10 ^ 12) (prob + n * least_rise params delay prob) ≤ after_updates n elements params delay prob }

@@ -1,4 +1,4 @@
-//! How soon a controller recovers once there is no delay (RFC 8033, sections 4.2 and 4.4).
+//! The time in which a controller recovers when there is no delay (RFC 8033, sections 4.2 and 4.4).
 ghost use Rattle.std.specs.Prelude.{◌≡◌, ◌≤◌, ◌++◌, true};
 ghost use Rattle.pie_control.specs.Next.{next};
 ghost use Rattle.pie_guarantees.specs.{active_after, params_after, updates_in, after_updates, untuned_fall, AllAlong, BetweenAny};

@@ -1,4 +1,4 @@
-//! How far picked packets are apart, where probabilities accumulate (RFC 8033, section 5.4).
+//! The distance between picked packets if probabilities accumulate (RFC 8033, section 5.4).
 ghost use Rattle.std.specs.Prelude.{◌≡◌, ◌≤◌, ◌<◌, ◌+◌, ◌*◌, ◌++◌, ◌∷◌, [], List, ℕ};
 ghost use Rattle.pie_params.specs.declared.elements.Picking.TheVariants.{Derandomized};
 ghost use Rattle.pie_guarantees.specs.{Event, Opening, AllAlong, IsLawful, CountsAtLeast, CountsAtMost, GoesOn, considered_in, counted_at, IsEarly};
@@ -10,9 +10,10 @@ pub fn picks_start_anew()
     ensures { AtEachEvent (λ opening before event. IsEarly event → accu_after opening (before ++ event ∷ []) ≡ 0) }
 {}
 
-/// Where probabilities accumulate and the probability counts as at most `most` for each considered packet: from one picked packet to the next there
-/// are so many considered packets, the next included, that these times `most` are at least 0.85 (RFC 8033, section 5.4). Other starts of the
-/// accumulated probability between make them more. At 1 per cent no more than one of 85 is picked.
+/// If probabilities accumulate and the probability counts as at most `most` for each considered packet: between one
+/// picked packet and the next, inclusive, the number of considered packets times `most` is at least 0.85 (RFC 8033,
+/// section 5.4). Other restarts of the accumulated probability between them increase that number. At 1 per cent at
+/// most one of 85 is picked.
 pub fn picks_are_far_apart()
     ensures { (most : ℕ) (opening : Opening) (before : List Event) (between : List Event) (event : Event) (later : List Event)
         → IsLawful opening (before ++ between ++ event ∷ later) → opening.choices.elements.picking ≡ Derandomized
@@ -41,11 +42,12 @@ pub fn picks_never_follow_at_once()
         → 850_000_000_000 ≤ counted_at opening (before ++ first ∷ [] ++ between) second }
 {}
 
-/// Conservation (RFC 8033, section 5.4): if probabilities accumulate, the sum of what the probability counted as, over the packets that were
-/// considered between any two places, is at least 0.85 for each pick, if the accumulated probability is 0 at the first place (`at_least`), and less
-/// than 9.5 for each pick plus 8.5 for each other restart and for the last, unfinished sum (`at_most`). Other restarts are tail drops, resets,
-/// arrivals that turn the controller on, and packets that are considered while the probability counts as 0. So these bound the share of picked
-/// packets at any varying probability.
+/// Conservation (RFC 8033, section 5.4): if probabilities accumulate, the sum of the counted probabilities over the
+/// packets considered between any two places is at least 0.85 for each pick, if the accumulated probability is 0 at
+/// the first place (`at_least`), and less than 9.5 for each pick plus 8.5 for each other restart and for the last,
+/// unfinished sum (`at_most`). Other restarts are tail drops, resets, arrivals that activate the controller, and
+/// packets that are considered while the probability counts as 0. So these bound the share of picked packets for
+/// any course of the probability.
 pub fn picks_share_the_probability()
     ensures at_least { BetweenAny (λ opening before between. opening.choices.elements.picking ≡ Derandomized → accu_after opening before ≡ 0
         → 850_000_000_000 * picks_in between ≤ counted_in opening before between) }

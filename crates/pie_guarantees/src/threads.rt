@@ -1,4 +1,4 @@
-//! The same guarantees where threads share a controller.
+//! The guarantees for threads that share a controller.
 ghost use Rattle.std.specs.Prelude.{◌≡◌, List, Some};
 ghost use Rattle.pie_book.specs.Book.{BookView};
 ghost use Rattle.pie_guarantees.specs.{Opening, IsLawful};
@@ -12,9 +12,9 @@ use pie_book::Opening as LinkOpening;
 use pie_link::{Entry as LinkEntry, KeptBook};
 use pie_lock::{LockOpening, LockRule, Place};
 
-/// All laws here hold of the one history of a link, whenever its lock is free and whatever its callers do. So each sender has these guarantees
-/// whatever the other senders do: none makes another's packet wait longer, or be dropped or marked at another time, than a law allows (this project's
-/// own).
+/// All laws hold for the one history of a link, whenever its lock is free and whatever its callers do. So each
+/// sender has these guarantees whatever the other senders do: no sender makes another's packet wait longer, or be
+/// dropped or marked at another time, than a law allows (this project's own).
 pub fn links_are_lawful()
     ensures { let rule = ⟦<LockRule as TableRule<Option<KeptBook>, Place<LinkEntry, LinkOpening>, LockOpening<KeptBook>>>⟧.holds in
         (link : LinkView) → KeepsOneHistory rule link → (opening : Opening) → link.origin ≡ Some opening → (key : LockKey) → IsKeyOf link opening key

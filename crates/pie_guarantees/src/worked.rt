@@ -1,4 +1,4 @@
-//! What does not follow, and how near the bounds are: worked histories.
+//! Worked histories: statements that do not follow, and cases close to the bounds.
 ghost use Rattle.std.specs.Prelude.{◌≡◌, ◌<◌, ◌++◌, ◌∷◌, [], ℕ, Some};
 ghost use Rattle.pie_book.specs.Decision.{IsLegal, refusal_by_rule};
 ghost use Rattle.pie_event.specs.declared.refusal.Refusal.TheVariants.{TooSoon};
@@ -13,9 +13,9 @@ pub fn limits_may_be_lowered_below_the_queue()
     ensures limit { (params_after lowered_opening lowered).limit_bytes ≡ 500 }
 {}
 
-/// A burst that begins just before an update meets its first early drop no later than the law of bursts says, but for a nanosecond: with updates 100
-/// apart and an allowance of 200, its first packet comes at 99, and the first early drop at 200. With the defaults' ten updates that is 135
-/// milliseconds, and not 150.
+/// A burst that begins just before an update has its first early drop no later than the law of bursts allows, up to
+/// one nanosecond: with updates 100 apart and an allowance of 200, its first packet arrives at 99, and the first
+/// early drop is at 200. With the defaults' ten updates that is 135 milliseconds, and not 150.
 pub fn bursts_may_meet_an_early_drop_so_soon()
     ensures legal { IsLegal burst_opening (burst_begins ++ burst_goes_on ++ first_drop ∷ []) }
     ensures whole { IsWhole burst_opening burst_begins }

@@ -11,7 +11,7 @@ use pie_queue::{Ecn, Packet};
 use pie_record::TraceFault;
 use std::alloc::Global;
 
-/// A ring of four packets, and a tail of so many events.
+/// Returns an opening with a ring of four packets and a log of this many events.
 pub(crate) fn limits(tail: u32) -> Limits {
     Limits {
         packets: 4,
@@ -40,7 +40,7 @@ pub(crate) fn arrive(moment: u64, tag: u64) -> Command {
     }
 }
 
-/// The same, of a burst.
+/// Tests this for a burst.
 pub(crate) fn arrival(moment: u64, tag: u64) -> Arrival {
     let packet = packet(tag, 100);
     let word = 0;
@@ -51,7 +51,7 @@ pub(crate) fn arrival(moment: u64, tag: u64) -> Arrival {
     }
 }
 
-/// A bounded book whose tail so many arrivals fill, each of a packet with its moment as tag.
+/// Returns a bounded book whose log is filled by this many arrivals, each of a packet with its moment as tag.
 fn full(alloc: Global, tail: u32) -> Option<Book> {
     match Book::open(alloc, limits(tail), Params::default_profile(), 0) {
         Ok(mut book) => {
@@ -64,7 +64,7 @@ fn full(alloc: Global, tail: u32) -> Option<Book> {
     }
 }
 
-/// Whether one event is before the tail, and its packet waited there.
+/// Returns true if one event is before the log, and its packet was queued there.
 fn has_one_before(book: &mut Book) -> bool {
     let (arrivals, count) = (
         book.checkpoint_stats().arrivals,
@@ -76,7 +76,8 @@ fn has_one_before(book: &mut Book) -> bool {
     }
 }
 
-/// How many events a fold of one hands out, and whether it is before the tail then; or how many the tail has where it was refused.
+/// Returns the number of events of a fold of one, and whether one event is before the log then; or, if it was
+/// refused, the number of events in the log.
 fn fold_one(alloc: Global, book: &mut Book) -> Seen {
     let folded = match book.fold(alloc, 1) {
         Ok(events) => Ok(events.len() as u64),
@@ -99,7 +100,7 @@ pub(crate) fn fold(rt: &impl Print, alloc: Global, name: &str) -> Seen {
     }
 }
 
-/// Whether a book fills an excerpt, with how many events, where its text is written then.
+/// Returns whether a book fills an excerpt, and the number of its events if its text is then written.
 fn fill_out(alloc: Global, book: &Book, excerpt: &mut Excerpt) -> Seen {
     let is_filled = book.excerpt(excerpt).is_ok();
     match write_excerpt(alloc, &mut Sink::new(false), excerpt) {

@@ -34,7 +34,7 @@ impl Read for Endless {
     }
 }
 
-/// Takes all, and compares it with what is wanted.
+/// A writer that accepts all bytes, and compares them with the expected ones.
 #[derive(Drop)]
 pub(crate) struct Compared<'a> {
     /// The wanted bytes that did not come yet.
@@ -82,7 +82,7 @@ pub(crate) fn departures(alloc: Global) -> io::Result<String> {
     Ok(history)
 }
 
-/// A history without an end tells its opening, and a thousand events.
+/// Tests that a history without an end has its opening and a thousand events.
 pub(crate) fn lines_come(alloc: Global) -> bool {
     let Ok((mut lines, opening)) = HistoryLines::open(alloc, Endless::of(b"depart,2,1,empty\n"))
     else {

@@ -1,4 +1,5 @@
-//! What an event costs, decided alone and decided and recorded, on a link with 8 per cent more arriving than leaving.
+//! The cost of an event, decided alone and decided and recorded, on a link with 8 per cent more arrivals than
+//! departures.
 
 use crate::books::packet;
 use crate::report::Report;
@@ -7,10 +8,10 @@ use pie_params::Params;
 use std::alloc::Global;
 use std::rt::Clock;
 
-/// How many events a measurement makes: some 230 seconds of the link's time.
+/// Number of events of a measurement: about 230 seconds of the link's time.
 const EVENTS: u64 = 4_000_000;
 
-/// How many events the tail holds.
+/// Capacity of the event log.
 const TAIL: u32 = 4096;
 
 /// The nanoseconds between two arrivals of 1500 bytes, some 108 megabits a second.
@@ -71,7 +72,7 @@ impl Stream {
     }
 }
 
-/// What decides one command after another.
+/// A type that decides one command after another.
 trait Decides {
     fn decide(&mut self, alloc: Global, command: Command) -> Option<Answer>;
 }
@@ -93,7 +94,7 @@ impl Decides for Book {
     }
 }
 
-/// A number by which an answer shows in a checksum.
+/// Returns a number that represents an answer in a checksum.
 fn digest(answer: Answer) -> u64 {
     match answer {
         Answer::Enqueued => 1,
@@ -121,7 +122,7 @@ fn decide_all<D: Decides>(alloc: Global, place: &mut D) -> u64 {
     sum
 }
 
-/// What a book and a link are opened with.
+/// Returns the opening of a book and a link.
 pub fn opening(limits: Limits, mode: Mode) -> Opening {
     let usual = Opening::usual(limits, Params::default_profile(), 0);
     let choices = Choices {
@@ -149,7 +150,7 @@ fn time<R: Clock + Print, D: Decides>(
     report.checksum("book", name, sum);
 }
 
-/// What is measured is opened with these.
+/// The openings of the measured types.
 const LIMITS: Limits = Limits {
     packets: 1024,
     tail: TAIL,

@@ -73,7 +73,7 @@ pub(crate) const WRITES: [(Writes, &str); 7] = [
     (Writes::History, "write_history_flushes"),
 ];
 
-/// Whether a call answers that the writer failed.
+/// Returns true if a call reports that the writer failed.
 fn is_write(fault: Option<TraceFault>) -> bool {
     matches!(fault, Some(TraceFault::Write))
 }
@@ -97,7 +97,8 @@ fn written(alloc: Global, writer: &mut Sink) -> bool {
 }
 
 impl Writes {
-    /// Whether it answers that the writer failed. (A run of one record at the most meets a text that is too long.)
+    /// Returns true if the run reports that the writer failed. (A run of at most one record meets a text that is
+    /// too long.)
     fn fails(self, alloc: Global, text: &[u8], writer: &mut Sink) -> bool {
         match self {
             Writes::Run => is_write(run_trace(alloc, text, writer).err()),
@@ -110,13 +111,13 @@ impl Writes {
         }
     }
 
-    /// Whether it answers so where the flush fails, and else not.
+    /// Returns true if the call reports a failed write exactly if the flush fails.
     fn tells(self, alloc: Global, text: &[u8]) -> bool {
         let fails = self.fails(alloc, text, &mut Sink::new(true));
         fails && !self.fails(alloc, text, &mut Sink::new(false))
     }
 
-    /// The same of a trace or a history, and of a text that is neither.
+    /// Tests this for a trace or a history, and for a text that is neither.
     pub(crate) fn tells_of_its_flush(self, alloc: Global) -> bool {
         let whole = match self {
             Writes::Run | Writes::RunWithin => TRACE,

@@ -1,5 +1,6 @@
-//! Links: calls that want memory, and what a caller is answered that lacks numbers at a link that is free, since no clause says that it isn't busy.
-//! Of what the calls promise nothing is needed here but that the caller stays one of the link's.
+//! Links: calls that may run out of memory, and the answers to a caller without all numbers at a free link, because
+//! no clause states that it is not busy. Of the contracts the tests use only that the caller stays one of the
+//! link's.
 ghost use Rattle.std.specs.Prelude.{◌≡◌, IfOk};
 
 use crate::books::{arrival, arrive, limits};
@@ -10,7 +11,7 @@ use pie_params::Params;
 use std::alloc::Global;
 use std::sync::Wait;
 
-/// Whether a command is taken, by the call that never blocks. (That a call which waits answers so is proved.)
+/// Returns true if the non-blocking call accepts a command. (The answer of the waiting call is proved.)
 fn tries(link: &Link, caller: &mut Caller, command: Command) -> bool
     requires own { caller.old.lock ≡ link.now }
     ensures { caller.new.lock ≡ link.now }
@@ -30,7 +31,8 @@ fn tries(link: &Link, caller: &mut Caller, command: Command) -> bool
     }
 }
 
-/// How many events a fold of two hands out that doesn't wait, and the number of the last; or whether it was refused for want of memory.
+/// Returns the number of events of a non-blocking fold of two, and the number of the last event; or whether it ran
+/// out of memory.
 fn try_two(link: &Link, caller: &mut Caller) -> Result<(u64, u64), bool>
     requires own { caller.old.lock ≡ link.now }
     ensures { caller.new.lock ≡ link.now }
@@ -41,7 +43,7 @@ fn try_two(link: &Link, caller: &mut Caller) -> Result<(u64, u64), bool>
     }
 }
 
-/// The same of one that waits.
+/// Returns this for the waiting fold.
 fn fold_two<R: Wait>(rt: &R, link: &Link, caller: &mut Caller) -> Result<(u64, u64), bool>
     requires own { caller.old.lock ≡ link.now }
     ensures { caller.new.lock ≡ link.now }
@@ -52,7 +54,7 @@ fn fold_two<R: Wait>(rt: &R, link: &Link, caller: &mut Caller) -> Result<(u64, u
     }
 }
 
-/// How many events the book of a link has, as a caller reads it; 0 where the lock is not free.
+/// Returns the number of events of a link's book, as a caller reads it; 0 if the lock is not free.
 fn count(link: &Link, caller: &mut Caller) -> u64
     requires own { caller.old.lock ≡ link.now }
     ensures { caller.new.lock ≡ link.now }
@@ -121,7 +123,7 @@ pub(crate) fn fold<R: Wait + Print>(rt: &R, alloc: Global, waits: bool, name: &s
 
 // ---- a caller that lacks numbers, of the highest one that there can be
 
-/// Whether one of each command is taken.
+/// Returns true if one of each command is accepted.
 fn takes_each(link: &Link, caller: &mut Caller) -> bool
     requires own { caller.old.lock ≡ link.now }
     ensures { caller.new.lock ≡ link.now }
@@ -134,7 +136,7 @@ fn takes_each(link: &Link, caller: &mut Caller) -> bool
         & tries(link, caller, Command::SetParams { moment, params })
 }
 
-/// How many answers there are to a burst of two packets, and to departures until none is left.
+/// Returns the number of answers to a burst of two packets, and to departures until none is left.
 fn burst<R: Wait>(rt: &R, alloc: Global, link: &Link, caller: &mut Caller) -> u64
     requires own { caller.old.lock ≡ link.now }
     ensures { caller.new.lock ≡ link.now }
@@ -147,7 +149,7 @@ fn burst<R: Wait>(rt: &R, alloc: Global, link: &Link, caller: &mut Caller) -> u6
     answers.len() as u64
 }
 
-/// How long packets waited in all, as a caller reads it; 0 where the lock is not free.
+/// Returns the sum of the waiting times of packets, as a caller reads it; 0 if the lock is not free.
 fn waited(link: &Link, caller: &mut Caller) -> u128
     requires own { caller.old.lock ≡ link.now }
     ensures { caller.new.lock ≡ link.now }
@@ -158,7 +160,7 @@ fn waited(link: &Link, caller: &mut Caller) -> u128
     }
 }
 
-/// How many of the book's last events a caller is told.
+/// Returns the number of the book's last events that a caller receives.
 fn told(alloc: Global, link: &Link, caller: &mut Caller) -> usize
     requires own { caller.old.lock ≡ link.now }
     ensures { caller.new.lock ≡ link.now }
@@ -171,7 +173,7 @@ fn told(alloc: Global, link: &Link, caller: &mut Caller) -> usize
     excerpt.tail().len()
 }
 
-/// Whether ten events are made, read and folded.
+/// Returns true if ten events are made, read and folded.
 fn is_done<R: Wait>(rt: &R, alloc: Global, link: &Link, caller: &mut Caller) -> bool
     requires own { caller.old.lock ≡ link.now }
     ensures { caller.new.lock ≡ link.now }
@@ -185,7 +187,7 @@ fn is_done<R: Wait>(rt: &R, alloc: Global, link: &Link, caller: &mut Caller) -> 
     are_taken && answers == 5 && count == 10 && waited == 10 && told == 10 && is_folded
 }
 
-/// Whether this caller closes the link, with a book that holds the other eight.
+/// Returns true if this caller closes the link, with a book that has the other eight events.
 fn closes(link: Link, caller: Caller) -> bool
     requires own { caller.lock ≡ link }
 {
@@ -195,7 +197,7 @@ fn closes(link: Link, caller: Caller) -> bool
     }
 }
 
-/// Whether the uppermost of all callers is answered, and closes the link.
+/// Returns true if the caller with the highest number receives an answer, and closes the link.
 fn shares<R: Wait>(rt: &R, alloc: Global, link: Link, mut caller: Caller) -> bool
     requires own { caller.lock ≡ link }
 {

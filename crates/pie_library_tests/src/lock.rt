@@ -10,7 +10,8 @@ use std::sync::Wait;
 use std::thread::{Threads, sleep};
 use std::time::{Clock, Duration};
 
-/// How long each thread holds the lock, in milliseconds: long enough for those who wait to spin, to yield and to sleep.
+/// Time for which each thread holds the lock, in milliseconds: long enough for waiting threads to spin, to yield
+/// and to sleep.
 const LONG: u64 = 200;
 
 /// A thread at the lock.
@@ -18,7 +19,7 @@ const LONG: u64 = 200;
 pub(crate) struct AtLock<'a> {
     pub(crate) lock: &'a RuledLock<Counter>,
     pub(crate) pass: Pass<Counter>,
-    /// How long it holds the lock in a turn, in milliseconds.
+    /// Time for which the lock is held in a turn, in milliseconds.
     pub(crate) long: u64,
     ghost own: { pass.lock ≡ lock.now },
 }
@@ -38,10 +39,48 @@ fn add_one(lock: &RuledLock<Counter>, mut held: Held<Counter>, caller: u16) -> P
     }
 }
 
-/// Lets so many milliseconds pass.
+/// Waits this many milliseconds.
 fn hold<R: Clock>(rt: &R, long: u64) {
     if long != 0 {
         sleep(rt, Duration::from_millis(long));
+    }
+}
+
+/// One turn of a thread that waits for the lock.
+fn waiting_turn<R: Wait + Clock>(
+    rt: &R,
+    lock: &RuledLock<Counter>,
+    pass: Pass<Counter>,
+    long: u64,
+) -> Pass<Counter>
+    requires own { pass.lock ≡ lock.now }
+    ensures { result.lock ≡ lock.now }
+{
+    let caller = pass.first();
+    let (held, due) = lock.take(rt, pass);
+    hold(rt, long);
+    let pass = add_one(lock, held, caller);
+    lock.wake(&pass, due);
+    pass
+}
+
+/// One turn of a thread. If the lock is free, the turn wakes no thread: those that sleep have to look again.
+fn turn<R: Wait + Clock>(
+    rt: &R,
+    lock: &RuledLock<Counter>,
+    pass: Pass<Counter>,
+    long: u64,
+) -> Pass<Counter>
+    requires own { pass.lock ≡ lock.now }
+    ensures { result.lock ≡ lock.now }
+{
+    let caller = pass.first();
+    match lock.try_take(pass) {
+        Ok(held) => {
+            hold(rt, long);
+            add_one(lock, held, caller)
+        }
+        Err(pass) => waiting_turn(rt, lock, pass, long),
     }
 }
 
@@ -56,25 +95,23 @@ impl Place for AtLock<'_> {
 
     fn call<R: Wait + Clock>(self, rt: &R, _sends: bool, _turn: u64) -> Self {
         let AtLock { lock, pass, long } = self;
-        let caller = pass.first();
-        let held = lock.take(rt, pass);
-        hold(rt, long);
-        let pass = add_one(lock, held, caller);
-        // (nobody wakes those that sleep while it is held for long: they have to look again)
-        if long == 0 {
-            lock.wake();
-        }
+        let pass = if long == 0 {
+            waiting_turn(rt, lock, pass, long)
+        } else {
+            turn(rt, lock, pass, long)
+        };
         AtLock { lock, pass, long }
     }
 }
 
-/// Whether a lock has counted three.
+/// Returns true if a lock has counted three.
 fn has_three<R: Wait>(rt: &R, place: AtLock) -> bool {
     let AtLock { lock, pass, .. } = place;
-    let mut held = lock.take(rt, pass);
+    let (mut held, due) = lock.take(rt, pass);
     let counter = held.state();
     let (count, total) = (counter.count(), counter.total());
-    drop(lock.put(held, no_entries()));
+    let pass = lock.put(held, no_entries());
+    lock.wake(&pass, due);
     count == 3 && total == 3
 }
 

@@ -1,9 +1,10 @@
-//! `pie_library_tests`: what no clause forces of the libraries and no script shows of the programs, and what their calls cost. Its argument names the
-//! part; with none it is all of the tests.
+//! `pie_library_tests`: tests of properties that no clause states and no script can observe, and the cost of calls.
+//! Its argument names the part; without an argument it runs all tests.
 //!
-//! `calls` makes calls that can want memory, one after another, and says what they answered and what they left; `tests/libraries/refused_memory.py`
-//! refuses each request for memory of each call in turn. `tests` says of each test whether it holds, and `sleepers` so of the one whose system calls
-//! `bench/pie_lock_calls.sh` counts. `book`, `lock` and `link` measure (bench/README.md).
+//! `calls` makes calls that may run out of memory, one after another, and prints their answers and effects;
+//! `tests/libraries/refused_memory.py` makes each request for memory of each call fail in turn. `tests` prints for
+//! each test whether it holds, and `sleepers` for the test whose system calls `bench/pie_lock_calls.sh` counts.
+//! `book`, `lock` and `link` measure (bench/README.md).
 #![tactic(auto)]
 
 mod books;

@@ -1,4 +1,5 @@
-//! Places at which several threads make calls: what a call costs one thread, and how many of them several threads make in a second.
+//! Objects that several threads call: the cost of a call for one thread, and the number of calls per second of
+//! several threads.
 
 use crate::report::Report;
 use std::alloc::Global;
@@ -7,10 +8,10 @@ use std::sync::Wait;
 use std::thread;
 use std::thread::Threads;
 
-/// How many calls one thread makes while there is no other.
+/// Number of calls of one thread while there is no other.
 const UNCONTENDED: u64 = 10_000_000;
 
-/// How many calls each of several threads makes.
+/// Number of calls of each of several threads.
 const PER_THREAD: u64 = 1_000_000;
 
 /// By how many threads each place is measured; by 0 it is one thread, while there is no other.
@@ -25,14 +26,14 @@ pub trait Place {
     fn call<R: Wait + Clock>(self, rt: &R, sends: bool, turn: u64) -> Self;
 }
 
-/// What one of several threads does at its place.
+/// The work of one of several threads.
 #[derive(Drop)]
 pub struct Job<P> {
     place: P,
     sends: bool,
 }
 
-/// Jobs for so many threads, of which the first sends. (Without memory there are fewer.)
+/// Returns jobs for this many threads, the first of which sends. (If memory is short, there are fewer.)
 pub fn jobs_at<P: Place + Drop>(alloc: Global, place: &mut P, threads: u16) -> Vec<Job<P>> {
     let mut jobs = Vec::new(alloc);
     for nth in 0..threads {
@@ -71,7 +72,7 @@ fn call_alone<R: Wait + Clock, P: Place + Drop>(rt: &R, place: P) {
     }
 }
 
-/// Prints how long a call takes, or how many there are in a second by so many threads, and by those that send beside them.
+/// Prints the time of a call, or the number of calls per second with this many threads and the senders beside them.
 pub fn time<R: Threads + Wait + Clock + Print + Sync, P: Place + Send + Drop>(
     report: &mut Report<R>,
     alloc: Global,

@@ -1,11 +1,12 @@
-//! What is printed: of the measurements lines `name value unit`.
+//! The output: lines `name value unit` of the measurements.
 
 use std::io;
 use std::io::ErrorKind;
 use std::rt::Clock;
 use std::time::Instant;
 
-/// What is printed on, and the kind of the first failure of the clock or of the output: so no `?` stands beside what is measured.
+/// The writer, and the kind of the first failure of the clock or the writer, so that the measured code contains no
+/// `?`.
 #[derive(Drop)]
 pub struct Report<'a, R> {
     pub rt: &'a R,
@@ -17,7 +18,7 @@ impl<'a, R: Clock + Print> Report<'a, R> {
         Report { rt, failure: None }
     }
 
-    /// Whether all was measured and printed.
+    /// Returns true if all was measured and printed.
     pub fn end(self) -> io::Result<()> {
         match self.failure {
             None => Ok(()),
@@ -25,7 +26,7 @@ impl<'a, R: Clock + Print> Report<'a, R> {
         }
     }
 
-    /// What was not refused; the first refusal is kept.
+    /// Returns the value of a result, and stores the first error.
     fn kept<T: Drop>(&mut self, it: io::Result<T>) -> Option<T> {
         if let Err(why) = &it {
             self.failure = self.failure.or(Some(why.kind()));
@@ -38,7 +39,7 @@ impl<'a, R: Clock + Print> Report<'a, R> {
         let _ = self.kept(said);
     }
 
-    /// The moment at which what is measured begins; nothing where the clock fails.
+    /// Returns the moment at which the measurement begins; none if the clock fails.
     pub fn start(&mut self) -> Option<Instant> {
         let now = Instant::now(self.rt);
         self.kept(now)
@@ -56,12 +57,12 @@ impl<'a, R: Clock + Print> Report<'a, R> {
         }
     }
 
-    /// How many of so many events since then there were in a second.
+    /// Returns the number of events per second, if this many occurred since then.
     pub fn rate(&mut self, start: Option<Instant>, events: u64) -> u128 {
         u128::from(events) * 1_000_000_000 / self.since(start).max(1)
     }
 
-    /// Prints the nanoseconds since then of each of so many calls, to a tenth.
+    /// Prints the nanoseconds since then for each of this many calls, to a tenth.
     pub fn nanos(&mut self, part: &str, name: &str, start: Option<Instant>, calls: u64) {
         let tenths = self.since(start).saturating_mul(10) / u128::from(calls).max(1);
         let (whole, tenth) = (tenths / 10, tenths % 10);

@@ -66,7 +66,7 @@ update,1,1,0,0,5
 arrive,1,1,1,65535,not,0,bytes
 ";
 
-/// What decides one event after another.
+/// A type that decides one event after another.
 trait Decides {
     /// Opens it.
     fn open(alloc: Global, opening: &Opening) -> Option<Self>;
@@ -118,7 +118,7 @@ impl Decides for Book {
     }
 }
 
-/// Returns true if the next lines are so many events, each with the answer that it is given here, and then the text ends for good.
+/// Returns true if the next lines are these events, each with the given answer, and then the text ends for good.
 fn agree<D: Decides>(
     alloc: Global,
     lines: &mut HistoryLines<&[u8]>,
@@ -138,7 +138,7 @@ fn agree<D: Decides>(
     matches!(lines.next_line(), Ok(None)) && matches!(lines.next_line(), Ok(None))
 }
 
-/// The registers after a history of so many events, where each is answered as the history has it.
+/// Returns the registers after a history of this many events, each with the answer in the history.
 fn decided<D: Decides + Drop>(alloc: Global, text: &[u8], events: u64) -> Option<Registers> {
     match HistoryLines::open(alloc, text) {
         Ok((mut lines, opening)) => {
@@ -200,7 +200,7 @@ fn is_ended(end: &RunEnd, events: u64, moment: u64, stats: Stats) -> bool {
         && end.stats == stats
 }
 
-/// What a run tells at its end, over an opening alone and over a packet that comes and goes.
+/// Tests the result of a run at its end, over an opening alone and over a packet that arrives and departs.
 pub(crate) fn runs_end(alloc: Global) -> bool {
     let none = Stats {
         arrivals: 0,
@@ -235,7 +235,7 @@ pub(crate) fn runs_end(alloc: Global) -> bool {
         && emptied.is_ok_and(|end| is_ended(&end, 3, 30, one))
 }
 
-/// Returns true if a run of so many records at the most meets one more, and writes this.
+/// Returns true if a run of at most this many records meets one more, and writes this text.
 fn is_too_long<R: Read + Drop>(alloc: Global, trace: R, most: u64, wanted: &[u8]) -> bool {
     let mut writer = Compared::with(wanted);
     let fault = run_trace_within(alloc, trace, &mut writer, most).err();

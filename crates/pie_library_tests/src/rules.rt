@@ -15,7 +15,7 @@ const DEPARTURES: [(u32, u64, u64); 3] = [
     (16_384, 0, 32_001_000),
 ];
 
-/// Whether the average of both cycles is 14 milliseconds, and none is begun then.
+/// Returns true if the average of both cycles is 14 milliseconds, and none is open then.
 fn are_cycles_averaged() -> bool {
     let mut rate = Rate::cleared();
     for place in 0..DEPARTURES.len() {
@@ -27,7 +27,8 @@ fn are_cycles_averaged() -> bool {
     rate.average() == 14_000_000 && !rate.is_measuring()
 }
 
-/// Whether three packets of 16,384 bytes are a delay of 42 milliseconds then, and two updates at 30 leave these registers.
+/// Returns true if three packets of 16,384 bytes are a delay of 42 milliseconds then, and two updates at 30 lead to
+/// these registers.
 fn are_updates_made(params: &Params, start: Nanos) -> bool {
     let mut control = Control::opened(params, start);
     let _ = control.update(params, Elements::usual(), 30_000_000, start);
@@ -41,7 +42,8 @@ fn are_updates_made(params: &Params, start: Nanos) -> bool {
     is_next && are_kept && delay(49_152, 14_000_000, params.dq_threshold()) == 42_000_000
 }
 
-/// Whether of arrivals at a probability of a tenth, with the greatest word, the 85th is the first that is dropped.
+/// Returns true if, of arrivals at a probability of a tenth with the greatest word, the 85th is the first that is
+/// dropped.
 fn is_last_dropped(params: &Params, tenth: Prob, start: Nanos) -> bool {
     let control = Control::from_parts(tenth, 15_000_000, 0, start);
     let mut early = Early::opened();

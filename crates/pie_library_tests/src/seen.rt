@@ -1,9 +1,9 @@
-//! What a call answered, and the lines that are printed.
+//! The answers of calls, and the printed lines.
 
 use crate::report::Report;
 use std::rt::Clock;
 
-/// What a call answered, and two numbers that were seen then: its test says which.
+/// The answer of a call, and two observed numbers, which the test of the call describes.
 #[derive(Clone, Copy)]
 pub(crate) struct Seen {
     answer: &'static str,

@@ -1,5 +1,6 @@
-//! What no clause of a storm says: its workers are at work at once, a gate stands around each call and is told the call's number, and a fold is
-//! asked for where its gate lets it. (Storms of the program: tests/program/storms.sh.)
+//! Properties of a storm that no clause states: its workers run concurrently, a gate surrounds each call and
+//! receives the call's number, and a fold is made at the time that its gate allows. (Storms of the program:
+//! tests/program/storms.sh.)
 
 use crate::books::arrival;
 use crossbeam_utils::Backoff;
@@ -77,9 +78,10 @@ impl Passed {
     }
 }
 
-/// The gate that holds caller `held` before its first call until `until` calls of caller `awaited` were answered; 0 stands for all others. Caller
-/// `awaited` begins when `held` is at its first call, and after its last waits until `held` was answered its second. So an event that is recorded
-/// before `before` or after `after` comes where it should not.
+/// A gate that delays caller `held` before its first call until `until` calls of caller `awaited` have answers; 0
+/// stands for all others. Caller `awaited` starts when `held` is at its first call, and after its last call waits
+/// until the second call of `held` has an answer. So an event that is recorded before `before` or after `after` is
+/// at a wrong place.
 #[derive(Drop)]
 struct Hold {
     held: u16,
@@ -117,7 +119,7 @@ impl Gate for Hold {
     }
 }
 
-/// The gate that holds this caller until so many calls of that one were answered.
+/// Returns a gate that delays one caller until this many calls of another have answers.
 fn holding(held: u16, awaited: u16, until: u64) -> Hold {
     Hold {
         held,
@@ -130,7 +132,7 @@ fn holding(held: u16, awaited: u16, until: u64) -> Hold {
     }
 }
 
-/// The gate at which each of `senders` raises its flag after its first call, and looks for the flags of the others.
+/// A gate at which each of `senders` raises its flag after its first call, and checks the flags of the others.
 #[derive(Drop)]
 struct Flags {
     senders: u16,
@@ -164,7 +166,7 @@ fn arrivals(alloc: Global, moments: &[u64]) -> Vec<Arrival> {
     list
 }
 
-/// A plan of senders, each of which sends at these moments, whose events all fit.
+/// Returns a plan of senders, each of which sends at these moments, whose events all fit.
 fn plan(alloc: Global, senders: u16, moments: &[u64]) -> Plan {
     let mut all = Vec::new(alloc);
     for _ in 0..senders {
@@ -223,7 +225,8 @@ pub(crate) fn held_comes_last<R: Threads + Wait + Sync>(rt: &R, alloc: Global) -
     comes_last(rt, alloc, &plan, 1, 2) && comes_last(rt, alloc, &plan, 2, 1)
 }
 
-/// Returns true if each of so many senders, which send three packets in bursts of two, sees the flags of all others.
+/// Returns true if each of this many senders, which send three packets in bursts of two, sees the flags of all
+/// others.
 fn see_all_flags<R: Threads + Wait + Sync>(
     rt: &R,
     alloc: Global,
@@ -292,7 +295,7 @@ pub(crate) fn early_fold_is_passed_over<R: Threads + Wait + Sync>(rt: &R, alloc:
     }
 }
 
-/// Returns true if a storm of this plan has five events, and so many updates too soon.
+/// Returns true if a storm of this plan has five events, and this many updates too soon.
 fn has_five_events<R: Threads + Wait + Sync>(
     rt: &R,
     alloc: Global,
@@ -335,8 +338,9 @@ pub(crate) fn plans_are_checked<R: Threads + Wait + Sync>(rt: &R, alloc: Global)
     }
 }
 
-/// Of ten storms at their own pace, of two senders with a hundred packets, there is one in which no caller waits in vain for another. (A gate that
-/// waits for a caller without calls, or for one that has made all of its own, waits in vain in each.)
+/// Returns true if in one of ten storms at their own pace, of two senders with a hundred packets, no wait for
+/// another caller times out. (With a gate that waits for a caller without calls, or for one that has made all its
+/// calls, a wait times out in each storm.)
 pub(crate) fn pace_is_kept<R: Threads + Wait + Clock + Sync>(rt: &R, alloc: Global) -> bool {
     let numbers = StormNumbers {
         senders: 2,

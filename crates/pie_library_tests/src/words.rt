@@ -1,4 +1,5 @@
-//! What no clause says and no program shows: texts, that there is memory for the largest ring, and calls that nothing else makes.
+//! Properties that no clause states and no program shows: texts, that memory suffices for the largest ring, and
+//! calls without another caller.
 
 use crate::books::limits;
 use crate::flushes::HISTORY;
@@ -11,7 +12,7 @@ use pie_record::{HistoryLines, Line, TraceFault};
 use std::alloc::Global;
 use std::fmt::Display;
 
-/// Whether each of these is said so.
+/// Returns true if each of these has this text.
 fn say<T: Display>(alloc: Global, texts: &[(T, &'static str)]) -> bool {
     let mut are_said = true;
     for (it, want) in texts {
@@ -39,7 +40,7 @@ fn say_why_a_command_is_refused(alloc: Global) -> bool {
     say(alloc, &commands) & say(alloc, &locks)
 }
 
-/// Those of an opening, of a fold, and of numbers that no core goes on from.
+/// Tests the texts of an opening, of a fold, and of numbers that no core can continue from.
 fn say_why_others_are_refused(alloc: Global) -> bool {
     let openings = [
         (OpenRefusal::BadLimits, "limits out of range"),
@@ -86,7 +87,7 @@ pub(crate) fn refusals_in_words(alloc: Global) -> bool {
         & say_what_is_wrong(alloc)
 }
 
-/// Whether there is memory for a ring of the greatest size.
+/// Returns true if memory suffices for a ring of the greatest size.
 pub(crate) fn the_largest_ring(alloc: Global) -> bool {
     match ByteQueue::new(alloc, 1_048_576) {
         Ok(queue) => queue.packets() == 1_048_576,
@@ -94,13 +95,13 @@ pub(crate) fn the_largest_ring(alloc: Global) -> bool {
     }
 }
 
-/// Whether a book shows that it has no event, and when it was opened.
+/// Returns true if a book has no event, and this opening moment.
 fn is_as_opened(book: &mut Book) -> bool {
     let checkpoint = book.checkpoint();
     book.event(0).is_none() && book.opening().moment == 3 && checkpoint == book.registers()
 }
 
-/// Whether a new book does.
+/// Returns true for a new book.
 fn shows_its_opening(alloc: Global) -> bool {
     match Book::open(alloc, limits(16), Params::default_profile(), 3) {
         Ok(mut book) => is_as_opened(&mut book),
@@ -108,7 +109,8 @@ fn shows_its_opening(alloc: Global) -> bool {
     }
 }
 
-/// Whether the default parameters have section 4.2's gains and interval, and the other numbers that only checked parameters answer.
+/// Returns true if the default parameters have section 4.2's gains and interval, and the other numbers that checked
+/// parameters return.
 fn are_defaults_read() -> bool {
     let params = Params::default_profile();
     let (alpha, beta) = (params.alpha().units(), params.beta().units());
@@ -118,13 +120,13 @@ fn are_defaults_read() -> bool {
     are_steps && packet == 1024 && all == 262_144 && marks == 100_000_000_000 && cycle == 16_384
 }
 
-/// What is accumulated after one arrival that was considered at a tenth.
+/// Returns the accumulated probability after one arrival that was considered at a tenth.
 fn accumulated() -> Option<u64> {
     let tenth = Prob::from_units(100_000_000_000)?;
     Some(Accu::zero().plus(tenth).units())
 }
 
-/// Whether there is a gain of a thousand per second, and none above.
+/// Returns true if a gain of a thousand per second exists, and none above.
 fn are_gains_bounded() -> bool {
     match Gain::from_units(1_000_000) {
         Some(gain) => gain.units() == 1_000_000 && Gain::from_units(1_000_001).is_none(),
@@ -132,7 +134,7 @@ fn are_gains_bounded() -> bool {
     }
 }
 
-/// Whether a history's opening and its first event are read.
+/// Returns true if a history's opening and its first event are read.
 fn is_history_read(alloc: Global) -> bool {
     match HistoryLines::open(alloc, HISTORY) {
         Ok((mut lines, opening)) => {

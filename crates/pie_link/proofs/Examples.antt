@@ -1,4 +1,4 @@
--- The link's definitions at small values that were worked out by hand.
+-- The link's definitions at small values, worked out by hand.
 use Rattle.std.specs.Prelude.{ℕ, ◌≡◌, [], ◌∷◌, Some, None}
 use Rattle.pie_link.proofs.Names.{refl, Shown, Spent, Waits, Meets, Opening, Entry, Informed, callers_of}
 use Rattle.pie_event.specs.declared.opening.Limits.{Limits}
@@ -9,7 +9,7 @@ use Rattle.pie_link.specs.Opening.{link_refusal}
 abbrev limits : ℕ → Limits
 limits packets = record { packets = packets; tail = 8; events = 100 }
 
--- bad limits come first, then the moment, and then that there are no callers
+-- bad limits come first, then the moment, then that there are no callers
 bad_limits : link_refusal (limits 0) 1152921504606846976 0 ≡ Some (Book of_book.BadLimits)
 bad_limits = refl
 
@@ -28,6 +28,6 @@ pass first = record { front = []; first = first; limit = first; numbers = 4; ori
 abbrev caller : ℕ → Informed
 caller first = record { front = []; first = first; limit = first }
 
--- a spent seat knows of no caller, one with two passes of two
+-- a spent seat has no caller, and a seat with two passes has two
 callers_of_seats : callers_of (Waits (pass 1) ∷ Spent ∷ Meets (pass 2) (pass 3) ∷ []) ≡ caller 1 ∷ caller 2 ∷ caller 3 ∷ []
 callers_of_seats = refl

@@ -1,4 +1,4 @@
--- Bursts that were worked out by hand.
+-- Bursts worked out by hand.
 use Rattle.pie_link.proofs.Names.{refl, held_after, waiting_after, Command, Arrive, Answer, Empty, Bounded, None, Opening, Entry, Made, Reply}
 use Rattle.pie_link.proofs.Names.{entries_within, replies_within, ⊤, always, burst_within, departures, has_left}
 use Rattle.std.specs.Prelude.{ℕ, ◌≡◌, List, [], ◌∷◌, Ok, Err}
@@ -16,14 +16,14 @@ use Rattle.pie_book.specs.Shown.{shown}
 use Rattle.pie_event.specs.declared.command.Answer.TheVariants.{DroppedBytes, Enqueued, Left}
 use Rattle.pie_event.specs.declared.refusal.Refusal.TheVariants.{HistoryFull, Size}
 
--- all that a burst of these computes with
+-- the definitions that these bursts compute with
 unfoldable worked : Type 0
 unfolding admitted places effective_moment greatest waiting_after departed_count held_after shown held_of now_of params_of active_of
     departures_shown updates_shown arrivals_shown departures_of waited_of waited_noted delay_noted control_of early_of is_active noted noted_after last_or
     verdict burst_within
 worked = ⊤
 
--- a bounded link with room for so many events, and for packets of 1000 bytes in all
+-- a bounded link whose log has room for `tail` events, and whose queue has room for 1000 bytes
 abbrev opened : ℕ → Opening
 opened tail = record {
   moment = 0;
@@ -41,11 +41,11 @@ told answer number = Ok (record { answer = answer; number = number })
 abbrev made : Command → Answer → Entry
 made command answer = Made (record { caller = 1; command = command; answer = answer })
 
--- three packets, of which the first and the third are too large for the queue, and the second has no bytes
+-- three packets: the first and the third are too large for the queue, and the second has no bytes
 abbrev three : List Command
 three = Arrive 1 (packet 7 1500) 0 ∷ Arrive 1 (packet 8 0) 0 ∷ Arrive 1 (packet 9 1001) 0 ∷ []
 
--- the second is refused and adds nothing, and the third is handed in all the same
+-- the second is refused and adds no entry; the third is decided
 replies_to_three : replies_within None always (opened 8) 1 [] [] three ≡ told DroppedBytes 1 ∷ Err Size ∷ told DroppedBytes 2 ∷ []
 unfolding worked
 replies_to_three = refl
@@ -55,22 +55,22 @@ entries_to_three : entries_within None always (opened 8) 1 [] [] three
 unfolding worked
 entries_to_three = refl
 
--- where the tail has room for one event the third finds it full
+-- if the log has room for one event, the third is refused as full
 replies_where_one_fits : replies_within None always (opened 1) 1 [] [] three ≡ told DroppedBytes 1 ∷ Err Size ∷ Err HistoryFull ∷ []
 unfolding worked
 replies_where_one_fits = refl
 
--- two packets wait
+-- two packets in the queue
 abbrev two_wait : List Entry
 two_wait = made (Arrive 1 (packet 7 500) 0) Enqueued ∷ made (Arrive 1 (packet 9 64) 0) Enqueued ∷ []
 
--- up to five departures: both packets leave, in order, and the third departure finds the queue empty and is the last
+-- at most five departures: both packets depart, in order; the third departure finds the queue empty and ends the burst
 replies_to_departures : replies_within None has_left (opened 8) 1 two_wait [] (departures 5 2)
     ≡ told (Left (packet 7 500)) 3 ∷ told (Left (packet 9 64)) 4 ∷ told Empty 5 ∷ []
 unfolding worked
 replies_to_departures = refl
 
--- a refused departure is the last, and adds nothing
+-- a refused departure ends the burst, and adds no entry
 replies_where_all_are_refused : replies_within None has_left (opened 2) 1 two_wait [] (departures 5 2) ≡ Err HistoryFull ∷ []
 unfolding worked
 replies_where_all_are_refused = refl

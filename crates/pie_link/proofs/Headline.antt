@@ -15,26 +15,26 @@ use Rattle.pie_book.specs.Registers.{registers_after}
 use Rattle.pie_link.specs.Views.{LinkView}
 
 module _ (P : Shown Entry Opening → Type 0) (Q : Informed → Type 0) (follows : (p : Shown Entry Opening) → P p → Q (informed p)) where
-  -- what holds of each pass at a seat holds of each of its callers
+  -- a fact about each pass of a seat is one about each of its callers
   at_seat : (seat : Place Entry Opening) → EachPass P seat → All Q (callers_at seat)
   at_seat Spent each = All-nil Q
   at_seat (Waits p) each = All-cons Q (informed p) [] (follows p each) (All-nil Q)
   at_seat (Holds p) each = All-cons Q (informed p) [] (follows p each) (All-nil Q)
   at_seat (Meets p q) each = All-cons Q (informed p) (informed q ∷ []) (follows p each.0) (All-cons Q (informed q) [] (follows q each.1) (All-nil Q))
 
-  -- .. and so of all callers
+  -- a fact about the passes of all seats is one about all callers
   pub at_all : (seats : List (Place Entry Opening)) → ((seat : ℕ) (view : Place Entry Opening) → get_elem? seats seat ≡ some view → EachPass P view)
       → All Q (callers_of seats)
   at_all [] each = All-nil Q
   at_all (seat ∷ seats) each = All-append Q (callers_at seat) (callers_of seats) (at_seat seat (each 0 seat refl))
       (at_all seats (λ k view at. each (suc k) view at))
 
--- what pie_book promises of the registers
+-- pie_book's law of registers
 abbrev pub LookBack : Type 0
 LookBack = (opening : Opening) (core : CoreView) (history : List Event) → Shows opening core history
     → registers_of core ≡ registers_after opening history
 
--- what the rule says while the lock is free
+-- the rule while the lock is free
 pub while_free : LookBack → (opening : Opening) (numbers : ℕ) (lock : LockState) (history : List Entry) (holder : Option ℕ) (owner : ℕ → ℕ)
     → Agreed number_of opening numbers history holder owner lock.views
     → WhileFree number_of (λ (kept : KeptView). kept.book.opening) IsKept opening numbers history holder lock
@@ -72,7 +72,7 @@ while_free look_back opening numbers lock history holder owner agreed free =
 abbrev pub ruled : LockKey → LockState → Type 0
 ruled key lock = Ruled number_of (λ (kept : KeptView). kept.book.opening) IsKept key.state.value.book.opening key.numbers lock
 
--- whenever the lock is free there is one history
+-- whenever the lock is free, there is one history
 pub keeps_one_history : LookBack → (link : LinkView) → KeepsOneHistory ruled link
 unfolding KeepsOneHistory
 keeps_one_history look_back link opening from key is lock rule free =

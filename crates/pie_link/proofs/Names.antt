@@ -1,4 +1,4 @@
--- What the files of this folder take from below, in one place.
+-- Names of lower crates that the files of this folder import.
 pub use Rattle.std.proofs.Common.{All, Bool, Err, List, None, Ok, Option, Result, Some, Vec, [], ap, append_assoc, arith, drop, false, get_or, length}
 pub use Rattle.std.proofs.Common.{length-append, length-drop, map, max, min, refl, rules, subst, suc, sym, take, true, vec_capacity, vec_len, zero, ℕ}
 pub use Rattle.std.proofs.Common.{⊎_elim, ◌++◌, ◌+◌, ◌-◌, ◌<◌, ◌==◌, ◌↔◌, ◌∙◌, ◌∷◌, ◌≡◌, ◌≢◌, ◌≤◌}

@@ -1,4 +1,4 @@
--- What a caller's burst is answered: several commands, one after another, with nothing of another caller between.
+-- Results of a caller's burst: several commands, with no call of another caller between.
 use Rattle.std.specs.Prelude.{◌≡◌, ℕ, Bool, List, [], ◌∷◌, ◌++◌, Option, None, Result, Ok, Err}
 use Rattle.pie_link.specs.Names.{Command, Reply, entries_within, replies_within}
 use Rattle.pie_link.specs.declared.told.NoRoom.{NoRoom}
@@ -6,8 +6,8 @@ use Rattle.pie_link.specs.declared.told.Tried.{Tried}
 use Rattle.pie_link.specs.declared.told.Tried.TheVariants.{Busy, Refused}
 use Rattle.pie_link.specs.Views.{LinkView, CallerView, HasTurn, WasBusy}
 
--- a link answers a burst of a caller, with a budget of bytes or without one: its replies follow on those that were there, and its entries on the
--- history; one of no commands looks at nothing
+-- a link decides a burst of a caller, with a budget of bytes or without: its results follow the earlier ones, and its
+-- entries the history. A burst without commands changes nothing
 unfoldable pub AnswersWithin : Option ℕ → (Reply → Bool) → LinkView → CallerView → List Command → List Reply → List Reply → CallerView → Type 0
 AnswersWithin budget goes_on link before [] earlier replies after = (replies ≡ earlier) × (after ≡ before)
 AnswersWithin budget goes_on link before (command ∷ later) earlier replies after =
@@ -15,7 +15,7 @@ AnswersWithin budget goes_on link before (command ∷ later) earlier replies aft
     (λ opening history. replies ≡ earlier ++ replies_within budget goes_on opening before.first history [] (command ∷ later))
     (λ opening history. history ++ entries_within budget goes_on opening before.first history [] (command ∷ later)) after
 
--- .. that has no budget
+-- a burst without a budget
 abbrev pub AnswersAll : (Reply → Bool) → LinkView → CallerView → List Command → List Reply → List Reply → CallerView → Type 0
 AnswersAll = AnswersWithin None
 
@@ -23,14 +23,14 @@ AnswersAll = AnswersWithin None
 abbrev pub WasNotDone : CallerView → List Reply → List Reply → CallerView → Type 0
 WasNotDone before earlier replies after = (replies ≡ earlier) × (after ≡ before)
 
--- the same where the link may be busy
+-- a burst that is decided, or refused because the link is busy or the vector too small
 unfoldable pub TriesToAnswerAll : (Reply → Bool) → LinkView → CallerView → List Command → Result (Unit {0}) (Tried NoRoom) → List Reply
     → List Reply → CallerView → Type 0
 TriesToAnswerAll goes_on link before commands (Ok done) earlier replies after = AnswersAll goes_on link before commands earlier replies after
 TriesToAnswerAll goes_on link before commands (Err Busy) earlier replies after = WasBusy before after × (replies ≡ earlier)
 TriesToAnswerAll goes_on link before commands (Err (Refused why)) earlier replies after = WasNotDone before earlier replies after
 
--- a call was refused, and the link wasn't busy
+-- the call was refused, and not because the link was busy
 abbrev pub WasRefused : Result (Unit {0}) (Tried NoRoom) → Type 0
 WasRefused (Ok done) = ⊥
 WasRefused (Err Busy) = ⊥

@@ -1,4 +1,4 @@
--- What a caller reads.
+-- Values that a caller reads.
 use Rattle.std.specs.Prelude.{◌≡◌, List, Result, Ok, Err}
 use Rattle.pie_link.specs.Names.{Event, Opening, Refusal, Told, events_in}
 use Rattle.pie_link.specs.Readings.{IsReading}
@@ -7,13 +7,13 @@ use Rattle.pie_link.specs.declared.told.Tried.{Tried}
 use Rattle.pie_link.specs.declared.told.Tried.TheVariants.{Busy}
 
 module _ {A : Type 0} (value_after : Opening → List Event → A) where
-  -- a link tells a caller what looking back over the events of a history gives, and has shown it this history
+  -- a link returns the look-back over the events of a history, which becomes the caller's front
   unfoldable pub Reads : LinkView → CallerView → Told A → CallerView → Type 0
   Reads link before told after =
       HasTurn link before (λ opening history. IsReading (value_after opening (events_in history)) (events_in history) told)
       (λ opening history. history) after
 
-  -- the same, or the link is busy
+  -- the link returns the value, or is busy
   unfoldable pub TriesToRead : LinkView → CallerView → Result (Told A) (Tried Refusal) → CallerView → Type 0
   TriesToRead link before (Ok told) after = Reads link before told after
   TriesToRead link before (Err why) after = (why ≡ Busy) × WasBusy before after

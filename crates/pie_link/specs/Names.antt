@@ -1,4 +1,4 @@
--- What the files of this folder take from below, in one place.
+-- Names of lower crates that the files of this folder import.
 pub use Rattle.pie_book.specs.Decision.{IsLegal}
 pub use Rattle.pie_event.specs.declared.command.Command.{Command}
 pub use Rattle.pie_event.specs.declared.command.Event.{Event}

@@ -1,9 +1,9 @@
--- What a reading tells.
+-- The result of a reading.
 use Rattle.std.specs.Prelude.{◌≡◌, List, length}
 use Rattle.pie_event.specs.declared.command.Event.{Event}
 use Rattle.pie_link.specs.declared.told.Told.{Told}
 
--- this value was told, after these events
+-- this value was returned after these events
 pub record IsReading {A : Type 0} (value : A) (events : List Event) (told : Told A) : Type 0 where
   pub answered : told.answer ≡ value
   pub numbered : told.number ≡ length events

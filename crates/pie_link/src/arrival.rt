@@ -1,23 +1,23 @@
-//! A packet of a burst.
+//! Arrivals of a burst.
 ghost use Rattle.std.specs.Prelude.{◌≡◌};
 ghost use Rattle.pie_link.specs.Bursts.{arrive};
 
 use pie_book::Command;
 use pie_queue::Packet;
 
-/// A packet that arrives in a burst (this project's own): what `Command::Arrive` has.
+/// An arrival of a burst (this project's own), with the fields of `Command::Arrive`.
 #[derive(Clone, Copy)]
 pub struct Arrival {
-    /// The moment that the caller hands in, in nanoseconds: at most `2^60 - 1`.
+    /// The caller's moment in nanoseconds, at most `2^60 - 1`.
     pub moment: u64,
     /// The packet, of 1 to 65535 bytes.
     pub packet: Packet,
-    /// A random word of the caller's, any of the 2^64, by which an early drop is decided.
+    /// The random word that decides an early drop.
     pub word: u64,
 }
 
 impl Arrival {
-    /// The arrival as a command.
+    /// Returns the arrival as a command.
     #[inline(always)]
     pub fn command(&self) -> Command
         ensures { result ≡ arrive self.now }

@@ -1,4 +1,4 @@
-//! Several commands of one caller, which are answered one after another.
+//! Several commands of one caller that are decided one after another.
 ghost use Rattle.std.specs.Prelude.{◌≡◌, ℕ, ◌+◌, ◌<◌, Bool, List, [], ◌∷◌, ◌++◌, length};
 ghost use Rattle.pie_event.specs.declared.command.Command.{Command};
 ghost use Rattle.pie_link.specs.Bursts.{Reply};
@@ -6,18 +6,19 @@ ghost use Rattle.pie_link.specs.Bursts.{Reply};
 use crate::told::Told;
 use pie_book::{Answer, Command, Refusal};
 
-/// What one command is answered: an answer with the number of its event, or a refusal.
+/// The result of a command: the answer with the number of its event, or a refusal.
 pub type Reply = Result<Told<Answer>, Refusal>;
 
-/// What each command of a burst is answered.
+/// The results of a burst's commands.
 pub type Replies = Vec<Reply>;
 
-/// What a burst asks, and what takes its replies (this project's own): commands of one caller, one after another, until a reply is one after which
-/// the burst doesn't go on.
+/// The commands of a burst and the place of their results (this project's own). The commands of one caller are decided
+/// one after another, until a result ends the burst.
 ///
-/// `commands` are its commands from a place on, and `goes_on` says after which replies it goes on. `shows first burst replies` says that what
-/// `first` was has been given these replies, in their order, and is `burst` now; and `has_room burst place` that the replies from this place on
-/// fit; `room` is a number that stays: how many fit in all, or the name of the memory where they go.
+/// `commands` are the commands from a place on. `goes_on` is the test of a result after which the burst continues.
+/// `shows first burst replies` is a relation: `first` received these results, in order, and became `burst`. `has_room
+/// burst place` means that the results from this place on fit. `room` is a number that never changes, such as the total
+/// number of results that fit.
 pub trait Burst {
     ghost commands: { Self → ℕ → List Command };
 
@@ -29,16 +30,16 @@ pub trait Burst {
 
     ghost has_room: { Self → ℕ → Type 0 };
 
-    /// How many commands it has.
+    /// Returns the number of commands.
     fn count(&self) -> usize
         ensures { result ≡ length (commands self.now 0) };
 
-    /// The command at this place, counted from 0.
+    /// Returns the command at `place`, counted from 0.
     fn command(&self, place: usize) -> Command
         requires { 0 < length (commands self.now place) }
         ensures { commands self.now place ≡ result ∷ commands self.now (place + 1) };
 
-    /// Takes the reply to the command at this place, and says whether the burst goes on.
+    /// Stores the result of the command at `place`. Returns true if the burst continues.
     fn take(&mut self, place: usize, reply: Reply) -> bool
         requires place { 0 < length (commands self.old place) }
         requires room { has_room self.old place }

@@ -1,6 +1,6 @@
-//! Bursts: several commands of one caller in one turn at the lock, with nothing of another caller between.
+//! Bursts: several commands of one caller in one turn at the lock, with no call of another caller between.
 //!
-//! No burst takes memory: what takes its replies is the caller's, such as a vector that has room for them.
+//! No burst allocates: the caller owns the memory of the results, such as a vector with enough room.
 ghost use Rattle.std.specs.Prelude.{◌≡◌, ◌≢◌, ◌+◌, ◌≤◌, ◌<◌, ◌↔◌, IsTrue, Err, IfErr, IfOk, IsOk, List, None, OnOk, OnErr, length, map, vec_len};
 ghost use Rattle.std.specs.Prelude.{vec_capacity};
 ghost use Rattle.pie_link.specs.Bursts.{Reply, always, arrive, departures, has_left};
@@ -18,7 +18,7 @@ use crate::vectors::{Arrivals, Departures};
 use core::mem::{replace, replace_with};
 use std::sync::Wait;
 
-// Whether a vector has room for so many more.
+// Returns true if `answers` has room for `more` more elements.
 fn has_room(answers: &Replies, more: usize) -> bool
     ensures { IsTrue result ↔ (vec_len answers.now + more ≤ vec_capacity answers.now) }
 {
@@ -26,9 +26,9 @@ fn has_room(answers: &Replies, more: usize) -> bool
 }
 
 impl Link {
-    // The commands of a burst, one after another, as so many calls of their own with nothing of another caller between, until a reply after which
-    // the burst doesn't go on. A refused command changes nothing. A burst of no commands takes no lock. The call waits while another caller
-    // has the book, and takes no memory.
+    // Decides the commands of a burst as single calls with no call of another caller between, until a result ends the
+    // burst. A refused command changes nothing. A burst without commands takes no lock. If another caller has the book,
+    // the call waits. It allocates nothing.
     fn answer_all<R: Wait, B: Burst>(&self, rt: &R, caller: &mut Caller, burst: B) -> B
         requires own { caller.old.lock ≡ self.now }
         requires room { B.has_room burst 0 }
@@ -44,13 +44,14 @@ impl Link {
         )
     }
 
-    /// The commands of any burst, one after another, as so many calls of their own with nothing of another caller between: until a reply after
-    /// which the burst doesn't go on, or, where there is a budget, in bytes, before a departure whose packet has more bytes than remain of it.
-    /// A refused command changes nothing. A burst of no commands takes no lock. It never blocks, and takes no memory.
+    /// Decides the commands of any burst as single calls with no call of another caller between, until a result ends
+    /// the burst. With a budget, in bytes, the burst also ends before a departure whose packet exceeds the remaining
+    /// budget. A refused command changes nothing. A burst without commands takes no lock. The call never blocks and
+    /// allocates nothing.
     ///
     /// # Errors
     ///
-    /// The burst as it was, where another caller has the book, which doesn't come for a burst of no commands.
+    /// If another caller has the book and the burst has commands, returns the burst unchanged.
     #[inline(always)]
     pub fn try_answer_all<B: Burst>(
         &self,
@@ -75,13 +76,13 @@ impl Link {
         )
     }
 
-    /// The packets arrive one after another, in the order of the slice, as so many calls of `arrive` with nothing of another caller
-    /// between; what each would be answered is pushed to `answers`. A refused packet changes nothing, and the next ones are handed in all
-    /// the same. A burst of no packets takes no lock. The call waits while another caller has the book, and takes no memory.
+    /// Decides the arrivals in order, as single calls of `arrive` with no call of another caller between, and pushes
+    /// each result to `answers`. A refused packet changes nothing, and the next one is decided. A burst without packets
+    /// takes no lock. If another caller has the book, the call waits. It allocates nothing.
     ///
     /// # Errors
     ///
-    /// `NoRoom` exactly where `answers` has room for fewer answers than there are packets. Nothing is done then.
+    /// `NoRoom` if `answers` has room for fewer results than there are packets. Nothing is done then.
     pub fn arrive_all<R: Wait>(
         &self,
         rt: &R,
@@ -106,12 +107,12 @@ impl Link {
         Ok(())
     }
 
-    /// The same as `arrive_all`, where no other caller has the book. It never blocks.
+    /// Decides the arrivals as `arrive_all` does. It never blocks.
     ///
     /// # Errors
     ///
-    /// `Refused` with `NoRoom` exactly where `answers` has room for fewer answers than there are packets; `Busy` where another caller has
-    /// the book, which doesn't come for a burst of no packets. Nothing is done then.
+    /// `Refused` with `NoRoom` if `answers` has room for fewer results than there are packets. `Busy` if another caller
+    /// has the book and the burst has packets. Nothing is done then.
     #[tactic(auto, unfolding(crate::specs::CallerBursts::TriesToAnswerAll))]
     pub fn try_arrive_all(
         &self,
@@ -144,14 +145,14 @@ impl Link {
         }
     }
 
-    /// Packets leave one after another, as by so many calls of `depart` with this moment and nothing of another caller between; what each
-    /// call would be answered is pushed to `answers`. The burst ends after `most` departures, or after the first that hands out no packet:
-    /// `Empty`, which is recorded as `depart` records it, or a refusal, which isn't. A burst of none takes no lock. The call waits while
-    /// another caller has the book, and takes no memory.
+    /// Decides up to `most` departures at one moment, as single calls of `depart` with no call of another caller
+    /// between, and pushes each result to `answers`. The burst ends after `most` departures, or after the first without
+    /// a packet: `Empty`, which is recorded, or a refusal, which is not. A burst of no departures takes no lock. If
+    /// another caller has the book, the call waits. It allocates nothing.
     ///
     /// # Errors
     ///
-    /// `NoRoom` exactly where `answers` has room for fewer than `most` answers. Nothing is done then.
+    /// `NoRoom` if `answers` has room for fewer than `most` results. Nothing is done then.
     pub fn depart_all<R: Wait>(
         &self,
         rt: &R,

@@ -5,9 +5,9 @@ use crate::kept_book::KeptBook;
 use pie_lock::Pass;
 use std::marker::Model;
 
-/// The right to call a link, under the numbers `first()..limit()`, of which there is one at least.
+/// The right to call a link under the numbers `first()..limit()`, at least one.
 ///
-/// Its events stand under `first()`. A caller that is dropped takes its numbers with it.
+/// The events of this caller have the number `first()`. A dropped caller takes its numbers with it.
 #[derive(Drop)]
 pub struct Caller {
     pub(crate) pass: Pass<KeptBook>,
@@ -22,7 +22,7 @@ impl Model for Caller {
 }
 
 impl Caller {
-    /// The least of its numbers, under which its events stand.
+    /// Returns the lowest number. The events of this caller have it.
     pub fn first(&self) -> u16
         ensures value { result ≡ self.now.first }
         ensures some { self.now.first < self.now.limit }
@@ -30,7 +30,7 @@ impl Caller {
         self.pass.first()
     }
 
-    /// One above the greatest of its numbers.
+    /// Returns the highest number plus one.
     pub fn limit(&self) -> u16
         ensures value { result ≡ self.now.limit }
         ensures some { self.now.first < self.now.limit }

@@ -1,7 +1,7 @@
-//! What a caller of a link can ask: each call takes the lock once, and puts the book back.
+//! The calls of a link. Each call takes the lock once and puts the book back.
 //!
-//! Moments are nanoseconds from a start of the callers' choosing, at most `2^60 - 1`. Between calls of two callers it is
-//! the lock that decides which comes first.
+//! Moments are nanoseconds from a common start that the callers choose, at most `2^60 - 1`. The lock decides the order
+//! of the calls of two callers.
 ghost use Rattle.std.specs.Prelude.{◌≡◌, ◌+◌, ◌-◌, ◌≤◌, min, vec_capacity, vec_len};
 ghost use Rattle.pie_event.specs.declared.command.Command.TheVariants.{Arrive, Depart, Update, Reset, SetParams};
 ghost use Rattle.pie_book.specs.Registers.{registers_after};
@@ -25,12 +25,12 @@ use pie_queue::Packet;
 use std::sync::Wait;
 
 impl Link {
-    /// A packet arrives, with a random word of the caller's (see `Command::Arrive`). It never blocks.
+    /// Decides an arrival with the caller's random word `word` (see `Command::Arrive`). It never blocks.
     ///
     /// # Errors
     ///
-    /// `Busy` where another caller has the book; `Refused` with those of `Book::apply`, in its order. There is no event
-    /// then.
+    /// `Busy` if another caller has the book; `Refused` with the refusals of `Book::apply`, in its order. No event is
+    /// recorded then.
     pub fn try_arrive(
         &self,
         caller: &mut Caller,
@@ -46,12 +46,12 @@ impl Link {
         replace_with(&mut caller.pass, asked, turn::try_arrive)
     }
 
-    /// The link asks for the next packet (see `Command::Depart`). It never blocks.
+    /// Takes the next packet from the queue (see `Command::Depart`). It never blocks.
     ///
     /// # Errors
     ///
-    /// `Busy` where another caller has the book; `Refused` with those of `Book::apply`, in its order. There is no event
-    /// then.
+    /// `Busy` if another caller has the book; `Refused` with the refusals of `Book::apply`, in its order. No event is
+    /// recorded then.
     pub fn try_depart(
         &self,
         caller: &mut Caller,
@@ -64,12 +64,12 @@ impl Link {
         replace_with(&mut caller.pass, (self, moment), turn::try_depart)
     }
 
-    /// The probability is to be computed anew (see `Command::Update`). It never blocks.
+    /// Updates the probability (see `Command::Update`). It never blocks.
     ///
     /// # Errors
     ///
-    /// `Busy` where another caller has the book; `Refused` with those of `Book::apply`, in its order. There is no event
-    /// then.
+    /// `Busy` if another caller has the book; `Refused` with the refusals of `Book::apply`, in its order. No event is
+    /// recorded then.
     pub fn try_update(
         &self,
         caller: &mut Caller,
@@ -83,12 +83,12 @@ impl Link {
         replace_with(&mut caller.pass, asked, turn::try_apply)
     }
 
-    /// The probability, the delays and the rate estimate are to start anew (see `Command::Reset`). It never blocks.
+    /// Resets the probability, the delays and the rate estimate (see `Command::Reset`). It never blocks.
     ///
     /// # Errors
     ///
-    /// `Busy` where another caller has the book; `Refused` with those of `Book::apply`, in its order. There is no event
-    /// then.
+    /// `Busy` if another caller has the book; `Refused` with the refusals of `Book::apply`, in its order. No event is
+    /// recorded then.
     pub fn try_reset(
         &self,
         caller: &mut Caller,
@@ -102,12 +102,12 @@ impl Link {
         replace_with(&mut caller.pass, asked, turn::try_apply)
     }
 
-    /// New parameters are to hold from the next event on (see `Command::SetParams`). It never blocks.
+    /// Sets the parameters from the next event on (see `Command::SetParams`). It never blocks.
     ///
     /// # Errors
     ///
-    /// `Busy` where another caller has the book; `Refused` with those of `Book::apply`, in its order. There is no event
-    /// then.
+    /// `Busy` if another caller has the book; `Refused` with the refusals of `Book::apply`, in its order. No event is
+    /// recorded then.
     pub fn try_set_params(
         &self,
         caller: &mut Caller,
@@ -122,11 +122,12 @@ impl Link {
         replace_with(&mut caller.pass, asked, turn::try_apply)
     }
 
-    /// A packet arrives, with a random word of the caller's (see `Command::Arrive`). It waits while another caller has the book.
+    /// Decides an arrival with the caller's random word `word` (see `Command::Arrive`). If another caller has the book,
+    /// the call waits.
     ///
     /// # Errors
     ///
-    /// Those of `Book::apply`, in its order; there is no event then.
+    /// The refusals of `Book::apply`, in its order. No event is recorded then.
     pub fn arrive<R: Wait>(
         &self,
         rt: &R,
@@ -143,11 +144,11 @@ impl Link {
         replace_with(&mut caller.pass, asked, turn::wait_and_arrive)
     }
 
-    /// The link asks for the next packet (see `Command::Depart`). It waits while another caller has the book.
+    /// Takes the next packet from the queue (see `Command::Depart`). If another caller has the book, the call waits.
     ///
     /// # Errors
     ///
-    /// Those of `Book::apply`, in its order; there is no event then.
+    /// The refusals of `Book::apply`, in its order. No event is recorded then.
     pub fn depart<R: Wait>(
         &self,
         rt: &R,
@@ -161,11 +162,11 @@ impl Link {
         replace_with(&mut caller.pass, (self, rt, moment), turn::wait_and_depart)
     }
 
-    /// The probability is to be computed anew (see `Command::Update`). It waits while another caller has the book.
+    /// Updates the probability (see `Command::Update`). If another caller has the book, the call waits.
     ///
     /// # Errors
     ///
-    /// Those of `Book::apply`, in its order; there is no event then.
+    /// The refusals of `Book::apply`, in its order. No event is recorded then.
     pub fn update<R: Wait>(
         &self,
         rt: &R,
@@ -180,11 +181,12 @@ impl Link {
         replace_with(&mut caller.pass, asked, turn::wait_and_apply)
     }
 
-    /// The probability, the delays and the rate estimate are to start anew (see `Command::Reset`). It waits while another caller has the book.
+    /// Resets the probability, the delays and the rate estimate (see `Command::Reset`). If another caller has the book,
+    /// the call waits.
     ///
     /// # Errors
     ///
-    /// Those of `Book::apply`, in its order; there is no event then.
+    /// The refusals of `Book::apply`, in its order. No event is recorded then.
     pub fn reset<R: Wait>(
         &self,
         rt: &R,
@@ -199,11 +201,12 @@ impl Link {
         replace_with(&mut caller.pass, asked, turn::wait_and_apply)
     }
 
-    /// New parameters are to hold from the next event on (see `Command::SetParams`). It waits while another caller has the book.
+    /// Sets the parameters from the next event on (see `Command::SetParams`). If another caller has the book, the call
+    /// waits.
     ///
     /// # Errors
     ///
-    /// Those of `Book::apply`, in its order; there is no event then.
+    /// The refusals of `Book::apply`, in its order. No event is recorded then.
     pub fn set_params<R: Wait>(
         &self,
         rt: &R,
@@ -219,13 +222,13 @@ impl Link {
         replace_with(&mut caller.pass, asked, turn::wait_and_apply)
     }
 
-    /// Hands out the oldest `n` events of the book's tail, oldest first, which makes room for as many. The history stays as
-    /// it was, and so do all later answers but `HistoryFull`. It never blocks.
+    /// Folds the oldest `n` events of the event log and returns them, oldest first. The log then has room for `n` more
+    /// events. The history is unchanged, and so is each later result except `HistoryFull`. The call never blocks.
     ///
     /// # Errors
     ///
-    /// `Busy` where another caller has the book; `Refused` with `TooMany` where the tail holds fewer events, or with
-    /// `Memory`, which doesn't come where `n` is 0. Nothing is folded then.
+    /// `Busy` if another caller has the book; `Refused` with `TooMany` if the log has fewer than `n` events, or with
+    /// `Memory` if there is no memory for them, which needs `n` above 0. Nothing is folded then.
     pub fn try_fold(
         &self,
         caller: &mut Caller,
@@ -238,12 +241,14 @@ impl Link {
         replace_with(&mut caller.pass, (self, n), turn::try_fold)
     }
 
-    /// Hands out the oldest `n` events of the book's tail, oldest first, which makes room for as many. The history stays as
-    /// it was, and so do all later answers but `HistoryFull`. It waits while another caller has the book.
+    /// Folds the oldest `n` events of the event log and returns them, oldest first. The log then has room for `n` more
+    /// events. The history is unchanged, and so is each later result except `HistoryFull`. If another caller has the
+    /// book, the call waits.
     ///
     /// # Errors
     ///
-    /// `TooMany` where the tail holds fewer events; `Memory`, which doesn't come where `n` is 0. Nothing is folded then.
+    /// `TooMany` if the log has fewer than `n` events; `Memory` if there is no memory for them, which needs `n` above
+    /// 0. Nothing is folded then.
     pub fn fold<R: Wait>(
         &self,
         rt: &R,
@@ -257,16 +262,18 @@ impl Link {
         replace_with(&mut caller.pass, (self, rt, n), turn::wait_and_fold)
     }
 
-    /// Hands out the oldest events of the book's tail, oldest first, behind others in a vector: up to `most`, as many as there is room for, and
-    /// none after one that sets parameters. The history stays as it was, and so do all later answers but `HistoryFull`. It never blocks and takes
-    /// no memory, and a tail with no events is no refusal: there are none then.
+    /// Folds the oldest events of the event log and appends them to `events`, oldest first: at most `most`, as many as
+    /// fit, and none after one that sets parameters. The history is unchanged, and so is each later result except
+    /// `HistoryFull`. The call never blocks and allocates nothing. If the log has no events, the call folds none and
+    /// succeeds.
     ///
-    /// Returns the number of events handed out, with the number of the last event in the checkpoint after the fold. The events have the numbers
-    /// `number - answer + 1` to `number`, so that a caller sees which events of a rolling link no fold handed out.
+    /// Returns the number of folded events, with the number of the last event in the checkpoint after the fold. The
+    /// folded events have the numbers `number - answer + 1` to `number`. So a caller sees which events of a rolling
+    /// link no fold returned.
     ///
     /// # Errors
     ///
-    /// `Busy` alone, where another caller has the book.
+    /// `Busy` if another caller has the book. There is no other error.
     pub fn try_fold_into(
         &self,
         caller: &mut Caller,
@@ -290,11 +297,11 @@ impl Link {
         result
     }
 
-    /// What the book holds. It never blocks.
+    /// Returns the registers of the book. It never blocks.
     ///
     /// # Errors
     ///
-    /// `Busy` alone, where another caller has the book.
+    /// `Busy` if another caller has the book. There is no other error.
     pub fn try_registers(&self, caller: &mut Caller) -> Result<Told<Registers>, Tried<Refusal>>
         requires own { caller.old.lock ≡ self.now }
         ensures read { TriesToRead registers_after self.now caller.old result caller.new }
@@ -303,7 +310,7 @@ impl Link {
         replace_with(&mut caller.pass, self, turn::try_read)
     }
 
-    /// What the book holds. It waits while another caller has the book.
+    /// Returns the registers of the book. If another caller has the book, the call waits.
     pub fn registers<R: Wait>(&self, rt: &R, caller: &mut Caller) -> Told<Registers>
         requires own { caller.old.lock ≡ self.now }
         ensures read { Reads registers_after self.now caller.old result caller.new }
@@ -312,11 +319,11 @@ impl Link {
         replace_with(&mut caller.pass, (self, rt), turn::wait_and_read)
     }
 
-    /// The statistics of all events. It never blocks.
+    /// Returns the statistics of all events. It never blocks.
     ///
     /// # Errors
     ///
-    /// `Busy` alone, where another caller has the book.
+    /// `Busy` if another caller has the book. There is no other error.
     pub fn try_stats(&self, caller: &mut Caller) -> Result<Told<Stats>, Tried<Refusal>>
         requires own { caller.old.lock ≡ self.now }
         ensures read { TriesToRead stats_after self.now caller.old result caller.new }
@@ -325,7 +332,7 @@ impl Link {
         replace_with(&mut caller.pass, self, turn::try_read)
     }
 
-    /// The statistics of all events. It waits while another caller has the book.
+    /// Returns the statistics of all events. If another caller has the book, the call waits.
     pub fn stats<R: Wait>(&self, rt: &R, caller: &mut Caller) -> Told<Stats>
         requires own { caller.old.lock ≡ self.now }
         ensures read { Reads stats_after self.now caller.old result caller.new }
@@ -334,13 +341,14 @@ impl Link {
         replace_with(&mut caller.pass, (self, rt), turn::wait_and_read)
     }
 
-    /// Copies all events that the book keeps into an excerpt, with what they stand on: at least those of the tail. The book is held for no
-    /// longer than the copying takes, and the call takes no memory. The history stays as it was. It waits while another caller has the book.
+    /// Copies the events that the book still stores into `excerpt`, at least those of the event log, with their
+    /// preamble. Other callers wait only while they are copied. The call allocates nothing, and the history is
+    /// unchanged. If another caller has the book, the call waits.
     ///
     /// # Errors
     ///
-    /// `TooSmall` exactly where the excerpt has less room than a book with the link's limits may need (`Excerpt::with_room`); it is as it
-    /// was then.
+    /// `TooSmall` if the excerpt has less room than a book with the link's limits may need (`Excerpt::with_room`). The
+    /// excerpt is unchanged then.
     pub fn excerpt<R: Wait>(
         &self,
         rt: &R,
@@ -357,12 +365,12 @@ impl Link {
         result
     }
 
-    /// The same as `excerpt`, where no other caller has the book. It never blocks.
+    /// Fills `excerpt` as `excerpt` does. It never blocks.
     ///
     /// # Errors
     ///
-    /// `Busy` where another caller has the book; `Refused` with `TooSmall` exactly where the excerpt has less room than a book with the
-    /// link's limits may need. It is as it was then.
+    /// `Busy` if another caller has the book; `Refused` with `TooSmall` if the excerpt has less room than a book with
+    /// the link's limits may need. The excerpt is unchanged then.
     pub fn try_excerpt(
         &self,
         caller: &mut Caller,

@@ -2,18 +2,18 @@
 ghost use Rattle.pie_link.specs.BudgetLaws.{BurstsStayWithin};
 ghost use Rattle.pie_link.specs.EntryLaws.{EntriesLookBack};
 
-/// Looking back over a history that went on: its events, and what its folds handed out, are those of its beginning, and then those of the
-/// entries that follow on it.
+/// The events of a history and the events that its folds returned are those of its first part, followed by those of the
+/// entries after it.
 ///
-/// It does nothing: its contract is the law, for a caller whose proofs speak of histories that grow.
+/// The function does nothing: its contract is the law, for callers whose proofs are about histories that grow.
 #[tactic(auto, using(crate::proofs::EntryLists::look_back))]
 pub fn entries_look_back()
     ensures { EntriesLookBack }
 {}
 
-/// The packets that depart in a burst with a budget come to no more bytes than that.
+/// The packets that depart in a burst with a budget have at most that many bytes together.
 ///
-/// It does nothing: its contract is the law.
+/// The function does nothing: its contract is the law.
 #[tactic(auto, using(crate::proofs::Budgets::bursts_stay_within))]
 pub fn bursts_stay_within_their_bytes()
     ensures { BurstsStayWithin }

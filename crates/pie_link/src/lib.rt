@@ -1,33 +1,43 @@
 //! The link: one book that several threads share, with one history behind all callers.
 //!
-//! A `Link` keeps a book under the ruled lock of pie_lock. Each `Caller` has a range of numbers and a front, the entries that it has been shown:
-//! an entry of the link's history is an event, or a fold of so many events. Contracts see a link as its lock (which one it is, the opening of its
-//! book, and how many numbers it has), and a caller as a pass of it (the lock, the front, and the numbers `first..limit`).
+//! A `Link` keeps a book behind the ruled lock of pie_lock. Each `Caller` has a range of numbers and a front, which is
+//! the history that it has seen. An entry of the link's history is an event, or a fold of a number of events. In
+//! contracts a link is its lock: its identity, the opening of its book, and its number of numbers. A caller is a pass
+//! of that lock: the lock, the front, and the numbers `first..limit`.
 //!
-//! What lies under the lock is a `KeptBook`: a book in a box, with how many folds there were, which contracts alone see. It knows of no thread. It
-//! tells a list of entries (`IsKept`): the book tells the events, its tail begins where folds and want of room left off, and in a bounded book what
-//! all folds handed out, in their order, and then the tail are all events. Of each history that it tells, one turn at it promises what looking back
-//! over that gives. A refusal changes nothing.
+//! The lock keeps a `KeptBook`: a book in a box, with the number of folds, which exists in contracts alone. It
+//! represents a list of entries (`IsKept`):
 //!
-//! Each call that is not answered `Busy` is one such turn (`turn.rt`), decided after one history that begins with the caller's front and has no
-//! further entry of this caller; the caller has then been shown that history, with its event or fold.
+//! - the book represents the events;
+//! - its event log begins after the events that were folded or, in a rolling book, dropped for want of room;
+//! - in a bounded book the folded events, in order, followed by the log are all events.
 //!
-//! - An event call at Ok has the decision there, and a refusal is that of the book there: `HistoryFull` comes exactly where the tail of a bounded
-//!   link is full.
-//! - A fold of n events is Ok only where the tail holds n, and hands out the oldest; `TooMany` names how many there are. `try_fold_into` hands out
-//!   as many as there are into a vector that has room, and the book never refuses it.
-//! - `arrive_all`, `try_arrive_all`, `depart_all` and `try_answer_all` make a burst of such calls after one history, with nothing of another caller
-//!   between, for whatever is a `Burst`: `Arrivals` and `Departures` push their replies to a vector. With a budget the packets that depart in it
-//!   come to no more bytes than that (`bursts_stay_within_their_bytes`).
-//! - `registers` and `stats` are the look-back over the events of such a history, and an `excerpt` is its end, with what that stands on.
+//! For each history that it represents, a turn at the book returns the look-back over that history. A refusal changes
+//! nothing.
 //!
-//! `Busy` is not answered to a caller with all numbers. `Link::open` and `open_with` promise the headline (clause `headline`,
-//! `specs/Headline.antt`): whenever the lock is free there is one history of one thread that begins with everything any caller has been shown,
-//! contains each caller's calls once and in its order, and ends with the stored tail, and looking back over it gives all that the book holds. In
-//! a bounded link no event is lost: what all folds handed out, in their order, and then the tail are all events.
+//! Each call whose result is not `Busy` is one such turn (`turn.rt`). It is decided after one history that begins with
+//! the caller's front and has no further entry of this caller. The caller's front is then that history with the call's
+//! event or fold.
 //!
-//! Not promised: that a waiting call returns, that anyone is served, or how often `Busy` comes where several have numbers; what a
-//! caller that was dropped had been shown.
+//! - A call that is accepted has the decision there, and a refusal is that of the book there. `HistoryFull` occurs only
+//!   if the event log of a bounded link is full.
+//! - A fold of n events succeeds only if the log has n events, and returns the oldest; `TooMany` has their number.
+//!   `try_fold_into` appends the events that fit to a vector, and the book never refuses it.
+//! - `arrive_all`, `try_arrive_all`, `depart_all` and `try_answer_all` decide a burst after one history, with no call
+//!   of another caller between, for every type that is a `Burst`. `Arrivals` and `Departures` push their results to a
+//!   vector. With a budget the packets that depart in the burst have at most that many bytes
+//!   (`bursts_stay_within_their_bytes`).
+//! - `registers` and `stats` are the look-back over the events of such a history, and an `excerpt` is its end, with the
+//!   preamble.
+//!
+//! A caller with all numbers never receives `Busy`. `Link::open` and `open_with` promise the headline (clause
+//! `headline`, `specs/Headline.antt`): whenever the lock is free, there is one history of one thread that begins with
+//! the front of each caller, contains each caller's calls once and in order, and ends with the event log. The look-back
+//! over it is the book's state. In a bounded link no event is lost: the folded events, in order, followed by the log
+//! are all events.
+//!
+//! Not promised: that a waiting call returns, that the lock is fair, how often `Busy` occurs if several callers have
+//! numbers, and the front of a dropped caller.
 #![tactic(auto)]
 
 pub mod arrival;

@@ -1,4 +1,4 @@
-//! The link: how it is opened, shared and closed.
+//! The link: opening, sharing and closing.
 ghost use Rattle.std.specs.Prelude.{◌≡◌, ◌+◌, ◌<◌, ◌≤◌, ◌↔◌, [], All, Some, None, IsOk, IsErr, IfOk, IfErr, IfSome, OnOk, OnErr, List};
 ghost use Rattle.pie_params.specs.Range.{first_bad};
 ghost use Rattle.pie_event.specs.Opening.{opening_refusal};
@@ -43,7 +43,7 @@ impl Link {
     ghost use Rattle.pie_link.specs.Headline.{KeepsOneHistory};
     ghost use Rattle.pie_link.specs.Opening.{link_refusal, IsRefusedFor};
 
-    /// Opens a link over a bounded book of profile one with the usual elements: `open_with` at `Opening::usual`.
+    /// Opens a link around a bounded book of profile one with the usual elements: `open_with` at `Opening::usual`.
     ///
     /// # Errors
     ///
@@ -67,13 +67,13 @@ impl Link {
         Link::open_with(alloc, Opening::usual(limits, params, moment), callers)
     }
 
-    /// Opens a link over a book that is opened so, with an empty queue, and a caller with the numbers
-    /// `0..callers`, which has been shown nothing. No later call but a fold takes memory.
+    /// Opens a link around a book with this opening and an empty queue, and a caller with the numbers `0..callers` and
+    /// an empty front. After this call only folds allocate.
     ///
     /// # Errors
     ///
-    /// In this order: `Book` with `BadLimits`, where a limit is out of its range, or with `Moment`, above `2^60 - 1`;
-    /// `NoCallers` where `callers` is 0; `Book` with `Memory`, or `Memory`.
+    /// In this order: `Book` with `BadLimits` if a limit is out of its range, or with `Moment` if the moment is above
+    /// `2^60 - 1`; `NoCallers` if `callers` is 0; `Book` with `Memory`, or `Memory`.
     pub fn open_with(
         alloc: Global,
         opening: Opening,
@@ -103,8 +103,8 @@ impl Link {
         }
     }
 
-    // The lock over a new book, and the pass with all its numbers, where there is memory for them. Apart from `open_with`: each way out lets the
-    // book go.
+    // Returns the lock around a new book, and the pass with all its numbers, if there is memory for them. It is apart
+    // from `open_with`, because each way out drops the book.
     fn lock_over(
         alloc: Global,
         book: Book,
@@ -128,11 +128,11 @@ impl Link {
         }
     }
 
-    /// A new caller with the highest number of `caller` alone, which has been shown the same.
+    /// Returns a new caller with the highest number of `caller` and the same front.
     ///
     /// # Errors
     ///
-    /// `OneNumber` exactly where `caller` has one number; it is as it was.
+    /// `OneNumber` if `caller` has one number. It is unchanged then.
     pub fn share(&self, caller: &mut Caller) -> Result<Caller, OneNumber>
         requires own { caller.old.lock ≡ self.now }
         ensures rest { OnOk result (caller.new ≡ without_highest caller.old) }
@@ -146,11 +146,12 @@ impl Link {
         }
     }
 
-    /// Makes one caller of two, with both ranges and the longer front, which the shorter begins.
+    /// Joins `other` to `caller`, which then has both ranges and the longer front.
     ///
     /// # Errors
     ///
-    /// Hands `other` back exactly where neither's `limit()` is the other's `first()`; both are as they were.
+    /// Returns `other` if the ranges are not adjacent: neither's `limit()` is the other's `first()`. Both are unchanged
+    /// then.
     pub fn gather(&self, caller: &mut Caller, other: Caller) -> Result<(), Caller>
         requires own { (caller.old.lock ≡ self.now) × (other.lock ≡ self.now) }
         ensures both { OnOk result (IsBothOf number_of caller.old other caller.new) }
@@ -164,11 +165,11 @@ impl Link {
         }
     }
 
-    /// The book, where no caller has it. It never blocks. A caller with all numbers always closes the link.
+    /// Closes the link and returns the book. It never blocks. A caller with all numbers always closes the link.
     ///
     /// # Errors
     ///
-    /// Hands link and caller back as they were where another caller has the book.
+    /// If another caller has the book, returns the link and the caller unchanged.
     pub fn close(self, caller: Caller) -> Result<Book, (Link, Caller)>
         requires own { caller.lock ≡ self }
         ensures opening { IfOk result (λ book. caller.lock.origin ≡ Some book.opening) }
@@ -186,7 +187,7 @@ impl Link {
     }
 }
 
-// The parameters of an opening are in their ranges, as all of their type are. It does nothing.
+// Does nothing. Its contract: the parameters of an opening are in their ranges, by their type.
 fn are_in_range(opening: &Opening)
     ensures { first_bad opening.now.params ≡ None }
 {

@@ -1,19 +1,19 @@
-//! Why a link was not opened.
+//! Refusals of a link's opening.
 
 use pie_book::OpenRefusal;
 use thiserror::Error;
 
-/// Why a link was not opened. The refusals are looked for in this order, but for the book's want of memory, which comes
-/// after `NoCallers`.
+/// The reason why a link was not opened. The first of these that holds is returned, except that `NoCallers` comes
+/// before the book's out of memory.
 #[derive(Clone, Copy, Debug, PartialEq, Eq, Error)]
 pub enum LinkRefusal {
     /// The book was not opened.
     #[error("{0}")]
     Book(OpenRefusal),
-    /// There were to be no callers.
+    /// `callers` is 0.
     #[error("a link needs one caller at least")]
     NoCallers,
-    /// There was no memory for the lock.
+    /// Out of memory for the lock.
     #[error("out of memory")]
     Memory,
 }

@@ -1,18 +1,18 @@
-//! What a caller is told, and why nothing was done.
+//! Results of a link's calls.
 
 use thiserror::Error;
 
-/// What a call was answered, and at which place of the history.
+/// The result of a call, and its place in the history.
 #[derive(Drop)]
 pub struct Told<T> {
-    /// The answer.
+    /// The result.
     pub answer: T,
-    /// At a command, the number of its event; events are numbered from 1. At registers and statistics, how many events
-    /// they speak of. At a fold, the number of the last event in the checkpoint after it, 0 where there is none.
+    /// For a command, the number of its event; events are numbered from 1. For registers and statistics, the number of
+    /// events up to them. For a fold, the number of the last event in the checkpoint after it, 0 if there is none.
     pub number: u64,
 }
 
-/// Why a call that never blocks has no answer.
+/// The reason why a call that never blocks did nothing.
 #[derive(Clone, Copy, Debug, PartialEq, Eq)]
 pub enum Tried<R> {
     /// Another caller had the book. Nothing was done.
@@ -21,7 +21,7 @@ pub enum Tried<R> {
     Refused(R),
 }
 
-/// The vector for the answers of a burst has less room than the burst may need. Nothing was done.
+/// The vector for the results of a burst has less room than the burst may need. Nothing was done.
 #[derive(Clone, Copy, Debug, PartialEq, Eq, Error)]
 #[error("no room for the answers")]
 pub struct NoRoom;

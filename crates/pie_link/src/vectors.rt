@@ -1,4 +1,4 @@
-//! Bursts whose replies are pushed to a vector that has room for them.
+//! Bursts that push their results to a vector with enough room.
 ghost use Rattle.std.specs.Prelude.{◌≡◌, ◌+◌, ◌-◌, ◌≤◌, drop, length, map, vec_capacity, vec_len};
 ghost use Rattle.pie_event.specs.declared.command.Command.TheVariants.{Depart};
 ghost use Rattle.pie_link.specs.Bursts.{always, arrive, departures, has_left};
@@ -7,23 +7,23 @@ use crate::arrival::Arrival;
 use crate::burst::{Burst, Replies, Reply};
 use pie_book::{Answer, Command};
 
-/// Packets that arrive one after another, all of them.
+/// A burst of arrivals. Each packet is decided.
 #[derive(Drop)]
 pub struct Arrivals<'a> {
     /// The packets.
     pub arrivals: &'a [Arrival],
-    /// Where the replies go.
+    /// The vector for the results.
     pub replies: Replies,
 }
 
-/// Departures at one moment: so many, or until no packet leaves.
+/// A burst of departures at one moment. It ends early if no packet departs.
 #[derive(Drop)]
 pub struct Departures {
-    /// The moment, in nanoseconds: at most `2^60 - 1`.
+    /// The moment in nanoseconds, at most `2^60 - 1`.
     pub moment: u64,
-    /// How many at most.
+    /// The greatest number of departures.
     pub most: usize,
-    /// Where the replies go.
+    /// The vector for the results.
     pub replies: Replies,
 }
 
@@ -89,7 +89,7 @@ impl Burst for Departures {
     }
 }
 
-// Whether a packet left.
+// Returns true if a packet departed.
 fn has_left(reply: &Reply) -> bool
     ensures { result ≡ has_left reply.now }
 {

@@ -1,4 +1,4 @@
-//! Excerpts: the last events of the history, with what they stand on, as a text, record by record.
+//! Excerpts: the last events of the history behind their preamble, as a text that is written record by record.
 ghost use Rattle.std.specs.Prelude.{◌≡◌, ◌≢◌, None};
 ghost use Rattle.pie_abi.specs.Opening.{opening_in};
 ghost use Rattle.pie_port.specs.Calls.{close_code};
@@ -8,9 +8,10 @@ use pie_abi::PieOpening;
 use pie_port::{PieExcerpt, PiePort};
 use std::alloc::Global;
 
-/// Takes room for the excerpts of every link with this opening. The excerpt is closed before, and one of no events then.
+/// Takes memory for the excerpts of every link with this opening. `excerpt` must be closed, and then has no events.
 ///
-/// Refuses an open excerpt, then what `pie_open` refuses of the opening; and where there is no memory, all stays as it was.
+/// Refused, in this order: an open excerpt, what `pie_open` refuses of the opening, out of memory. The excerpt is
+/// unchanged then.
 #[unsafe(no_mangle)]
 pub extern "C" fn pie_link_open_excerpt(
     alloc: Global,
@@ -25,8 +26,8 @@ pub extern "C" fn pie_link_open_excerpt(
     pie_port::open_excerpt(alloc, opening, excerpt)
 }
 
-/// Copies the last events of the history into an excerpt, with what they stand on: at least those of the log. The history stays as it was. The
-/// link is held for no longer than the copying takes.
+/// Copies the last events of the history into an excerpt, at least those of the log, with their preamble. The history
+/// is unchanged. Other ports wait only while they are copied.
 #[unsafe(no_mangle)]
 pub extern "C" fn pie_link_try_excerpt(
     alloc: Global,
@@ -38,7 +39,8 @@ pub extern "C" fn pie_link_try_excerpt(
     pie_port::try_excerpt(alloc, port, excerpt)
 }
 
-/// Writes the next record of an excerpt's text, the first after it was filled, where there is one and room for it, and answers how many bytes it has.
+/// Writes the next record of an excerpt's text, if there is one and `out` has room for it; the first one after it was
+/// filled. Returns its number of bytes.
 #[unsafe(no_mangle)]
 pub extern "C" fn pie_link_write_excerpt(
     alloc: Global,
@@ -50,7 +52,7 @@ pub extern "C" fn pie_link_write_excerpt(
     pie_port::write_excerpt(alloc, excerpt, out)
 }
 
-/// Closes an excerpt, and gives its memory back.
+/// Closes an excerpt and frees its memory.
 #[unsafe(no_mangle)]
 pub extern "C" fn pie_link_close_excerpt(alloc: Global, excerpt: &mut PieExcerpt) -> u32
     ensures answer { result ≡ close_code excerpt.old.text }

@@ -1,4 +1,5 @@
-//! The link for callers in C: a static library that `include/pie_link.h` declares. Each export is a call of pie_port, and says its clauses again.
+//! The link for callers in C: a static library that `include/pie_link.h` declares. Each export is a call of pie_port
+//! with the same clauses.
 #![tactic(auto)]
 
 mod calls;

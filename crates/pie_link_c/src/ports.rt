@@ -1,4 +1,4 @@
-//! A link is opened, one port of it becomes two, two become one, and a port is closed.
+//! Opening a link, and sharing, gathering and closing ports.
 ghost use Rattle.std.specs.Prelude.{◌≡◌, ◌≢◌, None};
 ghost use Rattle.pie_link.specs.Headline.{KeepsOneHistory};
 ghost use Rattle.pie_port.specs.Calls.{AreOfOneLink, Gathers, IsOpened, Shares, close_code, open_refusal};
@@ -11,9 +11,10 @@ use pie_lock::{LockOpening, LockRule, Place};
 use pie_port::PiePort;
 use std::alloc::Global;
 
-/// Opens a link of so many callers by an opening, and the port with all their numbers, which then shares them. The port is closed before.
+/// Opens a link for `callers` callers, and the closed port `port` with all their numbers.
 ///
-/// Refuses an open port, then what `pie_open` refuses of the opening, and then no callers; and where there is no memory, all stays as it was.
+/// Refused, in this order: an open port, what `pie_open` refuses of the opening, no callers, out of memory. The port is
+/// unchanged then.
 #[unsafe(no_mangle)]
 pub extern "C" fn pie_link_open_port(
     alloc: Global,
@@ -30,8 +31,8 @@ pub extern "C" fn pie_link_open_port(
     pie_port::open(alloc, opening, callers, port)
 }
 
-/// Opens `new`, which is closed before, with the highest number of `port`: a caller of its own, for another thread. Where the port has one number
-/// alone, or where there is no memory, all stays as it was.
+/// Opens the closed port `new` with the highest number of `port`: a caller of its own, for another thread. If the port
+/// has only one number, or there is no memory, both are unchanged.
 #[unsafe(no_mangle)]
 pub extern "C" fn pie_link_share_port(alloc: Global, port: &mut PiePort, new: &mut PiePort) -> u32
     ensures { Shares port.old.port new.old.port result port.new.port new.new.port }
@@ -39,8 +40,8 @@ pub extern "C" fn pie_link_share_port(alloc: Global, port: &mut PiePort, new: &m
     pie_port::share(alloc, port, new)
 }
 
-/// Takes the numbers of `other`, which is closed then, if the range of one begins where that of the other ends. Both are of one link: pie_link.h
-/// compares the memory that the ports of a link share, and calls this only for two ports of one link.
+/// Joins the numbers of `other`, which is closed then, to `port`, if the ranges are adjacent. Both belong to one link:
+/// pie_link.h compares the memory that the ports of a link share, and calls this only for two ports of one link.
 #[unsafe(no_mangle)]
 pub extern "C" fn pie_link_gather_ports(
     alloc: Global,
@@ -53,7 +54,7 @@ pub extern "C" fn pie_link_gather_ports(
     pie_port::gather(alloc, port, other)
 }
 
-/// Closes a port, and frees the link with its last one. Its numbers are nobody's then.
+/// Closes a port. Closing the last port frees the link. No port has the closed port's numbers then.
 #[unsafe(no_mangle)]
 pub extern "C" fn pie_link_close_port(alloc: Global, port: &mut PiePort) -> u32
     ensures answer { result ≡ close_code port.old.port }

@@ -1,4 +1,4 @@
-//! Readings: what the book behind a port holds, as a struct of the caller's.
+//! Readings: the state of the book behind a port, in the caller's structs.
 ghost use Rattle.pie_port.specs.Readings.{TriesToReadInto, registers_of, totals_of};
 ghost use Rattle.pie_book.specs.Registers.{registers_after};
 ghost use Rattle.pie_book.specs.Statistics.{stats_after};
@@ -6,7 +6,7 @@ ghost use Rattle.pie_book.specs.Statistics.{stats_after};
 use pie_port::{PiePort, PieRegisters, PieTotals};
 use std::alloc::Global;
 
-/// What the controller and its queue hold after all events.
+/// Reads the registers after all events.
 #[unsafe(no_mangle)]
 pub extern "C" fn pie_link_try_registers(
     alloc: Global,
@@ -18,7 +18,7 @@ pub extern "C" fn pie_link_try_registers(
     pie_port::try_registers(alloc, port, registers)
 }
 
-/// The statistics of all events.
+/// Reads the statistics of all events.
 #[unsafe(no_mangle)]
 pub extern "C" fn pie_link_try_stats(
     alloc: Global,

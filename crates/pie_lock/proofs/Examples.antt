@@ -1,10 +1,10 @@
--- The definitions at small values that were worked out by hand: a lock over a counter with three numbers, after two calls.
+-- The definitions at small values, worked out by hand: a lock around a counter with three numbers, after two calls.
 use Rattle.pie_lock.proofs.Names.{◌≡◌, ℕ, List, [], ◌∷◌, refl, own, longer}
 use Rattle.pie_lock.specs.declared.lock.TheConstants.{WORD, SLOT, FREE, HELD}
 use Rattle.pie_lock.specs.declared.counter.CounterEntry.{CounterEntry}
 use Rattle.pie_lock.specs.Tally.{Tally, Tells}
 
--- the constants of the code are the numbers of the rule: the one word and the one slot, and what the word shows
+-- the constants of the code are the numbers of the rule
 constants : (WORD ≡ 0) × (SLOT ≡ 0) × (FREE ≡ 0) × (HELD ≡ 1)
 constants = (refl, refl, refl, refl)
 
@@ -30,6 +30,6 @@ tally = record { count = 2; total = 12 }
 told : Tells tally history
 told = record { counted = refl; added_up = refl }
 
--- the same counter tells other lists too
+-- the same counter represents other lists too
 told_too : Tells tally (entry 2 12 ∷ entry 0 0 ∷ [])
 told_too = record { counted = refl; added_up = refl }

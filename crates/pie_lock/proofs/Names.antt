@@ -1,4 +1,4 @@
--- What the files of this folder take from below, in one place.
+-- Names of lower crates that the files of this folder import.
 pub use Rattle.atomic_table.proofs.Lists.{at_longer, at_set, exchanged, set_again, set_else}
 pub use Rattle.atomic_table.specs.Table.{Act, Allows, Joins, Me, Splits, State, Valid, carried_after, gives, keeps, opening, rest, step, stepped}
 pub use Rattle.atomic_table.specs.Table.{takes}

@@ -1,10 +1,10 @@
--- Which entries of a list stand under the numbers of a range, and lists that go on with none of them.
+-- Entries of a list under the numbers of a range, and lists that go on without such entries.
 use Rattle.pie_lock.proofs.Names.{◌≡◌, ℕ, ◌≤◌, false, List, [], ◌∷◌, ◌++◌, length, refl, subst, arith, append-nil}
 use Rattle.pie_lock.proofs.Names.{nat_tests, append_cancel_left, All-cons, All-drop, All-head, All-nil, All-tail, All-take, filter-append, All, is_within, own}
 use Rattle.pie_lock.proofs.Names.{GoesOn}
 use Rattle.std.proofs.Math.Seq.{take-append_seam, drop-append_seam}
 
--- of two beginnings of one list the shorter begins the longer, and its rest begins with what lies between
+-- of two prefixes of one list the shorter is a prefix of the longer, and its rest begins with the part between
 pub between : {A : Type 0} (xs r ys s : List A) → xs ++ r ≡ ys ++ s → length xs ≤ length ys → (m : List A) × (xs ++ m ≡ ys) × (r ≡ m ++ s)
 between [] r ys s e le = (ys, refl, e)
 between (x ∷ xs) r [] s e le = absurd (omega arith)
@@ -20,7 +20,7 @@ all_parts P xs ys all = (
 )
 
 module _ {E : Type 0} (number : E → ℕ) (first limit : ℕ) where
-  -- none of these entries stands under a number of the range
+  -- none of these entries has a number of the range
   abbrev pub NoneOwn : List E → Type 0
   NoneOwn entries = All (λ e. is_within first limit (number e) ≡ false) entries
 
@@ -39,7 +39,7 @@ module _ {E : Type 0} (number : E → ℕ) (first limit : ℕ) where
   none_own (e ∷ rest) none =
       All-cons (λ x. is_within first limit (number x) ≡ false) e rest (grind (arith, nat_tests)) (none_own rest (grind (arith, nat_tests)))
 
-  -- a history goes on from a front where it begins with it, and none of the rest stands under its numbers
+  -- a history goes on from a front if it begins with it and no further entry has one of its numbers
   pub goes_on : (front rest history : List E) → front ++ rest ≡ history → NoneOwn rest → GoesOn number first limit front history
   goes_on front rest history is none = (
     (rest, is),

@@ -1,4 +1,4 @@
--- The seats against one history: what a pass follows, as its numbers are cut, as the history grows, and as two passes become one.
+-- The seats against one history: if numbers are split, if the history grows, and if two passes become one.
 use Rattle.pie_lock.proofs.Names.{◌≡◌, ◌≢◌, ℕ, zero, suc, ◌<◌, ◌≤◌, ◌⊎◌, Bool, true, false, cond, Option, List, [], ◌∷◌, ◌++◌, length, get_or, min}
 use Rattle.pie_lock.proofs.Names.{max, set, refl, ap, sym, subst, ◌∙◌, inl, inr, ⊎_elim, arith, append_assoc, nat_tests, append-nil, All-append, All}
 use Rattle.pie_lock.proofs.Names.{at_set, set_else, is_within, Agreed, EachPass, Follows, IsNumberAt, IsNumberOf, IsSeated, AreAdjacent, GoesOn}
@@ -11,18 +11,18 @@ use Rattle.pie_lock.proofs.Owns.{NoneOwn, all_parts, between, goes_on, goes_on_i
 -- ---- places of lists
 
 module _ {A : Type 0} where
-  -- a place that has an element has the new one once it is set
+  -- an element that was set is read back
   pub set_at : (l : List A) (i : ℕ) (a b : A) → get_elem? l i ≡ some b → get_elem? (set l i a) i ≡ some a
   set_at [] i a b e = absurd (grind arith)
   set_at (x ∷ xs) zero a b e = refl
   set_at (x ∷ xs) (suc i) a b e = set_at xs i a b e
 
-  -- .. and another place keeps its own
+  -- the other elements are unchanged
   pub set_beside : (l : List A) (i j : ℕ) (a b c : A) → get_elem? l i ≡ some b → get_elem? l j ≡ some c → (b ≡ c → ⊥) → get_elem? (set l i a) j ≡ some c
   set_beside l i j a b c at there other =
       set_else l i j a (λ is. other (some-injective b c (sym at ∙ (ap (get_elem? l) (sym is) ∙ there)))) ∙ there
 
-  -- an element of a list one longer is one of the list, or the last
+  -- an element of a list with one more element is one of the list, or the last one
   at_end : (l : List A) (a b : A) (j : ℕ) → get_elem? (l ++ a ∷ []) j ≡ some b → (get_elem? l j ≡ some b) ⊎ ((j ≡ length l) × (a ≡ b))
   at_end [] a b zero e = grind arith
   at_end [] a b (suc j) e = grind arith
@@ -31,11 +31,11 @@ module _ {A : Type 0} where
 
 -- ---- numbers of ranges
 
--- a number between two adjacent ranges' ends is in one of them
+-- a number between the ends of two adjacent ranges is in one of them
 pub in_either : (a b c d n : ℕ) → (b ≡ c) ⊎ (d ≡ a) → a < b → c < d → min a c ≤ n → n < max b d → ((a ≤ n) × (n < b)) ⊎ ((c ≤ n) × (n < d))
 in_either a b c d n adjacent left right low high = grind (arith, nat_tests)
 
--- a number that is in neither is not between their ends
+-- a number that is in neither range is not between their ends
 in_neither : (a b c d n : ℕ) → (b ≡ c) ⊎ (d ≡ a) → a < b → c < d → is_within a b n ≡ false → is_within c d n ≡ false
     → is_within (min a c) (max b d) n ≡ false
 in_neither a b c d n adjacent left right p q = grind (arith, nat_tests)
@@ -52,7 +52,7 @@ module _ {E O : Type 0} (number : E → ℕ) (origin : O) (numbers : ℕ) where
 
   -- ---- one pass
 
-  -- a pass that knows of the lock what this one knows
+  -- a pass with the same knowledge of the lock
   follows : (history next : List E) (p q : Shown E O) → Fits history p → q.numbers ≡ p.numbers → q.origin ≡ p.origin
       → GoesOn number q.first q.limit q.front next → q.first < q.limit → q.limit ≤ numbers → Fits next q
   follows history next p q f same from on left low = record {
@@ -79,7 +79,7 @@ module _ {E O : Type 0} (number : E → ℕ) (origin : O) (numbers : ℕ) where
   follows_whole history p f next =
       follows history next p (with_front p next) f refl refl (goes_on_itself number p.first p.limit next) f.nonempty f.below
 
-  -- with all numbers it has been shown all
+  -- with all numbers its holder has seen the whole history
   pub all_shown : (history : List E) (p : Shown E O) → Fits history p → All (λ e. number e < numbers) history → HasAll p → history ≡ p.front
   all_shown history p f low all =
       let on = gone_on number p.first p.limit p.front history (f.shown, f.owned) in
@@ -93,7 +93,7 @@ module _ {E O : Type 0} (number : E → ℕ) (origin : O) (numbers : ℕ) where
           let less : number e < numbers = below 0 e (omega arith) in
           let a = all.0 in let b = all.1 in let c = f.of_all in absurd (grind (arith, nat_tests))
 
-  -- the history grows by entries that are not of the pass
+  -- the history grows by entries of other passes
   follows_longer : (history : List E) (k : ℕ) (p : Shown E O) (added : List E) → All (λ e. number e ≡ k) added → Fits history p
       → (IsNumberOf p k → ⊥) → Fits (history ++ added) p
   follows_longer history k p added is f not =
@@ -121,7 +121,7 @@ module _ {E O : Type 0} (number : E → ℕ) (origin : O) (numbers : ℕ) where
 
   -- ---- two passes
 
-  -- of two fronts the longer goes on from the shorter, and the history from the longer, under the numbers of both
+  -- the longer of two fronts goes on from the shorter, and the history from the longer, under the numbers of both
   longer_facts : (history : List E) (p q : Shown E O) → Fits history p → Fits history q → AreAdjacent p q → length p.front ≤ length q.front
       → GoesOn number (min p.first q.first) (max p.limit q.limit) q.front history × GoesOn number p.first p.limit p.front q.front
   longer_facts history p q f g adjacent less =
@@ -135,7 +135,7 @@ module _ {E O : Type 0} (number : E → ℕ) (origin : O) (numbers : ℕ) where
         goes_on number p.first p.limit p.front m.0 q.front m.1 out.0,
       )
 
-  -- two passes with adjacent ranges become one, and each front goes on to the longer
+  -- two passes with adjacent ranges become one, and both fronts go on to the longer one
   pub follows_both : (history : List E) (p q : Shown E O) → Fits history p → Fits history q → AreAdjacent p q
       → Fits history (made_one p q) × GoesOn number p.first p.limit p.front (longer p.front q.front)
       × GoesOn number q.first q.limit q.front (longer p.front q.front)
@@ -157,7 +157,7 @@ module _ {E O : Type 0} (number : E → ℕ) (origin : O) (numbers : ℕ) where
 
   -- ---- all seats
 
-  -- one seat's view changes, and perhaps the history, who has the state, and whose the numbers are
+  -- the view of one seat changes, and perhaps the history, the holder and the owners of numbers
   pub agreed_set : (next : List E) (holder : Option ℕ) (owner : ℕ → ℕ) (views : List (Place E O)) (id : ℕ) (w : Place E O)
       → IsSeated number origin numbers next holder owner id w
       → ((j : ℕ) (u : Place E O) → j ≢ id → get_elem? views j ≡ some u → IsSeated number origin numbers next holder owner j u)
@@ -170,7 +170,7 @@ module _ {E O : Type 0} (number : E → ℕ) (origin : O) (numbers : ℕ) where
     entries_below = below;
   }
 
-  -- a new seat comes
+  -- a new seat is added
   pub agreed_longer : (history : List E) (holder : Option ℕ) (owner : ℕ → ℕ) (views : List (Place E O)) (w : Place E O)
       → Agreed number origin numbers history holder owner views → IsSeated number origin numbers history holder owner (length views) w
       → Agreed number origin numbers history holder owner (views ++ w ∷ [])

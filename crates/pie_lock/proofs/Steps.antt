@@ -1,4 +1,4 @@
--- Each step on the lock's word, and each seat that is split or joined, keeps the rule.
+-- Each step on the lock's word, each split and each join keeps the rule.
 use Rattle.pie_lock.proofs.Names.{◌≡◌, ◌≢◌, ℕ, ◌+◌, ◌-◌, ◌<◌, ◌==◌, ◌⊎◌, cond, Option, Some, None, List, [], ◌∷◌, ◌++◌}
 use Rattle.pie_lock.proofs.Names.{length, get_or, set, refl, ap, sym, subst, ◌∙◌, inl, inr, ⊎_elim, arith, get_or-set_same, length-set, nat_tests}
 use Rattle.pie_lock.proofs.Names.{All-nil, All, at_longer, at_set, exchanged, set_again, set_else, Act, Allows, Joins, Me, Splits, State, Valid}
@@ -12,7 +12,7 @@ use Rattle.pie_lock.proofs.Owns.{goes_on_itself}
 use Rattle.pie_lock.proofs.Seats.{agreed_longer, agreed_set, all_shown, below_longer, each_longer, follows_both, follows_fewer, follows_whole}
 use Rattle.pie_lock.proofs.Seats.{in_either, set_at, set_beside}
 
--- a table with one word, which is written again
+-- writing the only word again changes nothing
 word_again : (words : List ℕ) → length words ≡ 1 → set words 0 (get_or words 0 0) ≡ words
 word_again (x ∷ []) e = refl
 word_again _ e = absurd (grind arith)
@@ -20,7 +20,7 @@ word_again _ e = absurd (grind arith)
 alone : {A : Type 0} (v w : A) (seat : ℕ) → get_elem? (v ∷ []) seat ≡ some w → (seat ≡ 0) × (v ≡ w)
 alone v w seat e = (grind arith, grind arith)
 
--- the numbers where this is so much are given to a new owner, and the others stay as they are
+-- the numbers for which the test gives this value have the new owner, and the others are unchanged
 unfoldable given : (ℕ → ℕ) → (ℕ → ℕ) → ℕ → ℕ → ℕ → ℕ
 given owner test value new n = cond (test n == value) new (owner n)
 
@@ -132,7 +132,7 @@ module _ {S E O : Type 0} (number : E → ℕ) (origin_of : S → O) (tells : S 
         ),
       )
 
-  -- a seat with all numbers leaves none for one that has the state
+  -- if a seat has all numbers, no other seat has the state
   not_all : (id : ℕ) (p : Shown E O) (s : Table) → Rule s → get_elem? s.views id ≡ some (Waits p) → get_or s.words 0 0 ≢ 0 → HasAll p → ⊥
   not_all id p s rule at ne all = ⊎_elim (λ free. ne free.0) no_other rule.1.4
     where
@@ -150,7 +150,7 @@ module _ {S E O : Type 0} (number : E → ℕ) (origin_of : S → O) (tells : S 
           let same : holder ≡ id = sym (its.owned q.first (omega arith, omega arith)) ∙ mine.owned q.first (omega arith, omega arith) in
           let e : Holds q ≡ Waits p = some-injective (Holds q) (Waits p) (sym there ∙ (ap (get_elem? s.views) same ∙ at)) in cc
 
-  -- where the word stays, all does
+  -- a step that leaves the word leaves the rest
   stays : (id : ℕ) (p : Shown E O) (s : Table) → Rule s → get_elem? s.views id ≡ some (Waits p)
       → Rule (stepped s 0 (get_or s.words 0 0) id [] (Waits p) keeps)
   stays id p s rule at =
@@ -184,7 +184,7 @@ module _ {S E O : Type 0} (number : E → ℕ) (origin_of : S → O) (tells : S 
 
   -- ---- the store of FREE, by the seat that has the state
 
-  -- what the seat stores, where it has this pass and this state
+  -- the fact that the store of FREE gives a seat with this pass and state
   abbrev Frees : ℕ → ℕ → List E → Me (Option S) (Place E O) → Type 0
   Frees slots id added me = Allows Rule slots id me 0 (λ _. 0) (λ _. freed added (step slots 0 0 0 none) me 0)
 
@@ -296,7 +296,7 @@ module _ {S E O : Type 0} (number : E → ℕ) (origin_of : S → O) (tells : S 
   splits_keep id v is two =
       subst (λ (v : Place E O). Splits Rule id v (all_but_highest v) (highest v)) (sym is) (splits id (pass_at v) two)
 
-  -- what a seat with two passes stores: the word again
+  -- the fact that the load gives a seat with two passes
   abbrev Merges : ℕ → ℕ → Me (Option S) (Place E O) → Type 0
   Merges slots id me = Allows Rule slots id me 0 (λ n. n) (merged number (step slots 0 0 0 none) me)
 

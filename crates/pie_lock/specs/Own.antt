@@ -1,4 +1,4 @@
--- The entries of a list that stand under the numbers of a range.
+-- The entries of a list whose numbers lie in a range.
 use Rattle.std.specs.Prelude.{ℕ, List, Bool, ◌&&◌}
 use Rattle.std.specs.List.{filter}
 use Rattle.std.proofs.Math.Dec.{leb, ltb}

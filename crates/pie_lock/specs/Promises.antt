@@ -1,31 +1,31 @@
--- What the lock's calls promise, over what contracts see of passes and helds.
+-- Promises of the lock's calls, over the views of passes and helds.
 use Rattle.std.specs.Prelude.{◌≡◌, ℕ, ◌-◌, ◌<◌, ◌⊎◌, min, max, List, [], ◌++◌, All, Some}
 use Rattle.pie_lock.specs.Views.{LockView, PassView, HeldView, HoldsAll}
 use Rattle.pie_lock.specs.Steps.{GoesOn}
 
 module _ {S E O : Type 0} where
-  -- the held is of this pass: it has the lock and the numbers of the pass
+  -- the held has the lock and the numbers of the pass
   abbrev pub IsOfPass : PassView E O → HeldView S E O → Type 0
   IsOfPass p h = (h.lock ≡ p.lock) × (h.first ≡ p.first) × (h.limit ≡ p.limit)
 
-  -- the pass after a put: the lock and the numbers of the held, and its front with the entries added
+  -- the pass after a put that appends these entries
   abbrev pub pass_after : HeldView S E O → List E → PassView E O
   pass_after h added = record { lock = h.lock; front = h.front ++ added; first = h.first; limit = h.limit }
 
--- what a take promises: the pass has taken the state, which tells the history that its holder is then shown
+-- the promise of a take: the pass has taken the state, which represents the front of the held
 module _ {S E O : Type 0} (number_of : E → ℕ) (origin_of : S → O) (tells : S → List E → Type 0) where
   pub record HasTaken (p : PassView E O) (h : HeldView S E O) : Type 0 where
     pub pass : IsOfPass p h
-    -- the history begins with the front that the pass had, and has no further entry under its numbers
+    -- the new front begins with the front of the pass, and has no further entry under its numbers
     pub front : GoesOn number_of p.first p.limit p.front h.front
     pub origin : h.lock.origin ≡ Some (origin_of h.state)
     pub told : tells h.state h.front
     pub numbered : All (λ e. number_of e < p.lock.numbers) h.front
-    -- a pass with all numbers is shown nothing new
+    -- for a pass with all numbers the front is unchanged
     pub same : HoldsAll p → h.front ≡ p.front
 
 module _ {E O : Type 0} where
-  -- the pass of a new lock: it has all numbers, and was shown nothing
+  -- the pass of a new lock: all numbers and an empty front
   abbrev pub first_pass : LockView O → ℕ → PassView E O
   first_pass lock numbers = record { lock = lock; front = []; first = 0; limit = numbers }
 
@@ -37,15 +37,15 @@ module _ {E O : Type 0} where
   abbrev pub highest_alone : PassView E O → PassView E O
   highest_alone p = record { lock = p.lock; front = p.front; first = p.limit - 1; limit = p.limit }
 
-  -- the range of the one ends where that of the other begins
+  -- the ranges are adjacent
   abbrev pub IsBeside : PassView E O → PassView E O → Type 0
   IsBeside p q = (p.limit ≡ q.first) ⊎ (q.limit ≡ p.first)
 
-  -- q was shown all that p was, and no more under the numbers of p
+  -- the front of q begins with the front of p, and has no further entry under the numbers of p
   abbrev pub IsBehind : (E → ℕ) → PassView E O → PassView E O → Type 0
   IsBehind number p q = GoesOn number p.first p.limit p.front q.front
 
-  -- r is p and q together: both ranges, and the longer front, which the shorter begins
+  -- r is p and q together: both ranges, and the longer front, which begins with the shorter one
   abbrev pub IsBothOf : (E → ℕ) → PassView E O → PassView E O → PassView E O → Type 0
   IsBothOf number p q r =
       (r.lock ≡ p.lock) × (r.first ≡ min p.first q.first) × (r.limit ≡ max p.limit q.limit)

@@ -1,4 +1,4 @@
--- The view of a lock, a pass and a held, from their fields.
+-- The views of a lock, a pass and a held, by their fields.
 use Rattle.std.specs.Prelude.{◌≡◌, ℕ, ◌<◌, List, [], ◌∷◌, ◌++◌, Option, Some, None, All}
 use Rattle.atomic_table.specs.Table.{Me}
 use Rattle.atomic_table.specs.Seated.{TableId}
@@ -13,7 +13,7 @@ module _ {E O : Type 0} where
   abbrev pub lock_of : TableId → Shown E O → LockView O
   lock_of id p = record { id = id; origin = p.origin; numbers = p.numbers }
 
--- a pass has these numbers, one at least
+-- the pass has the numbers first..limit, at least one
 pub record HasNumbers {E O : Type 0} (first limit : ℕ) (p : Shown E O) : Type 0 where
   pub first_is : p.first ≡ first
   pub limit_is : p.limit ≡ limit
@@ -33,13 +33,13 @@ pub record IsWaiting {S E O : Type 0} (first limit : ℕ) (me : Me (Option S) (P
   pub waits : ◌≡◌ {A = Me (Option S) (Place E O)} me (Waits (pass_at me.0), [])
   pub has : HasNumbers first limit (pass_at me.0)
 
--- the seat has a pass with these numbers, and the slot, out of which the state was taken
+-- the seat has a pass with these numbers, and the slot, which is empty
 pub record IsHolding {S E O : Type 0} (first limit : ℕ) (me : Me (Option S) (Place E O)) : Type 0 where
   pub holds : ◌≡◌ {A = Me (Option S) (Place E O)} me (Holds (pass_at me.0), (0, None) ∷ [])
   pub has : HasNumbers first limit (pass_at me.0)
 
--- the seat has a pass and the slot with this state in it, which has the lock's origin and tells the front with these entries;
--- each of them stands under the pass's first number
+-- the seat has a pass and the slot with this state in it. The state has the lock's origin and represents the front with
+-- these entries, each of which has the pass's first number
 pub record IsLeaving {S E O : Type 0} (number : E → ℕ) (origin_of : S → O) (tells : S → List E → Type 0) (added : List E) (state : S)
     (me : Me (Option S) (Place E O)) : Type 0 where
   pub holds : ◌≡◌ {A = Me (Option S) (Place E O)} me (Holds (pass_at me.0), (0, Some state) ∷ [])

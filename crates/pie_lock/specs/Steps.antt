@@ -1,4 +1,4 @@
--- What each atomic step on the lock's word tells the seat that makes it, and how seats are split and joined.
+-- The fact that each atomic step on the lock's word gives its seat, and how seats are split and joined.
 use Rattle.std.specs.Prelude.{◌≡◌, ◌≢◌, ℕ, ◌-◌, ◌<◌, ◌⊎◌, List, [], ◌∷◌, ◌++◌, Option, Some, None, length, cond, min, max, All}
 use Rattle.std.proofs.Math.Dec.{ltb}
 use mathlib.Core.List.{IsPrefix}
@@ -19,7 +19,7 @@ module _ {E O : Type 0} where
   abbrev pub with_numbers : Shown E O → ℕ → ℕ → Shown E O
   with_numbers p first limit = record { front = p.front; first = first; limit = limit; numbers = p.numbers; origin = p.origin }
 
-  -- the pass that a seat has; a spent seat has the pass of no number
+  -- the pass of a seat; a spent seat has the pass of no number
   abbrev pub pass_at : Place E O → Shown E O
   pass_at Spent = record { front = []; first = 0; limit = 0; numbers = 0; origin = None }
   pass_at (Waits p) = p
@@ -33,25 +33,25 @@ module _ {E O : Type 0} where
   other_at (Holds p) = p
   other_at (Meets p q) = q
 
-  -- all numbers that the lock has
+  -- the pass has all numbers of the lock
   abbrev pub HasAll : Shown E O → Type 0
   HasAll p = (p.first ≡ 0) × (p.limit ≡ p.numbers)
 
-  -- a seat is split: it keeps all but its highest number
+  -- the seat after a split: it keeps all numbers except its highest one
   abbrev pub all_but_highest : Place E O → Place E O
   all_but_highest Spent = Spent
   all_but_highest (Waits p) = Waits (with_numbers p p.first (p.limit - 1))
   all_but_highest (Holds p) = Holds p
   all_but_highest (Meets p q) = Meets p q
 
-  -- .. and the new seat has this one alone, with the same front
+  -- the new seat after a split: the highest number alone, with the same front
   abbrev pub highest : Place E O → Place E O
   highest Spent = Spent
   highest (Waits p) = Waits (with_numbers p (p.limit - 1) p.limit)
   highest (Holds p) = Spent
   highest (Meets p q) = Spent
 
-  -- two seats are joined: the one has both passes, and the other is spent
+  -- the seat with the passes of two joined seats
   abbrev pub meeting : Place E O → Place E O → Place E O
   meeting v w = Meets (pass_at v) (pass_at w)
 
@@ -60,17 +60,17 @@ module _ {E O : Type 0} where
   made_one p q =
       record { front = longer p.front q.front; first = min p.first q.first; limit = max p.limit q.limit; numbers = p.numbers; origin = p.origin }
 
-  -- the range of the one ends where that of the other begins
+  -- the ranges are adjacent
   abbrev pub AreAdjacent : Shown E O → Shown E O → Type 0
   AreAdjacent p q = (p.limit ≡ q.first) ⊎ (q.limit ≡ p.first)
 
--- a front that begins with this one, and has no more under these numbers
+-- the longer front begins with the front, and has no further entry under these numbers
 abbrev pub GoesOn : {E : Type 0} → (E → ℕ) → ℕ → ℕ → List E → List E → Type 0
 GoesOn number first limit front longer_front =
     IsPrefix front longer_front × (own number first limit longer_front ≡ own number first limit front)
 
 module _ {S E O : Type 0} (number : E → ℕ) (origin_of : S → O) (tells : S → List E → Type 0) where
-  -- the lock was won by the pass p: the slot came to the seat, whose front is now the history that the state tells
+  -- the pass p took the lock: its seat has the slot, and its front is the history that the state represents
   abbrev pub Won : Shown E O → Me (Option S) (Place E O) → Type 0
   Won p after =
       (stored : S) × (history : List E)
@@ -81,28 +81,29 @@ module _ {S E O : Type 0} (number : E → ℕ) (origin_of : S → O) (tells : S 
       × All (λ e. number e < p.numbers) history
       × (HasAll p → history ≡ p.front)
 
-  -- the exchange of FREE for HELD: won, or lost and nothing changed. A pass with all numbers does not lose it
+  -- the exchange of FREE for HELD took the lock, or failed and changed nothing. For a pass with all numbers it never
+  -- fails
   abbrev pub taken : Step (Option S) → Me (Option S) (Place E O) → ℕ → Me (Option S) (Place E O) → Type 0
   taken step before found after =
       (found ≡ 0 → Won (pass_at before.0) after) × (found ≢ 0 → (after ≡ before) × (HasAll (pass_at before.0) → ⊥))
 
 module _ {S E O : Type 0} where
-  -- a load of the word: nothing changed, and a pass with all numbers finds it FREE
+  -- a load of the word changes nothing, and finds FREE for a pass with all numbers
   abbrev pub looked : Step (Option S) → Me (Option S) (Place E O) → ℕ → Me (Option S) (Place E O) → Type 0
   looked step before found after = (after ≡ before) × (found ≢ 0 → HasAll (pass_at before.0) → ⊥)
 
-  -- the store of FREE by a put that adds these entries: the slot is given back, and the entries join the seat's front
+  -- the store of FREE by a put with these entries: the seat has no slot then, and its front has these entries appended
   abbrev pub freed : List E → Step (Option S) → Me (Option S) (Place E O) → ℕ → Me (Option S) (Place E O) → Type 0
   freed added step before found after =
       after ≡ (Waits (with_front (pass_at before.0) ((pass_at before.0).front ++ added)), [])
 
-  -- a seat has one pass made of these two, and the longer front goes on where each of theirs ends
+  -- the seat has one pass made of p and q, and the longer front goes on from both fronts
   abbrev pub HasMerged : (E → ℕ) → Shown E O → Shown E O → Me (Option S) (Place E O) → Type 0
   HasMerged number p q made =
       (made ≡ (Waits (made_one p q), []))
       × GoesOn number p.first p.limit p.front (longer p.front q.front)
       × GoesOn number q.first q.limit q.front (longer p.front q.front)
 
-  -- the load after two seats were joined
+  -- the load after a join of two seats
   abbrev pub merged : (E → ℕ) → Step (Option S) → Me (Option S) (Place E O) → ℕ → Me (Option S) (Place E O) → Type 0
   merged number step before found after = HasMerged number (pass_at before.0) (other_at before.0) after

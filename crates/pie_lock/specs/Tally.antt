@@ -1,15 +1,15 @@
--- The histories that a counter tells.
+-- The histories that a counter represents.
 use Rattle.std.specs.Prelude.{◌≡◌, ℕ, List, length}
 use Rattle.std.specs.List.{sum_by}
 use Rattle.std.proofs.Common.{sym, ◌∙◌}
 use Rattle.pie_lock.specs.declared.counter.CounterEntry.{CounterEntry}
 
--- what contracts see of a counter
+-- the view of a counter
 pub record Tally : Type 0 where
   pub count : ℕ
   pub total : ℕ
 
--- as many entries as were counted, whose amounts add up to the total
+-- the history has as many entries as were counted, and their amounts add up to the total
 pub record Tells (tally : Tally) (history : List CounterEntry) : Type 0 where
   pub counted : length history ≡ tally.count
   pub added_up : sum_by (λ e. e.amount) history ≡ tally.total

@@ -1,20 +1,20 @@
-//! A second state that a lock can keep, for tests: it tells many histories.
+//! A counter: a second kind of state for a lock, for tests. One counter represents many histories.
 ghost use Rattle.std.specs.Prelude.{◌≡◌, ◌+◌, ◌<◌, ◌^◌, ◌↔◌, IsTrue, MatchBool};
 
 use crate::kept::Kept;
 use std::marker::Model;
 
-/// One amount that a caller added.
+/// An addition by one caller.
 #[derive(Clone, Copy)]
 pub struct CounterEntry {
-    /// The number under which it was added.
+    /// The caller's number.
     pub caller: u16,
-    /// How much was added.
+    /// The amount.
     pub amount: u64,
 }
 
-/// How many amounts were added, and their sum. It keeps no list of them, so it tells each list of `count()` entries
-/// whose amounts add up to `total()`.
+/// The number of additions and their sum. It stores no list, so it represents each list of `count()` entries whose
+/// amounts add up to `total()`.
 #[derive(Drop)]
 pub struct Counter {
     count: u64,
@@ -32,7 +32,7 @@ impl Model for Counter {
 impl Counter {
     ghost use Rattle.pie_lock.specs.Tally.{Tally};
 
-    /// A counter to which nothing was added.
+    /// Returns a counter without additions.
     pub fn new() -> Counter
         ensures count { result.count ≡ 0 }
         ensures total { result.total ≡ 0 }
@@ -40,7 +40,7 @@ impl Counter {
         Counter { count: 0, total: 0 }
     }
 
-    /// Adds an amount. False exactly where the count or the total would not fit a `u64`, and then nothing is changed.
+    /// Adds `amount`. Returns false if the count or the total would exceed a `u64`; then the counter is unchanged.
     pub fn add(&mut self, amount: u64) -> bool
         ensures fits { IsTrue result ↔ ((self.old.count + 1 < 2 ^ 64) × (self.old.total + amount < 2 ^ 64)) }
         ensures changed { MatchBool result ((self.new.count ≡ self.old.count + 1) × (self.new.total ≡ self.old.total + amount))
@@ -57,14 +57,14 @@ impl Counter {
         true
     }
 
-    /// How many amounts were added.
+    /// Returns the number of additions.
     pub fn count(&self) -> u64
         ensures { result ≡ self.now.count }
     {
         self.count
     }
 
-    /// The sum of all amounts.
+    /// Returns the sum of all amounts.
     pub fn total(&self) -> u64
         ensures { result ≡ self.now.total }
     {

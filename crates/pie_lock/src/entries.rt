@@ -1,11 +1,11 @@
-//! The entries that a put adds, for the prover alone.
+//! Lists of entries that exist for the prover alone.
 ghost use Rattle.std.specs.Prelude.{◌≡◌, [], ◌∷◌, ◌++◌};
 
 use std::marker::Model;
 use std::snapshot::Snapshot;
 
-/// A list of entries, of which contracts alone speak (this project's own). A snapshot of it goes with a put, and says which entries
-/// join the history. It has no bytes, and nothing is stored.
+/// A list of entries for contracts alone (this project's own). A put takes a snapshot of such a list: the entries that
+/// it appends to the history. The list has no bytes.
 #[derive(Drop)]
 pub struct Entries<E> {
     before: Option<(Snapshot<Entries<E>>, Snapshot<E>)>,
@@ -25,14 +25,14 @@ impl<E> Model for Entries<E> {
     ghost size_decreases = { λ a h. Prim.grind (arith, length-append) };
 }
 
-/// No entries.
+/// Returns an empty list.
 pub fn no_entries<E>() -> Snapshot<Entries<E>>
     ensures { result.value ≡ [] }
 {
     Snapshot::of(&Entries { before: None })
 }
 
-/// These entries, and this one after them.
+/// Returns the list `before` with `entry` appended.
 pub fn with_entry<E>(before: Snapshot<Entries<E>>, entry: &E) -> Snapshot<Entries<E>>
     ensures { result.value ≡ before.value ++ entry.now ∷ [] }
 {
@@ -41,7 +41,7 @@ pub fn with_entry<E>(before: Snapshot<Entries<E>>, entry: &E) -> Snapshot<Entrie
     })
 }
 
-/// One entry.
+/// Returns a list of one entry.
 pub fn one_entry<E>(entry: &E) -> Snapshot<Entries<E>>
     ensures { result.value ≡ entry.now ∷ [] }
 {

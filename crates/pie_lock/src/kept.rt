@@ -1,16 +1,16 @@
-//! What a lock can keep.
+//! The states that a lock can keep.
 ghost use Rattle.std.specs.Prelude.{◌≡◌, ℕ, List, length};
 
-/// A state that tells a history: a list of entries, each of which stands under a number.
+/// A state that represents a history, which is a list of entries. Each entry has a caller's number.
 ///
-/// `number_of` is the number of an entry, `origin_of` the origin of a state (plain data that it has from its making on,
-/// such as how it was opened), and `tells state history` says that this state tells this history. One state may tell
-/// many histories, but by the law `one_length` all of them are equally long.
+/// `number_of` is the number of an entry. `origin_of` is plain data that a state keeps from its opening on. `tells
+/// state history` is the abstraction relation: the state represents this history. A state may represent many histories;
+/// by the law `one_length` they have the same length.
 pub trait Kept: Drop {
-    /// What one call adds to the history.
+    /// The entry that a call appends to the history.
     type Entry: Copy;
 
-    /// What a state stores from its making on, as plain data.
+    /// Plain data that a state keeps from its opening on.
     type Origin;
 
     ghost number_of: { Self.Entry → ℕ };
@@ -19,7 +19,7 @@ pub trait Kept: Drop {
 
     ghost tells: { Self → List Self.Entry → Type 0 };
 
-    /// The number under which the entry stands.
+    /// Returns the caller's number of `entry`.
     fn number(entry: &Self::Entry) -> u16
         ensures { result ≡ number_of entry.now };
 

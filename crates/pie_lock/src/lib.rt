@@ -1,33 +1,41 @@
-//! The ruled lock: a state that one caller at a time may have, with one history behind all callers.
+//! The ruled lock: one caller at a time may take a state, and one history is behind all callers.
 //!
-//! A `RuledLock` keeps a state that tells a history, as the trait `Kept` says. Each caller has a `Pass` with a range of
-//! numbers and a front, the list that this caller has been shown. Whenever the lock is free, there is one history that the
-//! state tells, which begins with the front of each pass, and which has under each pass's numbers just the entries that
-//! this front has.
+//! A `RuledLock` keeps a state that represents a history: see the trait `Kept`. Each caller has a `Pass` with a range
+//! of numbers and a front, which is the history that this caller has seen. While the lock is free, there is one history
+//! that the state represents. It begins with the front of each pass. Under the numbers of a pass it has exactly the
+//! entries of that pass's front.
 //!
-//! Promised, for any state that implements `Kept`:
+//! Promises, for every type that implements `Kept`:
 //!
-//! - `new` refuses exactly a lock of no numbers, and else only for want of memory; it hands the state back then (`no_numbers`,
-//!   `back`). The first pass has all numbers and has been shown nothing (`pass`).
-//! - After a take (`HasTaken`), the front of the `Held` begins with the front that the pass had and has no further entry under the pass's
-//!   numbers (`front`); the state in hand tells it (`told`) and has the lock's origin (`origin`). A pass with all numbers finds
-//!   exactly its own front (`same`).
-//! - `put` requires that each entry that it adds stands under the pass's first number (`number`), and that the state has the lock's origin
-//!   and tells the front with these entries (`origin`, `told`). The pass then has this front. A `Held` is not `Drop`: a function that
-//!   lets one go does not compile.
-//! - `share` and `gather` refuse in exactly one case each, with nothing changed: a pass of one number (`one_number`), and ranges
-//!   that are not adjacent (`beside`). Gathered passes have both ranges and the longer front, which begins with the shorter.
-//! - `close` gives back a state that tells a history which goes on from the pass's front (`told`). With all numbers it never
-//!   refuses, and the state tells exactly that front (`alone`, `same`). A refusal hands lock and pass back as they were.
-//! - Every call but `take` and `take_for` returns, and none but `new` takes memory.
+//! - `new` refuses a lock without numbers, and otherwise only reports out of memory; it then returns the state
+//!   (`no_numbers`, `back`). The first pass has all numbers and an empty front (`pass`).
+//! - After a take (`HasTaken`), the front of the `Held` begins with the front of the pass, and has no further entry
+//!   under the pass's numbers (`front`). The state represents the front (`told`) and has the lock's origin (`origin`).
+//!   For a pass with all numbers the front is unchanged (`same`).
+//! - `put` requires that each entry that it appends has the pass's first number (`number`), and that the state has the
+//!   lock's origin and represents the front with these entries (`origin`, `told`). The pass then has this front. `Held`
+//!   is not `Drop`: a function that loses a `Held` does not compile.
+//! - A call that may wait (`take`, `take_for`) also returns a `WakeDue`, which is not `Drop`. Only `wake` ends it, and
+//!   `wake` needs the pass that the put returned. So after each such turn a sleeping thread is woken.
+//! - `share` refuses a pass of one number (`one_number`), and `gather` refuses ranges that are not adjacent (`beside`).
+//!   There is no other refusal, and a refusal changes nothing. A gathered pass has both ranges and the longer front,
+//!   which begins with the shorter one.
+//! - `close` returns a state that represents a history which begins with the pass's front (`told`). With all numbers it
+//!   never refuses, and the state represents exactly the front (`alone`, `same`). A refusal returns the lock and the
+//!   pass unchanged.
+//! - Every call except `take` and `take_for` returns. Only `new` allocates.
 //!
-//! `LockRule`, the rule that the lock's table keeps, is exported with what it speaks of (`Place`, `LockOpening`), so that a crate above
-//! can name in a contract what its lock keeps. No value of them is made outside.
+//! `LockRule`, the rule of the lock's table, is public with the types that it names (`Place`, `LockOpening`), so that
+//! the contract of a crate above can name what its lock keeps. No other crate makes a value of these types.
 //!
-//! Not promised: that these two ever return, that any caller is served before another, that the lock is fair, or how long anything
-//! lasts; that `try_take` and `close` refuse only where another caller has the state (a test shows that they succeed on a free
-//! lock); in which order two callers acted that never gathered; what the holder of a dropped pass had seen; that only one
-//! history is told (a `Counter` tells every list of as many entries with the same sum, and the lock works the same).
+//! Not promised:
+//!
+//! - that `take` and `take_for` return, that the lock is fair, or how long a call takes;
+//! - that `try_take` and `close` refuse only while another caller has the state (a test shows that they succeed on a
+//!   free lock);
+//! - the order of two callers that never gathered, and the front of a dropped pass;
+//! - that the state represents only one history: a `Counter` represents every list of the same length and sum, and the
+//!   lock works with it.
 #![tactic(auto)]
 
 mod counter;
@@ -43,7 +51,7 @@ pub use counter::{Counter, CounterEntry};
 pub use entries::{Entries, no_entries, one_entry, with_entry};
 pub use kept::Kept;
 pub use lock::RuledLock;
-pub use pass::{Held, Pass};
+pub use pass::{Held, Pass, WakeDue};
 pub use refusal::{LockRefusal, OneNumber, StillHeld};
 pub use rule::LockRule;
 pub use view::{LockOpening, Place};

@@ -1,9 +1,9 @@
-//! The lock, and what its callers do with it.
+//! The lock and its calls.
 ghost use Rattle.std.specs.Prelude.{◌≡◌, ◌≢◌, ◌+◌, ◌<◌, ◌↔◌, [], ◌∷◌, ◌++◌, List, All, Some, None, IsOk, IsErr, IsTrue, IfOk, IfErr, OnOk, OnErr};
 
 use crate::entries::Entries;
 use crate::kept::Kept;
-use crate::pass::{Held, Pass};
+use crate::pass::{Held, Pass, WakeDue};
 use crate::refusal::{LockRefusal, OneNumber, StillHeld};
 use crate::rule::{
     Adding, FreeStep, JoinTwo, LockRule, LookStep, MergeStep, SplitHighest, TakeStep,
@@ -19,42 +19,44 @@ use std::sync::Wait;
 use std::sync::atomic::{AtomicU64, Ordering};
 use std::time::Duration;
 
-// The lock's one word and one slot.
+// The lock's table has one word and one slot.
 const WORD: usize = 0;
 
 const SLOT: usize = 0;
 
-// No pass has the state.
+// The word while no pass has the state.
 const FREE: u64 = 0;
 
-// One pass has the state.
+// The word while a pass has the state.
 const HELD: u64 = 1;
 
-// No pass sleeps, or one was woken that says so anew.
+// No thread sleeps; or a thread was woken, and sets AWAITED again if others still sleep.
 const NOT_AWAITED: u64 = 0;
 
-// A pass may sleep until a put.
+// A thread may sleep until a put.
 const AWAITED: u64 = 1;
 
-// How many milliseconds who sleeps until a put sleeps at most: a put of a call that never waits wakes nobody.
+// The longest sleep, in milliseconds. It bounds the sleep of a thread after the put of a turn that does not wake.
 const SLEEP: u64 = 1;
 
-// How often who waits spins, longer each time, or gives the processor up, before it sleeps: a sleep and its wake cost as much as some of these.
+// The number of rounds in which a waiting thread spins or yields before it sleeps. A sleep with its wake costs about as
+// much as some of these rounds.
 const ROUNDS: u32 = 512;
 
-// A turn of so many calls or more is a long one.
+// The number of calls from which a turn is long.
 const LONG: usize = 16;
 
-// How often who waits for a long turn looks at the word before it waits longer: for some two microseconds, which such a turn takes.
+// The number of looks at the word in each round of a wait for a long turn: about two microseconds, the time of such a
+// turn.
 const LOOKS: usize = 32;
 
-/// A state that one pass at a time may have.
+/// A lock around a state, which one pass at a time may take.
 ///
-/// Contracts see it as which lock it is, the origin of the state that it was opened with, and how many numbers it has.
+/// In contracts it is its identity, the origin of its first state, and its number of callers' numbers.
 #[derive(Drop)]
 pub struct RuledLock<S: Kept> {
     table: Table<Option<S>, Place<S::Entry, S::Origin>, LockOpening<S>, LockRule, Global>,
-    // AWAITED where a pass may sleep until a put. No clause speaks of it.
+    // AWAITED while a thread may sleep until a put. No clause names it.
     awaited: AtomicU64,
 }
 
@@ -80,12 +82,11 @@ impl<S: Kept> RuledLock<S> {
     ghost use Rattle.pie_lock.specs.Seating.{IsIdle, IsLeaving};
     ghost use Rattle.pie_lock.specs.Promises.{first_pass, HasTaken, pass_after, without_highest, highest_alone, IsBeside, IsBothOf};
 
-    /// A lock over `state`, and a pass with the numbers `0..numbers`.
+    /// Returns a lock around `state`, and a pass with the numbers `0..numbers`.
     ///
     /// # Errors
     ///
-    /// `NoNumbers` exactly where `numbers` is 0, and else `Memory` where there was no memory for the lock. Either comes
-    /// with the state.
+    /// `NoNumbers` if `numbers` is 0, otherwise `Memory` if there is no memory for the lock. Both return the state.
     pub fn new(
         alloc: Global,
         state: S,
@@ -124,7 +125,7 @@ impl<S: Kept> RuledLock<S> {
         }
     }
 
-    // Takes the state out of the slot that the seat has.
+    // Takes the state out of the seat's slot.
     fn take_from_slot(&self, seat: &mut Seat<Option<S>, Place<S::Entry, S::Origin>>) -> S
         requires table { seat.old.table_id ≡ self.now.id }
         requires slot { (stored : S) × (seat.old.me.1 ≡ (0, Some stored) ∷ []) }
@@ -137,7 +138,7 @@ impl<S: Kept> RuledLock<S> {
         state
     }
 
-    // Puts the state into the slot that the seat has.
+    // Puts `state` into the seat's slot.
     fn put_into_slot(&self, seat: &mut Seat<Option<S>, Place<S::Entry, S::Origin>>, state: S)
         requires table { seat.old.table_id ≡ self.now.id }
         requires slot { seat.old.me.1 ≡ (0, None) ∷ [] }
@@ -149,8 +150,8 @@ impl<S: Kept> RuledLock<S> {
         };
     }
 
-    // Frees the lock whose state lies in the slot that the seat has, and adds the entries to the seat's front. They are not
-    // stored: they name the step.
+    // Frees the lock, whose state is in the seat's slot, and appends the entries `added` to the seat's front. The
+    // entries name the step; they are not stored.
     fn free<J: Adding<S::Entry>>(
         &self,
         seat: &mut Seat<Option<S>, Place<S::Entry, S::Origin>>,
@@ -166,8 +167,8 @@ impl<S: Kept> RuledLock<S> {
         self.table.shared.store::<FreeStep<J>>(seat, WORD, FREE);
     }
 
-    // Whether another pass is seen to have the state. A load shares the word with the processor of who has the state, from which an exchange that
-    // is refused would take it away.
+    // Returns true if another pass has the state. It is a load: the cache line of the word stays shared, where a failed
+    // exchange would take it from the processor that has the state.
     fn is_out(&self, pass: &mut Pass<S>) -> bool
         requires own { pass.old.lock ≡ self.now }
         ensures same { pass.new ≡ pass.old }
@@ -208,7 +209,7 @@ impl<S: Kept> RuledLock<S> {
     ///
     /// # Errors
     ///
-    /// The pass as it was, where another pass has the state. A pass with all numbers always takes it.
+    /// If another pass has the state, returns `pass` unchanged. A pass with all numbers always takes the state.
     pub fn try_take(&self, pass: Pass<S>) -> Result<Held<S>, Pass<S>>
         requires own { pass.lock ≡ self.now }
         ensures taken { IfOk result (HasTaken S.number_of S.origin_of S.tells pass) }
@@ -222,31 +223,30 @@ impl<S: Kept> RuledLock<S> {
         self.exchange(pass)
     }
 
-    /// Takes the state. It waits while another pass has the state, and nothing is claimed of how long.
-    pub fn take<R: Wait>(&self, rt: &R, pass: Pass<S>) -> Held<S>
+    /// Takes the state. If another pass has the state, the call waits, for an unknown time. The caller owes
+    /// [`RuledLock::wake`] after its put.
+    pub fn take<R: Wait>(&self, rt: &R, pass: Pass<S>) -> (Held<S>, WakeDue)
         requires own { pass.lock ≡ self.now }
-        ensures { HasTaken S.number_of S.origin_of S.tells pass result }
+        ensures { HasTaken S.number_of S.origin_of S.tells pass result.0 }
+    {
+        self.take_for(rt, pass, 0)
+    }
+
+    /// Takes the state as [`RuledLock::take`] does, for a turn of `calls` calls. A thread that waits for a long turn
+    /// takes the state sooner after a put. The state then changes hands more often, which pays if turns are long. The
+    /// history does not depend on `calls`.
+    pub fn take_for<R: Wait>(&self, rt: &R, pass: Pass<S>, calls: usize) -> (Held<S>, WakeDue)
+        requires own { pass.lock ≡ self.now }
+        ensures { HasTaken S.number_of S.origin_of S.tells pass result.0 }
     {
         match self.exchange(pass) {
-            Ok(held) => held,
-            Err(pass) => self.wait_and_take(rt, pass, 0),
+            Ok(held) => (held, WakeDue(())),
+            Err(pass) => (self.wait_and_take(rt, pass, looks_for(calls)), WakeDue(())),
         }
     }
 
-    /// Takes the state as [`RuledLock::take`] does, for a turn of so many calls. Who waits for a long turn takes the state sooner after a put: then
-    /// the state changes hands more often, which pays where turns are long, and costs where they are short. The history is that of either.
-    pub fn take_for<R: Wait>(&self, rt: &R, pass: Pass<S>, calls: usize) -> Held<S>
-        requires own { pass.lock ≡ self.now }
-        ensures { HasTaken S.number_of S.origin_of S.tells pass result }
-    {
-        match self.exchange(pass) {
-            Ok(held) => held,
-            Err(pass) => self.wait_and_take(rt, pass, looks_for(calls)),
-        }
-    }
-
-    // The same where another pass was seen to have the state, with so many looks. A function of its own: what waiting takes costs nothing where
-    // nobody waits.
+    // Waits for the state, with `looks` looks in each round. It is a function of its own, so that a call that need not
+    // wait does not pay for it.
     #[inline(never)]
     fn wait_and_take<R: Wait>(&self, rt: &R, pass: Pass<S>, looks: usize) -> Held<S>
         requires own { pass.lock ≡ self.now }
@@ -257,8 +257,9 @@ impl<S: Kept> RuledLock<S> {
         let backoff = Backoff::new();
         for _ in rt.forever() {
             let sleeps = rounds == 0;
-            // Before each look at the word that a sleep may follow, and after each sleep, since others may sleep still: a put
-            // that does not see it came before this look, and the put of who takes the lock now wakes the next.
+            // Set AWAITED before each look at the word that a sleep may follow. A put that does not see AWAITED came
+            // before this look. After a sleep, set it again, since other threads may still sleep: the put of the next
+            // holder then wakes one of them.
             if sleeps {
                 self.awaited.store(AWAITED, Ordering::SeqCst);
             }
@@ -277,7 +278,7 @@ impl<S: Kept> RuledLock<S> {
         unreachable!()
     }
 
-    // Whether one of so many looks finds that no pass has the state.
+    // Returns true if one of `looks` looks finds that no pass has the state.
     fn seen_free(&self, looks: usize) -> bool {
         for _ in 0..looks {
             if self.table.shared.peek(WORD) == FREE {
@@ -288,8 +289,8 @@ impl<S: Kept> RuledLock<S> {
         false
     }
 
-    /// Gives the state back, with the entries that this turn adds to the history, in their order. It never blocks, and wakes nobody: who puts
-    /// after a turn that it waited for, or that others wait for, calls [`RuledLock::wake`] then.
+    /// Puts the state back, and appends the entries `added` of this turn to the history, in order. It never blocks, and
+    /// wakes no thread.
     pub fn put(&self, held: Held<S>, added: Snapshot<Entries<S::Entry>>) -> Pass<S>
         requires own { held.lock ≡ self.now }
         requires number { All (λ e. S.number_of e ≡ held.first) added.value }
@@ -308,20 +309,26 @@ impl<S: Kept> RuledLock<S> {
         Pass { first, limit, seat }
     }
 
-    /// Wakes one pass that sleeps until the state is put back, if there is one. It is a call of its own, since what links it can't be a static
-    /// library: a program whose callers never wait has no need of it. A sleeper that nobody wakes looks again after a millisecond.
-    pub fn wake(&self) {
+    /// Wakes one thread that sleeps until the state is put back, if there is one. It is the last step of a turn that
+    /// began with [`RuledLock::take`] or [`RuledLock::take_for`]; `pass` is the result of the put. It is a call of its
+    /// own, because a static library cannot contain it: programs that never wait do not need it. A sleeping thread that
+    /// is not woken looks again after a millisecond.
+    pub fn wake(&self, pass: &Pass<S>, due: WakeDue)
+        requires own { pass.now.lock ≡ self.now }
+    {
+        let _ = pass;
+        let WakeDue(()) = due;
         if self.awaited.load(Ordering::SeqCst) == AWAITED {
             self.awaited.store(NOT_AWAITED, Ordering::SeqCst);
             self.awaited.wake_one();
         }
     }
 
-    /// A new pass with the highest number of `pass` alone and the same front.
+    /// Returns a new pass with the highest number of `pass` and the same front.
     ///
     /// # Errors
     ///
-    /// `OneNumber` exactly where the pass has one number, and then nothing has changed.
+    /// `OneNumber` if `pass` has one number. Nothing is changed then.
     pub fn share(&self, pass: &mut Pass<S>) -> Result<Pass<S>, OneNumber>
         requires own { pass.old.lock ≡ self.now }
         ensures rest { OnOk result (pass.new ≡ without_highest pass.old) }
@@ -343,11 +350,12 @@ impl<S: Kept> RuledLock<S> {
         Ok(new)
     }
 
-    /// Makes one pass of two, with both ranges and the longer front.
+    /// Joins `other` to `pass`, which then has both ranges and the longer front.
     ///
     /// # Errors
     ///
-    /// `other` exactly where neither's `limit()` is the other's `first()`, and then both passes are as they were.
+    /// Returns `other` if the ranges are not adjacent: neither's `limit()` is the other's `first()`. Both passes are
+    /// unchanged then.
     pub fn gather(&self, pass: &mut Pass<S>, other: Pass<S>) -> Result<(), Pass<S>>
         requires own { (pass.old.lock ≡ self.now) × (other.lock ≡ self.now) }
         ensures both { OnOk result (IsBothOf S.number_of pass.old other pass.new) }
@@ -365,7 +373,7 @@ impl<S: Kept> RuledLock<S> {
         Ok(())
     }
 
-    // Makes one seat of two whose passes have adjacent ranges.
+    // Joins two seats whose passes have adjacent ranges.
     fn join(
         &self,
         seat: &mut Seat<Option<S>, Place<S::Entry, S::Origin>>,
@@ -381,12 +389,12 @@ impl<S: Kept> RuledLock<S> {
         self.table.shared.load::<MergeStep>(seat, WORD);
     }
 
-    /// Closes the lock and gives the state. It never blocks.
+    /// Closes the lock and returns the state. It never blocks.
     ///
     /// # Errors
     ///
-    /// `StillHeld` with the lock and the pass as they were, where another pass has the state. A pass with all numbers
-    /// always closes the lock: then there is no other pass that could have the state.
+    /// `StillHeld`, with the lock and the pass unchanged, if another pass has the state. A pass with all numbers always
+    /// closes the lock, since no other pass exists.
     pub fn close(self, pass: Pass<S>) -> Result<S, StillHeld<S>>
         requires own { pass.lock ≡ self }
         ensures origin { IfOk result (λ state. pass.lock.origin ≡ Some (S.origin_of state)) }
@@ -412,12 +420,12 @@ impl<S: Kept> RuledLock<S> {
     }
 }
 
-// How often who waits for a turn of so many calls looks at the word.
+// Returns the number of looks for a turn of `calls` calls.
 fn looks_for(calls: usize) -> usize {
     if calls < LONG { 0 } else { LOOKS }
 }
 
-// The state that lies in the one slot.
+// Returns the state in the only slot.
 fn state_of<S: Drop>(mut slots: Vec<Option<S>>) -> S
     requires { (state : S) × (slots.items ≡ Some state ∷ []) }
     ensures { (state : S) → slots.items ≡ Some state ∷ [] → result ≡ state }

@@ -1,4 +1,4 @@
-//! What a caller has of a lock: a pass, or, while it has the state, a held.
+//! A caller's pass, and its form while the caller has the state.
 ghost use Rattle.std.specs.Prelude.{◌≡◌, ◌<◌};
 
 use crate::kept::Kept;
@@ -6,10 +6,10 @@ use crate::view::Place;
 use atomic_table::Seat;
 use std::marker::Model;
 
-/// The right to take the state, under the numbers `first()..limit()`, of which there is one at least.
+/// The right to take the state under the numbers `first()..limit()`, at least one.
 ///
-/// Contracts see it as its lock, its front, which is the list that its holder has been shown, and its range of numbers.
-/// It has no bytes but those of its range. A pass that is dropped takes its numbers with it.
+/// In contracts it is its lock, its front, which is the history that its holder has seen, and its range of numbers. At
+/// run time it has only its range. A dropped pass takes its numbers with it.
 #[derive(Drop)]
 pub struct Pass<S: Kept> {
     pub(crate) first: u16,
@@ -30,7 +30,7 @@ impl<S: Kept> Model for Pass<S> {
 }
 
 impl<S: Kept> Pass<S> {
-    /// The least of its numbers, under which its entries stand.
+    /// Returns the lowest number. The entries of this pass have it.
     pub fn first(&self) -> u16
         ensures value { result ≡ self.now.first }
         ensures some { self.now.first < self.now.limit }
@@ -38,7 +38,7 @@ impl<S: Kept> Pass<S> {
         self.first
     }
 
-    /// One above the greatest of its numbers.
+    /// Returns the highest number plus one.
     pub fn limit(&self) -> u16
         ensures value { result ≡ self.now.limit }
         ensures some { self.now.first < self.now.limit }
@@ -47,7 +47,7 @@ impl<S: Kept> Pass<S> {
     }
 }
 
-/// A pass that has the state. It is not `Drop`: it ends in `RuledLock::put`.
+/// A pass that has the state. It is not `Drop`: `RuledLock::put` ends it.
 pub struct Held<S: Kept> {
     pub(crate) state: S,
     pub(crate) first: u16,
@@ -73,7 +73,7 @@ impl<S: Kept> Held<S> {
     ghost use Rattle.pie_lock.specs.contracts.pass.Held.{the_row};
     ghost use Rattle.pie_lock.specs.Views.{with_state};
 
-    /// The state. What is left in it is what `RuledLock::put` gives back to the lock.
+    /// Returns the state. `RuledLock::put` puts its last value back into the lock.
     pub fn state(&mut self) -> &mut S
         ensures* writes_back { sem 𝓛 (Lends (the_row S.row S.Entry.row S.Origin.row S.Kept) S.row self.entry result (with_state self.old)) }
         ensures value { result.now ≡ self.old.state }
@@ -81,3 +81,7 @@ impl<S: Kept> Held<S> {
         &mut self.state
     }
 }
+
+/// The duty to wake the next thread. A call that may wait returns it with the state. It has no bytes. It is not `Drop`:
+/// `RuledLock::wake` ends it, and needs the pass of the put. A function that forgets to wake does not compile.
+pub struct WakeDue(pub(crate) ());

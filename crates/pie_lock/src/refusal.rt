@@ -1,30 +1,30 @@
-//! Why a call of the lock was refused.
+//! Refusals of the lock's calls.
 use crate::kept::Kept;
 use crate::lock::RuledLock;
 use crate::pass::Pass;
 use thiserror::Error;
 
-/// Why no lock was made.
+/// The reason why no lock was made.
 #[derive(Debug, Clone, Copy, PartialEq, Eq, Drop, Error)]
 pub enum LockRefusal {
-    /// There were to be no numbers.
+    /// `numbers` is 0.
     #[error("a lock needs one number at least")]
     NoNumbers,
-    /// There was no memory.
+    /// Out of memory.
     #[error("no memory for the lock")]
     Memory,
 }
 
-/// The pass has one number, which it keeps.
+/// A pass of one number cannot be shared.
 #[derive(Debug, Clone, Copy, PartialEq, Eq, Drop, Error)]
 #[error("a pass with one number can't be shared")]
 pub struct OneNumber;
 
-/// The state was out, and the lock was not closed. The lock and the pass are as they were.
+/// The lock was not closed, because another pass has the state. The lock and the pass are unchanged.
 #[derive(Drop)]
 pub struct StillHeld<S: Kept> {
-    /// The lock that was to be closed.
+    /// The lock.
     pub lock: RuledLock<S>,
-    /// The pass that was to close it.
+    /// The pass.
     pub pass: Pass<S>,
 }

@@ -1,4 +1,4 @@
-//! The rule of the lock's table, and what its steps tell.
+//! The rule of the lock's table, and the facts that its steps give.
 ghost use Rattle.std.specs.Prelude.{List, []};
 ghost use Rattle.pie_lock.specs.Steps.{looked, taken, freed, merged, all_but_highest, highest, meeting};
 ghost use Rattle.pie_lock.specs.declared.view.Place.TheVariants.{Spent};
@@ -8,7 +8,7 @@ use crate::view::{LockOpening, Place};
 use atomic_table::{Join, Play, Split, TableRule};
 use std::marker::{Brand, PhantomData};
 
-/// The lock's rule.
+/// The rule of the lock's table.
 pub struct LockRule;
 
 impl<S: Kept> TableRule<Option<S>, Place<S::Entry, S::Origin>, LockOpening<S>> for LockRule {
@@ -19,21 +19,21 @@ impl<S: Kept> TableRule<Option<S>, Place<S::Entry, S::Origin>, LockOpening<S>> f
     ghost first = { λ key. opened (S.origin_of key.state.value) key.numbers };
 }
 
-/// The step that looks whether the lock is free: a load.
+/// A load of the word.
 pub(crate) struct LookStep;
 
 impl<S: Kept> Play<Option<S>, Place<S::Entry, S::Origin>> for LookStep {
     ghost then = { looked };
 }
 
-/// The step that takes the lock: the exchange of FREE for HELD.
+/// The exchange of FREE for HELD, which takes the lock.
 pub(crate) struct TakeStep;
 
 impl<S: Kept> Play<Option<S>, Place<S::Entry, S::Origin>> for TakeStep {
     ghost then = { taken S.number_of S.origin_of S.tells };
 }
 
-/// The entries that a put adds to the history. They are known to the prover alone: each put names its own.
+/// The entries that a put appends to the history, for the prover alone. Each put names its own.
 pub(crate) trait Adding<E> {
     ghost added: { List E };
 }
@@ -42,21 +42,21 @@ impl<E> Adding<E> for Brand {
     ghost added = { [] };
 }
 
-/// The step that frees the lock: the store of FREE, by a put that adds these entries.
+/// The store of FREE by a put with these entries.
 pub(crate) struct FreeStep<J>(PhantomData<J>);
 
 impl<S: Kept, J: Adding<S::Entry>> Play<Option<S>, Place<S::Entry, S::Origin>> for FreeStep<J> {
     ghost then = { freed J.added };
 }
 
-/// The step that makes one pass of the two that a seat has: a load.
+/// A load that makes one pass of the two passes of a seat.
 pub(crate) struct MergeStep;
 
 impl<S: Kept> Play<Option<S>, Place<S::Entry, S::Origin>> for MergeStep {
     ghost then = { merged S.number_of };
 }
 
-/// A seat is split: the highest number of its pass goes to a new seat.
+/// The split of a seat: the highest number of its pass goes to a new seat.
 pub(crate) struct SplitHighest;
 
 impl<E, O> Split<Place<E, O>> for SplitHighest {
@@ -65,7 +65,7 @@ impl<E, O> Split<Place<E, O>> for SplitHighest {
     ghost right = { highest };
 }
 
-/// Two seats are joined: one of them has both passes, and the other none.
+/// The join of two seats: one has both passes then, and the other none.
 pub(crate) struct JoinTwo;
 
 impl<E, O> Join<Place<E, O>> for JoinTwo {

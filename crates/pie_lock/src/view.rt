@@ -1,8 +1,9 @@
-//! What the lock's seats know, and what lies in its slot.
+//! The views of the lock's seats, and the key of its table.
 use std::collections::LinkedList;
 use std::snapshot::Snapshot;
 
-/// What a seat knows of a pass: what its holder was shown, and which numbers it has. No value of it is made.
+/// A seat's knowledge of a pass: its front, its numbers `first..limit`, and the lock's `numbers` and `origin`. No value
+/// of this type exists.
 pub struct Shown<E, O> {
     pub front: LinkedList<E>,
     pub first: u16,
@@ -11,19 +12,19 @@ pub struct Shown<E, O> {
     pub origin: Option<O>,
 }
 
-/// What a seat at the lock's table knows. No value of it is made.
+/// A seat's knowledge at the lock's table. No value of this type exists.
 pub enum Place<E, O> {
-    /// It was joined into another seat, and knows nothing.
+    /// The seat was joined to another seat, and has no pass.
     Spent,
-    /// It has a pass.
+    /// The seat has a pass.
     Waits(Shown<E, O>),
-    /// It has the state.
+    /// The seat has the state.
     Holds(Shown<E, O>),
-    /// It has two passes, which the next load makes one.
+    /// The seat has two passes, which the next load makes one.
     Meets(Shown<E, O>, Shown<E, O>),
 }
 
-/// What the lock is opened with: the first state, and how many numbers there are.
+/// The first state of a lock, and its number of callers' numbers.
 #[derive(Drop)]
 pub struct LockOpening<S> {
     pub state: Snapshot<S>,

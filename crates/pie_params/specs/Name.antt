@@ -1,9 +1,9 @@
--- How a field of the parameters is spelt.
+-- Names of the parameters' fields.
 use Rattle.std.specs.Prelude.{ℕ, List, codes}
 use Rattle.pie_params.specs.declared.raw.Field.{Field}
 use Rattle.pie_params.specs.declared.raw.Field.TheVariants.{Target, TUpdate, MaxBurst, Alpha, Beta, MeanPkt, LimitBytes, MarkEcnth, DqThreshold}
 
--- the field's name in the record, as bytes
+-- the name of a field in `RawParams`, as bytes
 abbrev pub field_name : Field → List ℕ
 field_name Target = codes "target"
 field_name TUpdate = codes "t_update"

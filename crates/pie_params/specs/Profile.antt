@@ -1,9 +1,9 @@
--- The default parameters.
+-- Default parameters.
 use Rattle.std.specs.Prelude.{ℕ, ◌^◌, max, min}
 use Rattle.std.specs.Int.{div_ceil}
 use Rattle.pie_params.specs.declared.raw.RawParams.{RawParams}
 
--- RFC 8033's defaults where it has them (section 4.2 and 4.4), and this project's own elsewhere
+-- the defaults of RFC 8033 if it states one (sections 4.2 and 4.4), otherwise this project's own
 abbrev pub default_profile : RawParams
 default_profile = record {
   target = 15_000_000;
@@ -17,6 +17,7 @@ default_profile = record {
   dq_threshold = 16384;
 }
 
--- those for a link of this rate, in bits a second: the limit is 200 ms at it, but no less than the default and no more than its range allows
+-- the defaults for a link of `rate` bits per second: the limit is 200 ms at this rate, at least the default limit and
+-- at most the greatest limit of its range
 abbrev pub profile_for : ℕ → RawParams
 profile_for rate = record default_profile { limit_bytes = min (max (div_ceil rate 40) default_profile.limit_bytes) (2 ^ 30) }

@@ -1,4 +1,4 @@
--- Which parameters are in their ranges, and the first one that is not; and the record of parameters that were checked.
+-- Ranges of the parameters, the first field out of its range, and the record of checked parameters.
 use Rattle.std.specs.Prelude.{ℕ, ◌+◌, ◌^◌, ◌≤◌, Bool, ◌&&◌, ◌||◌, ◌==◌, nat_le, not, IsTrue, Option, find, List, [], ◌∷◌}
 use Rattle.pie_fixed.specs.declared.TheConstants.{ONE}
 use Rattle.pie_params.specs.declared.raw.Field.{Field}
@@ -11,7 +11,7 @@ abbrev pub is_dq_threshold : ℕ → Bool
 is_dq_threshold n =
     (n == 2 ^ 10) || (n == 2 ^ 11) || (n == 2 ^ 12) || (n == 2 ^ 13) || (n == 2 ^ 14) || (n == 2 ^ 15) || (n == 2 ^ 16)
 
--- the field is in its range
+-- true if the field is in its range
 abbrev pub is_in_range : RawParams → Field → Bool
 is_in_range raw Target = nat_le 2 raw.target && nat_le raw.target (10 ^ 10)
 is_in_range raw TUpdate = nat_le 1 raw.t_update && nat_le raw.t_update (10 ^ 10)
@@ -23,15 +23,15 @@ is_in_range raw LimitBytes = nat_le 1 raw.limit_bytes && nat_le raw.limit_bytes 
 is_in_range raw MarkEcnth = nat_le raw.mark_ecnth ONE
 is_in_range raw DqThreshold = is_dq_threshold raw.dq_threshold
 
--- the fields, in the order in which they are checked
+-- the fields, in the order of the checks
 abbrev pub checked_fields : List Field
 checked_fields = Target ∷ TUpdate ∷ MaxBurst ∷ Alpha ∷ Beta ∷ MeanPkt ∷ LimitBytes ∷ MarkEcnth ∷ DqThreshold ∷ []
 
--- the first field out of its range, in that order
+-- the first field that is out of its range, in that order
 abbrev pub first_bad : RawParams → Option Field
 first_bad raw = find (λ field. not (is_in_range raw field)) checked_fields
 
--- each field is in its range
+-- parameters whose fields are each in range
 pub record IsInRange (raw : RawParams) : Type 0 where
   pub target : (2 ≤ raw.target) × (raw.target ≤ 10 ^ 10)
   pub t_update : (1 ≤ raw.t_update) × (raw.t_update ≤ 10 ^ 10)
@@ -43,7 +43,7 @@ pub record IsInRange (raw : RawParams) : Type 0 where
   pub mark_ecnth : raw.mark_ecnth ≤ ONE
   pub dq_threshold : IsTrue (is_dq_threshold raw.dq_threshold)
 
--- the record that checked parameters stand for
+-- the record that checked parameters represent
 abbrev pub held_raw : Inside → RawParams
 held_raw p = record {
   target = p.target;

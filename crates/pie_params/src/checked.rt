@@ -5,8 +5,8 @@ use crate::raw::{BadParam, RawParams};
 use pie_fixed::{Gain, Nanos, Prob};
 use std::marker::Model;
 
-/// Parameters that are all in their ranges, in 48 bytes: each field is no wider than its range asks. Of the threshold, a power of
-/// two up to 65536, the number below it is kept, which fits in 16 bits.
+/// Parameters that are all in their ranges, in 48 bytes. Each field has the width that its range needs. The threshold
+/// is a power of two up to 65536; the number below it is stored, which fits in 16 bits.
 #[derive(Clone, Copy, Debug, PartialEq, Eq)]
 pub struct Params {
     limit_bytes: u32,
@@ -53,7 +53,8 @@ impl Params {
     ghost use Rattle.pie_params.specs.Profile.{default_profile, profile_for};
     ghost use Rattle.pie_params.specs.Range.{first_bad, is_dq_threshold, IsInRange};
 
-    /// The default parameters: those of RFC 8033 (sections 4.2, 4.4, 5.1 and 5.2) where it has them.
+    /// Returns the default parameters: the values of RFC 8033 (sections 4.2, 4.4, 5.1 and 5.2) if it states one,
+    /// otherwise this project's own.
     pub fn default_profile() -> Self
         ensures { result ≡ default_profile }
     {
@@ -70,8 +71,8 @@ impl Params {
         })
     }
 
-    /// The default parameters for a link of this rate, in bits a second: the limit is 200 ms at it, but no less than the default and no more
-    /// than its range allows (this project's own).
+    /// Returns the default parameters for a link of `rate` bits per second. The limit is 200 ms at this rate, at least
+    /// the default limit and at most the greatest limit of its range (this project's own).
     pub fn for_rate(rate: u64) -> Self
         ensures { result ≡ profile_for rate }
     {
@@ -82,11 +83,11 @@ impl Params {
         })
     }
 
-    /// Checks each field against its range, in the order of [`RawParams`]' fields.
+    /// Checks each field of `raw` against its range, in the order of [`RawParams`]' fields.
     ///
     /// # Errors
     ///
-    /// `BadParam` with the first field that is out of its range.
+    /// Returns `BadParam` with the first field that is out of its range.
     #[inline(always)]
     pub fn check(raw: RawParams) -> Result<Self, BadParam>
         ensures accepts { IsOk result ↔ IsInRange raw }
@@ -100,8 +101,8 @@ impl Params {
         }
     }
 
-    /// The parameters of a record, `None` where a field is out of its range; which one, [`Params::check`] says. It looks at nothing
-    /// twice, for callers that ask at each packet.
+    /// Returns `raw` as checked parameters, or `None` if a field is out of its range. Each field is checked once, for
+    /// callers that check at each packet. [`Params::check`] names the field.
     #[inline(always)]
     pub fn from_raw(raw: RawParams) -> Option<Self>
         ensures accepts { is_some result ≡ is_none (first_bad raw) }
@@ -114,7 +115,7 @@ impl Params {
         }
     }
 
-    /// The parameters of a record that is in its ranges: none is looked at.
+    /// Returns `raw` as checked parameters without a check. Each field of `raw` is in its range.
     #[inline(always)]
     pub fn in_range(raw: RawParams) -> Self
         requires { IsInRange raw }
@@ -133,7 +134,7 @@ impl Params {
         }
     }
 
-    /// The plain record of these parameters, which is in its ranges.
+    /// Returns the parameters as a plain record. Each field is in its range.
     pub fn raw(self) -> RawParams
         ensures same { result ≡ self }
         ensures in_range { IsInRange self }
@@ -152,7 +153,7 @@ impl Params {
         }
     }
 
-    /// The reference queueing delay, 2 to 10^10 nanoseconds (RFC 8033, section 4.2).
+    /// Returns the reference queueing delay, 2 to 10^10 nanoseconds (RFC 8033, section 4.2).
     pub fn target(self) -> Nanos
         ensures value { result ≡ self.target }
         ensures at_least { 2 ≤ self.target }
@@ -161,7 +162,7 @@ impl Params {
         self.target
     }
 
-    /// The time between two updates, 1 to 10^10 nanoseconds (RFC 8033, section 4.2).
+    /// Returns the time between two updates, 1 to 10^10 nanoseconds (RFC 8033, section 4.2).
     pub fn t_update(self) -> Nanos
         ensures value { result ≡ self.t_update }
         ensures at_least { 1 ≤ self.t_update }
@@ -170,7 +171,7 @@ impl Params {
         self.t_update
     }
 
-    /// The burst allowance, at most 10^12 nanoseconds (RFC 8033, section 4.4).
+    /// Returns the burst allowance, at most 10^12 nanoseconds (RFC 8033, section 4.4).
     pub fn max_burst(self) -> Nanos
         ensures value { result ≡ self.max_burst }
         ensures at_most { self.max_burst ≤ 10 ^ 12 }
@@ -178,8 +179,8 @@ impl Params {
         self.max_burst
     }
 
-    /// The gain on the delay's distance from the target, at most 10^6 thousandths per second (RFC
-    /// 8033, section 4.2).
+    /// Returns the gain on the difference between delay and target, at most 10^6 thousandths per second (RFC 8033,
+    /// section 4.2).
     pub fn alpha(self) -> Gain
         ensures value { result ≡ self.alpha }
         ensures at_most { self.alpha ≤ 10 ^ 6 }
@@ -187,7 +188,7 @@ impl Params {
         self.alpha
     }
 
-    /// The gain on the delay's change, at most 10^6 thousandths per second (RFC 8033, section 4.2).
+    /// Returns the gain on the change of the delay, at most 10^6 thousandths per second (RFC 8033, section 4.2).
     pub fn beta(self) -> Gain
         ensures value { result ≡ self.beta }
         ensures at_most { self.beta ≤ 10 ^ 6 }
@@ -195,7 +196,7 @@ impl Params {
         self.beta
     }
 
-    /// The mean packet size, 1 to 65535 bytes (RFC 8033, section 4.1).
+    /// Returns the mean packet size, 1 to 65535 bytes (RFC 8033, section 4.1).
     pub fn mean_pkt(self) -> u64
         ensures value { result ≡ self.mean_pkt }
         ensures at_least { 1 ≤ self.mean_pkt }
@@ -204,7 +205,7 @@ impl Params {
         u64::from(self.mean_pkt)
     }
 
-    /// The queue's limit, 1 to 2^30 bytes (RFC 8033, section 4.1).
+    /// Returns the queue's limit, 1 to 2^30 bytes (RFC 8033, section 4.1).
     pub fn limit_bytes(self) -> u64
         ensures value { result ≡ self.limit_bytes }
         ensures at_least { 1 ≤ self.limit_bytes }
@@ -213,7 +214,7 @@ impl Params {
         u64::from(self.limit_bytes)
     }
 
-    /// The probability from which a packet is dropped and not marked (RFC 8033, section 5.1).
+    /// Returns the probability from which on a picked packet is dropped instead of marked (RFC 8033, section 5.1).
     pub fn mark_ecnth(self) -> Prob
         ensures value { result ≡ self.mark_ecnth }
         ensures at_most { self.mark_ecnth ≤ ONE }
@@ -221,7 +222,7 @@ impl Params {
         self.mark_ecnth
     }
 
-    /// The bytes that a cycle of the departure rate counts, a power of two from 1024 to 65536 (RFC
+    /// Returns the number of bytes that a cycle of the departure rate counts, a power of two from 1024 to 65536 (RFC
     /// 8033, section 5.2).
     pub fn dq_threshold(self) -> u64
         ensures value { result ≡ self.dq_threshold }

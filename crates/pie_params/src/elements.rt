@@ -1,30 +1,30 @@
-//! RFC 8033's optional elements, each as a choice.
+//! Optional elements of RFC 8033, each as a choice.
 ghost use Rattle.std.specs.Prelude.{◌≡◌};
 
-/// Where an update takes the queueing delay from.
+/// The source of the queueing delay of an update.
 #[derive(Clone, Copy, Debug, PartialEq, Eq)]
 pub enum Delay {
-    /// From the departure rate: the bytes that wait, at the estimated rate (RFC 8033, section 5.2).
+    /// The departure rate: the bytes in the queue over the estimated rate (RFC 8033, section 5.2).
     Rate,
-    /// From time stamps: what the packet that departed last had waited (RFC 8033, section 4.3). It stands still while a link stalls,
-    /// since no packet departs.
+    /// Time stamps: the time that the last departed packet spent in the queue (RFC 8033, section 4.3). While a link
+    /// stalls no packet departs, so this delay does not change.
     Stamp,
 }
 
-/// How a considered packet is picked.
+/// The method that picks considered packets.
 #[derive(Clone, Copy, Debug, PartialEq, Eq)]
 pub enum Picking {
-    /// De-randomized: probabilities accumulate, so that picks come neither too close together nor too far apart (RFC 8033, section
-    /// 5.4).
+    /// De-randomized: probabilities accumulate, so that picks are neither too close together nor too far apart (RFC
+    /// 8033, section 5.4).
     Derandomized,
-    /// By the random word alone (RFC 8033, section 4.1).
+    /// The random word alone (RFC 8033, section 4.1).
     Random,
 }
 
 impl Picking {
     ghost use Rattle.pie_params.specs.Elements.{accumulates};
 
-    /// Whether probabilities accumulate.
+    /// Returns true if probabilities accumulate.
     #[inline(always)]
     pub fn accumulates(self) -> bool
         ensures { result ≡ accumulates self }
@@ -33,54 +33,54 @@ impl Picking {
     }
 }
 
-/// How far an update may raise the probability.
+/// The limit on a rise of the probability in one update.
 #[derive(Clone, Copy, Debug, PartialEq, Eq)]
 pub enum Step {
-    /// From a probability of a tenth on by at most two hundredths (RFC 8033, section 5.5).
+    /// At most 0.02 if the probability is at least 0.1 (RFC 8033, section 5.5).
     Capped,
-    /// As far as the control law says.
+    /// No limit: the control law alone.
     Uncapped,
 }
 
-/// Whether a packet's size counts when it is picked.
+/// The effect of a packet's size on its probability.
 #[derive(Clone, Copy, Debug, PartialEq, Eq)]
 pub enum Size {
-    /// All packets are picked alike.
+    /// None: all packets have the same probability.
     Unscaled,
-    /// A packet smaller than `mean_pkt` is picked less often, in proportion to its size (this project's own rounding; Linux's
-    /// `bytemode` where `mean_pkt` is the link's MTU).
+    /// A packet smaller than `mean_pkt` has a smaller probability, in proportion to its size (this project's own
+    /// rounding; Linux's `bytemode` if `mean_pkt` is the link's MTU).
     Scaled,
 }
 
-/// At which delays an update lets the probability decay, by a fiftieth, once the step is added.
+/// The delays at which an update reduces the probability by 2 per cent, after the step is added.
 #[derive(Clone, Copy, Debug, PartialEq, Eq)]
 pub enum Decay {
-    /// Where the delay and the old delay are both 0 (RFC 8033, section 4.2).
+    /// The delay and the old delay are both 0 (RFC 8033, section 4.2).
     Zero,
-    /// Where both are below half the target (RFC 8033, Appendix B; DPDK's `rte_pie`).
+    /// Both are below half the target (RFC 8033, Appendix B; DPDK's `rte_pie`).
     Half,
 }
 
-/// RFC 8033's optional elements (section 5), each as a choice that is made when a controller is opened.
+/// Optional elements of RFC 8033 (section 5). They are chosen when a controller is opened.
 #[derive(Clone, Copy, Debug, PartialEq, Eq)]
 pub struct Elements {
-    /// Where an update takes the queueing delay from.
+    /// The source of the queueing delay of an update.
     pub delay: Delay,
-    /// How a considered packet is picked.
+    /// The method that picks considered packets.
     pub picking: Picking,
-    /// How far an update may raise the probability.
+    /// The limit on a rise of the probability in one update.
     pub step: Step,
-    /// Whether a packet's size counts when it is picked.
+    /// The effect of a packet's size on its probability.
     pub size: Size,
-    /// At which delays an update lets the probability decay.
+    /// The delays at which an update reduces the probability.
     pub decay: Decay,
 }
 
 impl Elements {
     ghost use Rattle.pie_params.specs.Elements.{usual};
 
-    /// The usual choices: the delay from the departure rate, de-randomized picking, capped steps, no scaling by size, and the decay at
-    /// delays of 0.
+    /// Returns the default choices: the delay from the departure rate, de-randomized picking, capped steps, no scaling
+    /// by size, and the decay at delays of 0.
     #[inline(always)]
     pub fn usual() -> Self
         ensures { result ≡ usual }

@@ -1,7 +1,7 @@
-//! The parameters of the PIE controller, checked against their ranges.
+//! Parameters of the PIE controller, checked against their ranges.
 //!
-//! `Params::check` accepts exactly the ranges (clause `accepts`) and else names the first bad field in order (`refuses`).
-//! The readers and `default_profile` are exact. `Elements` are RFC 8033's optional elements, as choices.
+//! `Params::check` accepts exactly the ranges (clause `accepts`) and otherwise returns the first bad field in order
+//! (clause `refuses`). `Elements` are RFC 8033's optional elements, as choices.
 #![tactic(auto)]
 
 mod checked;

@@ -3,7 +3,7 @@ ghost use Rattle.std.specs.Prelude.{◌≡◌, is_none};
 use std::fmt;
 use thiserror::Error;
 
-/// The parameters as they are handed in, not yet checked.
+/// Parameters that are not yet checked.
 #[derive(Clone, Copy, Debug, PartialEq, Eq)]
 pub struct RawParams {
     /// The reference queueing delay, in nanoseconds, 2 to 10^10 (RFC 8033, section 4.2).
@@ -12,20 +12,20 @@ pub struct RawParams {
     pub t_update: u64,
     /// The burst allowance, in nanoseconds, 0 to 10^12 (RFC 8033, section 4.4).
     pub max_burst: u64,
-    /// The gain on the delay's distance from the target, in thousandths per second, 0 to 10^6 (RFC
-    /// 8033, section 4.2).
+    /// The gain on the difference between delay and target, in thousandths per second, 0 to 10^6 (RFC 8033, section
+    /// 4.2).
     pub alpha: u64,
-    /// The gain on the delay's change, in thousandths per second, 0 to 10^6 (RFC 8033, section 4.2).
+    /// The gain on the change of the delay, in thousandths per second, 0 to 10^6 (RFC 8033, section 4.2).
     pub beta: u64,
     /// The mean packet size, in bytes, 1 to 65535 (RFC 8033, section 4.1).
     pub mean_pkt: u64,
     /// The queue's limit, in bytes, 1 to 2^30 (RFC 8033, section 4.1).
     pub limit_bytes: u64,
-    /// The probability from which a packet is dropped and not marked, in units of `10^-12`, 0 to
-    /// 10^12 (RFC 8033, section 5.1).
+    /// The probability from which on a picked packet is dropped instead of marked, in units of `10^-12`, 0 to 10^12
+    /// (RFC 8033, section 5.1).
     pub mark_ecnth: u64,
-    /// The bytes that a cycle of the departure rate counts, a power of two from 1024 to 65536 (RFC
-    /// 8033, section 5.2).
+    /// The number of bytes that a cycle of the departure rate counts, a power of two from 1024 to 65536 (RFC 8033,
+    /// section 5.2).
     pub dq_threshold: u64,
 }
 
@@ -52,7 +52,7 @@ pub enum Field {
     DqThreshold,
 }
 
-/// The fields, in the order in which they are checked.
+/// The fields, in the order of the checks.
 const FIELDS: [Field; 9] = [
     Field::Target,
     Field::TUpdate,
@@ -94,7 +94,7 @@ impl fmt::Display for Field {
 impl RawParams {
     ghost use Rattle.pie_params.specs.Range.{first_bad, is_in_range};
 
-    /// Whether a field is in its range.
+    /// Returns true if the field `field` is in its range.
     fn is_in_range(self, field: Field) -> bool
         ensures { result ≡ is_in_range self field }
     {
@@ -114,7 +114,8 @@ impl RawParams {
         }
     }
 
-    /// Whether each field is in its range: the same as no `first_bad`, by one comparison after another.
+    /// Returns true if each field is in its range, by one comparison after another. Equivalent to `first_bad` returning
+    /// `None`.
     #[inline(always)]
     pub(crate) fn are_in_range(self) -> bool
         ensures { result ≡ is_none (first_bad self) }
@@ -130,7 +131,7 @@ impl RawParams {
             && self.is_in_range(Field::DqThreshold)
     }
 
-    /// The first field that is out of its range, in the order of [`FIELDS`].
+    /// Returns the first field that is out of its range, in the order of [`FIELDS`].
     pub(crate) fn first_bad(self) -> Option<Field>
         ensures { result ≡ first_bad self }
     {

@@ -1,16 +1,16 @@
--- One event more of a burst is told.
+-- One more event of a burst is decided.
 use Rattle.pie_port.specs.{Command, Reply, Asked, Took, asks, told_event, told_events}
 use Rattle.pie_port.proofs.Names.{◌≡◌, ◌+◌, ◌<◌, ℕ, List, [], ◌∷◌, ◌++◌, refl, sym, ◌∙◌, length, map, arith, get_or, drop_more, PieEvent}
 use Rattle.std.proofs.Common.{drop, length-append, length-drop}
 use Rattle.std.proofs.Math.ListN.{set}
 use Rattle.std.proofs.lemmas.List.{drop-set-lt, length-map}
 
--- what is asked from a place on: its event's command, and those after it
+-- the command at a place, and those after it
 pub is_at : (asked : Asked) (es : List PieEvent) (i : ℕ) (d : PieEvent) (command : Command) → i < length es → command ≡ asks asked (get_or es i d)
     → map (asks asked) (drop i es) ≡ command ∷ map (asks asked) (drop (i + 1) es)
 is_at asked es i d command some is = grind (arith, drop_more es i d)
 
--- a place from which something is asked is one of an event
+-- a place from which there is a command is one of an event
 pub is_place : (asked : Asked) (es : List PieEvent) (i : ℕ) → 0 < length (map (asks asked) (drop i es)) → i < length es
 is_place asked es i some = omega (arith, some, length-map (drop i es) (asks asked), length-drop i es)
 
@@ -30,7 +30,7 @@ length-told asked caller [] rs = refl
 length-told asked caller (e ∷ es) [] = refl
 length-told asked caller (e ∷ es) (r ∷ rs) = omega (arith, length-told asked caller es rs)
 
--- a burst took one reply more: the event at its place was told it
+-- a burst took one more result, which was written to the event at its place
 pub took : (asked : Asked) (caller number : ℕ) (events now next : List PieEvent) (place done : ℕ) (replies : List Reply) (reply : Reply)
     (d : PieEvent)
     → Took asked caller number events now done replies → done ≡ place → place < length now
@@ -45,7 +45,7 @@ took asked caller number events now next place done replies reply d before at so
       same = before.same;
     }
 
--- the events after a place stay
+-- the events after a place are unchanged
 pub later_stay : (asked : Asked) (l now : List PieEvent) (i : ℕ) (e : PieEvent) → now ≡ set l i e
     → map (asks asked) (drop (i + 1) now) ≡ map (asks asked) (drop (i + 1) l)
 later_stay asked l now i e is = grind (arith, drop-set-lt (i + 1) l i e)

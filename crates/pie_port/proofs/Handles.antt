@@ -1,4 +1,5 @@
--- The machine values of a `Loose`, and of a handle of any type, and what the handle owns where it is closed and where it is open. Assumes `Logic`.
+-- The machine values of a `Loose` and of a handle of any type, and the ownership of a closed and of an open handle.
+-- Assumes `Logic`.
 use Rattle.pie_port.proofs.Names.{Goal, Good, Item, List, Logic, None, Option, Ptr, RattleType, RawPtr, Seq, Some, Step, Ura, Val, Valss, []}
 use Rattle.pie_port.proofs.Names.{and_tt, bare, block_ptr, box_owns, dnil, drop, ent, feq_i, feq_l, fjoin, fpack, fpick, fsep, fsplit, fst∗}
 use Rattle.pie_port.proofs.Names.{ghosts, handle_tells, has_ty, in_a_block, layout, lone, move, never, nothing, null_ptr, of_list, ptr_val, refl}
@@ -73,7 +74,7 @@ module _ (R : RattleType) where
         (via 𝓤 _ (snd∗ 𝓤 (sem 𝓛 (lies_at R full_share p x)) (sem 𝓛 (ghosts.dealloc_token a (bare (lone R.mir)) p)))
         (dealloc_token-Testable 𝓛 a (bare (lone R.mir)) p)) (guard_i 𝓤 (Testable p) (sem 𝓛 (box_owns (ghosts.dealloc_token a) R p x)))
 
-  -- what a handle of this name owns: its two fields, and the rest
+  -- the ownership of a handle of this name: its two fields, and the rest
   abbrev fields_of : Sym → Shape
   fields_of name = record { name = name; args = []; types = []; fields = RawPtr ∷ Z ∷ [] }
 
@@ -98,7 +99,8 @@ module _ (R : RattleType) where
         feq_i t (List Val) (v ∷ []) (v ∷ []) refl $ fjoin t $
         fpack t (Valss (RawPtr ∷ Z ∷ [])) (within (fields_of name) (p, (a, tt)) (v ∷ [])) (ptr_val p ∷ [], (h ∷ [], tt)) $ fjoin t $ s)
 
-    -- a handle is closed and its pointer null, or it is open and its pointer a box, which may be compared with null
+    -- a handle is closed and its pointer null, or it is open and its pointer is that of a box, which may be compared
+    -- with null
     pub closed_or_open : K → (a : Global) (p : Ptr) (o : Option R.Denot)
         → (o ≡ None → p ≡ null_ptr → Seq K 𝓛 Γ G)
         → ((b c : ℕ) (x : R.Denot) → o ≡ Some x → p ≡ block_ptr b c → Testable (block_ptr b c)

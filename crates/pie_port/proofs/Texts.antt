@@ -1,4 +1,4 @@
--- The record at a place of an excerpt's text, behind the one that resumes.
+-- The record at a place of an excerpt's text, after the `resume` record.
 use Rattle.pie_port.specs.{ExcerptView, text_of, event_row, record_text}
 use Rattle.pie_port.proofs.Names.{◌≡◌, ◌≤◌, ◌<◌, ◌+◌, ◌-◌, ℕ, [], length, get_or, arith, add-one, Event}
 use Rattle.std.proofs.lemmas.Grind.{elements}

@@ -1,4 +1,4 @@
--- What the calls at a port promise. A port is, as contracts see it, the caller that it has, where it is open.
+-- Promises of the calls at a port. In contracts an open port is its caller.
 use Rattle.std.specs.Prelude.{ℕ, ◌≡◌, ◌≢◌, ◌==◌, ◌+◌, ◌⊎◌, ◌↔◌, Bool, true, false, Option, Some, None, Result, Ok, Err, if◌then◌else◌}
 use Rattle.pie_port.specs.Names.{first_pass, without_highest, highest_alone, IsBeside, IsBothOf, Answer, Command, SetParams, Refusal, number_of}
 use Rattle.pie_port.specs.Names.{Told, TriesToAnswer, CallerView, LinkView, StaysOne, Tried, Busy, Refused, PieEvent, PieOpening, PieParams}
@@ -7,12 +7,12 @@ use Rattle.pie_port.specs.Events.{answer_number, code_of, refusal_number, comman
 
 -- ---- opening
 
--- why a port is not opened, memory aside, and 0 where it is
+-- the refusal of an opening, out of memory aside; 0 if there is none
 abbrev pub open_refusal : Option CallerView → PieOpening → ℕ → ℕ
 open_refusal (Some caller) o callers = 127
 open_refusal None o callers = if opening_refusal o == 0 then (if callers == 0 then 124 else 0) else opening_refusal o
 
--- the port has all numbers of a new link, of which this is so; it was shown nothing
+-- the port has all numbers of a new link, of which IsKept holds, and an empty front
 pub record IsOpened (IsKept : LinkView → Type 0) (o : PieOpening) (callers : ℕ) (port : Option CallerView) : Type 0 where
   pub link : LinkView
   pub opened : port ≡ Some (first_pass link callers)
@@ -22,12 +22,13 @@ pub record IsOpened (IsKept : LinkView → Type 0) (o : PieOpening) (callers : �
 
 -- ---- a call for one event
 
--- what a call at a port comes to: a closed one is told so, and all stays; of an open one it is this of its caller before and after
+-- a call at a port: a closed port returns that code and changes nothing; for an open one `comes` relates its caller
+-- before and after
 unfoldable pub AtPort : Option CallerView → ℕ → Option CallerView → Type 0 → (CallerView → CallerView → Type 0) → Type 0
 AtPort None code after stays comes = (code ≡ 122) × stays × (after ≡ None)
 AtPort (Some before) code after stays comes = (now : CallerView) × (after ≡ Some now) × comes before now
 
--- what an open port's caller was answered this command, or that the link was busy; and the code and the event that tell it
+-- the command of an open port's caller was decided, or the link was busy; with the code and the event of this result
 pub record IsTried (command : Command) (fills : Result (Told Answer) (Tried Refusal) → PieEvent) (before : CallerView) (code : ℕ) (written : PieEvent)
     (after : CallerView) : Type 0 where
   pub reply : Result (Told Answer) (Tried Refusal)
@@ -36,7 +37,7 @@ pub record IsTried (command : Command) (fills : Result (Told Answer) (Tried Refu
   pub told : code ≡ code_of reply
   pub filled : written ≡ fills reply
 
--- what the event asks; but an ECN field above 3 is refused before
+-- the event's call; an ECN field above 3 is refused before it
 abbrev pub IsTriedUnless : Bool → Asked → CallerView → PieEvent → ℕ → PieEvent → CallerView → Type 0
 IsTriedUnless true asked before e code written after =
     (code ≡ 111) × (written ≡ under before.first (numbered_event asked e 111)) × (after ≡ before)
@@ -48,13 +49,13 @@ Tries asked port e code written after =
 
 -- ---- new parameters
 
--- what a call that was told this leaves of its event
+-- the event after a call for new parameters with this result
 abbrev pub set_event : ℕ → PieEvent → Result (Told Answer) (Tried Refusal) → PieEvent
 set_event caller e (Ok told) = under caller (bare_event 5 e (answer_number told.answer))
 set_event caller e (Err Busy) = e
 set_event caller e (Err (Refused why)) = under caller (bare_event 5 e (refusal_number why))
 
--- parameters out of their ranges are refused before
+-- parameters out of their ranges are refused before the call
 abbrev pub IsSetUnless : Bool → PieParams → CallerView → PieEvent → ℕ → PieEvent → CallerView → Type 0
 IsSetUnless false params before e code written after = (code ≡ 107) × (written ≡ under before.first (bare_event 5 e 107)) × (after ≡ before)
 IsSetUnless true params before e code written after = IsTried (SetParams e.moment (raw_of params)) (set_event before.first e) before code written after
@@ -65,8 +66,8 @@ TriesToSet params port e code written after =
 
 -- ---- ports
 
--- what the sharing of an open port with a closed one answers: the new port has the highest number, the old one the others, and both were
--- shown the same. Or it has one number alone, or there was no memory: then nothing has changed, and no number is lost
+-- the result of sharing an open port with a closed one: the new port has the highest number, the old one the others,
+-- and both have the same front. Or the port has only one number, or there is no memory: then nothing has changed
 pub record IsShared (before : CallerView) (code : ℕ) (port new : Option CallerView) : Type 0 where
   pub shared : code ≡ 0 → (port ≡ Some (without_highest before)) × (new ≡ Some (highest_alone before))
   pub kept : code ≢ 0 → (port ≡ Some before) × (new ≡ None)
@@ -78,8 +79,8 @@ Shares None other code port new = (code ≡ 122) × (port ≡ None) × (new ≡ 
 Shares (Some before) (Some other) code port new = (code ≡ 127) × (port ≡ Some before) × (new ≡ Some other)
 Shares (Some before) None code port new = IsShared before code port new
 
--- what the gathering of two open ports answers: one has both ranges and the longer front, and the other is closed; or their ranges are apart,
--- and nothing has changed
+-- the result of gathering two open ports: one has both ranges and the longer front, and the other is closed; or the
+-- ranges are not adjacent, and nothing has changed
 pub record IsGathered (before other : CallerView) (code : ℕ) (port left : Option CallerView) : Type 0 where
   pub both : code ≡ 0 → (left ≡ None) × ((now : CallerView) × (port ≡ Some now) × IsBothOf number_of before other now)
   pub kept : code ≢ 0 → (port ≡ Some before) × (left ≡ Some other)
@@ -91,12 +92,12 @@ Gathers None other code port left = (code ≡ 122) × (port ≡ None) × (left �
 Gathers (Some before) None code port left = (code ≡ 122) × (port ≡ Some before) × (left ≡ None)
 Gathers (Some before) (Some other) code port left = IsGathered before other code port left
 
--- two ports, where both are open, are of one link
+-- if both ports are open, they belong to one link
 abbrev pub AreOfOneLink : Option CallerView → Option CallerView → Type 0
 AreOfOneLink (Some port) (Some other) = other.lock ≡ port.lock
 AreOfOneLink _ _ = Unit {0}
 
--- what closing a port, or an excerpt, answers
+-- the code of closing a port or an excerpt
 abbrev pub close_code : {A : Type 0} → Option A → ℕ
 close_code (Some held) = 0
 close_code None = 122

@@ -1,4 +1,4 @@
--- What a call at a port answers, what a caller's event asks, and what a call fills in of it, field by field.
+-- Codes of the calls at a port, commands of a caller's events, and the fields that a call writes.
 use Rattle.std.specs.Prelude.{ℕ, Bool, false, nat_lt, Result, Ok, Err}
 use Rattle.pie_port.specs.Names.{bits_of, Answer, Enqueued, Marked, DroppedEarly, DroppedBytes, DroppedPackets, Empty, Left, Updated, Done, Command}
 use Rattle.pie_port.specs.Names.{Refusal, Told, Tried, Busy, Refused, PieEvent, arrived_event, bare_event, Asked, Arrive, Depart, Update, Reset}
@@ -7,7 +7,7 @@ use Rattle.pie_event.specs.declared.command.Command.TheVariants as command
 use Rattle.pie_abi.specs.Packets.{ecn_at}
 use Rattle.pie_event.specs.declared.refusal.Refusal.TheVariants.{Moment, Size, TooSoon, Exhausted, HistoryFull}
 
--- ---- what is answered
+-- ---- codes
 
 -- the number of an answer
 abbrev pub answer_number : Answer → ℕ
@@ -21,7 +21,7 @@ answer_number (Left packet) = 0
 answer_number (Updated delay prob burst) = 0
 answer_number Done = 0
 
--- the number of a refusal: 100 above that of its record
+-- the number of a refusal: that of its record plus 100
 abbrev pub refusal_number : Refusal → ℕ
 refusal_number Moment = 101
 refusal_number Size = 102
@@ -29,50 +29,51 @@ refusal_number (TooSoon due) = 103
 refusal_number Exhausted = 104
 refusal_number HistoryFull = 105
 
--- what a call that may be busy answers
+-- the code of a call that may be busy
 abbrev pub code_of : Result (Told Answer) (Tried Refusal) → ℕ
 code_of (Ok told) = answer_number told.answer
 code_of (Err Busy) = 121
 code_of (Err (Refused why)) = refusal_number why
 
--- ---- what it asks
+-- ---- commands
 
--- the packet that an event names
+-- the packet of an event
 abbrev pub packet_in : PieEvent → Packet
 packet_in e = record { tag = e.tag; size = e.size; ecn = ecn_at e.ecn }
 
--- the command that a call makes of it
+-- the command of a call for an event
 abbrev pub command_in : Asked → PieEvent → Command
 command_in Arrive e = command.Arrive e.moment (packet_in e) e.word
 command_in Depart e = command.Depart e.moment
 command_in Update e = command.Update e.moment
 command_in Reset e = command.Reset e.moment
 
--- the packet's ECN field is none
+-- the call is an arrival and the event's ECN field is invalid
 abbrev pub has_bad_ecn : Asked → PieEvent → Bool
 has_bad_ecn Arrive e = nat_lt 3 e.ecn
 has_bad_ecn _ e = false
 
--- ---- what is filled in
+-- ---- fields that a call writes
 
--- with this number alone: of an arrival the packet stays, of others all that plays no part is 0
+-- the event with this number as its result: the packet of an arrival is unchanged, and fields that other calls do not
+-- use are 0
 abbrev pub numbered_event : Asked → PieEvent → ℕ → PieEvent
 numbered_event Arrive e number = arrived_event e number
 numbered_event Depart e number = bare_event 2 e number
 numbered_event Update e number = bare_event 3 e number
 numbered_event Reset e number = bare_event 4 e number
 
--- with an answer: the packet that left, as it left; an update's numbers
+-- the event with an answer: a departure's packet, an update's numbers
 abbrev pub answered_event : Asked → PieEvent → Answer → PieEvent
 answered_event asked e (Left packet) = record (numbered_event asked e 0) { tag = packet.tag; size = packet.size; ecn = bits_of packet.ecn }
 answered_event asked e (Updated delay prob burst) = record (numbered_event asked e 0) { delay = delay; prob = prob; burst = burst }
 answered_event asked e answer = numbered_event asked e (answer_number answer)
 
--- it stands under this number
+-- the event with the caller's number
 abbrev pub under : ℕ → PieEvent → PieEvent
 under caller e = record e { caller = caller }
 
--- what a call that was told this leaves of the event: all as it was where the link was busy
+-- the event after a call with this result; unchanged if the link was busy
 abbrev pub filled : Asked → ℕ → PieEvent → Result (Told Answer) (Tried Refusal) → PieEvent
 filled asked caller e (Ok told) = under caller (answered_event asked e told.answer)
 filled asked caller e (Err Busy) = e

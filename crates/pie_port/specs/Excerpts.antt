@@ -1,4 +1,5 @@
--- What the calls for an excerpt promise: the end of the history, with what it stands on, in memory that was taken before, and its text.
+-- Promises of the calls for an excerpt: the end of the history with its preamble, in memory that was taken beforehand,
+-- and its text.
 use Rattle.std.specs.Prelude.{ℕ, ◌≡◌, ◌==◌, ◌+◌, List, [], Option, Some, None, Result, Ok, Err, slice_get, true, if◌then◌else◌}
 use Rattle.pie_port.specs.Names.{option_map_or, Ends, ExcerptView, has_room, text_of, CallerView, StaysOne, Tried, Busy, Refused, Opening}
 use Rattle.pie_port.specs.Names.{PieOpening, opening_refusal, after_writing, count_written, ExcerptText}
@@ -8,12 +9,12 @@ use Rattle.pie_link.specs.CallerExcerpts.{TriesToFillExcerpt}
 
 -- ---- room
 
--- why there is no room for excerpts, memory aside, and 0 where there is
+-- the refusal of memory for excerpts, out of memory aside; 0 if there is none
 abbrev pub room_refusal : Option ExcerptText → PieOpening → ℕ
 room_refusal (Some text) o = 127
 room_refusal None o = opening_refusal o
 
--- it has room for the excerpts of every link with this opening, and is one of no events
+-- the excerpt has room for the excerpts of every link with this opening, and no events
 pub record IsEmpty (opening : Opening) (text : ExcerptText) : Type 0 where
   pub opened : text.excerpt.opening ≡ opening
   pub room : has_room text.excerpt opening.limits ≡ true
@@ -21,24 +22,25 @@ pub record IsEmpty (opening : Opening) (text : ExcerptText) : Type 0 where
   pub ends : Ends text.excerpt []
   pub unwritten : text.written ≡ 0
 
--- it is open, with what is so
+-- the excerpt is open, and P holds of it
 abbrev pub IsOpenWith : (ExcerptText → Type 0) → Option ExcerptText → Type 0
 IsOpenWith P excerpt = (text : ExcerptText) × (excerpt ≡ Some text) × P text
 
 -- ---- an excerpt of a link
 
--- what it answers
+-- the code of filling an excerpt
 abbrev pub excerpt_code : Result (Unit {0}) (Tried TooSmall) → ℕ
 excerpt_code (Ok done) = 0
 excerpt_code (Err Busy) = 121
 excerpt_code (Err (Refused why)) = 129
 
--- its text begins anew where it was filled
+-- the number of written records: 0 after the excerpt was filled
 abbrev pub written_after : Result (Unit {0}) (Tried TooSmall) → ℕ → ℕ
 written_after (Ok done) written = 0
 written_after (Err why) written = written
 
--- an open port's excerpt is one of its link, or the link was busy, or there is too little room; and the code that tells it
+-- an open port's excerpt is one of its link, or the link was busy, or there is too little room; with the code of this
+-- result
 pub record IsFilledAt (before : CallerView) (text : ExcerptText) (code : ℕ) (after : CallerView) (filled : ExcerptText) : Type 0 where
   pub reply : Result (Unit {0}) (Tried TooSmall)
   pub tried : TriesToFillExcerpt before.lock before reply text.excerpt filled.excerpt after
@@ -46,7 +48,7 @@ pub record IsFilledAt (before : CallerView) (text : ExcerptText) (code : ℕ) (a
   pub told : code ≡ excerpt_code reply
   pub written : filled.written ≡ written_after reply text.written
 
--- where one of the two is closed the call is told so, and both stay
+-- if one of the two is closed, the call returns that code, and both are unchanged
 abbrev pub TriesToFill : Option CallerView → Option ExcerptText → ℕ → Option CallerView → Option ExcerptText → Type 0
 TriesToFill None text code after filled = (code ≡ 122) × (after ≡ None) × (filled ≡ text)
 TriesToFill (Some before) None code after filled = (code ≡ 122) × (after ≡ Some before) × (filled ≡ None)
@@ -55,11 +57,12 @@ TriesToFill (Some before) (Some text) code after filled =
 
 -- ---- its text
 
--- the record at a place: the one that resumes, those of the packets that waited, and those of the events; none behind these
+-- the record at a place: the `resume` record, those of the packets in the queue, and those of the events; none after
+-- these
 abbrev pub record_text : ExcerptView → ℕ → List ℕ
 record_text excerpt place = option_map_or text_of (slice_get (excerpt_rows excerpt) place) []
 
--- the next record is written, whole or not at all; nothing of a closed excerpt
+-- the next record is written completely or not at all; nothing of a closed excerpt
 abbrev pub WritesNext : Option ExcerptText → List ℕ → ℕ → List ℕ → Option ExcerptText → Type 0
 WritesNext None out count written after = (count ≡ 0) × (written ≡ out) × (after ≡ None)
 WritesNext (Some text) out count written after =

@@ -1,4 +1,4 @@
--- What a fold at a port promises, and how an event of the history lies in a caller's struct.
+-- Promises of a fold at a port, and the form of an event of the history in a caller's struct.
 use Rattle.std.specs.Prelude.{ℕ, ◌≡◌, List, [], ◌∷◌, ◌++◌, Option, Result, Ok, Err, drop, length, map, min}
 use Rattle.pie_port.specs.Names.{bits_of, Answer, Command, SetParams, Event, Refusal, TriesToFoldInto, CallerView, StaysOne, Tried, PieEvent}
 use Rattle.pie_port.specs.Names.{PieParams, Told, arrived_event, bare_event, params_of}
@@ -9,7 +9,7 @@ use Rattle.pie_port.specs.Events.{answer_number, answered_event}
 
 -- ---- an event in a struct
 
--- an event of this moment and caller, all else 0
+-- an event of this moment and caller, with zeros
 abbrev pub blank : ℕ → ℕ → PieEvent
 blank moment caller = record {
   moment = moment;
@@ -26,7 +26,7 @@ blank moment caller = record {
   reserved = 0;
 }
 
--- what was asked, and the packet that left or an update's numbers
+-- an event of this command and answer
 abbrev pub struct_with : ℕ → Answer → Command → PieEvent
 struct_with caller a (Arrive moment packet word) =
     arrived_event (record (blank moment caller) { tag = packet.tag; word = word; size = packet.size; ecn = bits_of packet.ecn }) (answer_number a)
@@ -38,34 +38,34 @@ struct_with caller a (SetParams moment params) = bare_event 5 (blank moment call
 abbrev pub struct_of : Event → PieEvent
 struct_of event = struct_with event.caller event.answer event.command
 
--- the parameters that it sets, and else those that were there
+-- the parameters that the command sets, otherwise p
 abbrev pub params_in : PieParams → Command → PieParams
 params_in p (SetParams moment params) = params_of params
 params_in p _ = p
 
 -- ---- a fold
 
--- these events lie in the first of the structs, and the others are as they were
+-- the first structs are these events, and the others are unchanged
 abbrev pub written_events : List PieEvent → List Event → List PieEvent
 written_events structs events = map struct_of events ++ drop (length events) structs
 
--- the parameters that the last of these events sets that sets some, and else those that were there
+-- the parameters that the last of these events with parameters sets, otherwise p
 abbrev pub params_after : PieParams → List Event → PieParams
 params_after p [] = p
 params_after p (event ∷ events) = params_after (params_in p event.command) events
 
--- what it answers
+-- the code of a fold
 abbrev pub fold_code : Result (Told ℕ) (Tried Refusal) → List Event → ℕ
 fold_code (Ok told) [] = 106
 fold_code (Ok told) (event ∷ events) = 0
 fold_code (Err why) events = 121
 
--- the number of the last event that has left the log after the fold, and else the number that was there
+-- the number of the last event that has left the log after the fold, otherwise `before`
 abbrev pub last_after : ℕ → Result (Told ℕ) (Tried Refusal) → ℕ
 last_after before (Ok told) = told.number
 last_after before (Err why) = before
 
--- what an open port's caller was handed out, up to so many events as there are structs, at most 64; or that the link was busy, and none were
+-- the fold of an open port's caller: at most 64 events, and at most as many as there are structs; or the link was busy
 pub record IsFolded (before : CallerView) (structs : List PieEvent) (l : ℕ) (p : PieParams) (code : ℕ) (written : List PieEvent) (folded last : ℕ)
     (params : PieParams) (after : CallerView) : Type 0 where
   pub reply : Result (Told ℕ) (Tried Refusal)

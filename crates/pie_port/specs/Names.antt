@@ -1,4 +1,4 @@
--- What definitions, code and proofs of this crate take from below, in one place.
+-- Names of lower crates that definitions, code and proofs of this crate import.
 pub use Rattle.std.specs.Arc.{arc_value}
 pub use Rattle.std.specs.Option.{option_map_or}
 pub use Rattle.std.specs.declared.alloc.Global.{Global}

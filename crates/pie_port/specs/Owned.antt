@@ -1,4 +1,4 @@
--- What the handle that C holds owns: nothing where it is closed, and else what a box of its port, or of its excerpt, owns.
+-- The ownership of a handle that C holds: nothing if it is closed, otherwise that of the box of its port or excerpt.
 use Rattle.std.specs.Prelude.{Option, Some, None}
 use Rattle.pie_port.specs.Names.{Global}
 use base.Fml.{Fml, feq}

@@ -1,4 +1,4 @@
--- What a reading at a port promises, and how registers and statistics lie in a caller's struct.
+-- Promises of a reading at a port, and the form of registers and statistics in a caller's struct.
 use Rattle.std.specs.Prelude.{ℕ, ◌≡◌, ◌+◌, ◌-◌, ◌^◌, Bool, true, false, List, Option, Result, Ok, Err, min}
 use Rattle.pie_port.specs.Names.{Event, Opening, Refusal, Told, CallerView, StaysOne, Tried, params_of}
 use Rattle.pie_event.specs.declared.registers.Registers.{Registers}
@@ -15,7 +15,7 @@ abbrev pub bit : Bool → ℕ
 bit true = 1
 bit false = 0
 
--- the registers, with how many events there were, and when the next update is due
+-- the registers, with the number of events and the due moment of the next update
 abbrev pub registers_of : Told Registers → PieRegisters
 registers_of told = record {
   count = told.number;
@@ -34,7 +34,7 @@ registers_of told = record {
   params = params_of told.answer.params;
 }
 
--- the statistics, with how many events there were
+-- the statistics, with the number of events
 abbrev pub totals_of : Told Stats → PieTotals
 totals_of told = record { count = told.number; stats = stats_of told.answer }
 
@@ -44,13 +44,13 @@ abbrev pub read_code : {A : Type 0} → Result (Told A) (Tried Refusal) → ℕ
 read_code (Ok told) = 0
 read_code (Err why) = 121
 
--- the caller's struct, which stays as it was where the link was busy
+-- the caller's struct after a reading; unchanged if the link was busy
 abbrev pub read_into : {A B : Type 0} → (Told A → B) → B → Result (Told A) (Tried Refusal) → B
 read_into struct_of held (Ok told) = struct_of told
 read_into struct_of held (Err why) = held
 
 module _ {A B : Type 0} (value_after : Opening → List Event → A) (struct_of : Told A → B) where
-  -- what an open port's caller read, or that the link was busy; and the code and the struct that tell it
+  -- the reading of an open port's caller, or the link was busy; with the code and the struct of this result
   pub record IsReadInto (before : CallerView) (held : B) (code : ℕ) (written : B) (after : CallerView) : Type 0 where
     pub reply : Result (Told A) (Tried Refusal)
     pub tried : TriesToRead value_after before.lock before reply after

@@ -1,5 +1,4 @@
-//! Bursts: several events in one turn, that lie where the caller has them: each is read and written in its place. No call waits, and none takes
-//! memory.
+//! Bursts: several events in one turn, read and written in place in the caller's memory. No call waits or allocates.
 ghost use Rattle.std.specs.Prelude.{◌≡◌, ◌<◌, Bool, drop, length, map, slice_index_or, slice_set, ℕ, None};
 ghost use Rattle.pie_port.specs.{Reply, always, has_left_or_updated, PieEvent, Asked, Arrive, Depart, asks, asks_unless, riding, told_event};
 ghost use Rattle.pie_port.specs.{has_bad_ecn, IsTriedAll, TriesAll, budget_of};
@@ -18,22 +17,23 @@ use pie_queue::{Ecn, Packet};
 use std::alloc::Global;
 use std::marker::PhantomData;
 
-/// A kind of burst: what its events ask, but for the updates among them, and after which replies it goes on. Each is compiled for its own.
+/// A kind of burst: the call of its events, apart from updates, and the results after which it continues. Each kind is
+/// compiled on its own.
 pub(crate) trait Kind {
     ghost asked: { Asked };
 
     ghost goes_on: { Reply → Bool };
 
-    /// What its events ask.
+    /// Returns the call of its events.
     fn asks() -> Asked
         ensures { result ≡ asked };
 
-    /// Whether it goes on after this reply.
+    /// Returns true if the burst continues after `reply`.
     fn is_to_go_on(reply: &Reply) -> bool
         ensures { result ≡ goes_on reply.now };
 }
 
-/// Packets arrive.
+/// Bursts of arrivals.
 pub(crate) struct Arrivals;
 
 impl Kind for Arrivals {
@@ -52,7 +52,7 @@ impl Kind for Arrivals {
     }
 }
 
-/// Packets depart.
+/// Bursts of departures.
 pub(crate) struct Departures;
 
 impl Kind for Departures {
@@ -65,7 +65,7 @@ impl Kind for Departures {
         Asked::Depart
     }
 
-    // A packet left, an update was made, or it came too soon.
+    // Continue after a departure, after an update, and after an update that is too soon.
     #[inline(always)]
     fn is_to_go_on(reply: &Reply) -> bool {
         match reply {
@@ -75,19 +75,19 @@ impl Kind for Departures {
     }
 }
 
-/// A burst of events of one kind, and updates among them.
+/// A burst of events of one kind, with updates among them.
 #[derive(Drop)]
 pub(crate) struct Asking<'a, K> {
     /// The events.
     pub(crate) events: &'a mut [PieEvent],
-    /// How many have been asked.
+    /// The number of events that were decided.
     pub(crate) done: usize,
-    /// The number under which they stand.
+    /// The caller's number.
     pub(crate) caller: u16,
     pub(crate) kind: PhantomData<K>,
 }
 
-// What an event of a burst asks.
+// Returns the call of an event of a burst.
 #[inline(always)]
 fn riding(asked: Asked, event: &PieEvent) -> Asked
     ensures { result ≡ riding asked event.now }
@@ -99,7 +99,7 @@ fn riding(asked: Asked, event: &PieEvent) -> Asked
     }
 }
 
-// The arrival that an event asks for. Where its ECN field is none the packet has no bytes here, so that the book refuses it.
+// Returns the arrival of an event. If its ECN field is invalid, the packet has no bytes, so that the book refuses it.
 #[inline(always)]
 fn arrival_of(event: &PieEvent) -> Command
     ensures { result ≡ asks_unless (has_bad_ecn Arrive event.now) Arrive event.now }
@@ -119,7 +119,7 @@ fn arrival_of(event: &PieEvent) -> Command
     }
 }
 
-// What an event of a burst asks, as a command.
+// Returns the command of an event of a burst.
 #[inline(always)]
 fn command_of(asked: Asked, event: &PieEvent) -> Command
     ensures { result ≡ asks asked event.now }
@@ -133,7 +133,7 @@ fn command_of(asked: Asked, event: &PieEvent) -> Command
     }
 }
 
-// Fills in what an event of a burst was told, under the caller's number.
+// Writes the result of an event of a burst, with the caller's number.
 #[inline(always)]
 fn tell(event: &mut PieEvent, asked: Asked, caller: u16, reply: &Reply)
     ensures { event.new ≡ told_event asked caller event.old reply.now }
@@ -150,7 +150,7 @@ fn tell(event: &mut PieEvent, asked: Asked, caller: u16, reply: &Reply)
     event.caller = caller;
 }
 
-// Fills in what the event at a place was told.
+// Writes the result of the event at `place`.
 #[inline(always)]
 fn tell_at(events: &mut [PieEvent], place: usize, asked: Asked, caller: u16, reply: &Reply)
     requires { place < length events.old }
@@ -193,7 +193,7 @@ impl<K: Kind> Burst for Asking<'_, K> {
     }
 }
 
-// The budget that a number of bytes says: the greatest is none.
+// Returns the budget of a number of bytes; the greatest number is no budget.
 fn budget_of(bytes: u64) -> Option<u64>
     ensures { result ≡ budget_of bytes }
 {
@@ -201,7 +201,7 @@ fn budget_of(bytes: u64) -> Option<u64>
 }
 
 impl Port {
-    // Asks a burst, and writes the code.
+    // Decides a burst, and writes its code.
     fn ask_all<'a, K: Kind>(
         &mut self,
         budget: Option<u64>,
@@ -225,7 +225,7 @@ impl Port {
         }
     }
 
-    // The same of events.
+    // Makes the burst of `events` and decides it.
     fn begin_all<'a, K: Kind>(
         &mut self,
         budget: Option<u64>,
@@ -245,8 +245,8 @@ impl Port {
         self.ask_all(budget, burst, code)
     }
 
-    /// Events of this kind are asked, one after another and within a budget of bytes, and updates ride among them. It answers a code, and how
-    /// many were asked.
+    /// Decides events of this kind and updates, one after another, within a budget of bytes. Returns the code and the
+    /// number of decided events.
     fn try_all<K: Kind>(&mut self, budget: Option<u64>, events: &mut [PieEvent]) -> (u32, usize)
         ensures { IsTriedAll K.asked budget K.goes_on self.old events.old result.1 result.0 events.new self.new }
     {
@@ -256,7 +256,7 @@ impl Port {
     }
 }
 
-// The same at a port as C holds it.
+// Decides a burst at a port of C.
 #[inline(always)]
 #[tactic(auto, unfolding(crate::specs::Calls::AtPort))]
 fn try_all<K: Kind>(
@@ -275,7 +275,7 @@ fn try_all<K: Kind>(
     tried
 }
 
-/// Packets arrive, one after another, in one turn, and updates among them.
+/// Decides arrivals and updates, one after another, in one turn.
 #[inline(always)]
 pub fn try_arrive_all(alloc: Global, port: &mut PiePort, events: &mut [PieEvent]) -> u32
     ensures { (count : ℕ) × TriesAll Arrive None always port.old.port events.old count result events.new port.new.port }
@@ -283,7 +283,8 @@ pub fn try_arrive_all(alloc: Global, port: &mut PiePort, events: &mut [PieEvent]
     try_all::<Arrivals>(alloc, port, None, events).0
 }
 
-/// Packets depart, one after another, in one turn and within a budget of bytes, and updates among them. `made` is how many events were asked.
+/// Decides departures and updates, one after another, in one turn and within a budget of bytes. `made` is the number of
+/// decided events.
 #[inline(always)]
 pub fn try_depart_all(
     alloc: Global,

@@ -1,4 +1,4 @@
-//! The calls for one event. None waits, and none takes memory.
+//! Calls for one event. None waits or allocates.
 ghost use Rattle.pie_port.specs.{Tries, TriesToSet};
 
 use crate::code::CLOSED;
@@ -7,7 +7,7 @@ use crate::handle::PiePort;
 use pie_abi::{PieEvent, PieParams};
 use std::alloc::Global;
 
-/// Asks what the event says, where the port is open.
+/// Makes the call `asked` of `event`, if the port is open.
 #[inline(always)]
 #[tactic(auto, unfolding(crate::specs::Calls::AtPort))]
 pub fn try_event(alloc: Global, port: &mut PiePort, asked: Asked, event: &mut PieEvent) -> u32
@@ -21,7 +21,7 @@ pub fn try_event(alloc: Global, port: &mut PiePort, asked: Asked, event: &mut Pi
     code
 }
 
-/// Asks for new parameters, where the port is open.
+/// Sets the parameters, if the port is open.
 #[inline(always)]
 #[tactic(auto, unfolding(crate::specs::Calls::AtPort))]
 pub fn try_set_params(

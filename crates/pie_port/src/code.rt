@@ -1,4 +1,4 @@
-//! What a call at a port answers, beside the codes of pie_abi.
+//! Codes of the calls at a port, beside those of pie_abi.
 ghost use Rattle.std.specs.Prelude.{◌≡◌};
 ghost use Rattle.pie_port.specs.{answer_number, code_of, refusal_number};
 
@@ -8,13 +8,13 @@ use pie_abi::code::{
 use pie_event::{Answer, Refusal};
 use pie_link::{Told, Tried};
 
-/// Refused: there were as many events as the opening allows.
+/// Refused: the history has as many events as the opening allows.
 pub(crate) const EXHAUSTED: u32 = 104;
 
-/// Refused: the event log of a link that lets none go is full.
+/// Refused: the event log of a bounded link is full.
 pub(crate) const FULL: u32 = 105;
 
-/// Refused: a fold of an event where the log holds none.
+/// Refused: a fold of an empty event log.
 pub(crate) const TOO_MANY: u32 = 106;
 
 /// Nothing was done: another port has the turn.
@@ -23,25 +23,25 @@ pub(crate) const BUSY: u32 = 121;
 /// Nothing was done: the port is closed.
 pub(crate) const CLOSED: u32 = 122;
 
-/// Nothing was done: there was no memory.
+/// Nothing was done: out of memory.
 pub(crate) const NO_MEMORY: u32 = 123;
 
 /// Refused: a link for no callers.
 pub(crate) const NO_CALLERS: u32 = 124;
 
-/// Refused: a port that has one number has none to share.
+/// Refused: the port has only one number.
 pub(crate) const ONE_NUMBER: u32 = 125;
 
-/// Refused: two ports of whose numbers neither's follow on the other's.
+/// Refused: the ports' number ranges are not adjacent.
 pub(crate) const APART: u32 = 126;
 
-/// Refused: a port that is to be opened is open.
+/// Refused: the port to be opened is open.
 pub(crate) const OPEN: u32 = 127;
 
-/// Refused: an excerpt with less room than those of the link may need.
+/// Refused: an excerpt with less room than an excerpt of the link may need.
 pub(crate) const TOO_SMALL: u32 = 129;
 
-/// The number of an answer.
+/// Returns the number of an answer.
 #[inline(always)]
 pub(crate) fn of_answer(answer: &Answer) -> u32
     ensures { result ≡ answer_number answer.now }
@@ -56,7 +56,7 @@ pub(crate) fn of_answer(answer: &Answer) -> u32
     }
 }
 
-/// The number of a refusal.
+/// Returns the number of a refusal.
 pub(crate) fn of_refusal(why: &Refusal) -> u32
     ensures { result ≡ refusal_number why.now }
 {
@@ -69,7 +69,7 @@ pub(crate) fn of_refusal(why: &Refusal) -> u32
     }
 }
 
-/// The number of what a call was told.
+/// Returns the number of a call's result.
 #[inline(always)]
 pub(crate) fn of_reply(reply: &Result<Told<Answer>, Tried<Refusal>>) -> u32
     ensures { result ≡ code_of reply.now }

@@ -1,4 +1,4 @@
-//! What a call for one event asks, and what it fills in.
+//! The calls for one event, and the fields that they write.
 ghost use Rattle.std.specs.Prelude.{◌≡◌};
 ghost use Rattle.pie_port.specs.{set_event, code_of, answered_event, numbered_event, under};
 ghost use Rattle.pie_port.specs.Events.{filled};
@@ -9,20 +9,20 @@ use pie_abi::event::{DEPART, PARAMS, RESET, UPDATE};
 use pie_event::{Answer, Refusal};
 use pie_link::{Told, Tried};
 
-/// A call for one event, but new parameters, which come beside it.
+/// A call for one event. New parameters have a call of their own.
 #[derive(Clone, Copy)]
 pub enum Asked {
-    /// The packet that the event names arrives.
+    /// An arrival of the event's packet.
     Arrive,
-    /// The link asks for the next packet.
+    /// A departure.
     Depart,
-    /// The probability is to be computed anew.
+    /// An update of the probability.
     Update,
-    /// The probability, the delays and the rate estimate are to start anew.
+    /// A reset of the probability, the delays and the rate estimate.
     Reset,
 }
 
-/// Fills in a number, and 0 where a number plays no part.
+/// Writes the number `number`, and 0 to the numbers that the call does not use.
 #[inline(always)]
 pub(crate) fn fill_number(event: &mut PieEvent, asked: Asked, number: u32)
     ensures { event.new ≡ numbered_event asked event.old number }
@@ -35,7 +35,7 @@ pub(crate) fn fill_number(event: &mut PieEvent, asked: Asked, number: u32)
     }
 }
 
-/// Fills in an answer.
+/// Writes an answer.
 #[inline(always)]
 pub(crate) fn fill_answer(event: &mut PieEvent, asked: Asked, answer: &Answer)
     ensures { event.new ≡ answered_event asked event.old answer.now }
@@ -57,7 +57,8 @@ pub(crate) fn fill_answer(event: &mut PieEvent, asked: Asked, answer: &Answer)
     }
 }
 
-/// Fills in what a call was told, under the caller's number, and answers its code. Where the link was busy the event stays as it was.
+/// Writes a call's result, with the caller's number, and returns its code. If the link was busy, the event is
+/// unchanged.
 #[inline(always)]
 pub(crate) fn fill(
     event: &mut PieEvent,
@@ -84,7 +85,7 @@ pub(crate) fn fill(
     }
 }
 
-/// Fills in what a call for new parameters was told, under the caller's number, and answers its code.
+/// Writes the result of a call for new parameters, with the caller's number, and returns its code.
 pub(crate) fn fill_set(
     event: &mut PieEvent,
     caller: u16,

@@ -1,4 +1,4 @@
-//! A port and an excerpt as C holds them: a box as its pointer, which is null where there is none.
+//! A port and an excerpt as C holds them: the pointer of a box, null if closed.
 ghost use Rattle.std.specs.Prelude.{◌≡◌, Option, Some, None, MatchOption};
 ghost use Rattle.std_alloc.specs.Box.Ownership.{box_owns};
 ghost use Rattle.pie_port.specs.{CallerView, ExcerptText};
@@ -38,12 +38,12 @@ impl<T: Drop, A: Allocator> Loose<T, A> {
     }
 }
 
-/// A port: a pointer that is null where it is closed. Zeros are a closed port. C moves it, and does no more with it.
+/// A port: a pointer that is null if the port is closed. Zeros are a closed port. C only moves it.
 #[repr(C)]
 pub struct PiePort {
     at: *mut u8,
     alloc: Global,
-    /// The caller that it has, where it is open.
+    /// The port's caller, if it is open.
     pub ghost port: { Option CallerView } by { maybe_port },
 }
 
@@ -52,7 +52,7 @@ impl Model for PiePort {
 }
 
 impl PiePort {
-    /// What is open, by its pointer.
+    /// Returns the pointer of an open port, otherwise `None`.
     pub(crate) fn into_loose(self) -> Option<Loose<Port, Global>>
         ensures { MatchOption result (self.port ≡ None) (λ l. self.port ≡ Some l.value) }
     {
@@ -65,7 +65,7 @@ impl PiePort {
         }
     }
 
-    /// An open port, by its pointer.
+    /// Returns the open port of a pointer.
     pub(crate) fn of_loose(loose: Loose<Port, Global>) -> PiePort
         ensures { result.port ≡ Some loose.value }
     {
@@ -74,7 +74,7 @@ impl PiePort {
         PiePort { at, alloc }
     }
 
-    /// A closed port.
+    /// Returns a closed port.
     pub(crate) fn none(alloc: Global) -> PiePort
         ensures { result.port ≡ None }
     {
@@ -84,7 +84,7 @@ impl PiePort {
         }
     }
 
-    /// What is open; a closed port stays.
+    /// Takes the box out of an open port, which is closed then; otherwise returns `None`.
     #[inline(always)]
     pub(crate) fn take(&mut self, alloc: Global) -> Option<Box<Port>>
         ensures before { MatchOption result (self.old.port ≡ None) (λ b. self.old.port ≡ Some b.value) }
@@ -96,7 +96,7 @@ impl PiePort {
         }
     }
 
-    /// Opens it with this.
+    /// Opens the port with `held`.
     #[inline(always)]
     pub(crate) fn put(&mut self, held: Box<Port>)
         ensures { self.new.port ≡ Some held.value }
@@ -107,12 +107,12 @@ impl PiePort {
     }
 }
 
-/// An excerpt: a pointer that is null where it is closed. Zeros are a closed excerpt. C moves it, and does no more with it.
+/// An excerpt: a pointer that is null if the excerpt is closed. Zeros are a closed excerpt. C only moves it.
 #[repr(C)]
 pub struct PieExcerpt {
     at: *mut u8,
     alloc: Global,
-    /// The excerpt with its text, where it is open.
+    /// The excerpt with its text, if it is open.
     pub ghost text: { Option ExcerptText } by { maybe_text },
 }
 
@@ -121,7 +121,7 @@ impl Model for PieExcerpt {
 }
 
 impl PieExcerpt {
-    /// What is open, by its pointer.
+    /// Returns the pointer of an open excerpt, otherwise `None`.
     pub(crate) fn into_loose(self) -> Option<Loose<ExcerptText, Global>>
         ensures { MatchOption result (self.text ≡ None) (λ l. self.text ≡ Some l.value) }
     {
@@ -134,7 +134,7 @@ impl PieExcerpt {
         }
     }
 
-    /// An open excerpt, by its pointer.
+    /// Returns the open excerpt of a pointer.
     pub(crate) fn of_loose(loose: Loose<ExcerptText, Global>) -> PieExcerpt
         ensures { result.text ≡ Some loose.value }
     {
@@ -143,7 +143,7 @@ impl PieExcerpt {
         PieExcerpt { at, alloc }
     }
 
-    /// A closed excerpt.
+    /// Returns a closed excerpt.
     pub(crate) fn none(alloc: Global) -> PieExcerpt
         ensures { result.text ≡ None }
     {
@@ -153,7 +153,7 @@ impl PieExcerpt {
         }
     }
 
-    /// What is open; a closed excerpt stays.
+    /// Takes the box out of an open excerpt, which is closed then; otherwise returns `None`.
     pub(crate) fn take(&mut self, alloc: Global) -> Option<Box<ExcerptText>>
         ensures before { MatchOption result (self.old.text ≡ None) (λ b. self.old.text ≡ Some b.value) }
         ensures after { self.new.text ≡ None }
@@ -164,7 +164,7 @@ impl PieExcerpt {
         }
     }
 
-    /// Opens it with this.
+    /// Opens the excerpt with `held`.
     pub(crate) fn put(&mut self, held: Box<ExcerptText>)
         ensures { self.new.text ≡ Some held.value }
     {

@@ -1,14 +1,15 @@
-//! A port of a link, as C holds it, and an excerpt: what the calls of `include/pie_link.h` do, which pie_link_c exports.
+//! Ports of a link and excerpts, as C holds them: the calls of `include/pie_link.h`, which pie_link_c exports.
 //!
-//! A port is one caller of a link, and one thread's at a time; other threads have ports of their own, which `share` makes. C holds a
-//! port as a struct of a pointer, which is null where the port is closed: each call answers so then, and does nothing. What a port owns is a
-//! box of the caller and a share of the link, whose ownership goes with the struct (`specs/Owned.antt`); that these may go to another thread is
-//! shown (`ports_cross_threads`), of the pointer it is the caller's word. The last port that is closed frees the link.
+//! A port is one caller of a link, and belongs to one thread at a time; other threads have ports of their own, which
+//! `share` makes. C holds a port as a struct with a pointer, which is null if the port is closed. At a closed port each
+//! call does nothing and returns that code. A port owns a box with the caller and a share of the link; their ownership
+//! goes with the struct (`specs/Owned.antt`). That these may go to another thread is shown (`ports_cross_threads`);
+//! that only one thread uses a pointer is the caller's duty. Closing the last port frees the link.
 //!
-//! Each call's clause is pie_link's of the caller: an open port has, as contracts see it, the entries that its caller has been shown and its
-//! numbers. No call waits. `open` promises the headline: whenever the link's lock is free there is one history behind all its ports.
-//! What a call writes into its caller's event is pinned field by field (`specs/Events.antt`), and an excerpt's text record by record
-//! (`specs/Excerpts.antt`).
+//! The clause of each call is pie_link's clause about the caller: in contracts an open port is its caller's front and
+//! numbers. No call waits. `open` promises the headline: whenever the link's lock is free, there is one history behind
+//! all its ports. Contracts state each field that a call writes to its caller's event (`specs/Events.antt`), and each
+//! record of an excerpt's text (`specs/Excerpts.antt`).
 #![tactic(auto)]
 
 mod burst;

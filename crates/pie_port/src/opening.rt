@@ -14,7 +14,7 @@ use pie_link::{Entry, KeptBook};
 use pie_lock::{LockOpening, LockRule, Place};
 use std::alloc::Global;
 
-/// Opens a link, and the port with all its numbers, where that is closed.
+/// Opens a link, and the closed port `port` with all its numbers.
 #[inline(always)]
 pub fn open(alloc: Global, opening: &PieOpening, callers: u16, port: &mut PiePort) -> u32
     ensures refused { open_refusal port.old.port opening.now callers ≢ 0 → result ≡ open_refusal port.old.port opening.now callers }
@@ -36,7 +36,7 @@ pub fn open(alloc: Global, opening: &PieOpening, callers: u16, port: &mut PiePor
     }
 }
 
-// A new link, and the port with all its numbers.
+// Returns the port with all numbers of a new link.
 fn opened(alloc: Global, opening: &PieOpening, callers: u16) -> Result<Box<Port>, u32>
     ensures refused { IfErr result (λ code. open_refusal None opening.now callers ≢ 0 → code ≡ open_refusal None opening.now callers) }
     ensures memory { IfErr result (λ code. open_refusal None opening.now callers ≡ 0 → code ≡ 123) }

@@ -1,4 +1,4 @@
-//! What an open port has: a caller of a link, and a share of the link.
+//! An open port: a caller of a link, and a share of the link.
 ghost use Rattle.std.specs.Prelude.{◌≡◌, ◌≢◌, ◌==◌, ◌+◌, ◌↔◌, ◌≤◌, IfOk, IfErr, IfSome, IsOk, IsTrue, OnOk, OnErr, Some, false, if◌then◌else◌};
 ghost use Rattle.std.specs.Prelude.{vec_capacity};
 ghost use Rattle.pie_port.specs.{arc_value, has_bad_ecn};
@@ -27,7 +27,7 @@ use std::sync::Arc;
 pub struct Port {
     pub(crate) link: Arc<Link, Global>,
     pub(crate) caller: Caller,
-    /// Where the events go that a fold hands out.
+    /// The memory for the events of a fold.
     folded: Vec<Recorded>,
 }
 
@@ -46,7 +46,7 @@ impl Port {
     ghost use Rattle.pie_port.specs.{first_pass, without_highest, highest_alone, IsBeside, IsBothOf, number_of, are_in_range, TriesToAnswer};
     ghost use Rattle.pie_port.specs.{KeepsOneHistory, StaysOne, IsSetUnless, IsTriedUnless, IsFolded, command_in, has_bad_ecn};
 
-    /// The port with all numbers of a new link, in a box, or nothing for want of memory or of callers.
+    /// Returns the boxed port with all numbers of a new link, or `None` if there is no memory or `callers` is 0.
     pub(crate) fn of_opening(alloc: Global, opening: Opening, callers: u16) -> Option<Box<Port>>
         ensures origin { IfSome result (λ port. port.value.lock.origin ≡ Some opening) }
         ensures numbers { IfSome result (λ port. port.value.lock.numbers ≡ callers) }
@@ -63,7 +63,7 @@ impl Port {
         Port::of_link(alloc, link, caller, folded)
     }
 
-    // The port of this caller, or nothing for want of memory.
+    // Returns the boxed port of a caller, or `None` if there is no memory.
     fn of_link(
         alloc: Global,
         link: Link,
@@ -85,7 +85,7 @@ impl Port {
         Box::new(alloc, port).ok()
     }
 
-    /// Asks what the event says.
+    /// Makes the call `asked` of an event.
     #[inline(always)]
     fn ask(&mut self, asked: Asked, event: &PieEvent) -> Result<Told<Answer>, Tried<Refusal>>
         requires ecn { has_bad_ecn asked event.now ≡ false }
@@ -111,7 +111,7 @@ impl Port {
         }
     }
 
-    /// Asks what the event says, and fills in what was told.
+    /// Makes the call `asked` of an event, and writes the result to it.
     #[inline(always)]
     pub(crate) fn try_event(&mut self, asked: Asked, event: &mut PieEvent) -> u32
         ensures { IsTriedUnless (has_bad_ecn asked event.old) asked self.old event.old result event.new self.new }
@@ -126,7 +126,7 @@ impl Port {
         fill(event, asked, caller, &reply)
     }
 
-    /// Asks for new parameters, and fills in what was told.
+    /// Sets the parameters, and writes the result to `event`.
     #[tactic(auto, unfolding(pie_abi::specs::Params::are_in_range))]
     pub(crate) fn try_set_params(&mut self, params: &PieParams, event: &mut PieEvent) -> u32
         ensures { IsSetUnless (are_in_range params.now) params.now self.old event.old result event.new self.new }
@@ -143,7 +143,7 @@ impl Port {
         fill_set(event, caller, &reply)
     }
 
-    /// Asks for the oldest events of the log, and writes what was handed out.
+    /// Folds the oldest events of the log, and writes them.
     pub(crate) fn try_fold(
         &mut self,
         events: &mut [PieEvent],
@@ -161,7 +161,7 @@ impl Port {
         write_folded(&reply, &self.folded, events, count, last, params)
     }
 
-    /// A new port with the highest number of this one, which keeps it where the new one can't be had.
+    /// Returns a new port with the highest number of this one. If that fails, this port keeps the number.
     pub(crate) fn share(&mut self, alloc: Global) -> Result<Box<Port>, u32>
         ensures shared { IfOk result (λ new. new.value ≡ highest_alone self.old) }
         ensures rest { OnOk result (self.new ≡ without_highest self.old) }
@@ -182,7 +182,7 @@ impl Port {
         }
     }
 
-    /// Takes in the numbers of a caller whose range follows on its own, or is followed by it.
+    /// Joins a caller whose range is adjacent.
     fn take_back(&mut self, other: Caller)
         requires own { other.lock ≡ self.old.lock }
         requires beside { IsBeside self.old other }
@@ -191,7 +191,7 @@ impl Port {
         let _ = self.link.gather(&mut self.caller, other);
     }
 
-    /// Takes in the numbers of another port of the link, or hands it back where their ranges are apart.
+    /// Joins another port of the link, or returns it if the ranges are not adjacent.
     pub(crate) fn gather(&mut self, other: Box<Port>) -> Result<(), Box<Port>>
         requires own { other.value.lock ≡ self.old.lock }
         ensures both { OnOk result (IsBothOf number_of self.old other.value self.new) }
@@ -206,14 +206,14 @@ impl Port {
         Ok(())
     }
 
-    /// Whether the range of one begins where that of the other ends.
+    /// Returns true if the ranges are adjacent.
     fn is_beside(&self, other: &Port) -> bool
         ensures { IsTrue result ↔ IsBeside self.now other.now }
     {
         self.caller.limit() == other.caller.first() || other.caller.limit() == self.caller.first()
     }
 
-    /// The caller; the share of the link is let go.
+    /// Returns the caller and drops the share of the link.
     fn into_caller(self) -> Caller
         ensures { result ≡ self }
     {
@@ -228,7 +228,7 @@ impl Port {
     }
 }
 
-/// Whether the event names a packet whose ECN field is none.
+/// Returns true if the call is an arrival and the event's ECN field is invalid.
 #[inline(always)]
 pub(crate) fn has_bad_ecn(asked: Asked, event: &PieEvent) -> bool
     ensures { result ≡ has_bad_ecn asked event.now }
@@ -236,7 +236,7 @@ pub(crate) fn has_bad_ecn(asked: Asked, event: &PieEvent) -> bool
     matches!(asked, Asked::Arrive) && event.ecn > 3
 }
 
-/// A box of a port, or the caller back for want of memory.
+/// Returns a boxed port, or the caller if there is no memory.
 fn boxed(alloc: Global, link: &Arc<Link, Global>, caller: Caller) -> Result<Box<Port>, Caller>
     requires own { caller.lock ≡ arc_value link.now }
     ensures port { IfOk result (λ port. port.value ≡ caller) }
@@ -259,12 +259,12 @@ fn boxed(alloc: Global, link: &Arc<Link, Global>, caller: Caller) -> Result<Box<
     }
 }
 
-/// What a type has to be so that its values may go to another thread.
+/// Does nothing. It accepts a value that may go to another thread.
 fn goes_to_another_thread<T: Send>(value: &T) {
     let _ = value;
 }
 
-/// A port and an excerpt may go to another thread: the check shows it of their types here. It does nothing.
+/// Does nothing. Its check shows that a port and an excerpt may go to another thread.
 pub(crate) fn ports_cross_threads(port: &Port, text: &ExcerptText) {
     goes_to_another_thread(port);
     goes_to_another_thread(text);

@@ -1,4 +1,4 @@
-//! Readings: what the book behind a port holds, as a struct of the caller's.
+//! Readings: the state of the book behind a port, in the caller's structs.
 ghost use Rattle.std.specs.Prelude.{◌≡◌};
 ghost use Rattle.pie_port.specs.{TriesToReadInto, registers_of, totals_of};
 ghost use Rattle.pie_book.specs.Registers.{registers_after};
@@ -14,19 +14,20 @@ use pie_event::{Refusal, Registers, Stats};
 use pie_link::{Told, Tried};
 use std::alloc::Global;
 
-/// What the controller and its queue hold. Times are in nanoseconds, probabilities in units of `10^-12` (RFC 8033, sections 4.2, 4.4, 5.2 and 5.3).
+/// The registers. Times are in nanoseconds, probabilities in units of `10^-12` (RFC 8033, sections 4.2, 4.4, 5.2 and
+/// 5.3).
 #[repr(C)]
 #[derive(Clone, Copy)]
 pub struct PieRegisters {
-    /// How many events there were.
+    /// The number of events.
     pub count: u64,
     /// The effective moment, the greatest so far.
     pub moment: u64,
-    /// How many packets wait.
+    /// The number of packets in the queue.
     pub packets: u64,
     /// Their bytes.
     pub bytes: u64,
-    /// The probability of drop or mark.
+    /// The probability of a drop or mark.
     pub prob: u64,
     /// The delay at the last update.
     pub old_delay: u64,
@@ -38,11 +39,11 @@ pub struct PieRegisters {
     pub last: u64,
     /// The moment from which the next update is due.
     pub due: u64,
-    /// The average time in which `dq_threshold` bytes depart; 0 with no sample.
+    /// The average time in which `dq_threshold` bytes depart, 0 without a sample.
     pub average: u64,
-    /// 1 where a cycle of the departure rate is begun, and else 0.
+    /// 1 during a measurement cycle of the departure rate, otherwise 0.
     pub measuring: u64,
-    /// 1 while the controller is active, and else 0; always 1 in profile one.
+    /// 1 while the controller is active, otherwise 0; always 1 in profile one.
     pub active: u64,
     /// The parameters in force.
     pub params: PieParams,
@@ -52,13 +53,13 @@ pub struct PieRegisters {
 #[repr(C)]
 #[derive(Clone, Copy)]
 pub struct PieTotals {
-    /// How many events there were.
+    /// The number of events.
     pub count: u64,
-    /// Their statistics.
+    /// The statistics.
     pub stats: PieStats,
 }
 
-// The registers, with the number of events, as a struct.
+// Returns the registers, with the number of events, as a struct.
 fn registers(told: &Told<Registers>) -> PieRegisters
     ensures { result ≡ registers_of told.now }
 {
@@ -113,7 +114,7 @@ impl Port {
     }
 }
 
-/// Reads the registers, where the port is open.
+/// Reads the registers, if the port is open.
 #[inline(always)]
 #[tactic(auto, unfolding(crate::specs::Calls::AtPort))]
 pub fn try_registers(alloc: Global, port: &mut PiePort, registers: &mut PieRegisters) -> u32
@@ -127,7 +128,7 @@ pub fn try_registers(alloc: Global, port: &mut PiePort, registers: &mut PieRegis
     code
 }
 
-/// Reads the statistics, where the port is open.
+/// Reads the statistics, if the port is open.
 #[inline(always)]
 #[tactic(auto, unfolding(crate::specs::Calls::AtPort))]
 pub fn try_stats(alloc: Global, port: &mut PiePort, totals: &mut PieTotals) -> u32

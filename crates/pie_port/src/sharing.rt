@@ -1,4 +1,4 @@
-//! One port of a link becomes two, two become one, and a port is closed.
+//! Sharing, gathering and closing ports.
 ghost use Rattle.std.specs.Prelude.{◌≡◌, None};
 ghost use Rattle.pie_port.specs.{AreOfOneLink, Gathers, Shares, close_code};
 
@@ -7,7 +7,7 @@ use crate::handle::PiePort;
 use pie_abi::code::DONE;
 use std::alloc::Global;
 
-/// Opens `new`, which is closed, with the highest number of `port`, which is open.
+/// Opens the closed port `new` with the highest number of the open port `port`.
 #[inline(always)]
 pub fn share(alloc: Global, port: &mut PiePort, new: &mut PiePort) -> u32
     ensures { Shares port.old.port new.old.port result port.new.port new.new.port }
@@ -31,7 +31,7 @@ pub fn share(alloc: Global, port: &mut PiePort, new: &mut PiePort) -> u32
     }
 }
 
-/// Takes the numbers of `other`, which is closed then, where the range of one begins where that of the other ends.
+/// Joins the numbers of `other`, which is closed then, to `port`, if the ranges are adjacent.
 #[inline(always)]
 pub fn gather(alloc: Global, port: &mut PiePort, other: &mut PiePort) -> u32
     requires own { AreOfOneLink port.old.port other.old.port }

@@ -1,4 +1,4 @@
--- What a byte queue's list and sum do at an arrival and at a departure.
+-- Facts about a byte queue's list and sum at an arrival and at a departure.
 use Rattle.std.proofs.Common.{◌≡◌, ◌≤◌, ◌<◌, ◌+◌, ◌*◌, ◌^◌, ℕ, List, [], ◌∷◌, ◌++◌, length, drop, refl, arith, length-append, length-drop}
 use Rattle.std.specs.Prelude.{All, slice_get, Some}
 use Rattle.std.proofs.lemmas.List.Sums.{sum_by-cons, sum_by-le}
@@ -6,13 +6,13 @@ use Rattle.std.proofs.lemmas.List.Elements.{All-append, All-drop, All-cons, All-
 use Rattle.pie_queue.specs.declared.packet.Waiting.{Waiting}
 use Rattle.pie_queue.specs.Queue.{IsQueue, HasSize, IsSize, bytes_of}
 
--- the sum fits 36 bits
+-- the sum fits in 36 bits
 pub bytes_bound : (waiting : List Waiting) → length waiting ≤ 2 ^ 20 → All HasSize waiting → bytes_of waiting ≤ 65535 * 2 ^ 20
 bytes_bound waiting few sizes =
     let sum = sum_by-le (λ (entry : Waiting). entry.packet.size) 65535 waiting (λ k d within. (sizes k d within).1) in
     omega (arith, sum)
 
--- the oldest leaves with its size
+-- the sum without the oldest packet
 pub bytes-drop : (entries : List Waiting) (entry : Waiting) → slice_get entries 0 ≡ Some entry
     → bytes_of entries ≡ entry.packet.size + bytes_of (drop 1 entries)
 bytes-drop [] entry first = cc

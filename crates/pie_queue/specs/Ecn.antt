@@ -1,4 +1,4 @@
--- The codepoints of the ECN field (RFC 3168, section 5).
+-- Codepoints of the ECN field (RFC 3168, section 5).
 use Rattle.std.specs.Prelude.{ℕ, Bool, true, false}
 use Rattle.pie_queue.specs.declared.ecn.Ecn.{Ecn}
 use Rattle.pie_queue.specs.declared.ecn.Ecn.TheVariants.{NotEct, Ect1, Ect0, Ce}
@@ -10,7 +10,7 @@ bits_of Ect1 = 1
 bits_of Ect0 = 2
 bits_of Ce = 3
 
--- whether the endpoints understand a mark: not at Not-ECT
+-- true if the endpoints understand a mark, that is, not for Not-ECT
 abbrev pub is_capable : Ecn → Bool
 is_capable NotEct = false
 is_capable Ect1 = true

@@ -1,8 +1,8 @@
--- What a contract sees of a byte queue: the packets that wait, in order, and how many the ring holds.
+-- The model of a byte queue: the waiting packets, in order, and the capacity of the ring.
 use Rattle.std.specs.Prelude.{ℕ, List, ◌≤◌, ◌^◌, length, sum_by, All}
 use Rattle.pie_queue.specs.declared.packet.Waiting.{Waiting}
 
--- the packets that wait, the oldest first, and how many there may be
+-- the waiting packets, the oldest first, and the greatest number of packets
 pub record Queue : Type 0 where
   pub waiting : List Waiting
   pub packets : ℕ
@@ -11,15 +11,15 @@ pub record Queue : Type 0 where
 abbrev pub bytes_of : List Waiting → ℕ
 bytes_of entries = sum_by (λ entry. entry.packet.size) entries
 
--- a size that a packet may have in a queue
+-- a size that a packet in a queue may have
 abbrev pub IsSize : ℕ → Type 0
 IsSize size = (1 ≤ size) × (size ≤ 65535)
 
--- a packet that waits has a size that a queue takes
+-- holds if the waiting packet has such a size
 abbrev pub HasSize : Waiting → Type 0
 HasSize entry = IsSize entry.packet.size
 
--- what a byte queue keeps: no more packets than the ring holds, each of a size that a queue takes
+-- the invariant of a byte queue: at most as many packets as the ring holds, each of a permitted size
 pub record IsQueue (queue : Queue) : Type 0 where
   pub ring : queue.packets ≤ 2 ^ 20
   pub within : length queue.waiting ≤ queue.packets

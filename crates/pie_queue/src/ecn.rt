@@ -3,7 +3,7 @@ ghost use Rattle.std.specs.Prelude.{◌≡◌, ◌<◌};
 /// The ECN field of a packet's header (RFC 3168, section 5).
 #[derive(Clone, Copy, Debug, PartialEq, Eq)]
 pub enum Ecn {
-    /// Not ECN-capable: the packet is dropped where another would be marked.
+    /// Not ECN-capable: the packet is dropped when a capable one would be marked.
     NotEct,
     /// ECN-capable transport, ECT(1).
     Ect1,
@@ -16,7 +16,7 @@ pub enum Ecn {
 impl Ecn {
     ghost use Rattle.pie_queue.specs.Ecn.{bits_of, is_capable};
 
-    /// The two bits of the codepoint, 0 to 3 (RFC 3168, section 5).
+    /// Returns the two bits of the codepoint, 0 to 3 (RFC 3168, section 5).
     pub fn bits(self) -> u8
         ensures bits { result ≡ bits_of self }
         ensures two { result < 4 }
@@ -29,7 +29,8 @@ impl Ecn {
         }
     }
 
-    /// Whether the packet's endpoints understand a mark: true of every codepoint but Not-ECT (RFC 3168, section 5).
+    /// Returns true if the packet's endpoints understand a mark, that is, for every codepoint except Not-ECT (RFC 3168,
+    /// section 5).
     pub fn capable(self) -> bool
         ensures { result ≡ is_capable self }
     {

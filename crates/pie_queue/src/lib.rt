@@ -1,10 +1,10 @@
-//! The byte queue of one link buffer: the packets that wait, each with the moment of its arrival, and the sum of
-//! their sizes.
+//! The byte queue of one link buffer: the waiting packets, each with the moment of its arrival, and the sum of their
+//! sizes.
 //!
-//! Contracts see a `ByteQueue` as the list of its waiting packets. `admit` refuses exactly where the ring is full, hands the
-//! packet back and changes nothing (clauses `full`, `queued`, `refused`); `take`, `bytes`, `len` and `get` are exact, and `copy_from`
-//! makes a queue another's.
-//! `Ecn::bits` and `capable` are RFC 3168's. That the ring is `circular_buffer`'s is seen by reading.
+//! Contracts see a `ByteQueue` as the list of its waiting packets. `admit` refuses a packet exactly if the ring is
+//! full, returns the packet and changes nothing (clauses `full`, `queued`, `refused`). `take`, `bytes`, `len` and `get`
+//! are exact. `copy_from` copies another queue's packets. `Ecn::bits` and `capable` are RFC 3168's. No contract states
+//! that the ring is `circular_buffer`'s.
 #![tactic(auto)]
 
 pub mod ecn;

@@ -10,13 +10,13 @@ use std::alloc::Global;
 use std::marker::Model;
 use thiserror::Error;
 
-/// There was no memory for the queue's ring.
+/// There is no memory for the queue's ring.
 #[derive(Clone, Copy, Debug, PartialEq, Eq, Error)]
 #[error("out of memory")]
 pub struct Memory;
 
-/// The packets of one link buffer in the order of their arrival, and the sum of their sizes: the queue whose length
-/// in bytes RFC 8033 (section 4.1) looks at. The limit in packets is this project's own.
+/// The packets of one link buffer in the order of their arrival, and the sum of their sizes. RFC 8033 (section 4.1)
+/// tests the length of this queue in bytes. The limit in packets is this project's own.
 #[derive(Drop)]
 pub struct ByteQueue {
     ring: HeapCircularBuffer<Waiting>,
@@ -36,12 +36,12 @@ impl Model for ByteQueue {
 }
 
 impl ByteQueue {
-    /// An empty queue that holds at most `packets` packets, 1 to `2^20`. Its whole memory is taken here, for so
-    /// many packets and no more.
+    /// Makes an empty queue that holds at most `packets` packets, 1 to `2^20`. All memory of the queue is allocated
+    /// here, for exactly `packets` packets.
     ///
     /// # Errors
     ///
-    /// `Memory` where there was none for the ring.
+    /// Returns `Memory` if there is no memory for the ring.
     pub fn new(alloc: Global, packets: u32) -> Result<ByteQueue, Memory>
         requires at_least_one { 1 ≤ packets }
         requires at_most { packets ≤ 2 ^ 20 }
@@ -53,11 +53,11 @@ impl ByteQueue {
         }
     }
 
-    /// Puts a packet of 1 to 65535 bytes at the end, with the moment of its arrival. It takes no memory.
+    /// Appends `packet`, of 1 to 65535 bytes, with the moment `since` of its arrival. It allocates nothing.
     ///
     /// # Errors
     ///
-    /// The packet itself where the ring is full, and nothing has changed.
+    /// Returns the packet itself if the ring is full. The queue is unchanged.
     #[tactic(auto, using(crate::proofs::QueueFacts::bytes_bound, std::proofs::lemmas::List::Sums::sum_by_push))]
     pub fn admit(&mut self, packet: Packet, since: Nanos) -> Result<(), Packet>
         requires { IsSize packet.size }
@@ -74,7 +74,7 @@ impl ByteQueue {
         }
     }
 
-    /// Takes the oldest packet out, if there is one (first in, first out).
+    /// Removes and returns the oldest packet, or returns `None` if there is none (first in, first out).
     pub fn take(&mut self) -> Option<Waiting>
         ensures oldest { result ≡ slice_get self.old.waiting 0 }
         ensures rest { self.new ≡ record self.old { waiting = drop 1 self.old.waiting } }
@@ -85,8 +85,8 @@ impl ByteQueue {
         Some(oldest)
     }
 
-    /// Takes the packets of another queue in place of its own, and answers whether its ring has room for them; else nothing has
-    /// changed. It takes no memory.
+    /// Copies the packets of `other` in place of this queue's own and returns true. If this queue's ring has no room
+    /// for them, returns false and changes nothing. It allocates nothing.
     pub fn copy_from(&mut self, other: &ByteQueue) -> bool
         ensures room { result ≡ nat_le (length other.now.waiting) self.old.packets }
         ensures copied { OnTrue result (self.new ≡ record self.old { waiting = other.now.waiting }) }
@@ -103,7 +103,7 @@ impl ByteQueue {
         true
     }
 
-    /// The sum of the sizes of the packets that wait, in bytes: at most 65535 times `2^20`.
+    /// Returns the sum of the sizes of the waiting packets, in bytes: at most 65535 times `2^20`.
     #[tactic(auto, using(crate::proofs::QueueFacts::bytes_bound))]
     pub fn bytes(&self) -> u64
         ensures sum { result ≡ bytes_of self.now.waiting }
@@ -112,7 +112,7 @@ impl ByteQueue {
         self.bytes
     }
 
-    /// How many packets wait: at most `2^20`.
+    /// Returns the number of waiting packets, at most `2^20`.
     pub fn len(&self) -> usize
         ensures count { result ≡ length self.now.waiting }
         ensures within { (result ≤ self.now.packets) × (self.now.packets ≤ 2 ^ 20) }
@@ -120,21 +120,21 @@ impl ByteQueue {
         self.ring.len()
     }
 
-    /// Whether no packet waits.
+    /// Returns true if no packet waits.
     pub fn is_empty(&self) -> bool
         ensures { IsTrue result ↔ (self.now.waiting ≡ []) }
     {
         self.ring.is_empty()
     }
 
-    /// How many packets the ring holds at most, 1 to `2^20`.
+    /// Returns the greatest number of packets that the ring holds, 1 to `2^20`.
     pub fn packets(&self) -> usize
         ensures { result ≡ self.now.packets }
     {
         self.ring.capacity()
     }
 
-    /// The packet at `index`, counted from the oldest, which is at 0; `None` past the newest.
+    /// Returns the packet at `index`, counted from the oldest at 0, or `None` beyond the newest.
     pub fn get(&self, index: usize) -> Option<Waiting>
         ensures { result ≡ slice_get self.now.waiting index }
     {

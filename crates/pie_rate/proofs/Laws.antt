@@ -1,4 +1,4 @@
--- How each definition changes when one more departure joins the list at its end.
+-- The change of each definition when a departure is added at the end of the list.
 use Rattle.std.proofs.Common.{◌≡◌, ℕ, zero, suc, ◌+◌, ◌-◌, ◌<◌, ◌≤◌, Bool, true, false, cond, List, [], ◌∷◌, ◌++◌, length, take, drop, Option, Some}
 use Rattle.std.proofs.Common.{None, refl, ap, ◌∙◌, arith, length-drop, map, sym, fold, ◌↔◌, ◌^◌, max}
 use Rattle.std.specs.Prelude.{find, nat_le, nat_lt, IfSome, if◌then◌else◌, option_map}
@@ -20,7 +20,7 @@ range-push : (a n : ℕ) → range_with_len a (suc n) ≡ range_with_len a n ++ 
 range-push a zero = grind arith
 range-push a (suc n) = let e : (a + 1) + n ≡ a + suc n = omega arith in rw (← e) (ap (λ xs. a ∷ xs) (range-push (a + 1) n))
 
--- a search depends on the tests in its range alone
+-- a search depends only on the tests in its range
 find-range-same : (p q : ℕ → Bool) (a n : ℕ) → ((k : ℕ) → a ≤ k → k < a + n → p k ≡ q k) → find p (range_with_len a n) ≡ find q (range_with_len a n)
 find-range-same p q a zero same = refl
 find-range-same p q a (suc n) same =
@@ -29,12 +29,12 @@ find-range-same p q a (suc n) same =
     (λ k l h. same k (omega arith) (omega arith)) in
     rw (here, rest) refl
 
--- a number that is found lies in the range
+-- the result of a search is in the range
 find-range-within : (p : ℕ → Bool) (low a n e : ℕ) → low ≤ a → a + n ≤ e → IfSome (find p (range_with_len a n)) (λ k. (low ≤ k) × (k < e))
 find-range-within p low a zero e l h = tt
 find-range-within p low a (suc n) e l h = let later = find-range-within p low (a + 1) n e (omega arith) (omega arith) in grind (arith, nat_tests)
 
--- the same of first positions
+-- the first position with one more position
 first_position-push : (p q : ℕ → Bool) (from end : ℕ) → from ≤ end → ((k : ℕ) → from ≤ k → k < end → p k ≡ q k)
     → first_position p from (end + 1) ≡ option_or (first_position q from end) (cond (p end) (Some end) None)
 unfolding first_position
@@ -52,7 +52,7 @@ first_position-within : (p : ℕ → Bool) (from end : ℕ) → from ≤ end →
 unfolding first_position
 first_position-within p from end l = find-range-within p from from (end - from) end (omega arith) (omega arith)
 
--- a test, and the one that says the opposite
+-- a test and its opposite
 turned : (a b : ℕ) (x y : Option ℕ) → cond (nat_le b a) y x ≡ (if nat_lt a b then x else y)
 turned a b x y = grind (arith, nat_tests)
 
@@ -77,7 +77,7 @@ module _ (threshold : ℕ) (ds : List Departure) (d : Departure) where
       ap bytes_of (take_all (length ds - i) (drop (i + 1) (ds ++ d ∷ [])) (omega (arith, length-drop (i + 1) (ds ++ d ∷ []), length_push ds d)))
       ∙ bytes_after-push i h
 
-  -- the departure opens a cycle, and closes the one that departure i opened
+  -- the departure opens a cycle, or closes the cycle that departure i opened
   abbrev pub opens : Option ℕ
   opens = if nat_lt d.bytes_left threshold then None else Some (length ds)
 
@@ -107,7 +107,7 @@ module _ (threshold : ℕ) (ds : List Departure) (d : Departure) where
       (length ds) (omega arith)
       (λ k a b. ap (nat_le threshold) (bytes_after_to-push_old i k (omega arith) b)))
 
-  -- nothing opens at the end of the list, and nothing closes what its last departure opens
+  -- no departure opens a cycle at the end of the list, and no departure closes the cycle that the last departure opens
   none_opens : (from : ℕ) → length ds ≤ from → first_opening threshold ds from ≡ None
   unfolding first_opening
   none_opens from l = first_position-past _ from (length ds) l
@@ -127,7 +127,7 @@ module _ (threshold : ℕ) (ds : List Departure) (d : Departure) where
   unfolding first_closing
   closing-within i l = first_position-within _ (i + 1) (length ds) (omega arith)
 
-  -- the cycle that the departure closes, and which departure is begun after it, by the one that was begun
+  -- the cycle that the departure closes, and the departure whose cycle is open after it, from the one before
   abbrev pub added : Option ℕ → List Cycle
   added None = []
   added (Some i) = if nat_lt (bytes_after ds i + d.size) threshold then [] else (record { opened = i; closed = length ds } ∷ [])
@@ -153,8 +153,9 @@ module _ (threshold : ℕ) (ds : List Departure) (d : Departure) where
       ≡ (if b then Some i else opens)
   begins_at from i b e = let opening = opens_at_end in grind (arith, nat_tests)
 
-  -- what is known of the cycles from a position on, where this departure is begun behind them: with one more departure there are those, and the
-  -- one that it closes; they have the same samples, and what is begun then is known; what is begun lies within the list, and none closes it
+  -- facts about the cycles from a position on when the cycle of departure `begun` is open after them. With one more
+  -- departure there are these cycles and the one that it closes, with the same samples. The cycle that is open then is
+  -- known. Departure `begun` is within the list, and no departure closes its cycle
   record Grows (most from : ℕ) (cs : List Cycle) (begun : Option ℕ) : Type 0 where
     grown : cycles_from threshold (ds ++ d ∷ []) (suc most) from ≡ cs ++ added begun
     sampled : map (sample_of (ds ++ d ∷ [])) cs ≡ map (sample_of ds) cs
@@ -172,7 +173,7 @@ module _ (threshold : ℕ) (ds : List Departure) (d : Departure) where
       let opening = opening-push from None l a in
       record { grown = none_begun most from (nat_lt d.bytes_left threshold) opening; sampled = refl; begins = opening; within = tt; unclosed = tt }
 
-  -- from any position on: none opens a cycle, none closes the one that is opened, or others come behind it
+  -- from any position on: no departure opens a cycle, no departure closes the open one, or more cycles follow
   grows : (most from : ℕ) → from ≤ length ds → length ds ≤ from + most → GrowsFrom most from
   unfolding cycles_from first_cycle
   grows zero from l room = let none = none_opens from (omega arith) in rw none (none_grows zero from l none)
@@ -228,11 +229,11 @@ module _ (threshold : ℕ) (ds : List Departure) (d : Departure) where
   unfolding samples
   samples-push = rw (cycles-push, map-append, all_grow.sampled) refl
 
--- no departure closes the cycle that is begun
+-- no departure closes the open cycle
 pub begun_unclosed : (threshold : ℕ) (ds : List Departure) → IfSome (begun threshold ds) (λ i. first_closing threshold ds i ≡ None)
 begun_unclosed threshold ds = (all_grow threshold ds (departure 0 0 0)).unclosed
 
--- ---- Averages of samples, none of which is 0
+-- ---- Averages of samples, each above 0
 
 averaged-positive : (threshold average sample : ℕ) → threshold ≤ 65536 → 1 ≤ average → 1 ≤ sample → 1 ≤ averaged threshold average sample
 averaged-positive threshold average sample t a s = grind arith
@@ -253,7 +254,7 @@ module _ (threshold : ℕ) (ds : List Departure) (t : threshold ≤ 65536) where
       let more = fold-append (averaged threshold) (sample_of ds cycle) (map (sample_of ds) rest) (sample ∷ []) in
       grind (arith, nat_tests)
 
-  -- an average of departures is 0 where they make no cycle, and there alone
+  -- an average of departures is 0 exactly if they make no cycle
   pub average_zero : (average threshold ds ≡ 0) ↔ (cycles threshold ds ≡ [])
   unfolding average samples
   average_zero = by (cycles threshold ds)
@@ -262,12 +263,12 @@ module _ (threshold : ℕ) (ds : List Departure) (t : threshold ≤ 65536) where
       by [] = (λ e. refl, λ e. refl)
       by (cycle ∷ rest) = let some = fold-positive (sample_of ds cycle) rest (omega arith) in (λ e. absurd (omega arith), λ e. absurd (cc))
 
--- ---- What an estimate shows after one more departure, for each way through the code
+-- ---- The estimate after one more departure, for each path through the code
 
--- cleared, an estimate shows no departures
-pub nothing_shown : (threshold : ℕ) → Shows threshold [] (record { average = 0; begun = None })
+-- a cleared estimate represents no departures
+pub none_represented : (threshold : ℕ) → Shows threshold [] (record { average = 0; begun = None })
 unfolding average samples cycles cycles_from begun first_opening first_position
-nothing_shown threshold = record { average = refl; begun = refl }
+none_represented threshold = record { average = refl; begun = refl }
 
 module _ (threshold : ℕ) (ds : List Departure) (d : Departure) where
   begun_at-new : begun_at (ds ++ d ∷ []) (length ds) ≡ record { start = d.moment; count = 0 }
@@ -279,7 +280,7 @@ module _ (threshold : ℕ) (ds : List Departure) (d : Departure) where
       ≡ record { start = (departure_at ds i).moment; count = bytes_after ds i + d.size }
   begun_at-push i h = rw (departure_at-push_old threshold ds d i h, bytes_after-push threshold ds d i h) refl
 
-  -- the cycle that is begun afterwards, where the departure may open one
+  -- the cycle that is open afterwards, if the departure may open one
   begun-opened : begun threshold (ds ++ d ∷ []) ≡ opens threshold ds d
       → opened_by threshold d ≡ option_map (begun_at (ds ++ d ∷ [])) (begun threshold (ds ++ d ∷ []))
   begun-opened e = let new = begun_at-new in rw e (grind (arith, nat_tests))
@@ -288,13 +289,13 @@ module _ (threshold : ℕ) (ds : List Departure) (d : Departure) where
       ≡ max 1 (d.moment - (departure_at ds i).moment)
   sample-new i w = rw (departure_at-push_new threshold ds d, departure_at-push_old threshold ds d i w) refl
 
-  -- the step from an estimate shows the list with the departure
-  pub shows_after : (e : Estimate) → threshold ≤ 65536 → Shows threshold ds e → Shows threshold (ds ++ d ∷ []) (after_departure threshold e d)
+  -- the step of an estimate represents the list with the departure
+  pub represents_after : (e : Estimate) → threshold ≤ 65536 → Shows threshold ds e → Shows threshold (ds ++ d ∷ []) (after_departure threshold e d)
   unfolding average samples
-  shows_after e t s =
+  represents_after e t s =
       by (begun threshold ds) (begun-within threshold ds d) s.begun (begun-push threshold ds d) (samples-push threshold ds d)
     where
-      -- a cycle was begun, and counts the departure without closing; or the departure closes it
+      -- an open cycle counts the departure without closing, or the departure closes it
       counting : (i : ℕ) (less : Bool) → i < length ds → begun threshold (ds ++ d ∷ []) ≡ (if less then Some i else opens threshold ds d)
           → samples threshold (ds ++ d ∷ []) ≡ samples threshold ds
           ++ map (sample_of (ds ++ d ∷ [])) (if less then [] else (record { opened = i; closed = length ds } ∷ []))
@@ -321,13 +322,13 @@ module _ (threshold : ℕ) (ds : List Departure) (d : Departure) where
       })
       by (Some i) w is begun sampled = rw is (counting i (nat_lt (bytes_after ds i + d.size) threshold) w begun sampled)
 
--- .. and stays in its ranges
+-- the average stays in its range
 with_sample-within : (threshold average sample : ℕ) → threshold ≤ 65536 → average < 2 ^ 60 → sample < 2 ^ 60 → with_sample threshold average sample < 2 ^ 60
 with_sample-within threshold average sample t a s =
     let mixed : averaged threshold average sample < 2 ^ 60 = grind arith in grind (arith, nat_tests)
 
 module _ (threshold : ℕ) (d : Departure) (t : threshold ≤ 65536) (m : d.moment < 2 ^ 60) where
-  -- the same as a fact on what an `Option` holds
+  -- the ranges of an open cycle, as a fact about an `Option`
   abbrev Holds : Option Begun → Type 0
   Holds o = IfSome o (λ cycle. (cycle.start < 2 ^ 60) × (cycle.count < 65536))
 

@@ -1,10 +1,9 @@
--- The average time in which a threshold of bytes departs (RFC 8033, section 5.2).
+-- The average time in which `dq_threshold` bytes depart (RFC 8033, section 5.2).
 use Rattle.std.specs.Prelude.{ℕ, ◌+◌, ◌-◌, ◌*◌, ◌/◌, ◌==◌, if◌then◌else◌, max, List, [], ◌∷◌, map, fold}
 use Rattle.pie_rate.specs.Departures.{Departure, departure_at}
 use Rattle.pie_rate.specs.Cycles.{Cycle, cycles}
 
--- the sample of a cycle: the nanoseconds from the departure that opens it to the one that closes
--- it, and at least 1
+-- the sample of a cycle: the nanoseconds from the departure that opens it to the departure that closes it, at least 1
 abbrev pub sample_of : List Departure → Cycle → ℕ
 sample_of departures cycle =
     max 1 ((departure_at departures cycle.closed).moment - (departure_at departures cycle.opened).moment)
@@ -13,11 +12,11 @@ sample_of departures cycle =
 unfoldable pub samples : ℕ → List Departure → List ℕ
 samples threshold departures = map (sample_of departures) (cycles threshold departures)
 
--- an average after one more sample, which has the weight of the threshold in 65536 bytes
+-- the average after one more sample, whose weight is `threshold` / 65536
 abbrev pub averaged : ℕ → ℕ → ℕ → ℕ
 averaged threshold average sample = (sample * threshold + average * (65536 - threshold)) / 65536
 
--- the average of samples: the first, changed by each later one in order; 0 with none
+-- the average of samples: the first sample, changed by each later one in order; 0 without a sample
 abbrev pub average_of : ℕ → List ℕ → ℕ
 average_of threshold [] = 0
 average_of threshold (sample ∷ later) = fold (averaged threshold) sample later
@@ -26,7 +25,6 @@ average_of threshold (sample ∷ later) = fold (averaged threshold) sample later
 unfoldable pub average : ℕ → List Departure → ℕ
 average threshold departures = average_of threshold (samples threshold departures)
 
--- the average after one more sample, told from the average before it: 0 says that there was no
--- sample
+-- the average after one more sample, from the average before it, which is 0 if there was no sample
 abbrev pub with_sample : ℕ → ℕ → ℕ → ℕ
 with_sample threshold average sample = if average == 0 then sample else averaged threshold average sample

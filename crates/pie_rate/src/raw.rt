@@ -1,21 +1,21 @@
 ghost use Rattle.std.specs.Prelude.{◌≡◌, ◌+◌, ◌-◌, ◌<◌, ◌≤◌, None, SomeIff, max};
 ghost use Rattle.pie_rate.specs.{with_sample, departure, after_departure};
 
-/// The greatest threshold, in bytes: a new sample's weight in the average is its threshold in so many, and the average's is the rest
-/// (RFC 8033, section 5.2).
+/// The greatest threshold, in bytes, and the denominator of the weights: a new sample has the weight `threshold /
+/// 65536`, the average the rest (RFC 8033, section 5.2).
 pub const MAX_THRESHOLD: u64 = 65_536;
 
-/// A measurement cycle that no departure has closed yet, as plain numbers, each in its range or not.
+/// An open measurement cycle as plain numbers, which may be out of range.
 #[derive(Clone, Copy, PartialEq, Eq)]
 pub struct RawCycle {
     /// The moment of the departure that opened it, in nanoseconds.
     pub start: u64,
-    /// The bytes of the departures after that one.
+    /// The bytes of the departures after the opening one.
     pub count: u64,
 }
 
 impl RawCycle {
-    /// The bytes that it has counted with a departed packet of this size, `None` where they close it.
+    /// Returns the count of the cycle with a departed packet of `size` bytes, or `None` if the packet closes the cycle.
     #[inline(always)]
     pub fn counted(&self, size: u32, threshold: u64) -> Option<u64>
         ensures { SomeIff result (self.now.count + size < threshold) (self.now.count + size) }
@@ -25,17 +25,18 @@ impl RawCycle {
     }
 }
 
-/// An estimate of the departure rate as plain numbers, each in its range or not: its rule is [`Rate`](crate::Rate)'s.
+/// An estimate of the departure rate as plain numbers, which may be out of range. Its rules are
+/// [`Rate`](crate::Rate)'s.
 #[derive(Clone, Copy, PartialEq, Eq)]
 pub struct RawRate {
-    /// The average time in which a threshold of bytes departs, in nanoseconds; 0 with no sample.
+    /// The average time in which `dq_threshold` bytes depart, in nanoseconds; 0 without a sample.
     pub average: u64,
-    /// The cycle that is begun.
+    /// The open cycle.
     pub begun: Option<RawCycle>,
 }
 
 impl RawRate {
-    /// No sample, and no cycle begun.
+    /// Makes an estimate without a sample and without an open cycle.
     pub fn cleared() -> RawRate
         ensures { result ≡ record { average = 0; begun = None } }
     {
@@ -45,8 +46,8 @@ impl RawRate {
         }
     }
 
-    /// Takes in one departure, as [`Rate::departed`](crate::Rate::departed) does, whatever the numbers: none makes a sum or a
-    /// product overflow.
+    /// Adds a departure, as [`Rate::departed`](crate::Rate::departed) does, for any numbers: no sum or product
+    /// overflows.
     #[inline(always)]
     pub fn departed(&mut self, size: u32, bytes_left: u64, moment: u64, threshold: u64)
         requires { threshold ≤ 65536 }
@@ -71,15 +72,15 @@ impl RawRate {
     }
 }
 
-/// The sample of a cycle: how long it took, in nanoseconds, and at least 1.
+/// Returns the sample of a cycle: its duration in nanoseconds, at least 1.
 fn sample(start: u64, end: u64) -> u64
     ensures { result ≡ max 1 (end - start) }
 {
     end.saturating_sub(start).max(1)
 }
 
-/// The average with one more sample: the first sample itself, where the average is 0 for want of
-/// one (RFC 8033, section 5.2).
+/// Adds a sample to the average. If the average is 0, there was no sample, and the result is `sample` itself (RFC 8033,
+/// section 5.2).
 fn averaged(average: u64, sample: u64, threshold: u64) -> u64
     requires { threshold ≤ 65536 }
     ensures { result ≡ with_sample threshold average sample }

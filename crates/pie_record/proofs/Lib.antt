@@ -1,4 +1,11 @@
 mod NumberFacts
+mod LineFacts
+mod ScanFacts
+mod PlainFacts
+mod LineReads
+mod InputFacts
+mod FoundFacts
+mod SourceFacts
 mod RecordFacts
 mod HistoryFacts
 mod Appended

@@ -2,6 +2,10 @@ pub mod Names
 pub mod Words
 pub mod Fault
 pub mod Text
+pub mod PlainLine
+pub mod Input
+pub mod Plain
+pub mod Source
 pub mod Field
 pub mod Command
 pub mod Clock
@@ -15,6 +19,9 @@ unfoldable pub use Names.*
 unfoldable pub use Words.*
 unfoldable pub use Fault.*
 unfoldable pub use Text.*
+unfoldable pub use PlainLine.*
+unfoldable pub use Input.*
+unfoldable pub use Plain.*
 unfoldable pub use Field.*
 unfoldable pub use Command.*
 unfoldable pub use Clock.*

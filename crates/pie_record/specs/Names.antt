@@ -1,7 +1,7 @@
 -- What definitions, code and proofs of this crate take from below, in one place.
 pub use Rattle.std.specs.Fmt.{decimal}
 unfoldable pub use Rattle.std.specs.Fmt.{digits}
-pub use Rattle.std.specs.Io.KnownBytes.{Appends, append_known}
+pub use Rattle.std.specs.Io.KnownBytes.{Appends, Consumes, IsAtEnd, Keeps, append_known, prepend_known}
 pub use Rattle.std.specs.List.{cons_option, filter_map, find, flat_map, last_or}
 pub use Rattle.std.specs.Option.{ok_or, option_and_then, option_or}
 pub use Rattle.std.specs.Prelude.{All, Bool, Err, IfErr, IfOk, IfSome, List, None, Ok, OnOk, Option, Result, Some, Vec, [], codes, cond, count_by}

@@ -13,6 +13,7 @@
 //! `openings_are_checked`.
 #![tactic(auto)]
 
+mod block;
 pub mod clock;
 pub mod code;
 pub mod command;
@@ -21,11 +22,14 @@ pub mod field;
 pub mod first_record;
 pub mod history_reader;
 pub mod history_record;
+mod input;
 pub mod law;
 pub mod long;
 pub mod number;
+pub mod record;
 pub mod records;
 pub mod rows;
+mod scan;
 pub mod trace_record;
 pub mod version;
 pub mod words;

@@ -1,5 +1,5 @@
--- What all workers of a storm did together: it is gathered; no caller was cut short, since a history has no more events than there are commands;
--- and so the storm ends with what the plan asks for.
+-- The work of all workers of a storm: it is gathered; no caller stopped early, since a history has no more events than
+-- there are commands; so the storm has the result of its plan.
 use Rattle.pie_storm.proofs.Names.{◌≡◌, ℕ, ◌+◌, ◌<◌, List, [], length, length-append, events_in, refl, ap, sym, ◌∙◌, subst, inl, inr, ⊎_elim, arith}
 use Rattle.pie_storm.proofs.Names.{dite, ℕ_discrete, Bool, true, false, ◌||◌, get_or, is_within, nat_tests, GoesOn, Event, number_of, EntriesLookBack}
 use Rattle.pie_storm.proofs.Names.{Entry, CallerView, LinkView, Plan, Work, calls_of, folder, opening_of, updater, CameOf, HasNoMore, IsWell}
@@ -26,7 +26,7 @@ use Rattle.pie_storm.specs.declared.ending.StormFault.TheVariants as fault
 use Rattle.pie_storm.proofs.Making.{IsRight, few_made, handed_alone, handed_same, made_on, numbered, own_entry, stays}
 use Rattle.pie_storm.proofs.PlanFacts.{IsCallOf, calls_are, no_calls}
 
--- with a sound plan and an open link, a storm ends for want of memory or of a thread
+-- with a sound plan and an open link, a storm fails only for lack of memory or of a thread
 pub run_fault : (plan : Plan) (result : Result StormEnd StormFault) → IsSound plan → refusal_of plan ≡ None
     → IfErr result (λ why. (why ≡ fault.Memory) ⊎ (why ≡ fault.Thread)) → IfErr result (HasFault plan)
 unfolding HasFault
@@ -34,7 +34,7 @@ run_fault plan (Ok end) sound none faulted = tt
 run_fault plan (Err why) sound none (inl is) = subst (HasFault plan) (sym is) (sound, none)
 run_fault plan (Err why) sound none (inr is) = subst (HasFault plan) (sym is) (sound, none)
 
--- what came of a caller's calls in a history came of them in one that goes on with nothing more of it
+-- the calls of a caller in a history are its calls in one that goes on without further entries of it
 came_on : (law : EntriesLookBack) (plan : Plan) (caller : ℕ) (h k : List Entry) (passed : ℕ) → HasNoMore caller h k → CameOf plan caller h passed
     → CameOf plan caller k passed
 unfolding CameOf
@@ -54,14 +54,14 @@ came_on law plan caller h k passed on (inr cut) = inr (record {
 other_below : (n caller k : ℕ) → caller < n → is_within 0 n k ≡ false → is_within caller (caller + 1) k ≡ false
 other_below n caller k below out = grind (arith, nat_tests)
 
--- with no more of the callers below n, there is no more of each of them
+-- without further entries of the callers below n, there are none of each of them
 each_below : (caller n : ℕ) (h k : List Entry) → caller < n → GoesOn number_of 0 n h k → HasNoMore caller h k
 each_below caller n h k below on =
     let all = gone_on number_of 0 n h k on in
     goes_on number_of caller (caller + 1) h all.0 k all.1
     (λ i d within. other_below n caller (number_of (get_or all.0 i d)) below (all.2 i d within))
 
--- the front of two callers together goes on from that of each
+-- the front of two gathered callers goes on from the front of each
 fronts : (plan : Plan) (p q r : CallerView) (n : ℕ) → p.first ≡ 0 → p.limit ≡ n → q.first ≡ n → q.limit ≡ n + 1 → IsBothOf number_of p q r
     → ((caller : ℕ) → caller < n → HasNoMore caller p.front r.front) × HasNoMore n q.front r.front
 fronts plan p q r n p_first p_limit q_first q_limit both =
@@ -78,7 +78,7 @@ fronts plan p q r n p_first p_limit q_first q_limit both =
 pub neither : (a b : Bool) → (a || b) ≡ false → (a ≡ false) × (b ≡ false)
 neither a b is = (grind (arith, nat_tests), grind (arith, nat_tests))
 
--- what the worker behind the others did is gathered to what they did
+-- the last worker's work is gathered to that of the others
 pub together : (law : EntriesLookBack) (link : LinkView) (plan : Plan) (n : ℕ) (work last whole : Work)
     → IsBothOf number_of work.caller last.caller whole.caller → whole.passed ≡ last.passed
     → (n ≡ updater plan → whole.too_soon ≡ last.passed) → ((n ≡ updater plan → ⊥) → whole.too_soon ≡ work.too_soon)
@@ -113,12 +113,12 @@ together law link plan n work last whole both passed soon as_before events well 
           );
     }
 
--- the starter asks for nothing
+-- the starter makes no calls
 nothing_asked : (plan : Plan) → CameOf plan 0 [] 0
 unfolding CameOf calls_of
 nothing_asked plan = inl (stays 0 [], refl)
 
--- .. and alone has made nothing
+-- the starter alone has made no entries
 pub starter_alone : (link : LinkView) (plan : Plan) (caller rest : CallerView) (folding : Folding) → Begins link plan caller → caller.first ≡ 0
     → caller.limit ≡ caller.first + 1 → rest ≡ caller
     → IsWorkBelow link plan caller.limit (record { caller = rest; passed = 0; too_soon = 0; folding = folding })
@@ -145,7 +145,7 @@ none_below : (xs : List Entry) → length (own number_of 0 0 xs) ≤ 0
 none_below [] = omega arith
 none_below (e ∷ xs) = let rest = none_below xs in grind (arith, nat_tests)
 
--- so with no more of each than this there are no more than in all, and with fewer of one fewer
+-- if no caller has more entries than this, all have at most the sum, and less if one has fewer
 counted : (f : ℕ → ℕ) (n : ℕ) (xs : List Entry) → ((k : ℕ) → k < n → length (entries_of k xs) ≤ f k) → length (own number_of 0 n xs) ≤ total f n
 counted f zero xs few = none_below xs
 counted f (suc n) xs few = omega (arith, split n xs, counted f n xs (λ k below. few k (omega (arith, below))), few n (omega arith))
@@ -160,7 +160,7 @@ counted_fewer f (suc n) k xs few below fewer =
     omega (arith, split n xs, counted f n xs each, here))
     (λ other. omega (arith, split n xs, counted_fewer f n k xs each (omega (arith, below, other)) fewer, few n (omega arith)))
 
--- one more than the last, which folds
+-- the number of the last caller, which folds, plus one
 abbrev pub callers_of_plan : Plan → ℕ
 callers_of_plan plan = suc (folder plan)
 
@@ -173,14 +173,14 @@ rest_of : (P : Entry → Type 0) (b : Bool) (e : Entry) (xs : List Entry) → Al
 rest_of P true e xs all = (All-tail P e xs all, λ yes. All-head P e xs all)
 rest_of P false e xs all = (all, λ yes. absurd (cc yes))
 
--- what holds of a caller's entries holds of each entry that is its
+-- a fact about a caller's entries is one about each entry with its number
 of_its : (P : Entry → Type 0) (caller : ℕ) (xs : List Entry) → All P (entries_of caller xs) → All (λ e. number_of e ≡ caller → P e) xs
 of_its P caller [] all = All-nil (λ e. number_of e ≡ caller → P e)
 of_its P caller (e ∷ xs) all =
     let rest = rest_of P (is_within caller (caller + 1) (number_of e)) e (entries_of caller xs) all in
     All-cons (λ e. number_of e ≡ caller → P e) e xs (λ is. rest.1 (grind (arith, nat_tests, is))) (of_its P caller xs rest.0)
 
--- where the callers are n and those below, and n makes folds alone, there are no more events than entries of those below
+-- if the callers are n and those below, and n only folds, there are at most as many events as entries of those below
 few_events : (n : ℕ) (xs : List Entry) → All (IsBelow (suc n)) xs → All (λ e. number_of e ≡ n → IsRight n e) xs
     → length (events_in xs) ≤ length (own number_of 0 n xs)
 few_events n [] below right = omega arith
@@ -199,7 +199,7 @@ module _ (plan : Plan) (caller : ℕ) where
   abbrev IsFine : Entry → Type 0
   IsFine = IsRight (folder plan)
 
-  -- a call that comes to nothing is the updater's or the folder's
+  -- a skipped call is one of the updater or the folder
   not_passed : (before : List Entry) (call : Call) → (caller ≡ updater plan → ⊥) → (caller ≡ folder plan → ⊥) → IsIts call
       → WasPassedOver (opening_of plan) before call → ⊥
   not_passed before call no_updates no_folds its was = grind (arith, nat_tests)
@@ -227,11 +227,11 @@ module _ (plan : Plan) (caller : ℕ) where
 
 -- ---- a whole storm
 
--- a caller made all its calls in this history, but for so many that were passed over
+-- a caller made all its calls in this history, except the skipped ones
 abbrev AllMade : Plan → List Entry → ℕ → ℕ → Type 0
 AllMade plan h caller passed = AreMade (opening_of plan) caller [] (calls_of plan caller) h passed
 
--- .. and each caller did, but for so many updates and folds
+-- each caller made its calls, except the skipped updates and folds
 abbrev pub IsAsPlanned : Plan → List Entry → ℕ → ℕ → Type 0
 IsAsPlanned plan h too_soon too_many =
     AllMade plan h (updater plan) too_soon × AllMade plan h (folder plan) too_many
@@ -246,7 +246,7 @@ module _ (plan : Plan) (h : List Entry) (sound : IsSound plan) (below : All (IsB
   few_of caller passed (inl made) = omega (arith, few_made (opening_of plan) caller [] (calls_of plan caller) h passed made)
   few_of caller passed (inr cut) = omega (arith, cut.fewer)
 
-  -- .. and those of the one that folds are folds
+  -- the entries of the folder are folds
   folds_of : (passed : ℕ) → CameOf plan (folder plan) h passed → All (IsRight (folder plan)) (entries_of (folder plan) h)
   unfolding CameOf
   folds_of passed (inl made) =
@@ -254,7 +254,7 @@ module _ (plan : Plan) (h : List Entry) (sound : IsSound plan) (below : All (IsB
       (All-nil (IsRight (folder plan)))
   folds_of passed (inr cut) = absurd (cut.asks refl)
 
-  -- no caller was cut short
+  -- no caller stopped early
   never_cut : (caller : ℕ) → caller < callers_of_plan plan → IsCutShort plan caller [] (calls_of plan caller) h → ⊥
   never_cut caller less cut =
       let n = folder plan in
@@ -295,7 +295,7 @@ module _ (plan : Plan) (h : List Entry) (sound : IsSound plan) (below : All (IsB
       let lower : caller < callers_of_plan plan = omega (arith, not_over) in
       let c = came caller lower in (c.0, all_made caller c.0 lower c.1, c.2))
 
-  -- no caller has folds but the one that makes them, and that has nothing else
+  -- only the folder has folds, and it has nothing else
   pub all_right : All (IsRight (folder plan)) h
   all_right = λ k d within.
       let caller = number_of (get_or h k d) in
@@ -303,7 +303,7 @@ module _ (plan : Plan) (h : List Entry) (sound : IsSound plan) (below : All (IsB
       of_its (IsRight (folder plan)) caller h (all_right_by plan caller [] (calls_of plan caller) h m.0 (calls_are plan sound caller) m.1
       (All-nil (IsRight (folder plan)))) k d within refl
 
-  -- the history of a storm is what its plan asks for
+  -- the history of a storm is that of its plan
   pub is_storm : (too_many : ℕ) → CameOf plan (folder plan) h too_many → IsAsPlanned plan h too_soon too_many
   is_storm too_many folds =
       let updates = each_made (updater plan) in (
@@ -323,13 +323,13 @@ module _ (plan : Plan) (link : LinkView) (work : Work) (book : BookView) (link_f
   holds_all : HoldsAll work.caller
   holds_all = (worked.first, worked.limit ∙ (sym numbers ∙ ap (λ (l : LinkView). l.numbers) (sym worked.lock)))
 
-  -- so it closed the link, and has the book that was opened
+  -- it closed the link, and has the book that was opened
   opened_so : book.opening ≡ opening_of plan
   opened_so =
       let same : Some book.opening ≡ Some (opening_of plan) = sym opened ∙ (ap (λ (l : LinkView). l.origin) worked.lock ∙ link_for.opened) in
       cc same
 
-  -- all that it was shown is of the plan's callers, and their calls came to what they may
+  -- all entries of its front have numbers of the plan's callers, whose calls were made as they may be
   all_below : All (λ (e : Entry). number_of e < callers_of_plan plan) work.caller.front
   all_below =
       let all : work.caller.lock.numbers ≡ callers_of_plan plan = omega (arith, ap (λ (l : LinkView). l.numbers) worked.lock, numbers) in
@@ -339,19 +339,19 @@ module _ (plan : Plan) (link : LinkView) (work : Work) (book : BookView) (link_f
       → (passed : ℕ) × CameOf plan caller work.caller.front passed × (caller ≡ updater plan → passed ≡ work.too_soon)
   all_came fine caller less = worked.came fine caller (omega (arith, less))
 
-  -- so its front is what the plan asks for
+  -- its front is the history of the plan
   storm_of : IsWell work.folding → IsAsPlanned plan work.caller.front work.too_soon work.passed
   storm_of fine =
       is_storm plan work.caller.front link_for.sound all_below work.too_soon (all_came fine) work.passed (worked.folds fine (omega arith)).0
 
-  -- the folds handed out what was kept of them
+  -- the stored events are those of the folds
   all_handed : IsWell work.folding → work.folding.events.items ≡ handed_out (opening_of plan) work.caller.front
   all_handed fine =
       let front = work.caller.front in
       (worked.folds fine (omega arith)).1
       ∙ handed_alone (opening_of plan) (folder plan) [] front (all_right plan front link_for.sound all_below work.too_soon (all_came fine))
 
-  -- .. which, and then the tail, are all events
+  -- the stored events followed by the log are all events
   whole_history : IsWell work.folding → work.folding.events.items ++ book.tail ≡ events_in work.caller.front
   whole_history fine =
       let front = work.caller.front in
@@ -360,7 +360,7 @@ module _ (plan : Plan) (link : LinkView) (work : Work) (book : BookView) (link_f
       all_handed fine ∙ ap (λ (o : Opening). handed_out o front) (sym opened_so) in
       ap (λ (es : List Event). es ++ book.tail) all ∙ (told holds_all).nothing_lost bounded
 
-  -- .. of whichever so many were handed out
+  -- the stored events followed by the log, with their number
   all_parted : IsWell work.folding → (events : List Event) (folded : ℕ) → events ≡ work.folding.events.items ++ book.tail
       → folded ≡ length work.folding.events.items → AreHandedOut (opening_of plan) work.caller.front events folded
   all_parted fine events folded are many =
@@ -370,7 +370,7 @@ module _ (plan : Plan) (link : LinkView) (work : Work) (book : BookView) (link_f
             ∙ sym (drop-append_seam own book.tail)));
       }
 
-  -- how a storm ended
+  -- the result of a storm
   pub ended : (result : Result StormEnd StormFault)
       → IfOk result (λ end. end.events.items ≡ work.folding.events.items ++ book.tail)
       → ((events : List Event) → Tells book events → IfOk result (λ end. end.registers ≡ registers_after book.opening events))

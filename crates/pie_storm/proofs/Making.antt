@@ -1,4 +1,4 @@
--- What a caller's calls come to, in a history that grows: one by one or in bursts; and what its folds hand out.
+-- The entries of a caller's calls in a growing history, one by one or in bursts; and the events of its folds.
 use Rattle.pie_storm.proofs.Names.{◌≡◌, ℕ, ◌+◌, true, false, List, [], ◌∷◌, ◌++◌, take, refl, ap, sym, ◌∙◌, arith, All}
 use Rattle.pie_storm.proofs.Names.{nat_tests, append-nil, All-head, All-tail, is_within, NoneOwn, gone_on, Event, Opening, handed_to, number_of}
 use Rattle.pie_storm.proofs.Names.{tail_in, EntriesLookBack, Entry, Made, Folded, HasNoMore, is_number, zero, suc, ◌≤◌, Some, None}
@@ -27,7 +27,7 @@ pub handed_more : (law : EntriesLookBack) (opening : Opening) (caller : ℕ) (g 
 handed_more law opening caller g n who is =
     let both = law.handed (is_number caller) opening [] g (Folded who n ∷ []) in grind (arith, nat_tests, append-nil)
 
--- where the caller has no more entries nothing more is handed to it
+-- without further entries of the caller its folds return no more events
 handed_none : (opening : Opening) (caller : ℕ) (before xs : List Entry) → NoneOwn number_of caller (caller + 1) xs
     → handed_to (is_number caller) opening before xs ≡ []
 handed_none opening caller before [] none = refl
@@ -51,7 +51,7 @@ abbrev pub IsRight : ℕ → Entry → Type 0
 IsRight folder (Made event) = event.caller ≡ folder → ⊥
 IsRight folder (Folded who n) = who ≡ folder
 
--- there what is handed to it is all that is handed out
+-- the events of its folds are those of all folds
 pub handed_alone : (opening : Opening) (folder : ℕ) (before h : List Entry) → All (IsRight folder) h
     → handed_to (is_number folder) opening before h ≡ handed_to (λ caller. true) opening before h
 handed_alone opening folder before [] right = refl
@@ -76,7 +76,7 @@ module _ (caller : ℕ) where
   numbered opening before call entry is = grind (arith, nat_tests)
 
 module _ (opening : Opening) (caller : ℕ) where
-  -- what was made by one that had been shown more, was made by one that had been shown less
+  -- calls of a caller with a longer front are calls of one with a shorter front
   pub made_from : (front before : List Entry) (calls : List Call) (h : List Entry) (passed : ℕ) → HasNoMore caller front before
       → AreMade opening caller before calls h passed → AreMade opening caller front calls h passed
   made_from front before [] h passed on m = (goes_on caller front before h on m.0, m.1)
@@ -95,7 +95,7 @@ module _ (opening : Opening) (caller : ℕ) where
       let sum : p + q ≡ m.1 + q + 1 = omega (arith, m.4) in
       inr (m.0, m.1 + q, m.2, m.3, sum, made_both m.0 calls later mid h m.1 q m.5 n)
 
-  -- .. in a history that goes on with nothing more of the caller
+  -- calls in a history that goes on without further entries of the caller
   pub made_on : (front : List Entry) (calls : List Call) (h k : List Entry) (passed : ℕ) → HasNoMore caller h k
       → AreMade opening caller front calls h passed → AreMade opening caller front calls k passed
   made_on front [] h k passed on m = (goes_on caller front h k m.0 on, m.1)
@@ -113,29 +113,29 @@ module _ (opening : Opening) (caller : ℕ) where
       grind (arith, length-append)
   few_made front (call ∷ calls) h passed (inr m) = let rest = few_made m.0 calls h m.1 m.5 in let same = m.2.1 in grind arith
 
--- what a list has at a place, where it is cut
+-- the element at a place where the list is cut
 one_at : {A : Type 0} (xs : List A) (k : ℕ) (x : A) → slice_get xs k ≡ Some x → take 1 (drop k xs) ≡ x ∷ []
 one_at [] k x e = absurd (grind arith)
 one_at (y ∷ xs) zero x e = ap (λ z. z ∷ []) (cc e)
 one_at (y ∷ xs) (suc k) x e = one_at xs k x e
 
--- what a caller with one number is shown goes on from what it had been shown
+-- the new front of a caller with one number goes on from the old one
 pub seen : (link : LinkView) (number : ℕ) (before : CallerView) (history : List Entry) → IsAt link number before
     → GoesOn number_of before.first before.limit before.front history → HasNoMore number before.front history
 seen link number before history at on = rw (at.first, at.limit) at on
 
--- ---- why a command is refused
+-- ---- refusals of a command
 
--- why a command is refused, where its reply is a refusal
+-- the refusal of a command whose result is a refusal
 refused_why : (why : Option Refusal) (told : Told Answer) (w : Refusal) → refused_or_told why told ≡ Err w → why ≡ Some w
 refused_why why told w e = grind (arith, nat_tests)
 
--- a refusal as too soon is the rules'
+-- a refusal as too soon is one of the rules
 pub too_soon_by_rule : (opening : Opening) (history : List Entry) (command : Command) (due : ℕ) → refusal_in opening history command ≡ Some (TooSoon due)
     → refusal_by_rule opening (events_in history) command ≡ Some (TooSoon due)
 too_soon_by_rule opening history command due why = grind (arith, nat_tests)
 
--- where a command comes in time it isn't refused as too soon
+-- a command in time is not refused as too soon
 pub never_soon : (before due count events : ℕ) (command : Command) (d : ℕ) → is_too_soon before due command ≡ false
     → refusal_with before due count events command ≡ Some (TooSoon d) → ⊥
 never_soon before due count events command d calm e = grind (arith, nat_tests, calm, e)
@@ -145,10 +145,10 @@ pub full_after : (opening : Opening) (history : List Entry) (command : Command) 
 full_after opening history command why fair is not_soon =
     let few = length-drop (left_in opening history) (events_in history) in grind (arith, nat_tests)
 
--- ---- what a turn comes to
+-- ---- the calls of a turn
 
 module _ (plan : Plan) (number : ℕ) where
-  -- what came of calls after a history came of them after what the caller had been shown before
+  -- calls after a history are calls of a caller whose front is a prefix of it
   pub came_from : (front before : List Entry) (calls : List Call) (after : List Entry) (passed : Option ℕ) → HasNoMore number front before
       → CameBy plan number before calls after passed → CameBy plan number front calls after passed
   unfolding CameBy
@@ -160,7 +160,7 @@ module _ (plan : Plan) (number : ℕ) where
   shows : (h front : List Entry) → front ≡ h → HasNoMore number h front
   shows h front is = subst (λ (l : List Entry). HasNoMore number h l) (sym is) (stays number h)
 
-  -- one call has its entry right behind a history, or was passed over there
+  -- the entry of a call follows the history at once, or the call was skipped there
   one_made : (call : Call) (h : List Entry) (entry : Entry) (front : List Entry) → IsEntryOf (opening_of plan) h number call entry
       → front ≡ h ++ entry ∷ []
       → AreMade (opening_of plan) number h (call ∷ []) front 0
@@ -170,7 +170,7 @@ module _ (plan : Plan) (number : ℕ) where
       → AreMade (opening_of plan) number h (call ∷ []) front 1
   one_passed call h front was shown = inr (h, 0, stays number h, was, refl, (shows h front shown, refl))
 
-  -- what comes of a command that is refused
+  -- a refused command
   module _ (h front : List Entry) (command : Command) (its : IsCallOf plan number (Ask command)) (shown : front ≡ h) where
     cut_short : (why : Refusal) → refusal_in (opening_of plan) h command ≡ Some why → ((d : ℕ) → why ≡ TooSoon d → ⊥)
         → IsCutShort plan number h (Ask command ∷ []) front
@@ -188,7 +188,7 @@ module _ (plan : Plan) (number : ℕ) where
     refused_by HistoryFull because = cut_short HistoryFull because (λ d e. cc e)
 
 module _ (plan : Plan) (number k : ℕ) (link : LinkView) (link_for : IsFor plan link) (before after : CallerView) (at : IsAt link number before) where
-  -- what comes of the call that the caller makes after k others
+  -- the call of the caller after its first k
   abbrev Came : Option ℕ → Type 0
   Came passed = CameBy plan number before.front (take 1 (drop k (calls_of plan number))) after.front passed
 
@@ -215,7 +215,7 @@ module _ (plan : Plan) (number k : ℕ) (link : LinkView) (link_for : IsFor plan
       (refused_by plan number a.0 after.front command its (ap (λ (c : CallerView). c.front) refused.seen ∙ append-nil a.0) why
       (refused_why (refusal_in (opening_of plan) a.0 command) _ why (sym refused.said)))
 
-  -- .. where it is a fold, of which the caller keeps what it is handed
+  -- a fold, whose events the caller stores
   module _ (law : EntriesLookBack) (n : ℕ) (there : slice_get (calls_of plan number) k ≡ Some (Fold n)) (old new : List Event) where
     handed_before : (history : List Entry) → HasNoMore number before.front history → WereHanded plan number old before.front
         → WereHanded plan number old history
@@ -252,7 +252,7 @@ module _ (plan : Plan) (number k : ℕ) (link : LinkView) (link_for : IsFor plan
 
 module _ (plan : Plan) (number k : ℕ) (front : List Entry) (passed : ℕ)
     (made : AreMade (opening_of plan) number [] (take k (calls_of plan number)) front passed) where
-  -- after its first k calls a caller made those of one turn more
+  -- after its first k calls a caller made those of one more turn
   pub made_more : (n : ℕ) (after : List Entry) (more : ℕ) → CameBy plan number front (take n (drop k (calls_of plan number))) after (Some more)
       → AreMade (opening_of plan) number [] (take (k + n) (calls_of plan number)) after (passed + more)
   unfolding CameBy
@@ -261,7 +261,7 @@ module _ (plan : Plan) (number k : ℕ) (front : List Entry) (passed : ℕ)
       subst (λ (calls : List Call). AreMade (opening_of plan) number [] calls after (passed + more)) (sym (take-add k n all))
       (made_both (opening_of plan) number [] (take k all) (take n (drop k all)) front after passed more made came)
 
-  -- .. or was cut short there
+  -- after its first k calls a caller stopped early
   pub came_cut : k ≤ length (calls_of plan number) → (n : ℕ) (after : List Entry)
       → IsCutShort plan number front (take n (drop k (calls_of plan number))) after → CameOf plan number after passed
   unfolding CameOf
@@ -281,7 +281,7 @@ module _ (plan : Plan) (number k : ℕ) (front : List Entry) (passed : ℕ)
         );
       })
 
-  -- .. or it had made all
+  -- a caller made all its calls
   pub came_of_all : k ≡ length (calls_of plan number) → CameOf plan number front passed
   unfolding CameOf
   came_of_all all =
@@ -294,14 +294,14 @@ arrives_in_time : (opening : Opening) (h : List Entry) (a : Arrival) (why : Refu
 arrives_in_time opening h a why e d is = grind (arith, nat_tests)
 
 module _ (law : EntriesLookBack) (plan : Plan) (caller : ℕ) where
-  -- an arrival after a history, and what the history is after it
+  -- an arrival after a history, and the history after it
   abbrev reply_to : List Entry → Arrival → Reply
   reply_to g a = reply_in (opening_of plan) g (arrive a)
 
   abbrev grown : List Entry → Arrival → Reply → List Entry
   grown g a reply = g ++ entries_by caller (arrive a) reply
 
-  -- .. and so several of them
+  -- several arrivals
   abbrev replies_to : List Entry → List Arrival → List Reply
   replies_to g [] = []
   replies_to g (a ∷ later) = reply_to g a ∷ replies_to (grown g a (reply_to g a)) later
@@ -310,7 +310,7 @@ module _ (law : EntriesLookBack) (plan : Plan) (caller : ℕ) where
   after_all g [] = g
   after_all g (a ∷ later) = after_all (grown g a (reply_to g a)) later
 
-  -- this is what the link answers, and what it records
+  -- these are the link's results and its entries
   abbrev answered : List Entry → List Entry → List Arrival → List Reply
   answered h made burst = replies_within None always (opening_of plan) caller h made (map arrive burst)
 
@@ -331,7 +331,7 @@ module _ (law : EntriesLookBack) (plan : Plan) (caller : ℕ) where
             ∙ (rest.1 ∙ ap (λ (g : List Entry). after_all g later) is),
       )
 
-  -- there are no more entries of the caller than arrivals, and no event is lost
+  -- the caller has at most as many entries as arrivals, and no event is lost
   abbrev Grows : List Entry → ℕ → List Entry → Type 0
   Grows g count end =
       (length (entries_of caller end) ≤ length (entries_of caller g) + count) × (length (events_in g) ≤ length (events_in end))
@@ -349,7 +349,7 @@ module _ (law : EntriesLookBack) (plan : Plan) (caller : ℕ) where
       let rest = grows (grown g a reply) later in
       (omega (arith, one.0, rest.0), omega (arith, one.1, rest.1))
 
-  -- what comes of an arrival, and then of those behind it
+  -- an arrival, followed by those after it
   first_came : (g end : List Entry) (a : Arrival) (later : List Call) (replies : List Reply) (passed : Option ℕ) (reply : Reply)
       → reply_to g a ≡ reply → IsCallOf plan caller (arriving a) → Grows (grown g a reply) (length later) end
       → (AddedByAll replies passed → CameBy plan caller (grown g a reply) later end passed) → AddedByAll (reply ∷ replies) passed
@@ -422,6 +422,6 @@ burst_next law plan number k n link link_for before after at (a ∷ later) repli
     (subst (λ (g : List Entry). CameBy plan number h (map arriving burst) g passed) (sym front_is)
     (burst_came law plan number h burst passed its (subst (λ (l : List Reply). AddedByAll l passed) replies_are added))))
 
--- no arrival of a burst is passed over
+-- no arrival of a burst is skipped
 pub few_by_all : (replies : List Reply) (passed : Option ℕ) → AddedByAll replies passed → IfSome passed (λ n. n ≤ 1)
 few_by_all replies passed added = grind (arith, nat_tests)

@@ -1,4 +1,4 @@
--- What the files of this folder take from below, in one place.
+-- Names of lower crates that the files of this folder import.
 pub use Rattle.std.proofs.Common.{Bool, Err, List, None, Ok, Option, Result, Some, Vec, [], ap, append_assoc, arith, cond, drop, eq-eqb, false, get_or, inl}
 pub use Rattle.std.proofs.Common.{inr, length, length-append, length-drop, map, min, nat_le, refl, rules, slice_get, subst, suc, sym, take, true}
 pub use Rattle.std.proofs.Common.{zero, ℕ, ⊎_elim, ◌*◌, ◌++◌, ◌+◌, ◌-◌, ◌/◌, ◌<◌, ◌==◌, ◌^◌, ◌∙◌, ◌∷◌, ◌≡◌, ◌≤◌, ◌⊎◌}

@@ -1,4 +1,5 @@
--- The lists of a storm's plan grow by one entry, and the random words are taken one after another; and what a sound plan says of its callers' calls.
+-- The lists of a storm's plan grow by one entry, the random words are taken one after another, and the calls of a sound
+-- plan's callers.
 use Rattle.pie_storm.proofs.Names.{◌≡◌, ◌+◌, ◌*◌, ◌/◌, ◌^◌, ◌≤◌, ℕ, List, [], ◌∷◌, ◌++◌, map, refl, sym, ap, ◌∙◌, arith, Vec, range_with_len, Global}
 use Rattle.pie_storm.proofs.Names.{length, map-append, take, take-length, total, Arrival, arrivals_of, held_by, ◌-◌, ◌==◌, nat_le, Bool, true, false}
 use Rattle.pie_storm.proofs.Names.{Some, slice_get, drop, subst, if◌then◌else◌, All, drop-map, take-map, nat_tests, All-nil, Call, Ask, Fold, Plan}
@@ -46,14 +47,14 @@ taken_whole list n is = ap (λ (k : ℕ). take k list) is ∙ take-length list
 
 -- ---- words
 
--- three words that are drawn, and the words that are left
+-- three words that are taken, and the words after them
 pub drawn : (first second third last : Stream) (size ecn word : ℕ) → (size, second) ≡ next_u64 first → (ecn, third) ≡ next_u64 second
     → (word, last) ≡ next_u64 third
     → (size ≡ (next_u64 first).0) × (ecn ≡ (next_u64 (next_u64 first).1).0) × (word ≡ (next_u64 (next_u64 (next_u64 first).1).1).0)
     × (last ≡ after_three first)
 drawn first second third last size ecn word one two three = (grind arith, grind arith, grind arith, grind arith)
 
--- ---- what holds of all of a list
+-- ---- facts about all elements of a list
 
 of_if : {A : Type 0} (P : A → Type 0) (b : Bool) (x y : A) → (b ≡ true → P x) → P y → P (if b then x else y)
 of_if P b x y p q = grind (arith, nat_tests)
@@ -64,10 +65,10 @@ all_of P Q f xs each a = All-map Q f xs (All-weaker P (λ x. Q (f x)) each xs a)
 pub all_at : {A : Type 0} (P : A → Type 0) (xs : List A) (k : ℕ) (x : A) → All P xs → slice_get xs k ≡ Some x → P x
 all_at P xs k x a e = subst P (get_or_from_slice_get xs k x x e) (a k x (slice_get_within xs k x e))
 
--- ---- which caller asks what
+-- ---- the calls of each caller
 
--- a call of this caller: the one that folds folds, and another asks for a command with moment and size in their ranges, which is never too soon but
--- where the caller makes the updates
+-- a call of this caller: a fold by the folder, or a command with moment and size in their ranges. Only commands of the
+-- updater can be too soon
 abbrev pub IsCallOf : Plan → ℕ → Call → Type 0
 IsCallOf plan caller (Ask command) =
     (caller ≡ folder plan → ⊥) × IsFair command × ((caller ≡ updater plan → ⊥) → (before due : ℕ) → is_too_soon before due command ≡ false)
@@ -108,7 +109,7 @@ module _ (plan : Plan) (sound : IsSound plan) (caller : ℕ) where
       (λ c s. (λ folds. grind (arith, nat_tests, three, folds), record { moment = s; size = refl }, λ other before due. refl)) sound.changes)
       (of_if F (n == 4) _ _ (λ four. All-map IsIts Fold plan.folds.items (λ k d within. grind (arith, nat_tests, four))) (All-nil IsIts))))))
 
--- other callers ask for nothing
+-- other callers make no calls
 pub no_calls : (plan : Plan) (caller : ℕ) → senders plan + 5 ≤ caller → calls_of plan caller ≡ []
 unfolding calls_of
 no_calls plan caller over = grind (arith, nat_tests, over)

@@ -1,4 +1,4 @@
--- A plan that is made of numbers in their ranges is sound, and its link is opened where there is memory.
+-- A plan from numbers in their ranges is sound, and its link is opened if there is memory.
 use Rattle.pie_storm.proofs.Names.{◌≡◌, ◌≤◌, ◌<◌, ◌+◌, ◌*◌, ◌-◌, ◌/◌, ◌∙◌, ℕ, zero, suc, List, Vec, Global, All, map, length, refl, sym, ap, subst, arith}
 use Rattle.pie_storm.proofs.Names.{◌^◌, ◌∷◌, [], nat_tests, range_with_len, slice_get, Some, None, Arrival, Call, Plan, IsSound, arrivals_of, held_by, length-map}
 use Rattle.pie_storm.proofs.Names.{arriving, planned_arrival, sender_words, senders, total, calls_of}
@@ -27,7 +27,7 @@ of_range P f a n each = λ k d within.
     let less : k < n = omega (arith, within, length-map-range_with_len f a n) in
     subst P (sym (get_or-map-range_with_len f a n k (a + k) d less refl)) (each (a + k) (omega (arith, less)))
 
--- what holds of the lists that vectors hold
+-- a fact about the lists of vectors
 of_held : (Q : List Arrival → Type 0) (lists : List (Vec Arrival Global)) → All Q (map held_by lists) → All (λ (l : Vec Arrival Global). Q l.items) lists
 of_held Q lists all = λ k d within.
     subst Q (get_or-map held_by lists k d) (all k (held_by d) (omega (arith, within, length-map lists held_by)))
@@ -89,7 +89,7 @@ module _ (n : StormNumbers) (plan : Plan) (range : HasStormRange n) (is : IsStor
       let one : k + 1 ≤ 100 = omega (arith, less, range.changes) in
       omega (arith, div-le_self ((k + 1) * n.packets * 1_000_000) (n.changes + 1), mul-le-mul one range.packets)))
 
-  -- ---- how many commands there are
+  -- ---- the number of commands
 
   abbrev many : ℕ → ℕ
   many caller = length (calls_of plan caller)
@@ -151,7 +151,7 @@ module _ (n : StormNumbers) (plan : Plan) (range : HasStormRange n) (is : IsStor
         mul_assoc 2 s n.packets,
       )
 
-  -- ---- so it is sound
+  -- ---- the plan is sound
 
   pub made_sound : IsSound plan
   made_sound = record {
@@ -177,7 +177,7 @@ module _ (n : StormNumbers) (plan : Plan) (range : HasStormRange n) (is : IsStor
       ∙ (ap (λ (m : ℕ). link_refusal (limits_of (command_count n)) m (senders plan + 5)) is.moment
       ∙ opens (command_count n) (senders plan) few_commands.0 few_commands.1)
 
-  -- .. and stops for want of memory or of a thread alone
+  -- its storm fails only for lack of memory or of a thread
   pub can_stop : (why : StormFault) → HasFault plan why → CanStop why
   unfolding HasFault CanStop
   can_stop fault.BadPlan has = absurd (has made_sound)

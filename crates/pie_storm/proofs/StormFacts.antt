@@ -1,4 +1,4 @@
--- The events of a legal history are of their kinds, and few; and the text that it is written as is clean.
+-- The events of a legal history have the kinds of their commands, and are few; their text is clean.
 use Rattle.pie_storm.proofs.Names.{◌≡◌, ◌≤◌, ◌<◌, ◌^◌, ℕ, List, [], ◌∷◌, ◌++◌, map, length, true, refl, ap, sym, subst, ◌∙◌, arith, IfSome, Option}
 use Rattle.pie_storm.proofs.Names.{nat_tests, Some, None, Result, Ok, Err, append-nil, Command, Event, Opening, IsLegal, IsLegalAt, decision, Plan, opening_of}
 use Rattle.std.specs.Prelude.{All, OnOk}
@@ -22,7 +22,7 @@ use Rattle.pie_audit.specs.declared.auditor.Finding.TheVariants.{Clean, Differs}
 use Rattle.pie_storm.specs.StormHistory.{WritesHistory}
 use Rattle.pie_storm.proofs.PlanFacts.{all_of}
 
--- ---- each answer is of a kind that its command can have
+-- ---- the kind of each answer suits its command
 
 abbrev Fits : Event → Type 0
 Fits event = fits event.command event.answer ≡ true
@@ -46,9 +46,9 @@ fit-legal kinds opening events legal =
     (all_of (IsLegalAt opening) Fits event_of (places events)
     (λ place at. rw at.answered (kinds opening place.before place.event.command)) legal)
 
--- ---- they are found clean, and few
+-- ---- they are found clean, and are few
 
--- events that are legal behind a beginning are found clean
+-- legal events after a preamble are found clean
 abbrev WholeIsClean : Type 0
 WholeIsClean = (rows : List Row) (opening : Opening) (past : List Event) → AreLegal opening (map Made past ++ excerpt_lines rows)
     → whole_finding opening past rows ≡ Clean (length (events_of (map Made past ++ excerpt_lines rows)))
@@ -57,7 +57,7 @@ no-lines : excerpt_lines [] ≡ []
 unfolding excerpt_lines resumed_of
 no-lines = refl
 
--- .. and so are all events of a history, as those before a text without lines
+-- all events of a legal history are found clean, as those before a text without lines
 clean-legal : EventsAreLines → WholeIsClean → (opening : Opening) (events : List Event) → IsLegal opening events
     → finding opening (map Made events) ≡ Clean (length events)
 clean-legal are_lines whole opening events legal =
@@ -92,7 +92,7 @@ few-events are_lines whole opening auditor events legal audits same =
 
 -- ---- the history of a storm
 
--- an audit of a text that tells legal events finds it clean
+-- an audit of a text of legal events finds it clean
 abbrev LegalIsClean : Type 0
 LegalIsClean = (text : List ℕ) (opening : Opening) (lines : List Line) → TellsHistory text opening lines → AreLegal opening lines
     → text_finding (records_of text) ≡ Ok (Clean (length (events_of lines)))

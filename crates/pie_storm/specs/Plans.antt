@@ -1,4 +1,4 @@
--- What a storm's plan asks of each caller, and which plans are sound.
+-- The calls of each caller of a storm's plan, and the plans that are sound.
 use Rattle.std.specs.Prelude.{◌≡◌, ◌+◌, ◌-◌, ◌==◌, ◌≤◌, nat_le, ℕ, zero, suc, false, List, [], Option, Some, None, Vec, map, length, All, slice_get}
 use Rattle.std.specs.Prelude.{if◌then◌else◌}
 use Rattle.std.specs.declared.alloc.Global.{Global}
@@ -25,11 +25,11 @@ opening_of plan = record {
   choices = record { mode = Bounded; profile = plan.profile; elements = plan.elements };
 }
 
--- how many senders there are
+-- the number of senders
 abbrev pub senders : Plan → ℕ
 senders plan = length plan.arrivals.items
 
--- what one arrival, departure, update or change asks for
+-- the call of an arrival, a departure, an update or a change
 abbrev pub arriving : Arrival → Call
 arriving arrival = Ask (arrive arrival)
 
@@ -50,7 +50,7 @@ sent_by None = []
 abbrev pub sent : List (Vec Arrival Global) → ℕ → List Call
 sent lists sender = sent_by (slice_get lists sender)
 
--- the calls of the caller that comes so many after the last sender
+-- the calls of the n-th caller after the last sender
 abbrev pub calls_after_senders : Plan → ℕ → List Call
 calls_after_senders plan n =
     if n == 1 then map departing plan.departs.items
@@ -59,34 +59,35 @@ calls_after_senders plan n =
     else if n == 4 then map Fold plan.folds.items
     else []
 
--- what a caller asks the link for, in order: callers 1 to N, for N senders, send the arrivals of their lists, caller N + 1 makes the
--- departures, N + 2 the updates, N + 3 the changes, and N + 4 the folds. The starter is caller 0, and asks for nothing
+-- the calls of a caller, in order: callers 1 to N, for N senders, send the arrivals of their lists, caller N + 1 makes
+-- the departures, N + 2 the updates, N + 3 the changes, and N + 4 the folds. The starter is caller 0, and makes no
+-- calls
 unfoldable pub calls_of : Plan → ℕ → List Call
 calls_of plan caller =
     if caller == 0 then []
     else if nat_le caller (senders plan) then sent plan.arrivals.items (caller - 1)
     else calls_after_senders plan (caller - senders plan)
 
--- the caller that makes the updates, and the one that makes the folds
+-- the caller of the updates, and that of the folds
 abbrev pub updater : Plan → ℕ
 updater plan = senders plan + 2
 
 abbrev pub folder : Plan → ℕ
 folder plan = senders plan + 4
 
--- how many commands a caller makes in one turn at the link: a sender those of a burst
+-- the number of commands of a caller's turn at the link: those of a burst for a sender
 abbrev pub turn_of : Plan → ℕ → ℕ
 turn_of plan caller =
     if caller == 0 then 1
     else if nat_le caller (senders plan) then plan.burst
     else 1
 
--- the sum of so many numbers of a row
+-- the sum of the first numbers of a sequence
 abbrev pub total : (ℕ → ℕ) → ℕ → ℕ
 total f zero = 0
 total f (suc n) = total f n + f n
 
--- how many commands there are in all: the calls of all callers but the last, which folds
+-- the number of commands: the calls of all callers except the last, which folds
 abbrev pub planned : Plan → ℕ
 planned plan = total (λ caller. length (calls_of plan caller)) (folder plan)
 
@@ -101,7 +102,7 @@ pub record IsFair (command : Command) : Type 0 where
   pub moment : handed_in command ≤ last_moment
   pub size : has_bad_size command ≡ false
 
--- a storm takes the plan
+-- a storm accepts the plan
 pub record IsSound (plan : Plan) : Type 0 where
   pub two : 2 ≤ senders plan
   pub eight : senders plan ≤ 8
@@ -112,6 +113,6 @@ pub record IsSound (plan : Plan) : Type 0 where
   pub departs : All IsMoment plan.departs.items
   pub updates : All IsMoment plan.updates.items
   pub changes : All (λ (c : Change). IsMoment c.moment) plan.changes.items
-  -- the limits have room for all
+  -- the limits have room for all commands
   pub tail : planned plan ≤ plan.limits.tail
   pub events : planned plan ≤ plan.limits.events

@@ -1,4 +1,4 @@
--- The history that a storm leaves, written.
+-- The written history of a storm.
 use Rattle.std.specs.Prelude.{ℕ, ◌≡◌, List, [], length, Option, Some, Ok, IfSome}
 use Rattle.std.specs.Io.KnownBytes.{Appends}
 use Rattle.pie_event.specs.declared.command.Event.{Event}
@@ -18,13 +18,13 @@ pub record WritesHistory (plan : Plan) (events : List Event) (before now : Optio
   -- as a text of its own it is clean
   pub clean : before ≡ Some [] → IfSome now (λ text. text_finding (records_of text) ≡ Ok (Clean (length events)))
 
--- .. that of a storm
+-- the history of a storm was written
 pub record WritesStorm (plan : Plan) (before now : Option (List ℕ)) : Type 0 where
   pub events : List Event
   pub too_soon : ℕ
   pub too_many : ℕ
-  -- they are those that the plan asks for, but for so many updates that were too soon
+  -- its events are those of the plan, except `too_soon` updates that were too soon
   pub planned : IsStorm plan events too_soon too_many
-  -- each is what the rules give at its place
+  -- each event is the one that the rules give at its place
   pub legal : IsLegal (opening_of plan) events
   pub history : WritesHistory plan events before now

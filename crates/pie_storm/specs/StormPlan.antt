@@ -1,4 +1,4 @@
--- The plan of a storm: what each of its callers does, with random words from a generator for each sender.
+-- The plan of a storm: the calls of each of its callers, with random words from a generator for each sender.
 use Rattle.std.specs.Prelude.{ℕ, ◌≡◌, ◌≤◌, ◌==◌, ◌+◌, ◌*◌, ◌/◌, ◌%◌, ◌^◌, List, Vec, map, min, zero, suc, if◌then◌else◌}
 use Rattle.std.specs.List.{range_with_len}
 use Rattle.std.specs.declared.alloc.Global.{Global}
@@ -19,19 +19,19 @@ use Rattle.pie_storm.specs.declared.plan.Plan.{Plan}
 
 -- ---- random words
 
--- the words that a generator gives
+-- the words of a generator
 abbrev pub words_of : Lcg → Stream
 words_of generator = stream_of (steps_u64_low pcg64) generator
 
--- the random words of a sender: those of the generator that is made of the seed, with the sender's number as its stream
+-- the random words of a sender: those of the generator with this seed, and the sender's number as its stream
 abbrev pub sender_words : ℕ → ℕ → Stream
 sender_words seed sender = words_of (started 128 multiplier_128 seed (increment_of 128 sender))
 
--- the words that are left after three more, as many as an arrival takes
+-- the words after three more, the number that an arrival takes
 abbrev pub after_three : Stream → Stream
 after_three words = (next_u64 (next_u64 (next_u64 words).1).1).1
 
--- .. and after so many arrivals
+-- the words after this number of arrivals
 unfoldable pub words_after : ℕ → Stream → Stream
 words_after zero words = words
 words_after (suc arrivals) words = after_three (words_after arrivals words)
@@ -45,12 +45,13 @@ ecn_of (suc zero) = Ect1
 ecn_of (suc (suc zero)) = Ect0
 ecn_of _ = Ce
 
--- the moment at which a sender hands in a packet, counted from 0: that of the last packet of its burst, where it has one each millisecond
+-- the moment of a sender's packet, counted from 0: that of the last packet of its burst, with one packet per
+-- millisecond
 abbrev pub moment_of : ℕ → ℕ → ℕ → ℕ
 moment_of packets burst i = min ((i / burst + 1) * burst) packets * 1_000_000
 
--- an arrival of a sender, counted from 0, by its moment and the next three words: one for the packet's size, one for its ECN field, and the random
--- word that is handed in
+-- an arrival of a sender, counted from 0, by its moment and the next three words: for the packet's size, its ECN field,
+-- and the random word
 abbrev pub arrival_by : ℕ → ℕ → ℕ → Stream → Arrival
 arrival_by sender i moment words =
     let size = next_u64 words in
@@ -61,7 +62,7 @@ arrival_by sender i moment words =
       word = (next_u64 ecn.1).0;
     }
 
--- the arrival of this place of a sender, in bursts
+-- the arrival of a sender at this place, in bursts
 abbrev pub planned_arrival : ℕ → ℕ → ℕ → Stream → ℕ → Arrival
 planned_arrival packets burst sender words i = arrival_by sender i (moment_of packets burst i) (words_after i words)
 
@@ -69,7 +70,7 @@ planned_arrival packets burst sender words i = arrival_by sender i (moment_of pa
 abbrev pub arrivals_of : ℕ → ℕ → ℕ → ℕ → List Arrival
 arrivals_of packets burst seed sender = map (planned_arrival packets burst sender (sender_words seed sender)) (range_with_len 0 packets)
 
--- a departure for each packet, spread evenly, where so many packets come for each hundred that the link sends
+-- a departure for each packet, spread evenly, at this load
 abbrev pub departs_of : ℕ → ℕ → ℕ → List ℕ
 departs_of senders packets load = map (λ j. (j + 1) * load * 10_000 / senders) (range_with_len 0 (senders * packets))
 
@@ -77,7 +78,7 @@ departs_of senders packets load = map (λ j. (j + 1) * load * 10_000 / senders) 
 abbrev pub updates_of : ℕ → List ℕ
 updates_of packets = map (λ j. (j + 1) * 15_000_000) (range_with_len 0 (packets / 15 + 1))
 
--- the parameters of a change, counted from 0: a reference delay of 5 ms, and at each second change those by default again
+-- the parameters of a change, counted from 0: a target of 5 ms, and the defaults at every second change
 abbrev pub params_at : ℕ → RawParams
 params_at k = if k % 2 == 0 then record default_profile { target = 5_000_000 } else default_profile
 
@@ -92,13 +93,13 @@ changes_of packets changes = map (change_at packets changes) (range_with_len 0 c
 abbrev pub folds_of : ℕ → ℕ → ℕ → List ℕ
 folds_of senders packets folds = map (λ k. senders * packets / folds) (range_with_len 0 folds)
 
--- how many commands there are in all
+-- the number of commands
 abbrev pub command_count : StormNumbers → ℕ
 command_count n = 2 * n.senders * n.packets + n.packets / 15 + 1 + n.changes
 
 -- ---- the plan
 
--- the list that a vector holds
+-- the list of a vector
 abbrev pub held_by : Vec Arrival Global → List Arrival
 held_by list = list.items
 
@@ -114,7 +115,7 @@ pub record HasStormRange (n : StormNumbers) : Type 0 where
   pub changes : n.changes ≤ 100
   pub folds : n.folds ≤ 100
 
--- the usual storm of so many senders and packets: one packet a call, as many as the link sends, no changes and no folds
+-- the usual storm of these senders and packets: one packet a call, a load of 100, no changes and no folds
 abbrev pub usual_storm : ℕ → ℕ → ℕ → StormNumbers
 usual_storm senders packets seed = record {
   senders = senders;

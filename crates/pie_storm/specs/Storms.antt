@@ -1,4 +1,5 @@
--- What the callers of a storm did, and how it ends. A history is the list of all entries of the link: its events, and the folds between them.
+-- The calls that a storm's callers made, and its result. A history is the list of all entries of the link: its events
+-- and folds.
 use Rattle.std.specs.Prelude.{◌≡◌, ◌==◌, ◌+◌, ◌<◌, ◌≤◌, ◌⊎◌, ℕ, Bool, false, All, List, [], ◌∷◌, ◌++◌, Option, Some, None, Result, Ok, Err}
 use Rattle.std.specs.Prelude.{IfSome, IsOk, Vec, drop, min, length, take}
 use Rattle.std.specs.declared.alloc.Global.{Global}
@@ -31,7 +32,7 @@ use Rattle.pie_storm.specs.declared.worker.Folding.{Folding}
 use Rattle.pie_storm.specs.declared.worker.Work.{Work}
 use Rattle.pie_storm.specs.Plans.{IsSound, calls_of, folder, opening_of, senders, updater}
 
--- this entry is what the caller's call adds to this history; a fold found as many events in the tail as it hands out
+-- this entry is the one that the caller's call adds to this history; a fold found its events in the log
 abbrev pub IsEntryOf : Opening → List Entry → ℕ → Call → Entry → Type 0
 IsEntryOf opening before caller (Ask command) (Made event) = (event.caller ≡ caller) × (event.command ≡ command)
 IsEntryOf opening before caller (Ask command) (Folded who n) = ⊥
@@ -43,22 +44,22 @@ pub record WasTooSoon (opening : Opening) (before : List Event) (command : Comma
   pub due : ℕ
   pub refused : refusal_by_rule opening before command ≡ Some (TooSoon due)
 
--- a fold of n events was of too many after this history: the tail held fewer
+-- a fold of n events was of too many after this history: the log had fewer
 abbrev pub WasTooMany : Opening → List Entry → ℕ → Type 0
 WasTooMany opening before n = length (tail_in opening before) < n
 
--- a call came to nothing after this history, and the storm passes over it
+-- a call was refused after this history, and the storm skips it
 abbrev pub WasPassedOver : Opening → List Entry → Call → Type 0
 WasPassedOver opening before (Ask command) = WasTooSoon opening (events_in before) command
 WasPassedOver opening before (Fold n) = WasTooMany opening before n
 
--- a history goes on from what a caller had been shown, and has nothing more of it
+-- a history goes on from the caller's front, and has no further entry of the caller
 abbrev pub HasNoMore : ℕ → List Entry → List Entry → Type 0
 HasNoMore caller front longer = GoesOn number_of caller (caller + 1) front longer
 
--- a caller that had been shown this front made these calls in this history, and no others, but for so many that were passed over. Each came
--- after a beginning of the history that goes on from what the caller had been shown and has nothing more of it; one that was not passed over
--- has its entry right behind that
+-- a caller with this front made these calls in this history, and no others, except that `passed` of them were skipped.
+-- Each was made after a prefix of the history that goes on from the caller's front and has no further entry of it; the
+-- entry of one that was not skipped follows at once
 abbrev pub AreMade : Opening → ℕ → List Entry → List Call → List Entry → ℕ → Type 0
 AreMade opening caller front [] history passed = HasNoMore caller front history × (passed ≡ 0)
 AreMade opening caller front (call ∷ calls) history passed =
@@ -67,18 +68,19 @@ AreMade opening caller front (call ∷ calls) history passed =
     ⊎ ((before : List Entry) × (fewer : ℕ) × HasNoMore caller front before × WasPassedOver opening before call × (passed ≡ fewer + 1)
     × AreMade opening caller before calls history fewer)
 
--- a caller of commands that had been shown this front stopped where the book was full, and before it had an entry for each of these calls
+-- a caller of commands with this front stopped because the book was full, before it had an entry for each of these
+-- calls
 pub record IsCutShort (plan : Plan) (caller : ℕ) (front : List Entry) (calls : List Call) (history : List Entry) : Type 0 where
   pub asks : caller ≡ folder plan → ⊥
   pub full : min plan.limits.tail plan.limits.events ≤ length (events_in history)
   pub fewer : length (entries_of caller history) < length (entries_of caller front) + length calls
 
--- a caller that had been shown this front made these calls, but for so many that were passed over; with no number it was cut short
+-- a caller with this front made these calls, except the skipped ones; without a number it stopped early
 unfoldable pub CameBy : Plan → ℕ → List Entry → List Call → List Entry → Option ℕ → Type 0
 CameBy plan caller front calls history (Some passed) = AreMade (opening_of plan) caller front calls history passed
 CameBy plan caller front calls history None = IsCutShort plan caller front calls history
 
--- what came of all calls of a caller in this history
+-- a caller made all its calls in this history, or stopped early
 unfoldable pub CameOf : Plan → ℕ → List Entry → ℕ → Type 0
 CameOf plan caller history passed =
     AreMade (opening_of plan) caller [] (calls_of plan caller) history passed
@@ -88,23 +90,24 @@ CameOf plan caller history passed =
 abbrev pub is_number : ℕ → ℕ → Bool
 is_number number caller = caller == number
 
--- these events are what the caller's folds handed out
+-- these events are those of the caller's folds
 abbrev pub WereHanded : Plan → ℕ → List Event → List Entry → Type 0
 WereHanded plan caller events history = events ≡ handed_to (is_number caller) (opening_of plan) [] history
 
--- what an answer adds to the calls that were passed over; none where it is another refusal
+-- the number that a result adds to the skipped calls; None for another refusal
 unfoldable pub added_by : Result (Told Answer) Refusal → Option ℕ
 added_by (Ok told) = Some 0
 added_by (Err (TooSoon due)) = Some 1
 added_by (Err _) = None
 
--- what a fold was answered was taken in, where memory was not wanting: the events at hand before and after, and what it adds
+-- the result of a fold was stored, unless there was no memory: the stored events before and after, and the number that
+-- it adds
 unfoldable pub TakenIn : Result (Told (Vec Event Global)) FoldRefusal → List Event → List Event → Option ℕ → Type 0
 TakenIn (Ok told) old new passed = (new ≡ old ++ told.answer.items) × (passed ≡ Some 0)
 TakenIn (Err (TooMany held)) old new passed = (new ≡ old) × (passed ≡ Some 1)
 TakenIn (Err Memory) old new passed = ⊥
 
--- what the answers to a burst add to them; none where one is a refusal
+-- the number that the results of a burst add to the skipped calls; None if one is a refusal
 abbrev pub AddedByAll : List (Result (Told Answer) Refusal) → Option ℕ → Type 0
 AddedByAll answers passed = (All IsOk answers × (passed ≡ Some 0)) ⊎ ((All IsOk answers → ⊥) × (passed ≡ None))
 
@@ -114,23 +117,23 @@ pub record IsAt (link : LinkView) (number : ℕ) (caller : CallerView) : Type 0 
   pub first : caller.first ≡ number
   pub limit : caller.limit ≡ number + 1
 
--- a storm takes the plan, and the link was opened for it
+-- a storm accepts the plan, and the link was opened for it
 pub record IsFor (plan : Plan) (link : LinkView) : Type 0 where
   pub sound : IsSound plan
   pub opened : link.origin ≡ Some (opening_of plan)
 
--- a caller that was shown nothing begins its calls
+-- a caller with an empty front begins its calls
 pub record Begins (link : LinkView) (plan : Plan) (caller : CallerView) : Type 0 where
   pub own : caller.lock ≡ link
   pub new : caller.front ≡ []
   pub link_for : IsFor plan link
 
--- memory was not wanting for the events of a fold
+-- there was memory for the events of the folds
 abbrev pub IsWell : Folding → Type 0
 IsWell folding = folding.is_short_of_memory ≡ false
 
--- in one turn a caller made so many calls, those after its first k, or was cut short; so many were passed over. The one that folds kept what it was
--- handed
+-- in one turn a caller made `count` calls after its first k, or stopped early; `passed` were skipped. The caller of the
+-- folds stored their events
 pub record TakesTurn (link : LinkView) (plan : Plan) (number k count : ℕ) (before after : CallerView) (old new : Folding) (passed : Option ℕ)
     : Type 0 where
   pub at : IsAt link number after
@@ -140,13 +143,13 @@ pub record TakesTurn (link : LinkView) (plan : Plan) (number k count : ℕ) (bef
   pub handed : IsWell new → number ≡ folder plan → WereHanded plan number old.events.items before.front
       → WereHanded plan number new.events.items after.front
 
--- what the worker of the caller with this number did: it made all calls
+-- the worker of the caller with this number made all its calls
 pub record IsWorkOf (link : LinkView) (plan : Plan) (number : ℕ) (work : Work) : Type 0 where
   pub at : IsAt link number work.caller
   pub came : IsWell work.folding → CameOf plan number work.caller.front work.passed
   pub handed : IsWell work.folding → number ≡ folder plan → WereHanded plan number work.folding.events.items work.caller.front
 
--- what all workers of the callers below this number did; of the calls of the last of them so many were passed over, and of the updates
+-- the work of all callers below this number: the skipped calls of the last of them, and the skipped updates
 pub record IsWorkBelow (link : LinkView) (plan : Plan) (n : ℕ) (work : Work) : Type 0 where
   pub lock : work.caller.lock ≡ link
   pub first : work.caller.first ≡ 0
@@ -156,30 +159,30 @@ pub record IsWorkBelow (link : LinkView) (plan : Plan) (n : ℕ) (work : Work) :
   pub folds : IsWell work.folding → n ≡ folder plan + 1
       → CameOf plan (folder plan) work.caller.front work.passed × WereHanded plan (folder plan) work.folding.events.items work.caller.front
 
--- these events are those that the plan asks for, but for so many updates that were too soon; and so many of its folds were of more
--- events than the tail held
+-- these events are those of the plan, except `too_soon` updates that were too soon; and `too_many` of its folds were of
+-- more events than the log had
 pub record IsStorm (plan : Plan) (events : List Event) (too_soon too_many : ℕ) : Type 0 where
-  -- the link's history, of which these are the events
+  -- the link's history with these events
   pub history : List Entry
   pub of_history : events_in history ≡ events
-  -- the updates and the folds were made, but for so many, and no others of their callers
+  -- the updates and the folds were made, except the skipped ones, and their callers made no others
   pub updates : AreMade (opening_of plan) (updater plan) [] (calls_of plan (updater plan)) history too_soon
   pub folds : AreMade (opening_of plan) (folder plan) [] (calls_of plan (folder plan)) history too_many
-  -- .. and of each other caller all its calls, and no others
+  -- each other caller made all its calls, and no others
   pub others : (caller : ℕ) → (caller ≡ updater plan → ⊥) → (caller ≡ folder plan → ⊥)
       → AreMade (opening_of plan) caller [] (calls_of plan caller) history 0
 
--- after this history of the link the folds had handed out so many of these events, the first ones, and the tail held the others
+-- after this history the folds had returned the first `folded` of these events, and the log had the others
 pub record AreHandedOut (opening : Opening) (history : List Entry) (events : List Event) (folded : ℕ) : Type 0 where
   pub handed : handed_out opening history ≡ take folded events
   pub left : tail_in opening history ≡ drop folded events
 
--- why the link of a storm of this plan is not opened, memory aside
+-- the refusal of the link of a storm with this plan, out of memory aside
 abbrev pub refusal_of : Plan → Option LinkRefusal
 refusal_of plan = link_refusal plan.limits plan.moment (senders plan + 5)
 
--- a storm of this plan ended so: what was recorded is a legal history that the plan asks for, the folds handed out so many of its events, and the
--- book held what looking back over it gives
+-- the result of a storm with this plan: a legal history of the plan's calls, the number of its folded events, and the
+-- look-back over it as the book's state
 pub record IsEndOf (plan : Plan) (end : StormEnd) : Type 0 where
   pub legal : IsLegal (opening_of plan) end.events.items
   pub made : IsStorm plan end.events.items end.too_soon end.too_many
@@ -187,8 +190,8 @@ pub record IsEndOf (plan : Plan) (end : StormEnd) : Type 0 where
   pub registers : end.registers ≡ registers_after (opening_of plan) end.events.items
   pub stats : end.stats ≡ stats_after (opening_of plan) end.events.items
 
--- why a storm of this plan has no end: the plan is not sound; or the link is not opened, for this reason; or, with both in order, memory or a thread
--- is wanting. There is never a gap
+-- the reason why a storm of this plan has no result: the plan is not sound; or the link is not opened, for this reason;
+-- otherwise no memory or no thread. There is never a gap
 unfoldable pub HasFault : Plan → StormFault → Type 0
 HasFault plan fault.BadPlan = IsSound plan → ⊥
 HasFault plan (fault.Opening why) = IsSound plan × IsRefusedFor (refusal_of plan) why
@@ -196,7 +199,7 @@ HasFault plan fault.Memory = IsSound plan × (refusal_of plan ≡ None)
 HasFault plan fault.Thread = IsSound plan × (refusal_of plan ≡ None)
 HasFault plan fault.Gap = ⊥
 
--- why a storm by numbers in their ranges has no end: memory or a thread is wanting
+-- the reason why a storm by numbers in their ranges has no result: no memory or no thread
 unfoldable pub CanStop : StormFault → Type 0
 CanStop fault.BadPlan = ⊥
 CanStop (fault.Opening why) = IsWantOfMemory why

@@ -1,44 +1,46 @@
-//! How a storm ends.
+//! The end of a storm.
 
 use pie_book::{Event, Registers, Stats};
 use pie_link::LinkRefusal;
 use thiserror::Error;
 
-/// What a storm ended with (this project's own).
+/// The result of a storm (this project's own).
 #[derive(Drop)]
 pub struct StormEnd {
     /// All events, in the order in which the link recorded them.
     pub events: Vec<Event>,
-    /// How many of the events the folds handed out: the first so many. The others were in the log at the end.
+    /// The number of folded events: the first ones. The others were in the event log at the end.
     pub folded: u64,
-    /// How many planned updates were refused as too soon, and passed over.
+    /// The number of planned updates that were refused as too soon and skipped.
     pub too_soon: u64,
-    /// How many planned folds were refused, since the tail held fewer events, and passed over.
+    /// The number of planned folds that were refused, because the log had fewer events, and skipped.
     pub too_many: u64,
-    /// What the book held at the end.
+    /// The registers at the end.
     pub registers: Registers,
     /// The statistics of all events.
     pub stats: Stats,
 }
 
-/// Why a storm has no end (this project's own). They are looked for in this order: `BadPlan` before all else, then `Opening`, then
-/// `Thread`, and last `Memory`. `Gap` never comes. Nothing of the run is kept.
+/// The reason why a storm has no result (this project's own). The first of these is returned: `BadPlan`, `Opening`,
+/// `Thread`, `Memory`. `Gap` never occurs. Nothing of the run is kept.
 #[derive(Clone, Copy, Debug, PartialEq, Eq, Error)]
 pub enum StormFault {
-    /// The plan has fewer than 2 or more than 8 senders, bursts outside 1 to 1024 arrivals, a moment above `2^60 - 1`, an arrival whose
-    /// size is outside 1 to 65535 bytes, or more arrivals, departures, updates and changes than its limits have room for.
+    /// The plan has fewer than 2 or more than 8 senders, bursts outside 1 to 1024 arrivals, a moment above `2^60 - 1`,
+    /// an arrival whose size is outside 1 to 65535 bytes, or more arrivals, departures, updates and changes than its
+    /// limits have room for.
     #[error("the plan is not sound")]
     BadPlan,
     /// The link was not opened.
     #[error("{0}")]
     Opening(LinkRefusal),
-    /// There was no memory for the events, or for the answers to a burst.
+    /// Out of memory for the events, or for the results of a burst.
     #[error("out of memory")]
     Memory,
-    /// A worker's thread could not be started.
+    /// A worker's thread was not started.
     #[error("a thread could not be started")]
     Thread,
-    /// The folded events and the tail are not one history without a gap. No storm answers it: that there is no gap is proved.
+    /// Events are missing between the folded events and the log. No storm returns it: that no event is missing is
+    /// proved.
     #[error("the folds leave a gap")]
     Gap,
 }

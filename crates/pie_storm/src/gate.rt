@@ -1,15 +1,15 @@
-//! What a storm's workers pass before and after each call.
+//! The gate that a storm's workers pass before and after each call.
 
-/// A gate at which a storm's workers may be watched or held (this project's own). Tests hold a worker back with it.
+/// A gate that watches or delays a storm's workers (this project's own). Tests delay a worker with it.
 pub trait Gate {
-    /// Caller `caller` is about to make its call number `call`, counted from 1.
+    /// Called before caller `caller` makes its call number `call`, counted from 1.
     fn before(&self, caller: u16, call: u64);
 
-    /// Caller `caller` was answered its call number `call`, counted from 1.
+    /// Called after caller `caller` made its call number `call`, counted from 1.
     fn after(&self, caller: u16, call: u64);
 }
 
-/// The gate that does nothing.
+/// A gate that does nothing.
 #[derive(Clone, Copy, Debug)]
 pub struct NoGate;
 

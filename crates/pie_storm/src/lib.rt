@@ -1,11 +1,12 @@
-//! Storms: a link under many threads at once, whose history is what a plan asked for (this project's own).
+//! Storms: a link under many threads at once, whose history is that of a plan (this project's own).
 //!
-//! `storm` makes the calls of a `Plan` at a link, each list in a thread of its own, and answers what was recorded: the planned calls, each
-//! caller's in order, in one history that is legal from the opening. `storm_plan` makes the usual plan. `make_storm` makes one of more numbers and runs
-//! it under the threads of the runtime, which start together and stay close to one another (`Pace`); `write_storm` audits such events and writes their
-//! history, which as a text of its own is clean.
+//! `storm` makes the calls of a `Plan` at a link, each list in a thread of its own, and returns the recorded events:
+//! the planned calls, each caller's in order, in one history that is legal from the opening. `storm_plan` returns the
+//! usual plan. `make_storm` plans from more numbers, and runs the plan under threads of the runtime, which start
+//! together and stay close to one another (`Pace`). `write_storm` audits the events and writes their history, which is
+//! clean.
 //!
-//! Not promised: that a thread runs, that a storm ends, or in which order the calls of two callers come.
+//! Not promised: that a thread runs, that a storm ends, or the order of the calls of two callers.
 #![tactic(auto)]
 
 pub mod ending;

@@ -11,38 +11,40 @@ use std::sync::atomic::{AtomicBool, AtomicU64, Ordering};
 use std::thread::{sleep, yield_now};
 use std::time::{Clock, Duration, Instant};
 
-/// How far a caller may run ahead of another, in nanoseconds of the plan.
+/// The greatest lead of a caller over another, in nanoseconds of the plan.
 const AHEAD: u64 = 4_000_000;
-/// How often a caller looks at the others before it goes on without them, at the most.
+/// The greatest number of looks at the other callers before a caller continues without them.
 const LOOKS: u64 = 1_000_000;
-/// How long it looks again and again, in milliseconds. Others that run are there by then; one that waits for a processor, behind work of higher
-/// priority say, may get it while this one sleeps between its looks.
+/// The time in milliseconds in which a caller looks without sleeping. Other running callers are level by then. A caller
+/// that waits for a processor, such as behind work of higher priority, may get one while this caller sleeps between its
+/// looks.
 const EAGER: u64 = 20;
-/// How long it then sleeps between two looks, in nanoseconds.
+/// The sleep between two looks after that, in nanoseconds.
 const NAP: u64 = 100_000;
-/// How often it does so before it goes on without them.
+/// The number of these sleeps before a caller continues without the others.
 const NAPS: u64 = 2000;
-/// A caller that isn't there yet.
+/// The moment of a caller that has not started.
 const AWAY: u64 = 0;
-/// A caller that has made all its calls.
+/// The moment of a caller that has made all its calls.
 const GONE: u64 = u64::MAX;
 
-/// The gate of a storm that `make_storm` plans (this project's own). Each caller shows the moment of its next call, and waits until no
-/// other is away or further behind than `AHEAD`. Once one has waited in vain for long, nobody waits any more: so a caller whose thread was
-/// not started, or is never scheduled, stops nobody.
+/// The gate of `make_storm` (this project's own). Each caller publishes the moment of its next call, and waits until
+/// every other caller has started and is at most `AHEAD` behind. Once a caller has waited too long, no caller waits any
+/// more. So a caller whose thread was not started, or is never scheduled, blocks no other.
 #[derive(Drop)]
 pub(crate) struct Pace<'a, C> {
-    /// What sleeps.
+    /// The clock for sleeping.
     clock: &'a C,
     /// The plan of the storm.
     plan: &'a Plan,
-    /// The moment of the next call of each caller: of the senders, and of those that depart, update, change and fold.
+    /// The moment of the next call of each caller: the senders, and those of departures, updates, changes and folds.
     next: [AtomicU64; 12],
-    /// One has waited in vain.
+    /// A caller has waited too long.
     is_over: AtomicBool,
 }
 
-/// Returns true if a caller of a plan, which shows the moment `shown`, is not behind `least`. One that has no calls is behind nothing.
+/// Returns true if a caller of a plan with the moment `shown` is not behind `least`. A caller without calls is never
+/// behind.
 fn is_level(plan: &Plan, caller: u16, shown: u64, least: u64) -> bool
     ensures { IsTrue result ↔ ((calls_of plan.now caller ≡ []) ⊎ (least ≤ shown)) }
 {
@@ -50,7 +52,7 @@ fn is_level(plan: &Plan, caller: u16, shown: u64, least: u64) -> bool
 }
 
 impl<'a, C: Clock> Pace<'a, C> {
-    /// The pace of a storm of this plan.
+    /// Returns the pace of a storm with this plan.
     pub(crate) fn new(clock: &'a C, plan: &'a Plan) -> Pace<'a, C> {
         Pace {
             clock,
@@ -60,13 +62,13 @@ impl<'a, C: Clock> Pace<'a, C> {
         }
     }
 
-    /// Returns true if a caller has waited in vain, so that the storm went on without pace.
+    /// Returns true if a caller has waited too long, so that the storm continued without pace.
     pub(crate) fn is_over(&self) -> bool {
         self.is_over.load(Ordering::SeqCst)
     }
 
-    /// The moment of a call of a caller in the plan, both counted from 1; `GONE` after its last. A sender's call is a burst; the folds are spread
-    /// evenly over the time until the last update.
+    /// Returns the moment of a caller's call in the plan, both counted from 1; `GONE` after its last call. A sender's
+    /// call is a burst. The folds are spread evenly over the time until the last update.
     fn moment(&self, caller: u16, call: u64) -> u64 {
         let place = call.wrapping_sub(1);
         let first = place.saturating_mul(self.plan.turn(caller) as u64) as usize;
@@ -83,7 +85,7 @@ impl<'a, C: Clock> Pace<'a, C> {
         }
     }
 
-    /// Returns the moment that a caller shows.
+    /// Returns the published moment of a caller.
     fn shown(&self, caller: u16) -> u64 {
         match self.next.get(usize::from(caller).wrapping_sub(1)) {
             Some(next) => next.load(Ordering::SeqCst),
@@ -91,14 +93,15 @@ impl<'a, C: Clock> Pace<'a, C> {
         }
     }
 
-    /// Shows the moment of the next call of a caller.
+    /// Publishes the moment of a caller's next call.
     fn show(&self, caller: u16, moment: u64) {
         if let Some(next) = self.next.get(usize::from(caller).wrapping_sub(1)) {
             next.store(moment, Ordering::SeqCst);
         }
     }
 
-    /// Returns true if every caller is there and none is to make a call before this moment, or if nobody waits any more.
+    /// Returns true if every caller has started and none is to make a call before this moment, or if no caller waits
+    /// any more.
     fn are_level(&self, moment: u64) -> bool {
         if self.is_over() {
             return true;
@@ -107,7 +110,7 @@ impl<'a, C: Clock> Pace<'a, C> {
     }
 }
 
-/// Whether the time for looking again and again is over, or the clock fails.
+/// Returns true if the time for looking without sleeping is over, or if the clock fails.
 fn has_waited_long<C: Clock>(clock: &C, begun: &io::Result<Instant>) -> bool {
     let Ok(begun) = begun else {
         return true;

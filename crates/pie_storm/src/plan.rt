@@ -1,4 +1,4 @@
-//! What a storm is asked to do.
+//! The plan of a storm.
 ghost use Rattle.std.specs.Prelude.{◌≡◌, ◌≤◌, ◌^◌, ◌-◌, ◌↔◌, IsTrue, All, Option, drop, length, map, min, slice_get, take, ◌+◌};
 ghost use Rattle.pie_storm.specs.Plans.{IsMoment, IsSoundArrival, IsSound, arriving, calls_after_senders, calls_of, changing, opening_of, planned};
 ghost use Rattle.pie_storm.specs.Plans.{senders, turn_of};
@@ -9,20 +9,20 @@ use pie_link::Arrival;
 use pie_params::Params;
 use pie_queue::MAX_SIZE;
 
-/// How many arrivals a sender may make at once.
+/// The greatest number of arrivals of a sender's call.
 pub const LONGEST_BURST: u16 = 1024;
 
 /// New parameters from a moment on (this project's own).
 #[derive(Clone, Copy)]
 pub struct Change {
-    /// The moment that is handed in, in nanoseconds: at most `2^60 - 1`.
+    /// The moment in nanoseconds, at most `2^60 - 1`.
     pub moment: u64,
     /// The new parameters.
     pub params: Params,
 }
 
 impl Change {
-    // The call that makes it.
+    // Returns the change as a call.
     fn call(&self) -> Call
         ensures { result ≡ changing self.now }
     {
@@ -33,34 +33,34 @@ impl Change {
     }
 }
 
-/// What a caller of a storm asks the link for (this project's own).
+/// A call of a storm's caller (this project's own).
 #[derive(Clone, Copy)]
 pub enum Call {
     /// A command.
     Ask(Command),
-    /// A fold of so many events.
+    /// A fold of this number of events.
     Fold(u64),
 }
 
-/// What each worker of a storm does, call by call (this project's own). Moments are nanoseconds, at most `2^60 - 1`, and
-/// those of a list may fall. With N lists of arrivals the callers 1 to N send them, caller N + 1 makes the departures, N + 2
-/// the updates, N + 3 the changes of the parameters, and N + 4 the folds.
+/// The calls of each worker of a storm (this project's own). Moments are nanoseconds, at most `2^60 - 1`; those of a
+/// list may fall. With N lists of arrivals, callers 1 to N send them, caller N + 1 makes the departures, N + 2 the
+/// updates, N + 3 the changes of the parameters, and N + 4 the folds.
 #[derive(Drop)]
 pub struct Plan {
     /// The limits of the book. Tail and events have room for all arrivals, departures, updates and changes.
     pub limits: Limits,
-    /// The parameters that the book is opened with.
+    /// The parameters at the opening.
     pub params: Params,
-    /// The moment that the book is opened at.
+    /// The moment of the opening.
     pub moment: u64,
-    /// When the controller works.
+    /// The profile of the controller.
     pub profile: Profile,
-    /// RFC 8033's optional elements (its section 5).
+    /// The optional elements (RFC 8033, section 5).
     pub elements: Elements,
     /// The packets of each sender: 2 to 8 lists.
     pub arrivals: Vec<Vec<Arrival>>,
-    /// How many of its packets a sender hands in at once, by `Link::arrive_all`: 1 to 1024. The last of its bursts may be shorter.
-    /// In bursts of 1 it calls `Link::arrive`.
+    /// The number of packets in a sender's call of `Link::arrive_all`, 1 to 1024; the last call may have fewer. In
+    /// bursts of 1 a sender calls `Link::arrive`.
     pub burst: u16,
     /// The moments of the departures.
     pub departs: Vec<u64>,
@@ -68,11 +68,11 @@ pub struct Plan {
     pub updates: Vec<u64>,
     /// The changes of the parameters.
     pub changes: Vec<Change>,
-    /// How many events each fold hands out.
+    /// The number of events of each fold.
     pub folds: Vec<u64>,
 }
 
-// Whether moment and size are in their ranges.
+// Returns true if moment and size are in their ranges.
 fn is_sound(arrival: &Arrival) -> bool
     ensures { IsTrue result ↔ IsSoundArrival arrival.now }
 {
@@ -92,7 +92,7 @@ fn are_moments(moments: &[u64]) -> bool
 }
 
 impl Plan {
-    // How many commands there are in all, as far as a u64 can count.
+    // Returns the number of commands, at most `2^64 - 1`.
     #[tactic(auto, using(crate::proofs::PlanFacts::total_more))]
     fn planned(&self) -> u64
         requires { senders self.now ≤ 8 }
@@ -105,7 +105,7 @@ impl Plan {
         count
     }
 
-    // Whether tail and events have room for all commands.
+    // Returns true if tail and events have room for all commands.
     fn has_room(&self) -> bool
         requires { senders self.now ≤ 8 }
         ensures { IsTrue result ↔ (planned self.now ≤ self.now.limits.tail) × (planned self.now ≤ self.now.limits.events) }
@@ -114,7 +114,7 @@ impl Plan {
         planned <= u64::from(self.limits.tail) && planned <= self.limits.events
     }
 
-    // Whether the numbers of senders and of a burst's arrivals, and the moment of the opening, are in their ranges.
+    // Returns true if the number of senders, the arrivals of a burst and the moment of the opening are in their ranges.
     fn has_sound_numbers(&self) -> bool
         ensures { IsTrue result ↔ (2 ≤ senders self.now) × (senders self.now ≤ 8) × (1 ≤ self.now.burst) × (self.now.burst ≤ 1024)
             × IsMoment self.now.moment }
@@ -127,7 +127,7 @@ impl Plan {
             && self.moment <= MAX_NANOS
     }
 
-    /// Whether a storm takes the plan.
+    /// Returns true if a storm accepts the plan.
     pub(crate) fn is_sound(&self) -> bool
         ensures { IsTrue result ↔ IsSound self.now }
     {
@@ -139,7 +139,7 @@ impl Plan {
             && self.has_room()
     }
 
-    /// What the book is opened with: it is bounded.
+    /// Returns the opening of the book, which is bounded.
     pub(crate) fn opening(&self) -> Opening
         ensures { result ≡ opening_of self.now }
     {
@@ -155,7 +155,7 @@ impl Plan {
         }
     }
 
-    /// How many calls a caller has to make.
+    /// Returns the number of a caller's calls.
     #[tactic(auto, unfolding(crate::specs::Plans::calls_of))]
     pub(crate) fn calls(&self, caller: u16) -> usize
         ensures { result ≡ length (calls_of self.now caller) }
@@ -179,7 +179,7 @@ impl Plan {
         }
     }
 
-    /// How many commands a caller makes in one turn at the link: a sender those of a burst, and another caller one.
+    /// Returns the number of commands of a caller's turn at the link: those of a burst for a sender, otherwise one.
     pub(crate) fn turn(&self, caller: u16) -> usize
         ensures size { result ≡ turn_of self.now caller }
         ensures some { IsSound self.now → 1 ≤ result }
@@ -192,7 +192,7 @@ impl Plan {
         }
     }
 
-    /// The `count` arrivals of a sender that come after `k` others.
+    /// Returns the `count` arrivals of a sender after its first `k`.
     #[tactic(auto, unfolding(crate::specs::Plans::calls_of))]
     pub(crate) fn burst(&self, caller: u16, k: usize, count: usize) -> &[Arrival]
         requires sender { (1 ≤ caller) × (caller ≤ senders self.now) }
@@ -203,7 +203,7 @@ impl Plan {
         part(self.arrivals[usize::from(caller) - 1].as_slice(), k, count)
     }
 
-    /// The call that a caller makes after `k` others.
+    /// Returns the call of a caller after its first `k`.
     #[tactic(auto, unfolding(crate::specs::Plans::calls_of))]
     pub(crate) fn call(&self, caller: u16, k: usize) -> Option<Call>
         ensures { result ≡ slice_get (calls_of self.now caller) k }
@@ -220,7 +220,7 @@ impl Plan {
         }
     }
 
-    // The same of the caller that comes so many after the last sender.
+    // Returns the call after the first `k` of the `n`-th caller after the last sender.
     fn call_after_senders(&self, n: usize, k: usize) -> Option<Call>
         ensures { result ≡ slice_get (calls_after_senders self.now n) k }
     {
@@ -242,7 +242,7 @@ impl Plan {
     }
 }
 
-// So many arrivals after `k` others.
+// Returns the `count` arrivals after the first `k`.
 fn part(arrivals: &[Arrival], k: usize, count: usize) -> &[Arrival]
     requires { k + count ≤ length arrivals.now }
     ensures { result.now ≡ take count (drop k arrivals.now) }

@@ -1,4 +1,4 @@
-//! The plan of a storm.
+//! Planning a storm.
 ghost use Rattle.std.specs.Prelude.{◌≡◌, ◌+◌, ◌*◌, ◌/◌, ◌^◌, ◌<◌, ◌≤◌, IfOk, map};
 ghost use Rattle.std.specs.List.{range_with_len};
 ghost use Rattle.pie_storm.specs.StormPlan.{IsStormPlan, after_three, arrival_by, arrivals_of, change_at, changes_of, departs_of, ecn_of};
@@ -16,16 +16,16 @@ use std::alloc::{AllocError, Global};
 
 /// The nanoseconds from one packet of a sender to its next.
 const PACKET_TIME: u64 = 1_000_000;
-/// A hundredth of that, for each packet that comes while the link sends a hundred.
+/// A hundredth of `PACKET_TIME`, for each percent of load.
 const LOAD_TIME: u64 = 10_000;
-/// How many tags each sender has.
+/// The number of tags of each sender.
 const SENDER_TAGS: u64 = 1 << 32;
 /// The nanoseconds from one update to the next: the default `t_update`.
 const UPDATE_TIME: u64 = 15_000_000;
-/// The reference delay that every other change sets, in nanoseconds: a third of that by default.
+/// The target of every other change, in nanoseconds: a third of the default.
 const SHORT_TARGET: u64 = 5_000_000;
 
-/// The ECN field of two bits (RFC 3168, section 5).
+/// Returns the ECN field of two bits (RFC 3168, section 5).
 fn ecn_of(bits: u64) -> Ecn
     requires { bits < 4 }
     ensures { result ≡ ecn_of bits }
@@ -38,7 +38,7 @@ fn ecn_of(bits: u64) -> Ecn
     }
 }
 
-/// A product of small numbers, below a bound that is no product: so nobody who uses it has to bound one.
+/// Returns a product of small numbers. Its bound is no product, so that callers need not bound one.
 #[tactic(auto, using(crate::proofs::PlanFacts::small_product))]
 fn product(count: u64, by: u64) -> u64
     requires count { count ≤ 2 ^ 40 }
@@ -49,7 +49,7 @@ fn product(count: u64, by: u64) -> u64
     count * by
 }
 
-/// The moment at which a sender hands in a packet, counted from 0: that of the last packet of its burst.
+/// Returns the moment of a sender's packet, counted from 0: that of the last packet of its burst.
 #[tactic(auto, using(crate::proofs::PlanFacts::small_quotient))]
 fn moment_of(packets: u64, burst: u64, i: u64) -> u64
     requires some { 1 ≤ burst }
@@ -61,7 +61,7 @@ fn moment_of(packets: u64, burst: u64, i: u64) -> u64
     product(i / burst + 1, burst).min(packets) * PACKET_TIME
 }
 
-/// An arrival of this sender at this moment, counted from 0, by its next three random words.
+/// Returns an arrival of a sender at this moment, counted from 0, by its next three random words.
 fn next_arrival(words: &mut Lcg128Xsl64, sender: u64, i: u64, moment: u64) -> Arrival
     requires sender { sender ≤ 8 }
     requires i { i < 10_000 }
@@ -82,7 +82,7 @@ fn next_arrival(words: &mut Lcg128Xsl64, sender: u64, i: u64, moment: u64) -> Ar
     }
 }
 
-/// The arrivals of one sender, in order.
+/// Returns the arrivals of one sender, in order.
 fn arrivals_of(
     alloc: Global,
     sender: u64,
@@ -105,7 +105,7 @@ fn arrivals_of(
     Ok(arrivals)
 }
 
-/// The arrivals of each sender.
+/// Returns the arrivals of each sender.
 #[tactic(auto, using(crate::proofs::PlanFacts::lists_push))]
 fn all_arrivals(
     alloc: Global,
@@ -127,7 +127,7 @@ fn all_arrivals(
     Ok(lists)
 }
 
-/// A departure for each packet, spread evenly, where `load` packets come for each hundred that the link sends.
+/// Returns a departure for each packet, spread evenly, at this load.
 fn departs_of(alloc: Global, senders: u64, packets: u64, load: u64) -> Result<Vec<u64>, AllocError>
     requires some { 1 ≤ senders }
     requires senders { senders ≤ 8 }
@@ -140,7 +140,7 @@ fn departs_of(alloc: Global, senders: u64, packets: u64, load: u64) -> Result<Ve
         .collect(alloc)
 }
 
-/// The moment of a departure, counted from 0.
+/// Returns the moment of a departure, counted from 0.
 fn departure_of(senders: u64, load: u64, j: u64) -> u64
     requires some { 1 ≤ senders }
     requires load { load ≤ 200 }
@@ -150,7 +150,7 @@ fn departure_of(senders: u64, load: u64, j: u64) -> u64
     product(j + 1, load) * LOAD_TIME / senders
 }
 
-/// An update at each due moment while packets arrive, and one more.
+/// Returns an update at each due moment while packets arrive, and one more.
 fn updates_of(alloc: Global, packets: u64) -> Result<Vec<u64>, AllocError>
     requires { packets ≤ 10_000 }
     ensures { IfOk result (λ list. list.items ≡ updates_of packets) }
@@ -160,7 +160,7 @@ fn updates_of(alloc: Global, packets: u64) -> Result<Vec<u64>, AllocError>
         .collect(alloc)
 }
 
-/// The parameters that a change sets: a reference delay of 5 ms, and at each second change those by default again.
+/// Returns the parameters of a change: a target of 5 ms, and the defaults at every second change.
 fn params_at(k: u64) -> Params
     ensures { result ≡ params_at k }
 {
@@ -174,7 +174,7 @@ fn params_at(k: u64) -> Params
     }
 }
 
-/// A change, counted from 0.
+/// Returns a change, counted from 0.
 fn change_at(packets: u64, changes: u64, k: u64) -> Change
     requires packets { packets ≤ 10_000 }
     requires changes { changes ≤ 100 }
@@ -187,7 +187,7 @@ fn change_at(packets: u64, changes: u64, k: u64) -> Change
     }
 }
 
-/// The changes of the parameters, spread evenly over the time in which packets arrive.
+/// Returns the changes of the parameters, spread evenly over the time in which packets arrive.
 fn changes_of(alloc: Global, packets: u64, changes: u64) -> Result<Vec<Change>, AllocError>
     requires packets { packets ≤ 10_000 }
     requires changes { changes ≤ 100 }
@@ -198,7 +198,7 @@ fn changes_of(alloc: Global, packets: u64, changes: u64) -> Result<Vec<Change>, 
         .collect(alloc)
 }
 
-/// The folds: together of as many events as there are packets.
+/// Returns the folds: together of about as many events as there are packets.
 fn folds_of(alloc: Global, senders: u64, packets: u64, folds: u64) -> Result<Vec<u64>, AllocError>
     requires senders { senders ≤ 8 }
     requires packets { packets ≤ 10_000 }
@@ -209,12 +209,17 @@ fn folds_of(alloc: Global, senders: u64, packets: u64, folds: u64) -> Result<Vec
     (0..folds).map(|_| events / folds).collect(alloc)
 }
 
-/// The plan of a storm (this project's own) with default parameters from moment 0 on, and these choices. Each sender has a packet each
-/// millisecond, of 64 to 1500 bytes and any ECN field, whose size, ECN field and random word are three words of a generator that is made of
-/// `seed` and the sender's number. It hands them in by so many as `burst` says, all at the moment of the last. As many departures are spread
-/// evenly over that time at a `load` of 100, and over `load` hundredths of it at any other. An update is made at each due moment while packets
-/// arrive. The changes are spread evenly over that time, to a reference delay of 5 ms and back in turn. The folds together hand out as many
-/// events as there are packets. The tail has room for all events, so that none is needed.
+/// Plans a storm (this project's own) with default parameters from moment 0 on.
+///
+/// - Each sender has one packet per millisecond, of 64 to 1500 bytes and any ECN field. Size, ECN field and random word
+///   are three words of a generator from `seed` and the sender's number. A call has `burst` packets, at the moment of
+///   the last one.
+/// - There is a departure for each packet, spread evenly over that time at a `load` of 100, otherwise over `load`
+///   hundredths of it.
+/// - There is an update at each due moment while packets arrive.
+/// - The changes are spread evenly over that time, to a target of 5 ms and back in turn.
+/// - The folds have together about as many events as there are packets. The tail has room for all events, so that no
+///   fold is needed.
 ///
 /// # Errors
 ///
@@ -250,13 +255,13 @@ pub(crate) fn plan_of(alloc: Global, numbers: StormNumbers) -> Result<Plan, Allo
     })
 }
 
-/// Plans the usual storm (this project's own): 2 to 8 senders, with 1 to 10,000 `packets` each, whose random words are made of `seed`. Each sender
-/// hands in one packet each millisecond, in a call of its own, and the link sends as many as come. The parameters never change, there are no folds, and
-/// the controller is of profile one with the usual elements.
+/// Plans the usual storm (this project's own): 2 to 8 senders with 1 to 10,000 `packets` each, and random words from
+/// `seed`. Each sender makes one arrival per millisecond, in a call of its own, and the load is 100. The parameters
+/// never change, there are no folds, and the controller has profile one with the usual elements.
 ///
 /// # Errors
 ///
-/// `Memory` if there is none for the lists.
+/// `Memory` if there is no memory for the lists.
 pub fn storm_plan(alloc: Global, senders: u16, packets: u32, seed: u64) -> Result<Plan, Memory>
     requires senders { (2 ≤ senders) × (senders ≤ 8) }
     requires packets { (1 ≤ packets) × (packets ≤ 10_000) }

@@ -1,4 +1,4 @@
-//! The storm: a link under many threads at once, recorded.
+//! The storm: a link under many threads at once.
 ghost use Rattle.std.specs.Prelude.{◌≡◌, ◌+◌, ◌↔◌, ◌++◌, ◌⊎◌, ℕ, List, Some, Err, IfSome, IfOk, IfErr, length};
 ghost use denote.Param.Send.{IsSync};
 ghost use Rattle.pie_event.specs.declared.command.Event.{Event};
@@ -23,7 +23,7 @@ use std::sync::Wait;
 use std::thread;
 use std::thread::{Promise, PromisedHandle, Scope, Threads};
 
-// What a worker promises: it made all calls of the caller with this number.
+// A worker, and its promise: it makes all calls of the caller with this number.
 #[derive(Clone, Copy)]
 struct MakesAll<'a> {
     link: &'a Link,
@@ -35,8 +35,8 @@ impl<'a> Promise<Work> for MakesAll<'a> {
     ghost kept_by = { λ p work. IsWorkOf p.link.now p.plan.now p.caller work };
 }
 
-// Starts the worker of a caller in a thread of its own, where that is not refused. Apart from `work_in`, which would let one caller more go on
-// each way out.
+// Starts the worker of a caller in a thread of its own, unless that is refused. It is apart from `work_in`, which would
+// drop one more caller on each way out.
 fn start<'s, E: 's, R: Threads + Wait + Sync, G: Gate + Sync>(
     scope: &Scope<'s, E>,
     rt: &'s R,
@@ -72,8 +72,8 @@ fn start<'s, E: 's, R: Threads + Wait + Sync, G: Gate + Sync>(
     }
 }
 
-// Lets the callers with these numbers work at once, each but the first in a thread of its own, and gathers them in order. The
-// first is the starter, which makes no calls. Where one is not started, those that were have ended.
+// Runs the callers with these numbers at once, each except the first in a thread of its own, and gathers them in order.
+// The first is the starter, which makes no calls. If a worker is not started, those that were have ended.
 fn work_in<'s, E: 's, R: Threads + Wait + Sync, G: Gate + Sync>(
     scope: &Scope<'s, E>,
     rt: &'s R,
@@ -114,7 +114,7 @@ fn work_in<'s, E: 's, R: Threads + Wait + Sync, G: Gate + Sync>(
     }
 }
 
-// The same in a scope, which ends when all workers have.
+// Runs the callers in a scope, which ends when all workers have ended.
 fn work_at_once<R: Threads + Wait + Sync, G: Gate + Sync>(
     rt: &R,
     alloc: Global,
@@ -137,7 +137,7 @@ fn work_at_once<R: Threads + Wait + Sync, G: Gate + Sync>(
     )
 }
 
-// Gathers a caller to those before it. Apart from `both`, where what is let go on each way out would be dear to prove.
+// Gathers a caller to those before it. It is apart from `both`, where drops on each way out would be dear to prove.
 fn gathered(link: &Link, caller: Caller, last: Caller) -> Caller
     requires own { (caller.lock ≡ link.now) × (last.lock ≡ link.now) }
     requires beside { last.first ≡ caller.limit }
@@ -150,7 +150,7 @@ fn gathered(link: &Link, caller: Caller, last: Caller) -> Caller
     both
 }
 
-// How many updates were too soon, once the caller with this number has made its calls.
+// Returns the number of updates that were too soon, after the caller with this number has made its calls.
 fn too_soon(plan: &Plan, number: u16, passed: u64, before: u64) -> u64
     ensures its { number ≡ updater plan.now → result ≡ passed }
     ensures another { (number ≡ updater plan.now → ⊥) → result ≡ before }
@@ -162,7 +162,7 @@ fn too_soon(plan: &Plan, number: u16, passed: u64, before: u64) -> u64
     }
 }
 
-// Gathers a worker's caller to those before it, with what both did.
+// Gathers a worker's caller to those before it, with the results of both.
 fn both(link: &Link, plan: &Plan, work: Work, last: Work) -> Work
     requires own { (work.caller.lock ≡ link.now) × (last.caller.lock ≡ link.now) }
     requires beside { last.caller.first ≡ work.caller.limit }
@@ -181,18 +181,19 @@ fn both(link: &Link, plan: &Plan, work: Work, last: Work) -> Work
     }
 }
 
-/// Makes all calls of the plan at once, each list in a thread of its own, and answers what was recorded (this project's own).
+/// Makes all calls of the plan at once, each list in a thread of its own, and returns the recorded events (this
+/// project's own).
 ///
-/// With N lists of arrivals, callers 1 to N send them, N + 1 makes the departures, N + 2 the updates, N + 3 the changes and
-/// N + 4 the folds, each in the order of its list, with `gate.before` and `gate.after` around each call. A sender makes a burst of
-/// its arrivals in one call. An update that is too
-/// soon, and a fold of more events than the tail holds, are counted and passed over.
+/// With N lists of arrivals, callers 1 to N send them, caller N + 1 makes the departures, N + 2 the updates, N + 3 the
+/// changes and N + 4 the folds, each in the order of its list, with `gate.before` and `gate.after` around each call. A
+/// sender makes a burst of its arrivals in one call. An update that is too soon, and a fold of more events than the log
+/// has, are counted and skipped.
 ///
 /// # Errors
 ///
-/// `BadPlan` before anything else, where the plan is not sound; `Opening` where the link is not opened; `Thread` where a worker's
-/// thread could not be started, whatever the others met; then `Memory`, where a fold, the answers to a burst or the list of all events
-/// had none. All workers that were started have ended then. `Gap` never comes: no event is lost between folds and tail.
+/// In this order: `BadPlan` if the plan is not sound; `Opening` if the link is not opened; `Thread` if a worker's
+/// thread was not started; `Memory` if there was no memory for a fold, the results of a burst or the list of all
+/// events. All started workers have ended then. `Gap` never occurs: no event is lost between folds and log.
 #[tactic(auto, unfolding(crate::specs::Storms::HasFault), using(crate::proofs::Gathering::run_fault))]
 pub fn storm<R: Threads + Wait + Sync, G: Gate + Sync>(
     rt: &R,
@@ -215,8 +216,8 @@ pub fn storm<R: Threads + Wait + Sync, G: Gate + Sync>(
     }
 }
 
-// Makes all calls of the plan at this link, and closes it. A function of its own: a way out of `storm` that came after the opening would let
-// the link go, which is dear to prove.
+// Makes all calls of the plan at this link, and closes it. It is apart from `storm`, where a way out after the opening
+// would drop the link, which is dear to prove.
 fn run<R: Threads + Wait + Sync, G: Gate + Sync>(
     rt: &R,
     alloc: Global,
@@ -249,8 +250,8 @@ fn run<R: Threads + Wait + Sync, G: Gate + Sync>(
     end
 }
 
-// What the storm ended with: the folded events, and then the tail of the closed book. It has both by reference, since each way out would let
-// them go.
+// Returns the result of the storm: the folded events, followed by the log of the closed book. It takes both by
+// reference, because each way out would drop them.
 fn end_of(
     alloc: Global,
     book: &mut Book,
@@ -282,7 +283,7 @@ fn end_of(
     }
 }
 
-// The folded events, and then the tail of the closed book, where none is missing and there is memory for all.
+// Returns the folded events, followed by the log of the closed book, if none is missing and there is memory for all.
 #[tactic(auto, using(crate::proofs::PlanFacts::taken_whole))]
 fn all_events(alloc: Global, book: &mut Book, folding: &mut Folding) -> Option<Vec<Event>>
     ensures events { IfSome result (λ events. events.items ≡ folding.old.events.items ++ book.old.tail) }
@@ -291,7 +292,7 @@ fn all_events(alloc: Global, book: &mut Book, folding: &mut Folding) -> Option<V
     if folding.is_short_of_memory {
         return None;
     }
-    // (a fold of as many as it has hands the tail out)
+    // A fold of the log's length returns the whole log.
     let held = book.tail_len() as u64;
     let Ok(mut tail) = book.fold(alloc, held) else {
         return None;

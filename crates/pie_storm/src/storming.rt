@@ -1,4 +1,4 @@
-//! A storm is made by its plan, and its events are audited and written as a history.
+//! Making a storm from its numbers, and auditing and writing its history.
 ghost use Rattle.std.specs.Prelude.{◌≡◌, IfErr, IfOk, OnOk, map};
 ghost use Rattle.pie_book.specs.Decision.{IsLegal};
 ghost use Rattle.pie_record.specs.declared.history_record.Line.TheVariants.{Made};
@@ -28,14 +28,14 @@ use std::sync::Wait;
 use std::thread::Threads;
 use std::time::Clock;
 
-/// A storm that was made (this project's own).
+/// A finished storm (this project's own).
 #[derive(Drop)]
 pub struct MadeStorm {
-    /// What its callers did.
+    /// The calls of its callers.
     pub plan: Plan,
-    /// What the link recorded.
+    /// The recorded events.
     pub end: StormEnd,
-    /// One caller waited in vain for another, and from then on none waited. So it is if a thread gets no processor for long.
+    /// A caller waited too long for another, and from then on none waited: a thread got no processor for long.
     pub lost_pace: bool,
 }
 
@@ -43,7 +43,7 @@ pub struct MadeStorm {
 ///
 /// # Errors
 ///
-/// `Memory` where there was none for the plan, and what `storm` answers.
+/// `Memory` if there is no memory for the plan, and the errors of `storm`.
 pub fn make_storm<H: Threads + Wait + Clock + Sync>(
     rt: &H,
     alloc: Global,
@@ -72,7 +72,7 @@ pub fn make_storm<H: Threads + Wait + Clock + Sync>(
     }
 }
 
-/// Runs a plan at the storm's pace, and tells whether that was lost.
+/// Runs a plan at the storm's pace. Returns also whether the pace was lost.
 fn run_plan<H: Threads + Wait + Clock + Sync>(
     rt: &H,
     alloc: Global,
@@ -88,11 +88,11 @@ fn run_plan<H: Threads + Wait + Clock + Sync>(
     }
 }
 
-/// Audits these events, which a storm of this plan left, and writes their history.
+/// Audits the events of a storm with this plan, and writes their history.
 ///
 /// # Errors
 ///
-/// `Memory` or `Write`, where memory or the writer fails.
+/// `Memory` or `Write` if memory or the writer fails.
 pub fn write_storm<W: Write>(
     alloc: Global,
     plan: &Plan,
@@ -120,8 +120,8 @@ pub fn write_storm<W: Write>(
     write_history(alloc, output, &opening, events)
 }
 
-/// An auditor that has decided each of these events again. The limits of a storm's plan are in their ranges, so only memory can
-/// be wanting.
+/// Returns an auditor that has decided each of these events again. The limits of a storm's plan are in their ranges, so
+/// only memory can be short.
 fn auditor_of(alloc: Global, opening: &Opening, events: &[Event]) -> Result<Auditor, OpenRefusal>
     ensures { IfOk result (λ auditor. Audits opening.now auditor (map Made events.now)) }
 {

@@ -12,30 +12,30 @@ use pie_link::{Caller, Link, Told, entries_look_back};
 use std::alloc::Global;
 use std::sync::Wait;
 
-/// What some callers of a storm did, and the caller that has all their numbers.
+/// The results of some callers of a storm, and the caller that has all their numbers.
 #[derive(Drop)]
 pub(crate) struct Work {
     pub(crate) caller: Caller,
-    /// How many calls of the last of them were passed over.
+    /// The number of skipped calls of the last of them.
     pub(crate) passed: u64,
-    /// How many updates were too soon, once the worker of the updates is among them.
+    /// The number of updates that were too soon, if the worker of the updates is among them.
     pub(crate) too_soon: u64,
     pub(crate) folding: Folding,
 }
 
-/// What a worker is handed.
+/// A worker's memory.
 #[derive(Drop)]
 pub(crate) struct Folding {
-    /// What its folds handed out, one after another, while none is missing.
+    /// The events of its folds, one fold after another, while none is missing.
     pub(crate) events: Vec<Recorded>,
-    // What the arrivals of its last burst were answered.
+    // The results of its last burst.
     replies: Vec<Result<Told<Answer>, Refusal>>,
-    /// Whether memory was wanting for the events of a fold, or for the answers to a burst.
+    /// True if there was no memory for the events of a fold, or for the results of a burst.
     pub(crate) is_short_of_memory: bool,
 }
 
 impl Folding {
-    /// No folds, and room for so many answers, where there is memory for them.
+    /// Returns a value without events, with room for `answers` results, if there is memory for them.
     pub(crate) fn none(alloc: Global, answers: usize) -> Folding
         ensures events { result.events.items ≡ [] }
         ensures well { IsWell result }
@@ -51,7 +51,8 @@ impl Folding {
         }
     }
 
-    // Takes in what one more fold was answered, and tells whether it was of too many events. There is no answer for want of memory.
+    // Stores the result of one more fold. Returns 1 if it was of too many events, 0 if not, and `None` if there was no
+    // memory.
     #[tactic(auto, unfolding(crate::specs::Storms::TakenIn))]
     fn take_in(&mut self, answer: Result<Told<Vec<Recorded>>, FoldRefusal>) -> Option<u64>
         ensures well { IsWell self.new → IsWell self.old }
@@ -78,7 +79,7 @@ impl Folding {
     }
 }
 
-// Asks the link for one command, and waits for the answer.
+// Makes one command at the link, and waits for its result.
 fn ask<R: Wait>(
     rt: &R,
     link: &Link,
@@ -102,7 +103,7 @@ fn ask<R: Wait>(
     }
 }
 
-// What an answer adds to the updates that were too soon; none where the book was full.
+// Returns the number that a result adds to the updates that were too soon; `None` if the book was full.
 #[tactic(auto, unfolding(crate::specs::Storms::added_by))]
 fn added_by(answer: &Result<Told<Answer>, Refusal>) -> Option<u64>
     ensures value { result ≡ added_by answer.now }
@@ -115,7 +116,8 @@ fn added_by(answer: &Result<Told<Answer>, Refusal>) -> Option<u64>
     }
 }
 
-// What the answers to a burst add to them: 0, since no arrival is too soon. There is no number where one was refused: the book was full.
+// Returns the number that the results of a burst add to them: 0, since no arrival is too soon; `None` if one was
+// refused, because the book was full.
 fn added_by_all(answers: &[Result<Told<Answer>, Refusal>]) -> Option<u64>
     ensures { AddedByAll answers.now result }
 {
@@ -126,7 +128,8 @@ fn added_by_all(answers: &[Result<Told<Answer>, Refusal>]) -> Option<u64>
     }
 }
 
-// Hands in at once the `count` arrivals of a sender that come after `k` others. There is no answer where the book was full, or memory was wanting.
+// Makes the `count` arrivals of a sender after its first `k`, in one call. Returns `None` if the book was full, or if
+// there was no memory.
 fn send_next<R: Wait>(
     rt: &R,
     link: &Link,
@@ -154,8 +157,8 @@ fn send_next<R: Wait>(
     added_by_all(folding.replies.as_slice())
 }
 
-// Makes the `count` calls of a caller that come after `k` others, in one turn at the link, and tells how many were passed over. There is no
-// answer where the book was full, or memory was wanting.
+// Makes the `count` calls of a caller after its first `k`, in one turn at the link, and returns the number of skipped
+// ones. Returns `None` if the book was full, or if there was no memory.
 fn make_turn<R: Wait>(
     rt: &R,
     link: &Link,
@@ -184,7 +187,7 @@ fn make_turn<R: Wait>(
     }
 }
 
-// Makes all calls of a caller with one number, and tells how many were passed over.
+// Makes all calls of a caller with one number, and returns the number of skipped ones.
 fn make_all<R: Wait, G: Gate>(
     rt: &R,
     link: &Link,

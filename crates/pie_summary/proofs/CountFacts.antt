@@ -48,7 +48,7 @@ count-push {X} place wanted shown one =
     ap kept (sum_by_push (λ (e : X). cond (place e == wanted) 1 0) shown one)
     ∙ sym (kept-more (count_by (λ e. place e == wanted) shown) (cond (place one == wanted) 1 0) 18446744073709551615)
 
--- .. elsewhere it stays
+-- the count of another place is unchanged
 count-other : {X : Type 0} (place : X → ℕ) (shown : List X) (one : X) (wanted : ℕ) → (place one ≡ wanted → ⊥)
     → count_at place wanted (shown ++ one ∷ []) ≡ count_at place wanted shown
 count-other {X} place shown one wanted differs =
@@ -74,7 +74,7 @@ counted-push place places at shown one old is here within =
     ap (λ (count : ℕ). slice_set old at count) more ∙ ap (λ (counts : List ℕ). slice_set counts at (after at)) is
     ∙ set-range before after at 0 places at within (omega arith) (λ w differs. count-other place shown one w (λ e. differs (here ∙ e)))
 
--- .. where the place may lie behind all that are counted
+-- the counts with one more element, whose place may be after all counted places
 pub counted-among : {X : Type 0} (place : X → ℕ) (places at : ℕ) (shown : List X) (one : X) (old : List ℕ)
     → old ≡ counts_of place places shown → at ≡ place one
     → (if nat_lt at places then slice_set old at (min (slice_index old at + 1) 18446744073709551615) else old)

@@ -1,4 +1,5 @@
--- The definitions on worked numbers: each theorem computes. What is written of events is in tests/program/summary.py and flows.py.
+-- Worked examples of the definitions: each theorem computes. The tests tests/program/summary.py and flows.py cover
+-- the output.
 use Rattle.pie_summary.proofs.Names.{◌^◌, Some, None, ⊤, greatest, last_or, Bounds, period_of, kept, first_up_to, range_of, bounds_of}
 use Rattle.pie_summary.proofs.Names.{peak_of, total_in, total_of}
 use Rattle.std.specs.Prelude.{ℕ, ◌≡◌, ◌-◌, true, false, [], ◌∷◌, map, refl}
@@ -26,7 +27,7 @@ periods = (refl, refl, refl)
 
 -- ---- ranges
 
--- each of 0 to 99 is a range; then two digits tell one, 2^60 - 1 and 2^64 - 1 among them
+-- each of 0 to 99 is a range; above, two digits determine the range, also of 2^60 - 1 and 2^64 - 1
 ranges : map range_of (0 ∷ 9 ∷ 10 ∷ 99 ∷ 100 ∷ 109 ∷ 110 ∷ 999 ∷ 1000 ∷ 1_152_921_504_606_846_975 ∷ 18_446_744_073_709_551_615 ∷ [])
     ≡ 0 ∷ 9 ∷ 10 ∷ 99 ∷ 100 ∷ 100 ∷ 101 ∷ 189 ∷ 190 ∷ 1541 ∷ 1638 ∷ []
 unfolding worked
@@ -42,7 +43,7 @@ places-up-to : map (first_up_to (0 ∷ 3 ∷ 0 ∷ 2 ∷ [])) (0 ∷ 1 ∷ 3 ∷
     ≡ Some 0 ∷ Some 1 ∷ Some 1 ∷ Some 3 ∷ Some 3 ∷ None ∷ []
 places-up-to = refl
 
--- the end of a range, but no more than the greatest of all
+-- the end of a range, at most the greatest of all numbers
 ends : (end_within (Some 104) 1000 ≡ 149) × (end_within (Some 104) 140 ≡ 140) × (end_within None 140 ≡ 140)
 unfolding worked
 ends = (refl, refl, refl)

@@ -38,7 +38,7 @@ sum-more number all one = sum-push number all one (two (kept (sum (map number al
     two : (n more : ℕ) → kept (sum (n ∷ more ∷ [])) ≡ min (n + more) 18446744073709551615
     two n more = omega arith
 
--- .. of 128 bits
+-- a sum of 128 bits with one more number
 wide-more : (number : FlowSums → ℕ) (all : List FlowSums) (one : FlowSums)
     → min (sum (min (sum (map number all)) (2 ^ 128 - 1) ∷ number one ∷ [])) (2 ^ 128 - 1) ≡ min (sum (map number (all ++ one ∷ []))) (2 ^ 128 - 1)
 wide-more number all one =
@@ -74,7 +74,7 @@ flow_sums_push shown one =
     added-push (map (λ e. numbers_of (noted_of e)) shown) (numbers_of (noted_of one))
     ∙ ap added_up (sym (map_push (λ (e : Explained). numbers_of (noted_of e)) shown one))
 
--- a number in eight hexadecimal digits at the least
+-- a number in at least eight hexadecimal digits
 pub eight_digits : (n : ℕ) → padded_integral (format_spec 32 0 4 8 18446744073709551615) false [] (digits 16 false n)
     ≡ replicate (8 - length (digits 16 false n)) 48 ++ digits 16 false n
 unfolding padded_integral char_count
@@ -90,7 +90,7 @@ of-push : (flow : ℕ) (shown : List Explained) (one : Explained) (b : Bool) →
 of-push flow shown one b e =
     filter-append (is_of flow) shown (one ∷ []) ∙ ap (λ (c : Bool). filter (is_of flow) shown ++ cond c (one ∷ []) []) e
 
--- .. so of another flow the same is found
+-- the row of another flow is unchanged
 found-same : (flow : ℕ) (shown : List Explained) (one : Explained) → is_of flow one ≡ false
     → row_of flow (filter (is_of flow) shown) ≡ row_of flow (filter (is_of flow) (shown ++ one ∷ []))
 found-same flow shown one e = ap (row_of flow) (sym (of-push flow shown one false e ∙ append-nil (filter (is_of flow) shown)))

@@ -1,4 +1,4 @@
--- What is kept of a period that is summed up as it goes, with one more event.
+-- Facts about an interval that is summed up event by event, with one more event.
 use Rattle.pie_summary.proofs.Names.{◌≡◌, ◌≤◌, ◌<◌, ◌+◌, ◌*◌, ◌-◌, ◌/◌, ◌==◌, arith, ℕ, Bool, true, false, cond, not, List, [], ◌∷◌, ◌++◌, refl}
 use Rattle.pie_summary.proofs.Names.{sym, ap, ◌∙◌, min, max, count_by, Option, Some, None, if◌then◌else◌, eq-eqb, ne_eqb}
 use Rattle.pie_summary.proofs.Names.{sum_by_push, Place, places, time_of, Explained, LivePeriod, Meter, kept, Holds, clock_of}
@@ -95,7 +95,8 @@ awaits-same period shown one holds same =
     small : (n : ℕ) → kept n ≡ min (kept n + 0) 18446744073709551615
     small n = omega arith
 
--- .. and one with which another begins: its number and its ends, the count of periods, and what it has of the event
+-- an event that begins another interval: the interval's number and bounds, the count of intervals, and the numbers
+-- before the event
 pub awaits-new : (old : LivePeriod) (shown : List Explained) (one : Explained) (number start end begun : ℕ) (meter : Meter) (waits : List ℕ)
     → Holds old shown → number ≡ period_at (length_of old) one → starts (number_in old) number ≡ true
     → begun ≡ kept (old.begun + 1) → meter ≡ record (meter_of [] []) { first = one.told.moment; since = one.told.moment } → waits ≡ ranges_of []
@@ -118,11 +119,11 @@ awaits-new old shown one number start end begun meter waits holds number-is star
       spans = spans;
     }
 
--- a time of day that isn't told
+-- a wall-clock time that is not known
 pub untold : (period : LivePeriod) (moment : ℕ) → (period.told ≡ 1 → ⊥) → time_of (clock_of period) moment ≡ None
 untold period moment none = rw (ne_eqb period.told 1 none) refl
 
--- .. and one that is noted, or none where none is told, is the first that there was
+-- a recorded time is the first one; if no time is known, none is recorded
 pub clock_kept : (period : LivePeriod) (times : List ℕ) (moment : ℕ) → period.told ≡ period.meter.timed → period.meter ≡ timed_by period.meter times
     → period ≡ record period { meter = timed_by period.meter (times ++ cons_option (time_of (clock_of period) moment) []) }
 clock_kept period times moment same is = λ i. record period {

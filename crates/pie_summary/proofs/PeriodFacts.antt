@@ -50,12 +50,12 @@ under-way (Some before) period same = ap Some (eqb-true before period (twice (be
     twice true e = refl
     twice false e = sym e
 
--- .. so the last events before it are those in its period
+-- in the interval under way, the last events are those of the interval
 pub since_same : (every : Option ℕ) (period : ℕ) (shown : List Explained) (before : Option ℕ) → before ≡ last_period every shown
     → starts before period ≡ false → since every (Some period) shown ≡ last_events every shown
 since_same every period shown before is same = ap (λ p. since every p shown) (sym (under-way before period same) ∙ is)
 
--- .. and of one that begins it none are
+-- a new interval has no events before its first
 pub since_begun : (every : Option ℕ) (period : ℕ) (shown : List Explained) (before : Option ℕ) → before ≡ last_period every shown
     → starts before period ≡ true → since every (Some period) shown ≡ []
 since_begun every period shown before is begun = by_end (ends-of shown)

@@ -15,7 +15,8 @@ shorter digits number some few = less (10 ^ (digits - 1)) (10 ^ digits) (ap (λ 
     less : (power longer : ℕ) → longer ≡ power * 10 → number < 100 * longer → number / 10 < 100 * power
     less power longer is below = omega (arith, is, below)
 
--- the range of a number of two digits and so many more, which this power of 10 parts from the two: the two, and 90 for each other
+-- the range of a number of two digits and `digits` more, for a power of 10 that separates the two parts: the two
+-- digits, and 90 for each other digit
 pub range_at : (digits more number power : ℕ) → more ≤ digits → power ≡ 10 ^ more → 10 * power ≤ number → number < 100 * power
     → range_within digits number ≡ number / power + 90 * more
 range_at zero zero number power within is from to = omega (arith, ap (λ p. number / p) is)
@@ -38,12 +39,12 @@ range_at (suc digits) (suc more) number power within is from to =
         longer : (short : ℕ) → (if nat_lt number 100 then number else short + 90) ≡ short + 90
         longer short = grind (arith, nat_tests)
 
--- so many are counted up to one more place
+-- the sum of the counts up to one more place
 up-to-more : (counts : List ℕ) (place : ℕ) → place < length counts
     → sum (take (place + 1) counts) ≡ sum (take place counts) + slice_index counts place
 up-to-more counts place within = sum_by_more (λ (n : ℕ). n) counts place 0 within
 
--- a search over a range ends at its first place, or goes on behind it
+-- a search over a range ends at its first place or continues after it
 search-step : (test : ℕ → Bool) (place count : ℕ) → place < count → find test (range_with_len place (count - place))
     ≡ (if test place then Some place else find test (range_with_len (place + 1) (count - (place + 1))))
 search-step test place count within = longer (count - (place + 1)) (count - place) (omega arith)

@@ -1,4 +1,4 @@
--- What is kept of a list of numbers, with one more.
+-- Facts about the aggregates of a list of numbers, with one more number.
 use Rattle.pie_summary.proofs.Names.{◌≡◌, ◌≤◌, ◌<◌, ◌+◌, ◌/◌, ◌%◌, ◌==◌, arith, ℕ, suc, Bool, true, false, List, [], ◌∷◌, ◌++◌, append-nil, length}
 use Rattle.pie_summary.proofs.Names.{map, refl, subst, sym, ap, ◌∙◌, max, min, slice_index, Option, Some, None, unwrap_or, if◌then◌else◌, cons_option}
 use Rattle.pie_summary.proofs.Names.{filter_map, sum, eq-eqb, eqb-true, map_push, filter_map-append, sum_by_push, greatest, last_or, greatest-push}
@@ -12,7 +12,7 @@ use Rattle.pie_summary.proofs.CountFacts.{kept-more}
 
 -- ---- numbers of events, where a list of numbers has its step
 
--- .. of some of them
+-- the aggregates of an optional number
 pub some-of-push : {S X : Type 0} (of : List ℕ → S) (number : X → Option ℕ) (shown : List X) (one : X) {read : Option ℕ} {old now : S}
     → ((numbers : List ℕ) → old ≡ of numbers → now ≡ of (numbers ++ cons_option read [])) → read ≡ number one
     → old ≡ of (filter_map number shown) → now ≡ of (filter_map number (shown ++ one ∷ []))
@@ -21,7 +21,7 @@ some-of-push of number shown one step is old-is =
     ∙ ap (λ (r : Option ℕ). of (filter_map number shown ++ cons_option r [])) is
     ∙ ap of (sym (filter_map-append number shown (one ∷ [])))
 
--- .. of each
+-- the aggregates of a number of each element
 pub each-of-push : {S X : Type 0} (of : List ℕ → S) (number : X → ℕ) (shown : List X) (one : X) {read : ℕ} {old now : S}
     → ((numbers : List ℕ) → old ≡ of numbers → now ≡ of (numbers ++ read ∷ [])) → read ≡ number one
     → old ≡ of (map number shown) → now ≡ of (map number (shown ++ one ∷ []))
@@ -64,7 +64,7 @@ peak_push numbers number old most is most-is = λ i. record {
   last = sym (last_or-push 0 numbers number) i;
 }
 
--- .. where it is the last one again
+-- the aggregate with the last number once more
 pub peak_same : (numbers : List ℕ) (number : ℕ) (old : Peak) → old ≡ peak_of numbers → old.last ≡ number → old ≡ peak_of (numbers ++ number ∷ [])
 peak_same numbers number old is same =
     let below : old.last ≤ max 0 old.greatest = subst (λ (p : Peak). p.last ≤ max 0 p.greatest) (sym is) (last-from 0 numbers) in
@@ -76,12 +76,12 @@ pub count-some : (numbers : List ℕ) (read : Option ℕ) (old now : ℕ) → no
 count-some numbers None old now is old-is = is ∙ old-is ∙ ap (λ (ns : List ℕ). kept (length ns)) (sym (append-nil numbers))
 count-some numbers (Some number) old now is old-is = is ∙ ap (λ (n : ℕ). kept (n + 1)) old-is ∙ count-push numbers number
 
--- .. and the greatest
+-- the greatest number
 pub greatest-some : (numbers : List ℕ) (read : Option ℕ) → max (greatest numbers) (unwrap_or read 0) ≡ greatest (numbers ++ cons_option read [])
 greatest-some numbers None = omega arith ∙ ap greatest (sym (append-nil numbers))
 greatest-some numbers (Some number) = sym (greatest-push numbers number)
 
--- .. and the last of some, or another
+-- the last number, or another one
 pub since-push : (before : ℕ) (numbers : List ℕ) (read : Option ℕ)
     → unwrap_or read (last_or before numbers) ≡ last_or before (numbers ++ cons_option read [])
 since-push before numbers None = ap (last_or before) (sym (append-nil numbers))

@@ -57,13 +57,13 @@ unfolding last_or
 reached_none [] one moment at none = λ i. record (meter_of [] []) { first = sym at i; since = sym at i }
 reached_none (first ∷ rest) one moment at none = absurd (omega (arith, none))
 
--- .. has noted the times of the events before
+-- a meter before one more event has the times of the events before
 pub noted-times : (shown : List Explained) (one : Explained) {meter : Meter} → meter ≡ reached shown one
     → meter ≡ timed_by meter (filter_map time_at shown)
 unfolding meter_of
 noted-times shown one is = is ∙ ap (λ (m : Meter). timed_by m (filter_map time_at shown)) (sym is)
 
--- the first of these times stays, where there is one or none more is told
+-- the first of these times stays, if there is one or no further time is known
 pub times_kept : (meter : Meter) (times : List ℕ) (read : Option ℕ) → meter ≡ timed_by meter times → (meter.timed ≡ 0 → read ≡ None)
     → meter ≡ timed_by meter (times ++ cons_option read [])
 times_kept meter [] read is none =
@@ -74,14 +74,14 @@ times_kept meter (time ∷ times) read is none =
     some : (n m : ℕ) → min (suc n) 1 ≡ min (suc m) 1
     some n m = omega arith
 
--- .. and else it is noted
+-- the first time that is known is recorded
 pub time_noted : (meter : Meter) (times : List ℕ) (time : ℕ) → meter ≡ timed_by meter times → meter.timed ≡ 0
     → record meter { timed = 1; time = time } ≡ timed_by meter (times ++ time ∷ [])
 time_noted meter [] time is none = refl
 time_noted meter (first ∷ times) time is none =
     let some : meter.timed ≡ min (suc (length times)) 1 = ap (λ (m : Meter). m.timed) is in absurd (omega (arith, some, none))
 
--- .. and has then taken it
+-- a meter after one more event has the numbers of all events
 pub taken : (shown : List Explained) (one : Explained) {noted : Noted} {time : Option ℕ} {old timed now : Meter} → noted ≡ noted_of one
     → time ≡ time_at one → ((times : List ℕ) → old ≡ timed_by old times → timed ≡ timed_by old (times ++ cons_option time []))
     → ((before : List Noted) (times : List ℕ) → timed ≡ awaiting before noted times → now ≡ meter_of (before ++ noted ∷ []) times)
@@ -95,13 +95,13 @@ taken shown one is told notes takes reached-is =
     ∙ (λ i. awaiting before (sym is i) (sym (filter_map-append time_at shown (one ∷ [])) i)))
     ∙ (λ i. meter_of (before ++ is i ∷ []) times) ∙ ap (λ all. meter_of all times) (sym (map_push noted_of shown one))
 
--- ---- what is noted of an event, by what it met and its answer
+-- ---- The meter's input for an event, by its numbers and its answer
 
 pub noted-by : (met : Met) (one : Explained) (answer : Answer) (cause : ℕ) (arrived : Option ℕ) → Meets met one → one.told.event.answer ≡ answer
     → cause_of one ≡ cause → size_in one ≡ arrived → noted_of one ≡ noted_by met answer cause arrived one.told.waited
 noted-by met one answer cause arrived m is cause-is size-is = λ i. noted_by (m i) (is i) (cause-is i) (size-is i) one.told.waited
 
--- .. of an arrival, whatever became of it
+-- the input for an arrival with any verdict
 pub arrival-noted : (met : Met) (verdict : Verdict) (cause size waited : ℕ)
     → record (noted_by met Done 15 None 0) { answer = answer_place (answer_of verdict); cause = cause; arrived = Some size }
     ≡ noted_by met (answer_of verdict) cause (Some size) waited

@@ -1,4 +1,4 @@
--- What is written for sums by flow of the explained events.
+-- The output of sums by flow of the explained events.
 use Rattle.std.specs.Prelude.{ℕ, ◌≡◌, List, ◌++◌}
 use Rattle.std.specs.List.{flat_map}
 use Rattle.pie_aqm.specs.Places.{places}
@@ -12,11 +12,11 @@ use Rattle.pie_summary.specs.FlowWords.{flow_names, flows_said}
 use Rattle.pie_summary.specs.Period.{Keeps, at_end, at_last}
 use Rattle.pie_summary.specs.Spans.{span_of}
 
--- what stands before the first period: for CSV the header row
+-- the text before the first interval: for CSV the header row
 abbrev pub flow_header : Form → List ℕ
 flow_header form = header_of flow_names form
 
--- what these events come to, by flow
+-- the text of the sums of these events by flow
 abbrev pub said_by_flow : ByFlow → List Explained → List ℕ
 said_by_flow by_flow all = flows_said by_flow.form (span_of all) by_flow.most (flows_of all)
 
@@ -24,7 +24,7 @@ said_by_flow by_flow all = flows_said by_flow.form (span_of all) by_flow.most (f
 abbrev pub flows_so_far : ByFlow → List Explained → List ℕ
 flows_so_far by_flow all = flow_header by_flow.form ++ flat_map (at_end by_flow.every (said_by_flow by_flow)) (places all)
 
--- .. and behind them, sums of the last ones
+-- the whole output: the output before the end, and the flows of the last interval
 abbrev pub flows_whole : ByFlow → List Explained → List ℕ
 flows_whole by_flow all = flows_so_far by_flow all ++ at_last by_flow.every (said_by_flow by_flow) all
 

@@ -10,6 +10,6 @@ kept n = min n (2 ^ 64 - 1)
 abbrev pub count_at : {X : Type 0} → (X → ℕ) → ℕ → List X → ℕ
 count_at {X} place wanted all = kept (count_by (λ (one : X). place one == wanted) all)
 
--- .. for each of so many places
+-- the counts for each of the first `places` places
 abbrev pub counts_of : {X : Type 0} → (X → ℕ) → ℕ → List X → List ℕ
 counts_of place places all = map (λ wanted. count_at place wanted all) (range_with_len 0 places)

@@ -1,4 +1,4 @@
--- The numbers of a flow: which events are of it, and what these come to.
+-- The numbers of a flow: its events, and their sums.
 use Rattle.std.specs.Prelude.{ℕ, ◌-◌, ◌*◌, ◌/◌, ◌^◌, ◌==◌, min, Bool, false, List, map, Option, Some, None, unwrap_or, is_some, if◌then◌else◌}
 use Rattle.std.specs.List.{sum}
 use Rattle.pie_aqm.specs.Places.{greatest}
@@ -35,8 +35,8 @@ is_of flow one = is_this flow (flow_in one)
 abbrev pub answered : ℕ → Noted → ℕ
 answered place one = if one.answer == place then 1 else 0
 
--- what one event counts: its packet arrived, with so many bytes; the verdict on it; it left, with so many bytes, and had waited so long; and what it
--- had of the queue, its bytes times the microseconds that it had waited
+-- the counts of one event: its packet's arrival and size; the verdict on it; its departure, size and wait; and its
+-- share of the queue, its bytes times its microseconds in the queue
 unfoldable pub numbers_of : Noted → FlowSums
 numbers_of one = record {
   arrivals = if is_some one.arrived then 1 else 0;
@@ -55,7 +55,7 @@ numbers_of one = record {
 
 -- ---- of several
 
--- what numbers come to: each the sum of theirs, except the longest wait; the sum of waits has 128 bits
+-- the sums of several counts: each number is a sum, except the longest wait; the sum of waits has 128 bits
 unfoldable pub added_up : List FlowSums → FlowSums
 added_up all = record {
   arrivals = kept (sum (map (λ one. one.arrivals) all));
@@ -72,6 +72,6 @@ added_up all = record {
   held = kept (sum (map (λ one. one.held) all));
 }
 
--- .. those of these events
+-- the sums of these events
 abbrev pub flow_sums : List Explained → FlowSums
 flow_sums all = added_up (map (λ one. numbers_of (noted_of one)) all)

@@ -31,7 +31,7 @@ name_field (name.Others count) = codes "others"
 
 -- ---- in words
 
--- what arrived of a flow, of all bytes that did, and what it had of the queue
+-- the arrivals of a flow, its share of all bytes, and its share of the queue
 unfoldable pub amount_words : Name → FlowSums → FlowSums → List ℕ
 amount_words name total sums =
     joined (codes "  " ∷ name_words name ∷ codes ": " ∷ decimal sums.arrivals ∷ codes " arrivals, " ∷ decimal sums.bytes ∷ codes " bytes, "
@@ -81,7 +81,7 @@ flow_record by_wall span name sums =
 
 -- ---- in either form
 
--- what stands before so many flows
+-- the text before the flows
 abbrev pub head_said : Heading → ℕ → List ℕ
 head_said heading count = if heading.form.csv then [] else total_words heading.form.by_wall heading.span count heading.total
 
@@ -90,12 +90,12 @@ abbrev pub flow_said : Heading → Name → FlowSums → List ℕ
 flow_said heading name sums =
     if heading.form.csv then flow_record heading.form.by_wall heading.span name sums else flow_words name heading.total sums
 
--- .. one after another
+-- the text of several flows, one after another
 abbrev pub each_said : Heading → List Flow → List ℕ
 each_said heading [] = []
 each_said heading (flow ∷ flows) = flow_said heading (name.Of flow.number) flow.sums ++ each_said heading flows
 
--- the flows behind the first so many, in one; nothing where there are none
+-- the sums of the flows after the first `most`; nothing if there are none
 abbrev pub others_said : Heading → ℕ → List Flow → List Flow → List ℕ
 others_said heading most first flows =
     if nat_lt most (length flows) then flow_said heading (name.Others (length flows - most)) (sums_beside first flows) else []
@@ -104,7 +104,7 @@ unfoldable pub parts_said : Heading → ℕ → List Flow → List Flow → List
 parts_said heading most first flows =
     joined (head_said heading (length flows) ∷ each_said heading first ∷ others_said heading most first flows ∷ [])
 
--- the first so many of these flows, and the others
+-- the first `most` of these flows, and the sums of the others
 abbrev pub flows_said : Form → Span → ℕ → List Flow → List ℕ
 flows_said form span most flows =
     parts_said (record { form = form; span = span; total = sums_beside [] flows }) most (first_of most flows) flows

@@ -11,7 +11,7 @@ use Rattle.pie_summary.specs.FlowSums.{added_up, flow_in, flow_sums, is_of}
 
 -- ---- each flow once
 
--- each of these numbers once, in the order in which they first come
+-- each of these numbers once, in the order of its first place
 unfoldable pub distinct : List ℕ → List ℕ
 distinct numbers = fold (insert_key nat_eq) [] numbers
 
@@ -29,11 +29,11 @@ flows_of all = map (flow_of all) (flows_in all)
 
 -- ---- the most bytes first
 
--- a flow stands before another: more bytes of it arrived, or as many and its number is less
+-- true if flow `one` comes before `other`: more of its bytes arrived, or equally many and its number is less
 abbrev pub precedes : Flow → Flow → Bool
 precedes one other = nat_lt other.sums.bytes one.sums.bytes || one.sums.bytes == other.sums.bytes && nat_lt one.number other.number
 
--- flows with one more, before the first that it stands before
+-- flows with one more, inserted before the first flow that it precedes
 abbrev pub placed : List Flow → Flow → List Flow
 placed [] one = one ∷ []
 placed (first ∷ flows) one = if precedes one first then one ∷ first ∷ flows else first ∷ placed flows one
@@ -42,7 +42,7 @@ placed (first ∷ flows) one = if precedes one first then one ∷ first ∷ flow
 unfoldable pub in_order : List Flow → List Flow
 in_order flows = fold placed [] flows
 
--- the first so many of them
+-- the first `most` flows
 abbrev pub first_of : ℕ → List Flow → List Flow
 first_of most flows = take most (in_order flows)
 

@@ -42,7 +42,7 @@ pub record Holds (period : LivePeriod) (all : List Explained) : Type 0 where
   pub waits : period.waits ≡ waits_of (last_events (length_of period) all)
   pub spans : Spans period.begun period.number period.every period.start period.end
 
--- .. before the last one of these events is counted, when its period is under way
+-- the state before the last of these events is counted, once its interval is under way
 pub record Awaits (period : LivePeriod) (shown : List Explained) (one : Explained) : Type 0 where
   pub number : number_in period ≡ last_period (length_of period) (shown ++ one ∷ [])
   pub begun : period.begun ≡ periods_begun (length_of period) (shown ++ one ∷ [])
@@ -50,11 +50,11 @@ pub record Awaits (period : LivePeriod) (shown : List Explained) (one : Explaine
   pub waits : period.waits ≡ waits_of (since (length_of period) (Some (period_at (length_of period) one)) shown)
   pub spans : Spans period.begun period.number period.every period.start period.end
 
--- the time of day that was told last
+-- the last clock record
 abbrev pub clock_of : LivePeriod → Option Clock
 clock_of period = if period.told == 1 then Some (record { moment = period.clock_moment; unix = period.clock_unix }) else None
 
--- what was set at the opening, and the time of day that was told, stay
+-- the settings of the opening and the clock record are unchanged
 pub record IsSet (before after : LivePeriod) : Type 0 where
   pub every : after.every ≡ before.every
   pub wall : after.wall ≡ before.wall

@@ -4,17 +4,17 @@ use Rattle.std.specs.List.{after_last}
 use Rattle.pie_aqm.specs.Places.{Place, last_or}
 use Rattle.pie_explain.specs.declared.explanation.Explained.{Explained}
 
--- the number of the period in which a moment lies, counted from moment 0, where each lasts so many nanoseconds, 1 at least; 0 where no length
--- is wanted
+-- the number of the interval of a moment, counted from moment 0. Each interval lasts `every` nanoseconds, at least
+-- 1; without a length the number is 0
 abbrev pub period_of : Option ℕ → ℕ → ℕ
 period_of None moment = 0
 period_of (Some every) moment = moment / max every 1
 
--- .. of an event, by its effective moment
+-- the interval of an event, by its effective moment
 abbrev pub period_at : Option ℕ → Explained → ℕ
 period_at every one = period_of every one.told.moment
 
--- .. of the last of these events
+-- the interval of the last of these events
 abbrev pub last_period : Option ℕ → List Explained → Option ℕ
 last_period every all = last_or None (map (λ one. Some (period_at every one)) all)
 
@@ -36,7 +36,7 @@ abbrev pub begins : Option ℕ → ℕ → Bool
 begins None period = false
 begins (Some before) period = not (before == period)
 
--- .. or there is none before it: it is the first in its period
+-- true for the first event of an interval: there is no event before it, or that is in another interval
 abbrev pub starts : Option ℕ → ℕ → Bool
 starts None period = true
 starts (Some before) period = not (before == period)

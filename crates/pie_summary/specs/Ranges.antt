@@ -1,10 +1,12 @@
--- Ranges of numbers: each is told by its first two decimal digits. A number below 100 is a range of its own, and each further digit has 90 ranges.
+-- Ranges of numbers. The first two decimal digits and the number of digits determine the range. A number below 100
+-- is a range of its own, and each further digit has 90 ranges.
 use Rattle.std.specs.Prelude.{ℕ, zero, suc, ◌+◌, ◌-◌, ◌*◌, ◌/◌, ◌%◌, ◌^◌, nat_lt, nat_le, if◌then◌else◌, min, List, length, take, Option, Some}
 use Rattle.std.specs.Prelude.{None}
 use Rattle.std.specs.List.{find, range_with_len, sum}
 use Rattle.pie_summary.specs.Counts.{counts_of}
 
--- the range of a number of at most so many digits more than two: that of the number without its last digit, and 90 more
+-- the range of a number with at most `digits` digits more than two: the range of the number without its last digit,
+-- and 90 more
 abbrev pub range_within : ℕ → ℕ → ℕ
 range_within zero number = number
 range_within (suc digits) number = if nat_lt number 100 then number else range_within digits (number / 10) + 90
@@ -21,7 +23,7 @@ range_end range = if nat_lt range 10 then range else ((range - 10) % 90 + 11) * 
 unfoldable pub ranges_of : List ℕ → List ℕ
 ranges_of numbers = counts_of range_of 1720 numbers
 
--- the first place up to which so many are counted
+-- the first place at which the sum of the counts up to it reaches `rank`
 abbrev pub first_up_to : List ℕ → ℕ → Option ℕ
 first_up_to counts rank = find (λ place. nat_le rank (sum (take (place + 1) counts))) (range_with_len 0 (length counts))
 

@@ -43,7 +43,8 @@ later_numbers meter most =
     ∷ meter.turned_off.count ∷ meter.turned_off.first ∷ meter.turned_off.last
     ∷ most ∷ meter.carried ∷ meter.target ∷ meter.burst ∷ meter.above ∷ meter.longer ∷ []
 
--- how long these had waited longer at the head of the queue; and the first time of day, where these are asked for, empty where no record tells one
+-- the time that packets waited longer than the target at the head of the queue; and if requested the first
+-- wall-clock time, empty if none is known
 unfoldable pub last_fields : Bool → ℕ → ℕ → ℕ → List ℕ
 last_fields false late timed time = joined (decimal late ∷ codes "\n" ∷ [])
 last_fields true late timed time =

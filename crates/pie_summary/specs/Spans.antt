@@ -1,4 +1,4 @@
--- What is kept of a list of numbers, and of the times of a list of events.
+-- Aggregates of a list of numbers, and of the times of a list of events.
 use Rattle.std.specs.Prelude.{ℕ, ◌+◌, ◌-◌, ◌*◌, ◌/◌, ◌%◌, ◌^◌, ◌==◌, min, max, List, length, map, slice_index, Option, Some, None, if◌then◌else◌}
 use Rattle.std.specs.List.{filter_map, sum}
 use Rattle.pie_aqm.specs.Places.{greatest, last_or}
@@ -29,11 +29,11 @@ sum_in total = total.high * 2 ^ 64 + total.low
 abbrev pub total_of : List ℕ → Total
 total_of numbers = total_in (min (sum numbers) (2 ^ 128 - 1))
 
--- the mean of so many numbers with this sum, rounded down; 0 where there is none
+-- the mean of `count` numbers with this sum, rounded down; 0 if `count` is 0
 abbrev pub mean_in : ℕ → Total → ℕ
 mean_in count total = min (sum_in total / max count 1) (2 ^ 64 - 1)
 
--- what is held of so many numbers, and this one where there are none
+-- `held`, or `number` if `count` is 0
 abbrev pub held_or : ℕ → ℕ → ℕ → ℕ
 held_or count held number = if count == 0 then number else held
 
@@ -53,7 +53,7 @@ carried_over total =
 abbrev pub moment_at : Explained → ℕ
 moment_at all = all.told.moment
 
--- the time of day of an event, where a record before it tells it
+-- the wall-clock time of an event, if a clock record comes before it
 abbrev pub time_at : Explained → Option ℕ
 time_at all = time_of all.told.clock all.told.moment
 

@@ -1,4 +1,4 @@
--- What is written for summaries of the explained events, and between them for lost and marked packets.
+-- The output of summaries of the explained events, and between them of lost and marked packets.
 use Rattle.std.specs.Prelude.{ℕ, ◌≡◌, Bool, ◌&&◌, ◌||◌, if◌then◌else◌, List, [], ◌++◌}
 use Rattle.std.specs.List.{flat_map}
 use Rattle.pie_aqm.specs.Places.{Place, places}
@@ -16,7 +16,7 @@ use Rattle.pie_summary.specs.Record.{field_names, record_of}
 use Rattle.pie_summary.specs.Sums.{sums_of, waits_of}
 use Rattle.pie_summary.specs.Words.{wait_99, words}
 
--- what stands before the first summary: for CSV the header row
+-- the text before the first summary: for CSV the header row
 unfoldable pub header : Form → List ℕ
 header form = header_of field_names form
 
@@ -25,7 +25,7 @@ abbrev pub said : Form → Sums → List ℕ → List ℕ
 said form sums ranges =
     if form.csv then record_of form.by_wall sums.meter (wait_99 ranges sums.meter) else words form.by_wall sums (wait_99 ranges sums.meter)
 
--- .. of these events
+-- the summary of these events
 abbrev pub said_of : Form → List Explained → List ℕ
 said_of form all = said form (sums_of all) (waits_of all)
 
@@ -45,11 +45,11 @@ noted summary one = if summary.packets && is_lost_or_marked one then words_by (c
 abbrev pub written_at : Summary → Place Explained → List ℕ
 written_at summary place = at_end summary.every (said_of summary.form) place ++ noted summary place.event
 
--- .. at each of these events
+-- the output before the end: the header, and the output at each of these events
 abbrev pub summaries : Summary → List Explained → List ℕ
 summaries summary all = header summary.form ++ flat_map (written_at summary) (places all)
 
--- .. and behind them, a summary of the last ones
+-- the whole output: the output before the end, and a summary of the last interval
 abbrev pub summary_of : Summary → List Explained → List ℕ
 summary_of summary all = summaries summary all ++ at_last summary.every (said_of summary.form) all
 

@@ -124,18 +124,18 @@ on_time one = option_and (noted_of one).turned_on (time_at one)
 abbrev pub off_time : Explained → Option ℕ
 off_time one = option_and (noted_of one).turned_off (time_at one)
 
--- ---- of what was noted of an event after others
+-- ---- Inputs of a meter in their order
 
 -- the moments of events
 abbrev pub moments_of : List Noted → List ℕ
 moments_of all = map (λ one. one.moment) all
 
--- since when a packet that leaves was the first in the queue, as far as these events tell: the last one before it left then, or, where none did,
--- the first event was then
+-- the moment since which a departing packet was the first in the queue, as far as these events show: the moment of
+-- the last departure before it, or of the first event if there was none
 abbrev pub first_since : Place Noted → ℕ
 first_since place = last_or (slice_index (moments_of (up_to place)) 0) (filter_map (λ one. one.left) place.before)
 
--- as much of this excess as lies within so long
+-- the excess, at most `since`; 0 without an excess
 abbrev pub excess_within : Option ℕ → ℕ → ℕ
 excess_within None since = 0
 excess_within (Some excess) since = min excess since
@@ -146,7 +146,7 @@ late_at place = excess_within place.event.excess (place.event.moment - first_sin
 
 -- ---- of a list of events
 
--- the numbers that a record is made of, by what was noted of the events and by those times of day that they have
+-- the numbers of a record, by the meter's inputs for the events and the wall-clock times that they have
 unfoldable pub meter_of : List Noted → List ℕ → Meter
 meter_of all times = record {
   answers = counts_of (λ one. one.answer) 9 all;
@@ -172,14 +172,15 @@ meter_of all times = record {
   burst = last_or 0 (map (λ one. one.burst) all);
 }
 
--- .. where one more is the next: the first moment is known that the record will have, and since when the first packet in the queue is that
+-- the numbers before one more event: the record's first moment and the moment since which the first packet waits at
+-- the head already include it
 abbrev pub awaiting : List Noted → Noted → List ℕ → Meter
 awaiting shown one times = record (meter_of shown times) {
   first = slice_index (moments_of (shown ++ one ∷ [])) 0;
   since = first_since (record { before = shown; event = one });
 }
 
--- .. a meter that has noted the first of these times of day, if there is one
+-- a meter with the first of these wall-clock times, if there is one
 abbrev pub timed_by : Meter → List ℕ → Meter
 timed_by meter times = record meter { timed = min (length times) 1; time = slice_index times 0 }
 

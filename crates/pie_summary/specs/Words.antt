@@ -14,7 +14,7 @@ use Rattle.pie_summary.specs.Spans.{mean_in, sum_in}
 
 -- ---- counts of arrivals
 
--- so many of all arrivals
+-- a count, and its share of all arrivals
 unfoldable pub row_words : List ℕ → ℕ → ℕ → List ℕ
 row_words name count all = joined (codes "    " ∷ name ∷ codes ": " ∷ decimal count ∷ codes ", " ∷ share count all ∷ codes "\n" ∷ [])
 
@@ -31,12 +31,12 @@ cause_row name causes all =
     if slice_index causes (place_of_cause name) == 0 then []
     else row_words (word_of_cause name) (slice_index causes (place_of_cause name)) all
 
--- .. each of these, one after another
+-- the rows of several causes, one after another
 abbrev pub cause_rows : List CauseName → List ℕ → ℕ → List ℕ
 cause_rows [] causes all = []
 cause_rows (name ∷ names) causes all = cause_row name causes all ++ cause_rows names causes all
 
--- .. by all causes, in the order of the decision
+-- the rows of all causes, in the order of the decision
 unfoldable pub cause_words : List ℕ → ℕ → List ℕ
 cause_words causes all = joined (codes "  by what decided them\n" ∷ cause_rows cause_names causes all ∷ [])
 
@@ -46,7 +46,7 @@ unfoldable pub head_words : Bounds → List ℕ
 head_words moments = joined (decimal moments.count ∷ codes " events, from " ∷ millis moments.first ∷ codes " to " ∷ millis moments.last ∷ codes "\n"
     ∷ [])
 
--- between which times of day, behind so many spaces, where these are asked for; nothing where no record tells one
+-- the first and the last wall-clock time, after `spaces`, if requested; nothing if none is known
 unfoldable pub time_words : Bool → List ℕ → Bounds → List ℕ
 time_words false spaces times = []
 time_words true spaces times =
@@ -73,13 +73,13 @@ update_words meter =
 abbrev pub disagree : ℕ → ℕ → Bool
 disagree one other = nat_lt one (other / 2) || nat_lt other (one / 2)
 
--- that so long is not how long packets had waited longer, where it isn't
+-- a note that the time with delays above the target and the time with waits above it disagree, if they do
 unfoldable pub disagree_words : ℕ → ℕ → List ℕ
 disagree_words above late =
     if disagree above late then codes "    the two times disagree: the controller's delay was not what packets waited\n" else []
 
--- what the delays were beside the target, and what was left of the burst allowance; how many of the packets that left had waited longer than the
--- target, and how long at the head of the queue
+-- the time that delays were above the target, and the target and the burst allowance at the end; the number of
+-- departed packets that waited longer than the target, and their time at the head of the queue
 unfoldable pub above_words : Meter → List ℕ
 above_words meter =
     joined (codes "  delays were above the target for " ∷ millis meter.above ∷ codes ";\n    at the end it was " ∷ millis meter.target
@@ -104,7 +104,7 @@ turned_words way turned =
     ∷ codes ",\n    and last at " ∷ millis turned.last
     ∷ codes "\n" ∷ [])
 
--- .. with the times of day
+-- the switches of the controller, with wall-clock times
 unfoldable pub turning_words : Bool → Sums → List ℕ
 turning_words by_wall sums =
     joined (turned_words (codes "on") sums.meter.turned_on ∷ time_words by_wall (codes "    ") sums.on_times

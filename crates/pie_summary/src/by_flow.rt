@@ -19,16 +19,19 @@ use std::alloc::AllocError;
 /// A flow is the upper 32 bits of its packets' tags (this project's own). Memory is taken for each flow of a period.
 #[derive(Clone, Copy)]
 pub struct ByFlow {
-    /// In words, or as CSV: a header row, and one record a flow and period. By times of day words tell those of the first and the last event
-    /// that has one, and a last field of a record that of the first.
+    /// In words, or as CSV: a header row, and one record for each flow and interval. With wall-clock times the
+    /// words have those of the first and the last event that has one, and a record has that of the first as its
+    /// last field.
     pub form: Form,
-    /// How many nanoseconds a period lasts, 1 at least, the first from moment 0 on; none where all events are summed up together.
+    /// The length of an interval in nanoseconds, at least 1; the first begins at moment 0. Without a length all
+    /// events are summed together.
     pub every: Option<u64>,
-    /// How many flows have a row of their own: those with the most bytes that arrived, and of equal ones those with the least number.
+    /// The number of flows with a row of their own: those with the most arrived bytes, and among equal ones those
+    /// with the lowest number.
     pub most: u64,
 }
 
-/// Writes the flows of a period onto the page, where its events have come to their end.
+/// Writes the flows of an interval onto `page` if the interval `ends`.
 fn push_ended(page: &mut Page, by_flow: &ByFlow, ends: bool, span: &Span, flows: &[Flow]) -> Written
     ensures { OnOk result (page.new ≡ page.old ++ (if ends then flows_said by_flow.now.form span.now by_flow.now.most flows.now else [])) }
 {

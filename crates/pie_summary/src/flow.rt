@@ -9,16 +9,16 @@ use indexmap::IndexMap;
 use pie_explain::Explained;
 use std::alloc::{AllocError, Global};
 
-/// A flow: its number, and what its events come to.
+/// A flow: its number, and the sums of its events.
 #[derive(Clone, Copy)]
 pub struct Flow {
     /// The upper 32 bits of the tags of its packets.
     pub number: u32,
-    /// What its events come to.
+    /// The sums of its events.
     pub sums: FlowSums,
 }
 
-/// What the events of this flow come to.
+/// Returns the sums of this flow's events.
 #[tactic(auto, using(crate::proofs::FlowFacts::found_is))]
 fn sums_of(rows: &IndexMap<u32, Flow>, flow: u32) -> FlowSums
     ensures { (shown : List Explained) → HasFlows rows.now.entries shown → result ≡ flow_sums (filter (is_of flow) shown) }
@@ -57,7 +57,7 @@ pub(crate) fn take(rows: &mut IndexMap<u32, Flow>, told: &Explained) -> Result<(
     }
 }
 
-/// All flows, in the order in which they first came.
+/// Returns all flows, in the order of their first events.
 #[tactic(auto, using(crate::proofs::FlowFacts::rows_listed))]
 pub(crate) fn flows_of(rows: &IndexMap<u32, Flow>) -> &[Flow]
     ensures { (shown : List Explained) → HasFlows rows.now.entries shown → result.now ≡ flows_of shown }
@@ -65,7 +65,8 @@ pub(crate) fn flows_of(rows: &IndexMap<u32, Flow>) -> &[Flow]
     rows.values().as_slice()
 }
 
-/// Whether a flow stands before another: more bytes of it arrived, or as many and its number is less.
+/// Returns true if flow `one` comes before `other`: more of its bytes arrived, or equally many and its number is
+/// less.
 fn precedes(one: &Flow, other: &Flow) -> bool
     ensures { result ≡ precedes one.now other.now }
 {
@@ -73,7 +74,7 @@ fn precedes(one: &Flow, other: &Flow) -> bool
         || one.sums.bytes == other.sums.bytes && one.number < other.number
 }
 
-/// The place of the first flow that this one stands before.
+/// Returns the place of the first flow that comes after `one`.
 fn place_for(flows: &[Flow], one: &Flow) -> usize
     ensures placed { insert flows.now result one.now ≡ placed flows.now one.now }
     ensures within { result ≤ length flows.now }
@@ -90,7 +91,7 @@ fn place_for(flows: &[Flow], one: &Flow) -> usize
     }
 }
 
-/// Puts one more flow among the first so many of others, where it is one of these.
+/// Inserts one more flow into `first`, the first `most` flows, unless at least `most` flows come before it.
 #[tactic(auto, using(crate::proofs::FlowFacts::first_of_push))]
 fn place(first: &mut Vec<Flow>, most: usize, one: &Flow) -> Result<(), AllocError>
     ensures { (flows : List Flow) → first.old.items ≡ first_of most flows
@@ -102,11 +103,11 @@ fn place(first: &mut Vec<Flow>, most: usize, one: &Flow) -> Result<(), AllocErro
     Ok(())
 }
 
-/// The first so many of these flows: those with the most bytes.
+/// Returns the first `most` of these flows: those with the most bytes.
 ///
 /// # Errors
 ///
-/// `AllocError` where there is no memory for them.
+/// Returns `AllocError` if memory is short.
 #[tactic(auto, using(crate::proofs::FlowFacts::none_first))]
 pub(crate) fn first_of(alloc: Global, flows: &[Flow], most: usize) -> Result<Vec<Flow>, AllocError>
     ensures { IfOk result (λ first. first.items ≡ first_of most flows.now) }
@@ -118,7 +119,7 @@ pub(crate) fn first_of(alloc: Global, flows: &[Flow], most: usize) -> Result<Vec
     Ok(first)
 }
 
-/// Whether a flow is one of these.
+/// Returns true if the flow is one of `some`.
 fn is_among(some: &[Flow], one: &Flow) -> bool
     ensures { result ≡ is_among some.now one.now }
 {
@@ -140,7 +141,7 @@ fn with_beside(sums: FlowSums, some: &[Flow], one: &Flow) -> FlowSums
     }
 }
 
-/// What all flows but some come to.
+/// Returns the sums of all flows except `some`.
 pub(crate) fn sums_beside(some: &[Flow], flows: &[Flow]) -> FlowSums
     ensures { result ≡ sums_beside some.now flows.now }
 {

@@ -20,7 +20,7 @@ pub struct FlowPeriod {
     pub number: Option<u64>,
     /// When these events were.
     pub span: Span,
-    /// Their flows, each by its number, in the order in which they first came.
+    /// Their flows by number, in the order of their first events.
     pub rows: IndexMap<u32, Flow>,
 }
 

@@ -10,29 +10,29 @@ use pie_explain::Explained;
 /// The numbers of a flow, or of several, each over all events that were shown: 2^64 - 1 where a number would be above it.
 #[derive(Clone, Copy, Default)]
 pub struct FlowSums {
-    /// How many packets arrived.
+    /// The number of arrivals.
     pub arrivals: u64,
     /// Their bytes.
     pub bytes: u64,
-    /// How many of them were queued unmarked.
+    /// The number of packets queued unmarked.
     pub queued: u64,
-    /// How many were marked, and queued.
+    /// The number of packets marked and queued.
     pub marked: u64,
-    /// How many were dropped early.
+    /// The number of packets dropped early.
     pub early: u64,
-    /// How many were dropped since there was no room in bytes.
+    /// The number of packets dropped by the limit in bytes.
     pub no_bytes: u64,
-    /// How many were dropped since there was no room in packets.
+    /// The number of packets dropped by the limit in packets.
     pub no_packets: u64,
-    /// How many packets left.
+    /// The number of departures.
     pub left: u64,
     /// Their bytes.
     pub carried: u64,
-    /// How long they had waited, in nanoseconds, all together: 2^128 - 1 where that would be above it.
+    /// The sum of their times in the queue, in nanoseconds, at most 2^128 - 1.
     pub waited: u128,
     /// The longest that one of them had, in nanoseconds.
     pub greatest_wait: u64,
-    /// What they had of the queue: of each its bytes times the whole microseconds that it had waited.
+    /// Their share of the queue: for each packet its bytes times its whole microseconds in the queue, summed.
     pub held: u64,
 }
 
@@ -49,7 +49,7 @@ pub(crate) fn flow_by(command: Command, answer: Answer) -> Option<u32>
     }
 }
 
-/// What one event counts, of which a meter takes this.
+/// Returns the counts of one event, by the meter's input for it.
 #[tactic(auto, unfolding(crate::specs::FlowSums::numbers_of))]
 fn numbers_of(one: &Noted) -> FlowSums
     ensures { result ≡ numbers_of one.now }

@@ -14,7 +14,7 @@ use std::alloc::{AllocError, Global};
 use std::fmt;
 use std::fmt::Display;
 
-/// What a row is of.
+/// The subject of a row.
 #[derive(Clone, Copy)]
 pub enum Name {
     /// The flow of this number.
@@ -23,14 +23,14 @@ pub enum Name {
     Others(u64),
 }
 
-/// What the rows of some flows have in common.
+/// The common parts of the rows of some flows.
 #[derive(Clone, Copy)]
 pub struct Heading {
-    /// How they are written.
+    /// The form of the rows.
     pub form: Form,
     /// When the events of all flows were.
     pub span: Span,
-    /// What all flows come to.
+    /// The sums of all flows.
     pub total: FlowSums,
 }
 
@@ -54,7 +54,7 @@ impl Display for Name {
     }
 }
 
-/// What a row is of, as a field: a flow's number in eight hexadecimal digits.
+/// Writes the subject of a row as a field: a flow's number in eight hexadecimal digits, or `others`.
 #[tactic(auto, using(crate::proofs::FlowFacts::eight_digits), unfolding(crate::specs::FlowWords::flow_text))]
 fn push_field(page: &mut String, name: Name) -> Written
     ensures { OnOk result (string_bytes page.new ≡ string_bytes page.old ++ name_field name) }
@@ -65,7 +65,7 @@ fn push_field(page: &mut String, name: Name) -> Written
     }
 }
 
-/// What arrived of a flow, of all bytes that did, and what it had of the queue.
+/// Writes the arrivals of a flow, its share of all bytes, and its share of the queue.
 #[tactic(auto, unfolding(crate::specs::FlowWords::amount_words))]
 fn push_amount(page: &mut String, name: Name, total: &FlowSums, sums: &FlowSums) -> Written
     ensures { OnOk result (string_bytes page.new ≡ string_bytes page.old ++ amount_words name total.now sums.now) }
@@ -92,7 +92,7 @@ fn mean_wait(sums: &FlowSums) -> u64
     (sums.waited / u128::from(sums.left.max(1))).min(u128::from(u64::MAX)) as u64
 }
 
-/// How long the packets of a flow had waited that left.
+/// Writes the waits of a flow's departed packets.
 #[tactic(auto, unfolding(crate::specs::FlowWords::wait_words))]
 fn push_wait(page: &mut String, sums: &FlowSums) -> Written
     ensures { OnOk result (string_bytes page.new ≡ string_bytes page.old ++ wait_words sums.now) }
@@ -153,7 +153,7 @@ fn push_numbers(page: &mut String, numbers: &[u64]) -> Written
     }
 }
 
-/// How long packets had waited longer than the target, and the first time of day, where these are asked for.
+/// Writes the number `late`, and if `by_wall` the first wall-clock time.
 #[tactic(auto, unfolding(crate::specs::Record::last_fields))]
 fn push_last(page: &mut String, by_wall: bool, late: u64, times: &Bounds) -> Written
     ensures { OnOk result (string_bytes page.new ≡ string_bytes page.old ++ last_fields by_wall late times.now.count times.now.first) }
@@ -201,7 +201,7 @@ fn push_record(
 }
 
 impl Heading {
-    /// Writes what stands before so many flows.
+    /// Writes the text before the flows. `count` is their number.
     fn push_top(&self, page: &mut String, count: u64) -> Written
         ensures { OnOk result (string_bytes page.new ≡ string_bytes page.old ++ head_said self.now count) }
     {
@@ -234,7 +234,7 @@ impl Heading {
         }
     }
 
-    /// Writes the flows behind the first so many, in one, where there are some.
+    /// Writes the sums of the flows after the first `most`, if there are any.
     fn push_others(&self, page: &mut String, most: usize, first: &[Flow], flows: &[Flow]) -> Written
         ensures { OnOk result (string_bytes page.new ≡ string_bytes page.old ++ others_said self.now most first.now flows.now) }
     {
@@ -245,7 +245,7 @@ impl Heading {
         self.push_flow(page, name, &sums_beside(first, flows))
     }
 
-    /// Writes what stands before the flows, the first so many, and the others.
+    /// Writes the text before the flows, the first `most` flows, and the sums of the others.
     #[tactic(auto, unfolding(crate::specs::FlowWords::parts_said))]
     fn push_parts(&self, page: &mut String, most: usize, first: &[Flow], flows: &[Flow]) -> Written
         ensures { OnOk result (string_bytes page.new ≡ string_bytes page.old ++ parts_said self.now most first.now flows.now) }
@@ -256,11 +256,11 @@ impl Heading {
     }
 }
 
-/// Writes the first so many of these flows, and the others, behind a text.
+/// Appends the first `most` of these flows and the sums of the others to a text.
 ///
 /// # Errors
 ///
-/// `AllocError` where there is no memory.
+/// Returns `AllocError` if memory is short.
 pub(crate) fn push_flows(
     alloc: Global,
     page: &mut String,

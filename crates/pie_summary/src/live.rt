@@ -20,27 +20,28 @@ use pie_text::LongRow;
 #[repr(C)]
 #[derive(Drop)]
 pub struct LivePeriod {
-    /// How many nanoseconds a period lasts, 1 at least, the first from moment 0 on.
+    /// The length of an interval in nanoseconds, at least 1; the first begins at moment 0.
     pub every: u64,
-    /// 1 where a record ends with the time of day of the first event that has one, and else 0.
+    /// 1 if a record ends with the wall-clock time of the first event that has one, otherwise 0.
     pub wall: u64,
-    /// How many periods have begun, those without events left out: 0 before the first event.
+    /// The number of intervals with events that have begun: 0 before the first event.
     pub begun: u64,
     /// The number of the period under way, counted from 0 for the one that begins at moment 0.
     pub number: u64,
-    /// The moment at which it begins: `number * every`; 0 before the first event.
+    /// The moment at which the interval begins: `number * every`; 0 before the first event.
     pub start: u64,
-    /// The moment at which it ends, `every` nanoseconds later: an event from then on is in another. 0 before the first event.
+    /// The moment at which the interval ends, `every` nanoseconds later. An event at this moment is in another
+    /// interval. 0 before the first event.
     pub end: u64,
-    /// 1 where a time of day is told, and else 0.
+    /// 1 if a wall-clock time is known, otherwise 0.
     pub told: u64,
-    /// The moment at which it was that time of day.
+    /// The moment of that wall-clock time.
     pub clock_moment: u64,
     /// That time of day, in nanoseconds after 1970-01-01T00:00:00Z.
     pub clock_unix: u64,
     /// The numbers of the events in it.
     pub meter: Meter,
-    /// How many of the waits of packets that left lie in each range.
+    /// The number of departed packets' waits in each range.
     pub waits: [u64; RANGES],
 }
 
@@ -67,14 +68,14 @@ impl LivePeriod {
         }
     }
 
-    /// Whether no event was in the period with this number, or one in another after them.
+    /// Returns true if there is no event yet, or the interval under way has another number.
     fn begins(&self, number: u64) -> bool
         ensures { result ≡ starts (number_in self.now) number }
     {
         self.begun == 0 || self.number != number
     }
 
-    /// Begins the period in which a moment lies, where another is under way.
+    /// Begins the interval of a moment, unless it is under way.
     #[inline(never)]
     fn turn(&mut self, moment: u64)
         ensures settings { IsSet self.old self.new }
@@ -92,7 +93,8 @@ impl LivePeriod {
         }
     }
 
-    /// Has the period in which a moment lies under way. By its ends, since a division costs more.
+    /// Ensures that the interval of a moment is under way. It compares the interval's bounds, because a division
+    /// costs more.
     #[inline(always)]
     fn reach(&mut self, moment: u64)
         ensures settings { IsSet self.old self.new }
@@ -104,7 +106,7 @@ impl LivePeriod {
         self.turn(moment);
     }
 
-    /// The time of day that was told last.
+    /// Returns the last clock record.
     fn clock(&self) -> Option<Clock>
         ensures { result ≡ clock_of self.now }
     {
@@ -118,8 +120,8 @@ impl LivePeriod {
         }
     }
 
-    /// Notes the time of day of an event at this moment, where it is the first that has one. Where as many are noted as are told, none or
-    /// one, there is nothing to do.
+    /// Records the wall-clock time of an event at this moment, if it is the first event that has one. If `told`
+    /// equals `timed`, there is nothing to record.
     #[inline(always)]
     #[tactic(auto, using(crate::proofs::LiveFacts::clock_kept))]
     fn note_time(&mut self, moment: u64)
@@ -135,7 +137,7 @@ impl LivePeriod {
         self.note_first_time(moment);
     }
 
-    /// The same, whatever is told and noted.
+    /// Records the wall-clock time as `note_time` does, for any `told` and `timed`.
     #[cold]
     #[inline(never)]
     fn note_first_time(&mut self, moment: u64)

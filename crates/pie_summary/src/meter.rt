@@ -12,27 +12,28 @@ use crate::noted::Noted;
 use crate::ranges::{RANGES, end_within, first_up_to};
 use crate::spans::{Bounds, Peak, Total, raise};
 
-/// The numbers of a record, each over all events of a period. How many events there are, and how many packets left, the answers say.
+/// The numbers of a record, each over all events of an interval. `answers` also gives the number of events and of
+/// departures.
 #[repr(C)]
 #[derive(Clone, Copy, Default)]
 pub struct Meter {
-    /// How many events have each answer: queued, marked, dropped early, in bytes, in packets, a packet that left, none that did, an
-    /// update, and a reset or new parameters.
+    /// The number of events with each answer: queued, marked, dropped early, dropped by the limit in bytes, dropped
+    /// by the limit in packets, departure, departure without a packet, update, and reset or new parameters.
     pub answers: [u64; 9],
-    /// How many arrivals each cause decided, in the order of the decision.
+    /// The number of arrivals with each cause, in the order of the decision.
     pub causes: [u64; 15],
     /// The effective moment of the first event, in nanoseconds.
     pub first: u64,
     /// That of the last event.
     pub last: u64,
-    /// Since when the packet that leaves next is the first in the queue, as far as these events tell: the moment at which the last one left, or
-    /// that of the first event.
+    /// The moment since which the next packet to depart is the first in the queue, as far as these events show: the
+    /// moment of the last departure, or of the first event if there was none.
     pub since: u64,
-    /// How many packets arrived.
+    /// The number of arrivals.
     pub arrivals: u64,
     /// Their sizes, summed, in bytes.
     pub arrived: Total,
-    /// How long the packets that left had waited, summed, in nanoseconds.
+    /// The sum of the departed packets' times in the queue, in nanoseconds.
     pub waits: Total,
     /// The longest of these waits.
     pub greatest_wait: u64,
@@ -44,21 +45,22 @@ pub struct Meter {
     pub turned_on: Bounds,
     /// The moments of those that turned it off.
     pub turned_off: Bounds,
-    /// 1 where an event's time of day is told, and else 0.
+    /// 1 if an event has a wall-clock time, otherwise 0.
     pub timed: u64,
     /// The first of these times, in nanoseconds after 1970-01-01T00:00:00Z.
     pub time: u64,
     /// The bytes of the packets that left.
     pub carried: u64,
-    /// How long it was, in nanoseconds, from the update before to each that took a delay above the target, while the controller was active.
+    /// The time from the previous update to each update that took a delay above the target while the controller was
+    /// active, summed, in nanoseconds.
     pub above: u64,
-    /// How many packets that left had waited longer than the target.
+    /// The number of departed packets that waited longer than the target.
     pub longer: u64,
     /// For how long, in nanoseconds, the first packet in the queue had waited longer than the target.
     pub late: u64,
     /// The target after the last event, in nanoseconds.
     pub target: u64,
-    /// What was left of the burst allowance after the last event, in nanoseconds.
+    /// The burst allowance after the last event, in nanoseconds.
     pub burst: u64,
 }
 
@@ -93,7 +95,7 @@ fn count_some(count: &mut u64, number: Option<u64>)
     }
 }
 
-/// Adds as much of an excess as lies within so long, where there is one.
+/// Adds an excess, if there is one, but at most `since`.
 #[inline(always)]
 fn add_excess(late: &mut u64, excess: Option<u64>, since: u64)
     ensures { late.new ≡ kept (late.old + excess_within excess since) }
@@ -132,7 +134,8 @@ impl Meter {
         }
     }
 
-    /// The wait that at most a hundredth of the packets that left exceeded, or up to a tenth more; no more than the greatest.
+    /// Returns the wait that at most a hundredth of the departed packets exceeded, rounded up by at most a tenth;
+    /// at most the greatest wait.
     pub(crate) fn wait_99(&self, waits: &[u64; RANGES]) -> u64
         ensures { result ≡ wait_99 waits.now self.now }
     {

@@ -1,4 +1,4 @@
-//! What a meter takes of an event.
+//! The meter's input for an event.
 ghost use Rattle.std.specs.Prelude.{◌≡◌, ◌<◌, ℕ, Some, None};
 ghost use Rattle.pie_explain.specs.declared.explanation.Explained.{Explained};
 ghost use Rattle.pie_queue.specs.declared.packet.Packet.{Packet};
@@ -11,7 +11,7 @@ use pie_book::{Answer, Cause, Command};
 use pie_explain::Explained;
 use pie_queue::{Ecn, Packet};
 
-/// What a meter takes of an event; what its kind has none of is none or 0.
+/// The meter's input for an event. A field that its kind does not have is `None` or 0.
 #[derive(Clone, Copy)]
 pub struct Noted {
     /// The place of its answer's count, 0 to 8: queued, marked, dropped early, in bytes, in packets, a packet that left, none that did, an
@@ -21,15 +21,15 @@ pub struct Noted {
     pub cause: usize,
     /// Its effective moment, in nanoseconds.
     pub moment: u64,
-    /// Of a packet that arrived its size, in bytes.
+    /// The size of an arriving packet, in bytes.
     pub arrived: Option<u64>,
-    /// Of a packet that left how long it had waited, in nanoseconds.
+    /// The time that a departing packet spent in the queue, in nanoseconds.
     pub wait: Option<u64>,
-    /// Of a packet that left the effective moment.
+    /// The effective moment of a packet's departure.
     pub left: Option<u64>,
     /// Of one that had waited longer than the target how much longer, in nanoseconds.
     pub excess: Option<u64>,
-    /// Of an update, while the controller was active, the delay that it took, in nanoseconds.
+    /// The delay that an update took while the controller was active, in nanoseconds.
     pub delay: Option<u64>,
     /// The probability after it, in units of 10^-12.
     pub prob: u64,
@@ -37,24 +37,26 @@ pub struct Noted {
     pub turned_on: Option<u64>,
     /// Its effective moment, where it turned the controller off.
     pub turned_off: Option<u64>,
-    /// Of a packet that left its size, in bytes.
+    /// The size of a departing packet, in bytes.
     pub carried: u64,
-    /// Of an update that took a delay above the target, while the controller was active, how long it was since the update before.
+    /// The time since the previous update, for an update that took a delay above the target while the controller
+    /// was active.
     pub above: u64,
     /// The target after it, in nanoseconds.
     pub target: u64,
-    /// What was left of the burst allowance after it, in nanoseconds.
+    /// The burst allowance after it, in nanoseconds.
     pub burst: u64,
 }
 
-/// What an event met and what it left, whatever it is. Times are in nanoseconds, probabilities in units of 10^-12.
+/// The controller's numbers before and after an event of any kind. Times are in nanoseconds, probabilities in units
+/// of 10^-12.
 #[derive(Clone, Copy)]
 pub struct Met {
     /// Its effective moment.
     pub moment: u64,
-    /// Whether the controller was active before it.
+    /// True if the controller was active before it.
     pub was: bool,
-    /// Whether it is after it.
+    /// True if the controller is active after it.
     pub is: bool,
     /// The target before it.
     pub held: u64,
@@ -62,7 +64,7 @@ pub struct Met {
     pub last: u64,
     /// The probability after it.
     pub prob: u64,
-    /// What was left of the burst allowance after it.
+    /// The burst allowance after it.
     pub burst: u64,
     /// The target after it.
     pub target: u64,
@@ -120,8 +122,9 @@ fn turned_at(on: bool, was: bool, is: bool, moment: u64) -> Option<u64>
 }
 
 impl Met {
-    /// What a meter takes of an event with this answer, this place of its cause, this size of the packet that arrived, and so long a wait of the
-    /// one that left. Where it is compiled for a kind of event, what the kind has none of costs nothing.
+    /// Returns the meter's input for an event with this answer. `cause` is the place of its cause, `arrived` the
+    /// size of an arriving packet, and `waited` a departing packet's time in the queue. The function is inlined, so
+    /// a caller for one kind of event computes only the fields of that kind.
     #[inline(always)]
     #[tactic(auto, unfolding(crate::specs::Sums::noted_by))]
     pub(crate) fn noted(
@@ -190,7 +193,7 @@ impl Met {
         }
     }
 
-    /// A packet of this size that left and had waited so long.
+    /// Returns the input for the departure of a packet of `size` bytes that waited `waited` nanoseconds.
     #[inline(always)]
     #[tactic(auto, unfolding(crate::specs::Sums::noted_by))]
     pub fn left(&self, size: u32, waited: u64) -> Noted
@@ -238,7 +241,7 @@ impl Met {
     }
 }
 
-/// What a meter takes of an explained event.
+/// Returns the meter's input for an explained event.
 pub(crate) fn noted_of(all: &Explained) -> Noted
     ensures noted { result ≡ noted_of all.now }
     ensures within { result.answer < 9 }

@@ -10,8 +10,8 @@ use crate::sums::Sums;
 use pie_explain::Explained;
 use std::alloc::{AllocError, Global};
 
-/// The number of the period in which a moment lies, counted from moment 0, where each lasts `every` nanoseconds, 1 at least; 0 where
-/// no length is wanted.
+/// Returns the number of the interval of a moment, counted from moment 0. Each interval lasts `every` nanoseconds,
+/// at least 1. Without a length the number is 0.
 pub(crate) fn period_of(every: Option<u64>, moment: u64) -> u64
     ensures { result ≡ period_of every moment }
 {
@@ -21,7 +21,7 @@ pub(crate) fn period_of(every: Option<u64>, moment: u64) -> u64
     }
 }
 
-/// Whether an event in this period is not in that of the events before it.
+/// Returns true if there are earlier events and they end in another interval.
 pub(crate) fn begins(before: Option<u64>, period: u64) -> bool
     ensures { result ≡ begins before period }
 {
@@ -31,7 +31,8 @@ pub(crate) fn begins(before: Option<u64>, period: u64) -> bool
     }
 }
 
-/// Whether an event is the first in this period: there was none before it, or it was in another.
+/// Returns true for the first event of an interval: there is no earlier event, or the events before it end in
+/// another interval.
 pub(crate) fn starts(before: Option<u64>, period: u64) -> bool
     ensures { result ≡ starts before period }
 {
@@ -58,7 +59,7 @@ pub struct Period {
     pub number: Option<u64>,
     /// The numbers of these events.
     pub sums: Sums,
-    /// How many of the waits of packets that left lie in each range.
+    /// The number of departed packets' waits in each range.
     pub waits: Box<[u64; RANGES]>,
 }
 

@@ -1,12 +1,12 @@
-//! How many numbers lie in each of some ranges, for percentiles.
+//! Counts of numbers by range, for percentiles.
 ghost use Rattle.std.specs.Prelude.{◌≡◌, ◌+◌, ◌-◌, ◌/◌, ◌*◌, ◌^◌, ◌<◌, ◌≤◌, ◌++◌, ◌∷◌, [], ℕ, List, Option, IfSome, Some, length, min};
 ghost use Rattle.std.specs.List.{cons_option};
 ghost use Rattle.pie_summary.specs.Ranges.{end_within, first_up_to, range_end, range_of, range_within, ranges_of};
 
-/// How many ranges there are: one of each number below 100, and 90 of each further digit of a number of 64 bits.
+/// The number of ranges: one for each number below 100, and 90 for each further digit of a number of 64 bits.
 pub const RANGES: usize = 1720;
 
-/// The range of a number that has at most so many digits more than two.
+/// Returns the range of a number with at most `digits` digits more than two.
 #[tactic(auto, using(crate::proofs::RangeFacts::shorter))]
 fn range_within(digits: u8, number: u64) -> u64
     requires fits { number < 100 * 10 ^ digits }
@@ -39,7 +39,7 @@ fn range_place(number: u64) -> u64
     }
 }
 
-/// The same of any number.
+/// Returns the range of any number.
 #[inline(never)]
 #[tactic(auto, unfolding(crate::specs::Ranges::range_of))]
 fn range_apart(number: u64) -> u64
@@ -49,7 +49,7 @@ fn range_apart(number: u64) -> u64
     range_within(18, number)
 }
 
-/// The first place up to which so many are counted.
+/// Returns the first place at which the sum of the counts up to it reaches `rank`.
 pub(crate) fn first_up_to(counts: &[u64; RANGES], rank: u64) -> Option<usize>
     ensures first { result ≡ first_up_to counts.now rank }
     ensures within { IfSome result (λ place. place < 1720) }

@@ -1,4 +1,4 @@
-//! What is kept of a list of numbers, as plain numbers of 64 bits.
+//! Aggregates of a list of numbers, as plain numbers of 64 bits.
 ghost use Rattle.std.specs.Prelude.{◌≡◌, ◌+◌, ◌-◌, ◌*◌, ◌^◌, ◌++◌, ◌∷◌, [], ℕ, List, max};
 ghost use Rattle.std.specs.List.{cons_option};
 ghost use Rattle.pie_explain.specs.declared.explanation.Explained.{Explained};
@@ -9,11 +9,11 @@ use pie_explain::{Explained, time_of};
 /// One more than the greatest number of 64 bits.
 const WORD: u128 = 1 << 64;
 
-/// How many numbers there were, the first, and the last; all 0 where there was none.
+/// The count of some numbers, the first and the last; all 0 without a number.
 #[repr(C)]
 #[derive(Clone, Copy, Default)]
 pub struct Bounds {
-    /// How many there were, and 2^64 - 1 where there were more.
+    /// The count, at most 2^64 - 1.
     pub count: u64,
     /// The first.
     pub first: u64,
@@ -46,11 +46,11 @@ pub struct Total {
 pub struct Span {
     /// Their effective moments, in nanoseconds.
     pub moments: Bounds,
-    /// Their times of day, where a record before them tells it, in nanoseconds after 1970-01-01T00:00:00Z.
+    /// Their wall-clock times, if a clock record comes before them, in nanoseconds since 1970-01-01T00:00:00Z.
     pub times: Bounds,
 }
 
-/// What is held of so many numbers, and this one where there are none.
+/// Returns `held`, or `number` if `count` is 0.
 fn held_or(count: u64, held: u64, number: u64) -> u64
     ensures { result ≡ held_or count held number }
 {
@@ -121,7 +121,7 @@ impl Total {
         u128::from(self.high) * WORD + u128::from(self.low)
     }
 
-    /// The mean of so many numbers with this sum, rounded down; 0 where there is none.
+    /// Returns the mean of `count` numbers with this sum, rounded down, or 0 if `count` is 0.
     pub(crate) fn mean(self, count: u64) -> u64
         ensures { result ≡ mean_in count self }
     {

@@ -18,13 +18,15 @@ use std::alloc::AllocError;
 /// written when its last event is known.
 #[derive(Clone, Copy)]
 pub struct Summary {
-    /// In words, or as CSV: a header row, and one record a summary. By times of day a line tells those of the first and the last event that has
-    /// one, and a last field of a record that of the first.
+    /// In words, or as CSV: a header row, and one record for each summary. With wall-clock times a line of words
+    /// has those of the first and the last event that has one, and a record has that of the first as its last
+    /// field.
     pub form: Form,
-    /// How many nanoseconds a period lasts, 1 at least, the first from moment 0 on; none where all events are summed up together.
+    /// The length of an interval in nanoseconds, at least 1; the first begins at moment 0. Without a length all
+    /// events are summed together.
     pub every: Option<u64>,
-    /// Whether between the summaries each event that lost or marked a packet is explained in words, whatever the form. A summary is written
-    /// when its last event is known, so before the words for the first event of the next period.
+    /// True if each event that lost or marked a packet is explained in words between the summaries, in any form. A
+    /// summary is written once its last event is known, before the words for the first event of the next interval.
     pub packets: bool,
 }
 
@@ -46,7 +48,7 @@ fn push_as_record(page: &mut Page, by_wall: bool, meter: &Meter, most: u64) -> W
     page.push(line.as_bytes())
 }
 
-/// Writes a summary of the events of a period onto the page, where they have come to their end.
+/// Writes the summary of an interval onto `page` if the interval `ends`.
 fn push_ended(page: &mut Page, form: Form, period: &Period, ends: bool) -> Written
     ensures { OnOk result (page.new ≡ page.old ++ (if ends then said form period.now.sums period.now.waits.value else [])) }
 {
@@ -61,7 +63,7 @@ fn push_ended(page: &mut Page, form: Form, period: &Period, ends: bool) -> Writt
     push_in_words(page, form.by_wall, sums, most)
 }
 
-/// Whether an event lost or marked a packet.
+/// Returns true if the event lost or marked a packet.
 fn is_lost_or_marked(told: &Explained) -> bool
     ensures { result ≡ is_lost_or_marked told.now }
 {

@@ -43,7 +43,7 @@ impl Sums {
         }
     }
 
-    /// Takes one more event, of which a meter takes this.
+    /// Adds one more event. `noted` is the meter's input for it.
     pub(crate) fn take(&mut self, all: &Explained, noted: &Noted)
         requires { noted.now.answer < 9 }
         ensures { (shown : List Explained) → noted.now ≡ noted_of all.now → self.old ≡ sums_of shown → self.new ≡ sums_of (shown ++ all.now ∷ []) }

@@ -11,7 +11,7 @@ use pie_explain::{Millis, PerCent, Share};
 use pie_units::Utc;
 use std::alloc::AllocError;
 
-/// What writing onto a text answers: `AllocError` where there is no memory for it.
+/// The result of a write: `AllocError` if memory is short.
 pub(crate) type Written = Result<(), AllocError>;
 
 /// So many of all arrivals.
@@ -23,7 +23,7 @@ fn push_row(page: &mut String, name: &str, count: u64, all: u64) -> Written
     write!(page, "    {name}: {count}, {share}\n")
 }
 
-/// How many arrivals a cause decided, where it decided some.
+/// Writes the number of arrivals with a cause, unless it is 0.
 #[tactic(auto, unfolding(crate::specs::Words::cause_row))]
 fn push_cause(page: &mut String, name: CauseName, causes: &[u64; 15], all: u64) -> Written
     ensures { OnOk result (string_bytes page.new ≡ string_bytes page.old ++ cause_row name causes.now all) }
@@ -34,7 +34,7 @@ fn push_cause(page: &mut String, name: CauseName, causes: &[u64; 15], all: u64) 
     }
 }
 
-/// How many arrivals each of these causes decided, where it decided some.
+/// Writes the number of arrivals with each of these causes, unless it is 0.
 fn push_rows(page: &mut String, names: &[CauseName], causes: &[u64; 15], all: u64) -> Written
     ensures { OnOk result (string_bytes page.new ≡ string_bytes page.old ++ cause_rows names.now causes.now all) }
 {
@@ -47,7 +47,7 @@ fn push_rows(page: &mut String, names: &[CauseName], causes: &[u64; 15], all: u6
     }
 }
 
-/// How many arrivals each cause decided, in the order of the decision.
+/// Writes the numbers of arrivals by cause, in the order of the decision.
 #[tactic(auto, unfolding(crate::specs::Words::cause_words))]
 fn push_causes(page: &mut String, causes: &[u64; 15], all: u64) -> Written
     ensures { OnOk result (string_bytes page.new ≡ string_bytes page.old ++ cause_words causes.now all) }
@@ -73,7 +73,7 @@ fn push_causes(page: &mut String, causes: &[u64; 15], all: u64) -> Written
     push_rows(page, &names, causes, all)
 }
 
-/// How many events there are, and when the first and the last were.
+/// Writes the number of events, and the moments of the first and the last.
 #[tactic(auto, unfolding(crate::specs::Words::head_words))]
 pub(crate) fn push_head(page: &mut String, moments: &Bounds) -> Written
     ensures { OnOk result (string_bytes page.new ≡ string_bytes page.old ++ head_words moments.now) }
@@ -82,7 +82,7 @@ pub(crate) fn push_head(page: &mut String, moments: &Bounds) -> Written
     write!(page, "{count} events, from {first} to {last}\n")
 }
 
-/// Between which times of day, behind these spaces, where they are asked for.
+/// Writes the first and the last wall-clock time after `spaces`, if `by_wall` and there is one.
 #[tactic(auto, unfolding(crate::specs::Words::time_words))]
 pub(crate) fn push_times(page: &mut String, by_wall: bool, spaces: &str, times: &Bounds) -> Written
     ensures { OnOk result (string_bytes page.new ≡ string_bytes page.old ++ time_words by_wall spaces.now times.now) }
@@ -94,7 +94,7 @@ pub(crate) fn push_times(page: &mut String, by_wall: bool, spaces: &str, times: 
     }
 }
 
-/// How many updates there were, the delays that they took, and the probabilities after the events.
+/// Writes the number of updates, the delays that they took, and the probabilities after the events.
 #[tactic(auto, unfolding(crate::specs::Words::update_words))]
 fn push_updates(page: &mut String, meter: &Meter) -> Written
     ensures { OnOk result (string_bytes page.new ≡ string_bytes page.old ++ update_words meter.now) }
@@ -123,8 +123,9 @@ fn push_disagree(page: &mut String, above: u64, late: u64) -> Written
     }
 }
 
-/// How long the delays were above the target, the target and the burst allowance at the end, and how many of the packets that left had waited
-/// longer than the target, and how long at the head of the queue.
+/// Writes the time that delays were above the target, and the target and the burst allowance at the end. Then
+/// writes the number of departed packets that waited longer than the target, and their time at the head of the
+/// queue.
 #[tactic(auto, unfolding(crate::specs::Words::above_words))]
 fn push_above(page: &mut String, meter: &Meter) -> Written
     ensures { OnOk result (string_bytes page.new ≡ string_bytes page.old ++ above_words meter.now) }
@@ -146,8 +147,9 @@ fn push_above(page: &mut String, meter: &Meter) -> Written
     push_disagree(page, meter.above, meter.late)
 }
 
-/// How many packets left, how long they and 99 of 100 of them had waited at most, and how many bytes they carried; what the updates made, and how
-/// long the delays and the waits were above the target.
+/// Writes the number of departures, the longest and the mean wait, the wait that 99 of 100 packets did not exceed,
+/// and the bytes carried. Then writes the numbers of the updates, and the time that delays and waits were above the
+/// target.
 #[tactic(auto, unfolding(crate::specs::Words::later_words))]
 fn push_later(page: &mut String, meter: &Meter, most: u64) -> Written
     ensures { OnOk result (string_bytes page.new ≡ string_bytes page.old ++ later_words meter.now most) }
@@ -179,7 +181,7 @@ fn push_turned(page: &mut String, way: &str, turned: &Bounds) -> Written
     }
 }
 
-/// What became of the arrivals.
+/// Writes the numbers of arrivals by verdict.
 #[tactic(auto, unfolding(crate::specs::Words::verdict_words))]
 fn push_verdicts(page: &mut String, answers: &[u64; 9], all: u64) -> Written
     ensures { OnOk result (string_bytes page.new ≡ string_bytes page.old ++ verdict_words answers.now all) }
@@ -191,7 +193,7 @@ fn push_verdicts(page: &mut String, answers: &[u64; 9], all: u64) -> Written
     push_row(page, "dropped, no room in packets", answers[4], all)
 }
 
-/// How many packets arrived, what became of them, and why.
+/// Writes the number of arrivals, and their numbers by verdict and by cause.
 #[tactic(auto, unfolding(crate::specs::Words::arrival_words))]
 fn push_arrivals(page: &mut String, meter: &Meter) -> Written
     ensures { OnOk result (string_bytes page.new ≡ string_bytes page.old ++ arrival_words meter.now) }
@@ -202,7 +204,7 @@ fn push_arrivals(page: &mut String, meter: &Meter) -> Written
     push_causes(page, &meter.causes, all)
 }
 
-/// When the controller turned, also by times of day where these are asked for.
+/// Writes the switches of the controller, if `by_wall` with wall-clock times.
 #[tactic(auto, unfolding(crate::specs::Words::turning_words))]
 fn push_turning(page: &mut String, by_wall: bool, sums: &Sums) -> Written
     ensures { OnOk result (string_bytes page.new ≡ string_bytes page.old ++ turning_words by_wall sums.now) }

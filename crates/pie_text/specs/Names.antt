@@ -1,4 +1,4 @@
--- What definitions, code and proofs of this crate take from below, in one place.
+-- Definitions from lower crates that this crate's definitions, code and proofs use.
 pub use Rattle.std.specs.Io.KnownBytes.{Appends, append_known}
 pub use Rattle.std.specs.Prelude.{All, Bool, Err, IfErr, IfOk, IfSome, List, None, Ok, OnOk, Option, Result, Some, [], codes, decimal, false}
 pub use Rattle.std.specs.Prelude.{if◌then◌else◌, length, map, nat_lt, not, true, ℕ, ◌&&◌, ◌*◌, ◌++◌, ◌+◌, ◌<◌, ◌^◌, ◌∷◌, ◌≡◌, ◌≢◌, ◌≤◌}

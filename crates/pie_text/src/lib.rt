@@ -1,16 +1,16 @@
-//! Records of a history as plain bytes: the opening, an event, a refusal, a fold, the registers, the statistics and the time of day, each made in a
-//! `Row`. What is made is the text that pie_record's definitions give. Whoever makes a record calls this crate; pie_record hands on those that were
-//! read.
+//! Records of a history as plain bytes: the opening, an event, a refusal, a fold, the registers, the statistics and
+//! the clock, each built in a `Row`. The bytes are the text that pie_record's definitions give. A program that
+//! makes records calls this crate; pie_record copies records that were read.
 //!
-//! A `Row` has exactly what was put before it, from its last field to its first; a `LongRow` what was added to it, in that order: neither takes
-//! memory. A `Page`, on which explanations wait to be written out, has the bytes that were pushed and the words that were put onto it, in their
-//! order.
+//! A `Row` is filled from its last field to its first, a `LongRow` from its first to its last. Neither allocates
+//! memory. A `Page` contains the bytes and words that were added to it, in their order, until they are written out.
 //!
-//! `write_history`: what was written is the opening's record and a record for each event (clause `written`), and it is read back as the same
-//! opening and events (`read_back`).
+//! `write_history`: the output is the opening's record and a record for each event (clause `written`), and it is
+//! read back as this opening and these events (`read_back`).
 #![tactic(auto)]
 
 mod event;
+mod event_end;
 pub mod law;
 mod long_row;
 mod note;
@@ -23,6 +23,7 @@ mod words;
 pub mod write;
 
 pub use event::{put_arrival, put_empty, put_event, put_left, put_reset, put_update};
+pub use event_end::put_event_end;
 pub use law::lost_records_are_faults;
 pub use long_row::LongRow;
 pub use note::{put_clock, put_folded, put_lost, put_refused, put_shown, put_tallied};

@@ -88,7 +88,7 @@ impl Page {
         self.bytes.clear();
     }
 
-    /// How many bytes wait.
+    /// Returns the number of bytes on the page.
     pub fn len(&self) -> usize
         ensures { result ≡ length self.now }
     {

@@ -1,4 +1,4 @@
--- The first fault of traces of which few records may be read: each theorem computes.
+-- Worked examples: the first fault of traces with a low limit of records. Each theorem computes.
 use Rattle.std.specs.Prelude.{◌≡◌, [], ◌∷◌, Some, None, codes, refl}
 use Rattle.pie_trace.specs.History.{fault_of, first_fault, record_fault}
 use Rattle.pie_record.specs.Text.{Row}

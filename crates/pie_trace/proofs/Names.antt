@@ -1,4 +1,4 @@
--- What the files of this folder take from below, in one place.
+-- Definitions from lower crates that the files of this folder use.
 pub use Rattle.std.proofs.Common.{Bool, List, [], ap, append_assoc, arith, drop, false, if◌then◌else◌, length, length-append, map, refl, rules, subst}
 pub use Rattle.std.proofs.Common.{suc, sym, take, true, zero, ℕ, ◌++◌, ◌+◌, ◌-◌, ◌<◌, ◌==◌, ◌^◌, ◌∙◌, ◌∷◌, ◌≡◌, ◌≢◌, ◌≤◌}
 pub use Rattle.std.proofs.KnownBytes.{Appends-nil, Appends-trans, Keeps-refl, append_known-grown}
@@ -11,8 +11,8 @@ pub use Rattle.pie_trace.specs.{Answer, Appends, Ask, BadParams, Begins, BookVie
 pub use Rattle.pie_trace.specs.{FoldRefusal, HasField, IfErr, IfOk, IfSome, IsAt, IsTold, IsWrite, Line, migrates, moves_on, None, Ok, OnOk, One}
 pub use Rattle.pie_trace.specs.{Opening, Option, Progress, Refusal, Registers, Replies, Request, Result, Rolling, Row, Show, Shows, Some, Stats}
 pub use Rattle.pie_trace.specs.{Tally, TellTheSame, Tells, TellsHistory, Three, TraceFault, Two, Version, after, append_known, closed, code_of}
-pub use Rattle.pie_trace.specs.{end_at, end_left, events_in, fault_at, fields_of, fold_outcome, history_row, is_device, is_kind, later_rows, let_go}
-pub use Rattle.pie_trace.specs.{line_told, lines_left, rows_left, migrated_text, migrated_version, opening_refusal, outcome, partial_of}
+pub use Rattle.pie_trace.specs.{end_at, end_left, events_in, fault_at, fold_outcome, history_row, is_device, is_kind, later_rows, let_go}
+pub use Rattle.pie_trace.specs.{line_told, lines_left, rows_left, migrated_text, migrated_version, opening_refusal, outcome}
 pub use Rattle.pie_trace.specs.{progress_at_end, queued_row, records_of, refused, refused_count, reply, reply_to_command, reply_to_fold, request_in}
 pub use Rattle.pie_trace.specs.{start, stats_after, text_of, told_by, told_rows}
 pub use Rattle.pie_trace.specs.Reply.{Reply}

@@ -53,7 +53,7 @@ code-small why = grind (arith, nat_tests)
 
 -- ---- one record
 
--- what a command comes to: an event that the rules give, or a refusal
+-- the reply to a command: an event by the rules, or a refusal
 pub asked-by : (P : Reply → Progress → Type 0) (opening : Opening) (progress : Progress) (caller : ℕ) (command : Command)
     → (refusal_by_rule opening progress.history command ≡ None → P (answered (decision opening progress.history command))
     (recorded opening progress caller command (Ok (decision opening progress.history command))))
@@ -79,7 +79,7 @@ after-fold : (held n : ℕ) → (if nat_lt held n then held else held - n) ≤ h
 after-fold held n = grind (arith, nat_tests)
 
 module _ (version : Version) (held : Held) (opening : Opening) where
-  -- where a run stands after a record
+  -- the state of a run after a record is sound
   after-sound : (progress : Progress) (row : Row) (request : Request) → request_of version row ≡ Ok request → Sound opening progress
       → Sound opening (after opening progress request)
   after-sound progress row (Ask caller command) reads sound = asked-by (λ given later. Sound opening later) opening progress caller command
@@ -106,7 +106,7 @@ module _ (version : Version) (held : Held) (opening : Opening) (opens : Opens op
   unfolding registers_after
   count-small progress sound = (held.registers opening progress.history opens.accepted opens.params sound.legal sound.fit).count
 
-  -- the history record of what it is answered tells its line
+  -- the history record of a reply has its line
   record-told : (number : ℕ) (row : Row) (request : Request) (progress : Progress) → number < 2 ^ 64 → Sound opening progress
       → request_of version row ≡ Ok request
       → line_of version (history_row version number row (reply opening progress request)) ≡ Ok (line_told request (reply opening progress request))
@@ -140,7 +140,8 @@ abbrev RowsTold : Version → Opening → ℕ → Progress → List Row → List
 RowsTold version opening number progress rows requests = TellEach version (history_rows version number rows (replies opening progress requests))
     (lines_told requests (replies opening progress requests))
 
--- what holds of no records, and of a record that asks something and others of which it holds, holds of all up to the first that has a fault
+-- induction over the records up to the first that has a fault: a property of no records, and of a record with a
+-- request before others that have the property
 pub each-good : (version : Version) (most : ℕ) (opening : Opening) (P : ℕ → Progress → List Row → List Request → Type 0)
     → ((number : ℕ) (progress : Progress) → P number progress [] [])
     → ((number : ℕ) (progress : Progress) (row : Row) (rows : List Row) (request : Request) (requests : List Request) → number ≤ most
@@ -190,13 +191,13 @@ few-left version most opening number progress rows =
 
 -- ---- a text that was written
 
--- its first record opens a history, and each of the others tells a line
+-- the first record opens a history, and each of the others is a line
 pub record Written (kind : FirstKind) (rest : Row) (rows : List Row) (opening : Opening) (lines : List Line) : Type 0 where
   pub opens : opening_of (kind_word kind ∷ rest) ≡ Ok opening
   pub told : TellEach (version_of (kind_word kind ∷ rest)) rows lines
   pub few : length rows < 2 ^ 32
 
--- records that each tell a line are all told
+-- records that each are a line are all read
 all-told : (version : Version) (most number : ℕ) (rows : List Row) (lines : List Line) → number + length rows ≤ most + 1
     → TellEach version rows lines → told_rows version most number rows ≡ rows
 unfolding TellEach lines_from
@@ -289,13 +290,13 @@ run-told held most row rows opening some few opens =
 
 -- ==== The audit of a run's history text finds it clean
 
--- ---- the events of a run are those that its lines tell
+-- ---- The events of a run are those of its lines
 
 events-both : (first more : List Line) → events_of (first ++ more) ≡ events_of first ++ events_of more
 unfolding events_of
 events-both first more = filter_map-append event_in first more
 
--- where a run stands, its history is this with what a line tells, and legal
+-- after a line, the run's history is the history before it with the line's event, and is legal
 pub record Tells (opening : Opening) (progress : Progress) (line : Line) (later : Progress) : Type 0 where
   pub events : progress.history ++ events_of (line ∷ []) ≡ later.history
   pub legal : IsLegal opening progress.history → IsLegal opening later.history
@@ -358,7 +359,7 @@ all-made (request ∷ requests) [] = All-nil CanBeMade
 all-made (request ∷ requests) (reply ∷ given) = All-cons CanBeMade (line_told request reply) (lines_told requests given) (line-made request reply)
     (all-made requests given)
 
--- after lines that tell a legal history, those of a run that held on are legal, and their events are the run's
+-- after the lines of a legal history, the lines of a continued run are legal, and their events are the run's
 pub record AreRuns (opening : Opening) (lines : List Line) (history : List Event) : Type 0 where
   pub legal : AreLegal opening lines
   pub events : events_of lines ≡ history
@@ -436,7 +437,7 @@ whole-clean told clean held most (row ∷ rows) end few sound ended = by (openin
         (before-all (version_of row) most 2 rows none)
         ∙ ap (λ (r : RunEnd). found r.events) same
 
--- ==== The audit of what a run writes of a trace that goes on finds it clean, with the events before it
+-- ==== The audit finds the output of a run of an excerpt clean, with the events before it
 
 -- what is wanted of the crates below
 pub record Below : Type 0 where
@@ -539,7 +540,7 @@ resumed-whole law most rows opening past end few goes fit sound ended = by (resu
         (subst (λ (rest : List Row). found (length (progress_after b.opening (going_on past) (steps_of (requests_of Three rest))).history))
         (before-all Three most (b.read + 1) b.left none) (resumed-clean law most rows opening past b few goes fit is))
 
--- ==== A trace that goes on after a history is answered as the whole from there on
+-- ==== The run of an excerpt after a history gives the answers of the whole from there on
 
 replies-append : (opening : Opening) (from : Progress) (xs ys : List Request)
     → replies opening from (xs ++ ys) ≡ replies opening from xs ++ replies opening (progress_after opening from (steps_of xs)) ys
@@ -586,7 +587,7 @@ whole_ends opening earlier later =
     progress-append opening start earlier (Fold there.held ∷ later)
     ∙ ap (λ (at : Progress). progress_after opening at (steps_of later)) (folds-all opening there)
 
--- ==== A record of lost events is a fault of every text that goes on from the middle of a history
+-- ==== A record of lost events is a fault of every excerpt
 
 -- these records have it among them
 record HasLost (count : ℕ) (rows : List Row) : Type 0 where

@@ -1,7 +1,6 @@
--- What definitions, code and proofs of this crate take from below, in one place.
+-- Definitions from lower crates that this crate's definitions, code and proofs use.
 pub use Rattle.std.specs.Io.KnownBytes.{Appends, append_known}
 pub use Rattle.std.specs.Prelude.{Bool, Err, IfErr, IfOk, IfSome, List, None, Ok, OnOk, Option, Result, Some, [], drop, false, length, map, true, ℕ}
-pub use Rattle.csv.specs.Records.{fields_of, partial_of}
 pub use Rattle.pie_audit.specs.Text.{text_finding}
 pub use Rattle.pie_audit.specs.declared.auditor.Finding.TheVariants.{Clean}
 pub use Rattle.pie_book.specs.Book.{BookView, Tells, last_events}
@@ -33,7 +32,7 @@ pub use Rattle.pie_record.specs.ReadBack.{Begins, TellsHistory}
 pub use Rattle.pie_record.specs.Text.{HasField, Row, records_of, text_of}
 unfoldable pub use Rattle.pie_record.specs.Text.{rows_text}
 unfoldable pub use Rattle.pie_record.specs.Command.{request_of}
-pub use Rattle.pie_record.specs.Write.{version_two_row}
+pub use Rattle.pie_record.specs.Write.{command_fields, version_two_row}
 pub use Rattle.pie_record.specs.declared.fault.Flaw.{Flaw}
 pub use Rattle.pie_record.specs.declared.fault.TraceFault.{TraceFault}
 pub use Rattle.pie_record.specs.declared.first_record.FirstKind.{FirstKind}

@@ -1,4 +1,4 @@
-//! The laws of runs and migrations: history texts are read back and are found clean, and traces go on from the middle of a history.
+//! The laws of runs and migrations: history texts are read back and are clean, and excerpts continue a history.
 ghost use Rattle.std.specs.Prelude.{◌≡◌, ◌<◌, ◌≤◌, ◌^◌, ◌∷◌, ◌++◌, ◌≢◌, All};
 ghost use Rattle.pie_trace.specs.{ℕ, List, Ok, Opening, progress_after, start, Request, history_text, progress_at_end, replies, steps_of, let_go};
 ghost use Rattle.pie_trace.specs.{going_on, version_of, opening_of, TellsHistory, run_lines, Row, length, None, Some, Event, Beginning, GoesOn};
@@ -18,9 +18,9 @@ use pie_record::{
     answers_are_read_back, openings_are_checked, requests_are_written_again, texts_are_read_back,
 };
 
-/// What the crates below promise of all histories and all records.
+/// The promises of the lower crates about all histories and all records.
 ///
-/// It does nothing: its contract is the law.
+/// The function does nothing: its contract is the law.
 pub(crate) fn all_is_held()
     ensures { Held }
 {
@@ -31,11 +31,12 @@ pub(crate) fn all_is_held()
     texts_are_read_back();
 }
 
-/// What `run_trace` writes, `HistoryLines` reads: the history text of every trace whose first record opens a book tells that opening, the event
-/// of each command that was answered, the time of day where the trace told it, a note for each other record, and then its end with no fault. Where
-/// the trace has a fault, its history text is that of the records before it.
+/// The law of reading back. `HistoryLines` reads the output of `run_trace`: the history text of every trace whose
+/// first record opens a book has that opening, the event of each command that was answered, each clock record, a
+/// note for each other record, and then its end without a fault. If the trace has a fault, its history text is that
+/// of the records before it.
 ///
-/// It does nothing: its contract is the law (this project's own).
+/// The function does nothing: its contract is the law (this project's own).
 pub fn history_texts_are_read_back()
     ensures { (most : ℕ) (row : Row) (rows : List Row) (opening : Opening) → 0 < most → most ≤ 2 ^ 32 → opening_of row ≡ Ok opening
         → TellsHistory (history_text most (row ∷ rows)) opening (run_lines (version_of row) most opening rows) }
@@ -43,11 +44,12 @@ pub fn history_texts_are_read_back()
     all_is_held();
 }
 
-/// A trace that goes on from the middle of a history is answered as the whole from there on: where a whole trace asks for some things, then lets
-/// all events of its tail go, and then asks for others, these are answered as by the run that goes on after the history so far, and both runs
-/// stand in the same place at their end (this project's own).
+/// The law of excerpts: the run of an excerpt gives the answers of the whole from there on. Let a whole trace have
+/// some requests, then a fold of all events of its tail, and then further requests. The further requests have the
+/// answers of the run that continues after the history so far, and both runs end in the same state (this project's
+/// own).
 ///
-/// It does nothing: its contract is the law.
+/// The function does nothing: its contract is the law.
 #[tactic(auto, using(crate::proofs::RunBack::whole_replies, crate::proofs::RunBack::whole_ends))]
 pub fn resumed_runs_go_on_as_the_whole()
     ensures answers { (opening : Opening) (earlier later : List Request) → let there = progress_at_end opening earlier in
@@ -57,11 +59,11 @@ pub fn resumed_runs_go_on_as_the_whole()
         progress_at_end opening (earlier ++ Request.Fold there.held ∷ later) ≡ progress_after opening (going_on there.history) (steps_of later) }
 {}
 
-/// What a run writes is found clean: the finding of the history text of a trace is `Clean`, with as many events as the run recorded
-/// (`whole`). Where the trace has a fault, its history text is that of the records before it, and is found clean as far as it
-/// goes (`up_to_fault`).
+/// The law of clean runs. The finding of a trace's history text is `Clean`, with the number of events that the run
+/// recorded (`whole`). If the trace has a fault, its history text is that of the records before it, and that text
+/// is clean (`up_to_fault`).
 ///
-/// It does nothing: its contract is the law (this project's own).
+/// The function does nothing: its contract is the law (this project's own).
 pub fn runs_are_clean()
     ensures whole { (most : ℕ) (rows : List Row) (end : RunEnd) → most ≤ 2 ^ 32 → fault_of most rows ≡ None → end_of most rows ≡ Some end
         → text_finding (records_of (history_text most rows)) ≡ Ok (Clean end.events) }
@@ -74,11 +76,12 @@ pub fn runs_are_clean()
     history_texts_are_read_back();
 }
 
-/// What a run writes of a trace that goes on from the middle of a history goes on after that history, whichever it is whose commands hold numbers of
-/// their types, and is found clean with it: the finding has the number of all events, those before among them (`whole`). Where the trace has a fault
-/// behind its beginning, its history text is that of the records before it, and is found clean as far as it goes (`up_to_fault`).
+/// The law of clean runs of excerpts. The output of a run of an excerpt continues every history that the excerpt
+/// continues and whose commands fit their types, and is clean with it. The finding has the number of all events,
+/// including those before (`whole`). If the excerpt has a fault after its preamble, its history text is that of the
+/// records before it, and that text is clean (`up_to_fault`).
 ///
-/// It does nothing: its contract is the law (this project's own).
+/// The function does nothing: its contract is the law (this project's own).
 pub fn resumed_runs_are_clean()
     ensures whole { (most : ℕ) (rows : List Row) (opening : Opening) (past : List Event) (end : RunEnd) → most ≤ 2 ^ 32 → GoesOn rows opening past
         → All (λ event. CommandFits event.command) past → resumed_fault most rows ≡ None → resumed_end most past rows ≡ Some end
@@ -94,21 +97,22 @@ pub fn resumed_runs_are_clean()
     written_parts_are_told();
 }
 
-/// Where a record of lost events stands among the records of a text, whoever reads that text as one that goes on from the middle of a history meets
-/// a fault. So no audit finds it clean.
+/// The law of lost events in excerpts. If a text has a record of lost events, every reader of the text as an
+/// excerpt finds a fault. So no audit finds it clean.
 ///
-/// It does nothing: its contract is the law (this project's own).
+/// The function does nothing: its contract is the law (this project's own).
 pub fn lost_records_are_faults_of_parts()
     ensures { (count : ℕ) (before after : List Row) → excerpt_fault (before ++ lost_row count ∷ after) ≢ None }
 {
     beginnings_are_written_again();
 }
 
-/// What `migrate` writes, `HistoryLines` reads: the migrated text of every history whose first record opens one is of version two,
-/// or of version three where the history is, and tells that opening, the lines before the history's first fault, and then its end
-/// with no fault. So where the history has no fault, both texts tell the same.
+/// The law of migrated histories. `HistoryLines` reads the output of `migrate`. The migrated text of every history
+/// whose first record opens one is of version two, or of version three if the history is. It has that opening, the
+/// lines before the history's first fault, and then its end without a fault. So if the history has no fault, both
+/// texts have the same opening and lines.
 ///
-/// It does nothing: its contract is the law (this project's own).
+/// The function does nothing: its contract is the law (this project's own).
 pub fn migrated_histories_are_read_back()
     ensures tells { (rows : List Row) (opening : Opening) → history_opening rows ≡ Ok opening
         → TellsHistory (migrated_text (2 ^ 32) rows) opening (history_lines (2 ^ 32) rows) }
@@ -119,9 +123,9 @@ pub fn migrated_histories_are_read_back()
     texts_are_read_back();
 }
 
-/// What was migrated is migrated to itself.
+/// The law of a second migration: a migrated history is migrated to itself.
 ///
-/// It does nothing: its contract is the law (this project's own).
+/// The function does nothing: its contract is the law (this project's own).
 #[tactic(auto, using(crate::proofs::MigrateFacts::migrated_twice))]
 pub fn migrating_again_changes_nothing()
     ensures { (rows : List Row) → migrated_text (2 ^ 32) (records_of (migrated_text (2 ^ 32) rows)) ≡ migrated_text (2 ^ 32) rows }

@@ -1,23 +1,24 @@
 //! Traces of commands, and the history text that a run of a trace writes, in three versions.
 //!
-//! The definitions that the contracts cite stand in `specs/`, and for records in those of pie_record: a trace's first fault, and its history
-//! text.
+//! The definitions that the contracts cite are in `specs/`, and those of records in pie_record: a trace's first
+//! fault, and its history text.
 //!
-//! `run_trace_within` and `run_trace`, over any reader and writer that tell their bytes, where the answer is not `Read`,
-//! `Write` or `Memory`: Ok exactly where the text has no fault (clause `ends`, with the numbers, registers and statistics of the
-//! run), and else its first fault (`faults`); what was written is the history text (`writes`). They end over a reader that
-//! never ends. Of a trace that goes on from the middle of a history (`either`): for every history that comes to the numbers and packets with
-//! which it begins, what a run of the whole would write and tell from there on, where its tail is empty (`run_by`).
+//! `run_trace_within` and `run_trace` run a trace with any reader and writer whose bytes are known. Unless the
+//! result is `Read`, `Write` or `Memory`, it is `Ok` exactly if the text has no fault (clause `ends`, with the
+//! numbers, registers and statistics of the run), otherwise the first fault (`faults`). The output is the history
+//! text (`writes`). The calls end even if the reader never ends. For an excerpt (`either`), result and output are
+//! those of the whole from there on, with an empty tail, for every history that leads to the numbers and packets of
+//! its preamble (`run_by`).
 //!
-//! `history_texts_are_read_back`: what a run writes is read back as the same opening and events.
+//! `history_texts_are_read_back`: the output of a run is read back as the same opening and events.
 //!
-//! `migrate`: the history in version two, or in version three as it is (`writes`), which tells the same opening and lines (`same`), or the
-//! history's first fault (`faults`). Laws: `migrated_histories_are_read_back`, `migrating_again_changes_nothing`,
-//! `migrated_runs_are_runs_of_version_two`.
+//! `migrate` writes the history in version two, or a history of version three as it is (`writes`), with the same
+//! opening and lines (`same`), or returns the history's first fault (`faults`). Laws:
+//! `migrated_histories_are_read_back`, `migrating_again_changes_nothing`, `migrated_runs_are_runs_of_version_two`.
 //!
-//! Beside audits: `runs_are_clean` says that the history text of every trace is found clean, with as many events as the run recorded, and
-//! `migration_keeps_the_finding` that a history in version two is found what it was found before. `resumed_runs_are_clean` says it of what a run writes
-//! of a trace that goes on, with the events before it.
+//! Laws about audits: the history text of every trace is clean, with the number of events that the run recorded
+//! (`runs_are_clean`). A history in version two has the finding that it had before (`migration_keeps_the_finding`).
+//! The output of a run of an excerpt is clean, with the events before it (`resumed_runs_are_clean`).
 #![tactic(auto)]
 
 pub mod law;

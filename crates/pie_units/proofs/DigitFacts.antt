@@ -1,4 +1,4 @@
--- A number is written with zeros before it.
+-- The text of a number with zeros before it.
 use Rattle.std.proofs.Common.{◌≡◌, ◌-◌, ℕ, [], length, arith, refl, append-nil}
 use Rattle.std.specs.Prelude.{false}
 use Rattle.std.specs.Fmt.{char_count, decimal, format_spec, padded_integral}

@@ -1,4 +1,5 @@
--- Dates, beside days counted year by year and month by month. Times of day are in tests/program/wall.py.
+-- Examples of dates, compared with days counted year by year and month by month. tests/program/wall.py has wall-clock
+-- times.
 use Rattle.std.proofs.Common.{◌≡◌, ◌+◌, ℕ, zero, suc, List, [], ◌∷◌, map, refl, if◌then◌else◌}
 use Rattle.std.specs.List.{flat_map, range_with_len}
 use Rattle.pie_units.specs.declared.date.Date.{Date}
@@ -7,12 +8,12 @@ use Rattle.pie_units.specs.Date.{date_in, date_of, day_number, days_in_month, is
 abbrev date : ℕ → ℕ → ℕ → Date
 date year month day = record { year = year; month = month; day = day }
 
--- the first days of so many years, from one that begins on this day, each as long as it is leap or not
+-- the first days of a number of years, from one that begins on this day, each with 365 or 366 days
 unfoldable begins : ℕ → ℕ → ℕ → List ℕ
 begins zero year day = []
 begins (suc years) year day = day ∷ begins years (year + 1) (day + (if is_leap year then 366 else 365))
 
--- .. are those of each year from 1970 to 2555
+-- the first day of each year from 1970 to 2555
 years-begin : (map date_of (begins 586 1970 0) ≡ map (λ year. date year 1 1) (range_with_len 1970 586))
     × (map (λ year. day_number (date year 1 1)) (range_with_len 1970 586) ≡ begins 586 1970 0)
 unfolding begins date_of date_in year_among year_day day_number
@@ -22,7 +23,7 @@ years-begin = (refl, refl)
 abbrev days_of : ℕ → List Date
 days_of year = flat_map (λ month. map (λ day. date year month day) (range_with_len 1 (days_in_month year month))) (range_with_len 1 12)
 
--- .. of a leap year, which begins on day 19723, and of the next
+-- the days of a leap year, which begins on day 19723, and of the next
 days-of-years : (map date_of (range_with_len 19723 366) ≡ days_of 2024) × (map date_of (range_with_len 20089 365) ≡ days_of 2025)
     × (map day_number (days_of 2024) ≡ range_with_len 19723 366) × (map day_number (days_of 2025) ≡ range_with_len 20089 365)
 unfolding date_of date_in year_among year_day day_number

@@ -1,4 +1,4 @@
--- The numbers of options, and the limit of some links, worked out.
+-- Examples of option numbers, and of the limit of some links.
 use Rattle.std.proofs.Common.{◌≡◌, codes, refl}
 use Rattle.std.specs.Prelude.{Ok, Err}
 use Rattle.pie_units.specs.Scale.{is_word, prefix_scale, rate_scale, time_scale}
@@ -9,8 +9,8 @@ use Rattle.pie_units.specs.declared.written.UnitFault.TheVariants.{NotANumber, T
 use Rattle.pie_units.specs.Opening.{gain_of}
 use Rattle.pie_units.specs.Units.{packets_of, rate_of, time_of}
 
--- as tc(8) has them; RFC 8033's 0.125 and 1.25 at the end
-asked : (time_of (codes "1.5ms") ≡ Ok 1_500_000)
+-- values from tc(8); RFC 8033's 0.125 and 1.25 at the end
+tuning : (time_of (codes "1.5ms") ≡ Ok 1_500_000)
     × (time_of (codes "20") ≡ Err (Unread Time NotANumber))
     × (time_of (codes "1.5ns") ≡ Err (Unread Time TooPrecise))
     × (rate_of (codes "100mbit") ≡ Ok 100_000_000)
@@ -20,4 +20,4 @@ asked : (time_of (codes "1.5ms") ≡ Ok 1_500_000)
     × (gain_of 2 ≡ 125)
     × (gain_of 20 ≡ 1250)
 unfolding digit_count number_after is_word prefix_scale rate_scale time_scale
-asked = (refl, refl, refl, refl, refl, refl, refl, refl, refl)
+tuning = (refl, refl, refl, refl, refl, refl, refl, refl, refl)

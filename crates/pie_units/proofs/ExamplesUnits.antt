@@ -1,4 +1,5 @@
--- Rates, sizes and packets with units, worked out: as tc(8) has the units, and as `tc` of iproute2 reads them. Times are in tests/program/moments.py.
+-- Examples of rates, sizes and packets with units, from tc(8) and from `tc` of iproute2. tests/program/moments.py has
+-- times.
 use Rattle.std.proofs.Common.{◌≡◌, ◌^◌, codes, refl}
 use Rattle.std.specs.Prelude.{Ok, Err, ⊤}
 use Rattle.pie_units.specs.declared.unit.Quantity.TheVariants.{Rate, Size, Packets}
@@ -6,7 +7,7 @@ use Rattle.pie_units.specs.declared.written.UnitFault.TheVariants.{NotANumber, T
 use Rattle.pie_units.specs.Scale.{is_word, prefix_scale, rate_scale, size_scale}
 use Rattle.pie_units.specs.Written.{digit_count, number_after, value_of}
 
--- what computing a value unfolds
+-- the definitions that computing a value unfolds
 unfoldable worked : Type 0
 unfolding digit_count number_after is_word prefix_scale rate_scale size_scale
 worked = ⊤

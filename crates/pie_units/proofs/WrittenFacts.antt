@@ -1,4 +1,4 @@
--- Digits of a text, one more at a time: the number that they write, and what it comes to in a unit.
+-- Digits of a text, one more at a time: their number, and its value in a unit.
 use Rattle.std.proofs.Common.{◌≡◌, ◌+◌, ◌*◌, ◌-◌, ◌<◌, ◌≤◌, arith, ℕ, zero, suc, List, [], ◌∷◌, ◌++◌, length, slice_index, take, sym, ap, ◌∙◌}
 use Rattle.std.specs.Prelude.{min}
 use Rattle.std.proofs.lemmas.Bool.Decides.{nat_tests}
@@ -6,7 +6,7 @@ use Rattle.std.proofs.lemmas.Nat.{mul-le}
 use Rattle.std.proofs.lemmas.List.Sums.{fold-append, fold_more}
 use Rattle.pie_units.specs.Written.{number_after, whole_in}
 
--- ---- the number, kept at a greatest one
+-- ---- The number, limited to a maximum
 
 next-min : (n digit most : ℕ) → min (min n most * 10 + digit) most ≡ min (n * 10 + digit) most
 next-min n digit most = omega arith
@@ -48,11 +48,11 @@ number_joined whole decimals zeros first second third most first-is second-is th
     ∙ ap (λ (k : ℕ). min k most) (sym (after-append 0 (whole ++ decimals) zeros
     ∙ ap (λ (k : ℕ). number_after k zeros) (after-append 0 whole decimals)))
 
--- what is kept at the greatest number is too great
+-- a number at the maximum is too great
 whole-kept : (parts : ℕ) → whole_in (min parts 340282366920938463463374607431768211455) ≡ whole_in parts
 whole-kept parts = grind (arith, nat_tests)
 
--- .. also in a unit
+-- a number at the maximum is too great in any unit
 kept-same : (parts kept product all : ℕ) → kept ≡ min parts 340282366920938463463374607431768211455 → (kept ≡ parts → product ≡ all)
     → (340282366920938463463374607431768211455 ≤ kept → 340282366920938463463374607431768211455 ≤ product)
     → (340282366920938463463374607431768211455 ≤ parts → 340282366920938463463374607431768211455 ≤ all)

@@ -1,4 +1,4 @@
--- A moment as a person writes it: whole nanoseconds, or a number with a unit, such as 1.5ms.
+-- A moment in human-readable form: whole nanoseconds, or a number with a unit, such as 1.5ms.
 use Rattle.std.specs.Prelude.{ℕ, ◌≡◌, List, Result, Ok, Err}
 use Rattle.std.specs.Result.{result_map_both}
 use Rattle.pie_units.specs.declared.moment.Moment.{Moment as Moment}
@@ -9,17 +9,17 @@ use Rattle.pie_units.specs.declared.written.UnitFault.{UnitFault}
 use Rattle.pie_units.specs.declared.written.UnitFault.TheVariants.{NotANumber, TooPrecise, TooGreat}
 use Rattle.pie_units.specs.Written.{value_of}
 
--- why a text is no moment
+-- the reason why a text is not a moment
 abbrev pub moment_fault : UnitFault → MomentFault
 moment_fault NotANumber = NotAMoment
 moment_fault TooPrecise = TooFine
 moment_fault TooGreat = TooLate
 
--- the moment that a text writes, in nanoseconds
+-- the moment of a text, in nanoseconds
 abbrev pub moment_in : List ℕ → Result ℕ MomentFault
 moment_in text = result_map_both (λ number. number) moment_fault (value_of AMoment text)
 
--- what reading a text as a moment answers
+-- the result of parsing a text as a moment
 abbrev pub WritesMoment : List ℕ → Result Moment MomentFault → Type 0
 WritesMoment text (Ok moment) = moment_in text ≡ Ok moment.0
 WritesMoment text (Err why) = moment_in text ≡ Err why

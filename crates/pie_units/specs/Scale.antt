@@ -1,22 +1,23 @@
--- Units of times, rates, sizes and packets, as `tc` has them: how many nanoseconds, bits a second, bytes or packets each is.
+-- Units of times, rates, sizes and packets in `tc`: the value of each in nanoseconds, bits per second, bytes or
+-- packets.
 use Rattle.std.specs.Prelude.{ℕ, ◌-◌, ◌*◌, ◌^◌, ◌||◌, Bool, List, length, take, drop, Option, Some, None}
 use Rattle.std.specs.Prelude.{if◌then◌else◌, codes}
 use Rattle.std.specs.Str.{str_eq_ignore_ascii_case}
 use Rattle.pie_units.specs.declared.unit.Quantity.{Quantity}
 use Rattle.pie_units.specs.declared.unit.Quantity.TheVariants.{Moment, Time, Rate, Size, Packets}
 
--- a text is this word, its letters of any case
+-- true if a text is this word, with letters of any case
 unfoldable pub is_word : List ℕ → List ℕ → Bool
 is_word word text = str_eq_ignore_ascii_case text word
 
--- a text is one of these words
+-- true if a text is one of these words
 abbrev pub is_either : List ℕ → List ℕ → List ℕ → Bool
 is_either first second text = is_word first text || is_word second text
 
 abbrev pub is_any : List ℕ → List ℕ → List ℕ → List ℕ → Bool
 is_any first second third text = is_word first text || is_either second third text
 
--- nanoseconds
+-- the nanoseconds of a unit of time
 unfoldable pub time_scale : List ℕ → Option ℕ
 time_scale unit =
     if is_any (codes "ns") (codes "nsec") (codes "nsecs") unit then Some 1
@@ -25,7 +26,7 @@ time_scale unit =
     else if is_any (codes "s") (codes "sec") (codes "secs") unit then Some (10 ^ 9)
     else None
 
--- what stands before `bit` or `bps`
+-- the factor of the letters before `bit` or `bps`
 unfoldable pub prefix_scale : List ℕ → Option ℕ
 prefix_scale prefix =
     if is_word (codes "") prefix then Some 1
@@ -39,7 +40,7 @@ prefix_scale prefix =
     else if is_word (codes "ti") prefix then Some (2 ^ 40)
     else None
 
--- bits a second: `bit` is one, and `bps`, a byte a second, is eight
+-- the bits per second: 1 for `bit`, and 8 for `bps`, a byte per second
 abbrev pub base_scale : List ℕ → Option ℕ
 base_scale base = if is_word (codes "bit") base then Some 1 else if is_word (codes "bps") base then Some 8 else None
 
@@ -51,7 +52,7 @@ product None second = None
 unfoldable pub rate_scale : List ℕ → Option ℕ
 rate_scale unit = product (prefix_scale (take (length unit - 3) unit)) (base_scale (drop (length unit - 3) unit))
 
--- bytes; the bits of a size count by 1024
+-- the bytes of a unit of sizes; the bits of a size are multiples of 1024
 unfoldable pub size_scale : List ℕ → Option ℕ
 size_scale unit =
     if is_either (codes "") (codes "b") unit then Some 1
@@ -63,11 +64,11 @@ size_scale unit =
     else if is_word (codes "gbit") unit then Some (2 ^ 27)
     else None
 
--- packets
+-- the packets of a unit of packets
 abbrev pub packets_scale : List ℕ → Option ℕ
 packets_scale unit = if is_either (codes "") (codes "p") unit then Some 1 else None
 
--- a moment is a time, whose unit may also be minutes or hours, or be left out: then it is in nanoseconds
+-- the nanoseconds of a unit of a moment: a unit of time, minutes or hours; nanoseconds without a unit
 abbrev pub moment_scale : List ℕ → Option ℕ
 moment_scale unit =
     if is_word (codes "") unit then Some 1
@@ -75,7 +76,7 @@ moment_scale unit =
     else if is_word (codes "h") unit then Some (3600 * 10 ^ 9)
     else time_scale unit
 
--- how many of the smallest a unit of this kind is
+-- the value of a unit of this kind
 abbrev pub scale_of : Quantity → List ℕ → Option ℕ
 scale_of Moment unit = moment_scale unit
 scale_of Time unit = time_scale unit

@@ -13,7 +13,7 @@ pub struct Date {
     pub day: u64,
 }
 
-/// Of 400 years that begin on 1 March, the one that this day of theirs is in.
+/// Returns the year, among 400 years that begin on 1 March, that contains the day `day` of them.
 #[tactic(auto, unfolding(crate::specs::Date::year_among))]
 fn year_among(day: u64) -> u64
     requires { day < 146097 }
@@ -23,7 +23,7 @@ fn year_among(day: u64) -> u64
     (day - day / 1460 + day / 36524 - day / 146096) / 365
 }
 
-/// The day of that year, counted from 0.
+/// Returns the day of that year, counted from 0.
 #[tactic(auto, unfolding(crate::specs::Date::year_day))]
 fn year_day(day: u64) -> u64
     requires { day < 146097 }
@@ -34,7 +34,7 @@ fn year_day(day: u64) -> u64
     day.saturating_sub(365 * year + year / 4 - year / 100)
 }
 
-/// The month of the calendar, of one counted from March as 0.
+/// Returns the month of the calendar, from a month counted from March as 0.
 fn month_of(march_month: u64) -> u64
     requires { march_month ≤ 1000000 }
     ensures { result ≡ month_of march_month }
@@ -46,7 +46,7 @@ fn month_of(march_month: u64) -> u64
     }
 }
 
-/// The date of a day of so many years after 0000-03-01, of 400 that begin on 1 March.
+/// Returns the date of the day `day` of 400 years that begin on 1 March, `years` years after 0000-03-01.
 #[tactic(auto, unfolding(crate::specs::Date::date_in))]
 fn date_in(years: u64, day: u64) -> Date
     requires few { years ≤ 10000 }
@@ -63,7 +63,7 @@ fn date_in(years: u64, day: u64) -> Date
     }
 }
 
-/// The date of so many days after 1970-01-01.
+/// Returns the date `days` days after 1970-01-01.
 #[tactic(auto, unfolding(crate::specs::Date::date_of))]
 pub fn date_of(days: u64) -> Date
     requires { days ≤ 213504 }
@@ -73,14 +73,14 @@ pub fn date_of(days: u64) -> Date
     date_in(since_march / 146097 * 400, since_march % 146097)
 }
 
-/// Whether a year has a 29 February.
+/// Returns true if `year` has a 29 February.
 fn is_leap(year: u64) -> bool
     ensures { result ≡ is_leap year }
 {
     (year % 4 == 0 && year % 100 != 0) || year % 400 == 0
 }
 
-/// How many days a month of a year has.
+/// Returns the number of days of `month` in `year`.
 pub fn days_in_month(year: u64, month: u64) -> u64
     ensures days { result ≡ days_in_month year month }
     ensures few { result ≤ 31 }
@@ -94,7 +94,7 @@ pub fn days_in_month(year: u64, month: u64) -> u64
     }
 }
 
-/// The year that began on 1 March, in which a month of a year is.
+/// Returns the year from 1 March on that contains `month` of `year`.
 fn march_year(year: u64, month: u64) -> u64
     ensures year { result ≡ march_year year month }
     ensures few { result ≤ year }
@@ -106,7 +106,7 @@ fn march_year(year: u64, month: u64) -> u64
     }
 }
 
-/// The number of a month, counted from March as 0.
+/// Returns the number of a month, counted from March as 0.
 fn march_month(month: u64) -> u64
     requires { month ≤ 12 }
     ensures month { result ≡ march_month month }
@@ -115,7 +115,7 @@ fn march_month(month: u64) -> u64
     if month < 3 { month + 9 } else { month - 3 }
 }
 
-/// How many days after 1970-01-01 a date is that is not before it.
+/// Returns the number of days from 1970-01-01 to `date`, which is not before it.
 #[tactic(auto, unfolding(crate::specs::Date::day_number))]
 pub fn day_number(date: Date) -> u64
     requires year { date.year ≤ 9999 }

@@ -1,12 +1,14 @@
-//! Times, rates, sizes and packets as a person writes them: a number with a unit, as `tc` has them, such as `1.5ms` or `100mbit`.
+//! Times, rates, sizes and packets in human-readable form: a number with a unit, as in `tc`, such as `1.5ms` or
+//! `100mbit`.
 //!
-//! `read` answers exactly what a text comes to, a whole number of nanoseconds, bits a second, bytes or packets, or exactly why it comes to
-//! none (`value_of`). Nothing is rounded. `Moment::from_str` does so for a moment, whose unit may be left out (`moment_in`), and
-//! `Utc::from_str` for a time of day (`utc_in`), which a `Utc` writes as `utc_text` says.
+//! `read` returns exactly the value of a text, a whole number of nanoseconds, bits per second, bytes or packets, or
+//! exactly the reason why it has none (`value_of`). Nothing is rounded. `Moment::from_str` parses a moment, whose unit
+//! is optional (`moment_in`). `Utc::from_str` parses a wall-clock time (`utc_in`), and a `Utc` is written as `utc_text`
+//! states.
 //!
-//! Numbers of `tc`'s options have refusals of their own (`time_of`, `rate_of`, `packets_of`). `params_for` has the nine parameters of what was
-//! asked for (`TuningOptions`), `elements_for` RFC 8033's optional elements, and `write_opening` writes exactly the record of their opening
-//! (`opening_for`).
+//! Numbers of `tc`'s options have refusals of their own (`time_of`, `rate_of`, `packets_of`). `params_for` returns the
+//! nine parameters of the options (`TuningOptions`), `elements_for` the optional elements of RFC 8033. `write_opening`
+//! writes exactly the record of their opening (`opening_for`).
 #![tactic(auto)]
 
 mod date;

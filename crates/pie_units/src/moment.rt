@@ -1,4 +1,4 @@
-//! Moments as a person writes them: whole nanoseconds, or a number with a unit, such as `1.5ms`.
+//! Moments in human-readable form: whole nanoseconds, or a number with a unit, such as `1.5ms`.
 ghost use Rattle.std.specs.Prelude.{◌≡◌};
 ghost use Rattle.pie_units.specs.Moment.{moment_fault, moment_in};
 
@@ -7,16 +7,16 @@ use crate::written::{UnitFault, read};
 use std::str::FromStr;
 use thiserror::Error;
 
-/// Why a text is no moment.
+/// The reason why a text is not a moment.
 #[derive(Clone, Copy, Debug, PartialEq, Eq, Error)]
 pub enum MomentFault {
-    /// It is written otherwise.
+    /// The text has another form.
     #[error("a moment is whole nanoseconds, or a number with ns, us, ms, s, m or h, such as 1500000, 1.5ms or 2m")]
     NotAMoment,
-    /// It isn't a whole number of nanoseconds, or has more than 18 decimals.
+    /// The value is not a whole number of nanoseconds, or the text has more than 18 decimals.
     #[error("a moment is no more precise than a nanosecond")]
     TooFine,
-    /// It is above 2^60 - 1 nanoseconds.
+    /// The value is above 2^60 - 1 nanoseconds.
     #[error("a moment is at most 1152921504606846975 ns")]
     TooLate,
 }
@@ -25,7 +25,7 @@ pub enum MomentFault {
 #[derive(Clone, Copy)]
 pub struct Moment(pub u64);
 
-/// Why a text is no moment, by what it is no number for.
+/// Returns the reason why a text is not a moment, from the reason why it is not a number.
 fn moment_fault(why: UnitFault) -> MomentFault
     ensures { result ≡ moment_fault why }
 {
@@ -36,7 +36,7 @@ fn moment_fault(why: UnitFault) -> MomentFault
     }
 }
 
-/// The moment that a text writes, in nanoseconds.
+/// Parses a moment, in nanoseconds.
 pub(crate) fn moment_in(text: &[u8]) -> Result<u64, MomentFault>
     ensures { result ≡ moment_in text.now }
 {

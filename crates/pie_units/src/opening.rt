@@ -1,4 +1,4 @@
-//! The record that opens a book with parameters and choices.
+//! The first record of a history, from parameters and choices.
 ghost use Rattle.std.specs.Prelude.{◌≡◌, OnOk};
 ghost use Rattle.std.specs.Io.KnownBytes.{Appends};
 ghost use Rattle.pie_record.specs.Text.{text_of};
@@ -11,8 +11,8 @@ use pie_text::{Row, put_opening};
 use std::io;
 use std::io::Write;
 
-/// What opens a rolling book of profile one at moment 0 with these, whose ring and tail hold so many packets and events, and which takes as
-/// many events as there may be.
+/// Returns the opening of a rolling book of profile one at moment 0 with these parameters and elements. Its ring and
+/// its tail hold `packets` packets and events. The number of events is limited only by the greatest limit.
 pub fn opening_for(packets: u32, elements: Elements, params: Params) -> Opening
     ensures { result ≡ opening_for packets elements params }
 {
@@ -34,11 +34,11 @@ pub fn opening_for(packets: u32, elements: Elements, params: Params) -> Opening
     }
 }
 
-/// Writes the record of an opening, as the first of a history; and flushes the writer.
+/// Writes the record of an opening, as the first of a history, and flushes the writer.
 ///
 /// # Errors
 ///
-/// That of the writer.
+/// Returns the error of the writer.
 pub fn write_opening<W: Write>(opening: &Opening, output: &mut W) -> io::Result<()>
     ensures { OnOk result (Appends (W.contents output.old) (W.contents output.new) (text_of (opening_row opening.now))) }
 {

@@ -1,23 +1,23 @@
-//! The numbers of `tc`'s options, with units: `20ms`, `100mbit`, `1000p`.
+//! Numbers of `tc`'s options, with units: `20ms`, `100mbit`, `1000p`.
 ghost use Rattle.std.specs.Prelude.{◌≡◌};
-ghost use Rattle.pie_units.specs.Units.{packets_of, rate_of, time_of, told};
+ghost use Rattle.pie_units.specs.Units.{packets_of, rate_of, time_of, option_number};
 
 use crate::unit::Quantity;
 use crate::written::{UnitFault, read};
 use std::fmt;
 use thiserror::Error;
 
-/// Why the text of an option tells no number of its kind, in words that follow the option's name.
+/// The reason why the text of an option is not a number of its kind. Its message follows the option's name.
 #[derive(Clone, Copy, Debug, PartialEq, Eq, Error)]
 pub enum OptionFault {
-    /// It comes to no number of this kind.
+    /// The text is not a number of this kind.
     Unread(Quantity, UnitFault),
-    /// It is a rate of 0.
+    /// The rate is 0.
     NoRate,
 }
 
 impl OptionFault {
-    /// The fault in words.
+    /// Returns the message of the fault.
     fn text(self) -> &'static str {
         match self {
             OptionFault::Unread(Quantity::Time, UnitFault::NotANumber) =>
@@ -43,9 +43,9 @@ impl fmt::Display for OptionFault {
     }
 }
 
-/// The number of this kind that a text tells.
-fn told(kind: Quantity, text: &str) -> Result<u64, OptionFault>
-    ensures { result ≡ told kind text.now }
+/// Parses a number of this kind.
+fn option_number(kind: Quantity, text: &str) -> Result<u64, OptionFault>
+    ensures { result ≡ option_number kind text.now }
 {
     match read(kind, text.as_bytes()) {
         Ok(number) => Ok(number),
@@ -53,38 +53,38 @@ fn told(kind: Quantity, text: &str) -> Result<u64, OptionFault>
     }
 }
 
-/// The nanoseconds that a text such as `20ms` or `1.5ms` tells, at most 2^60 - 1.
+/// Parses a time such as `20ms` or `1.5ms`, in nanoseconds, at most 2^60 - 1.
 ///
 /// # Errors
 ///
-/// `Unread`, as `read` says why.
+/// Returns `Unread` with the fault of `read`.
 pub fn time_of(text: &str) -> Result<u64, OptionFault>
     ensures { result ≡ time_of text.now }
 {
-    told(Quantity::Time, text)
+    option_number(Quantity::Time, text)
 }
 
-/// The bits a second that a text such as `100mbit` tells, 1 to 2^60 - 1.
+/// Parses a rate such as `100mbit`, in bits per second, 1 to 2^60 - 1.
 ///
 /// # Errors
 ///
-/// `Unread`, as `read` says why, and `NoRate` for 0.
+/// Returns `Unread` with the fault of `read`, or `NoRate` if the rate is 0.
 pub fn rate_of(text: &str) -> Result<u64, OptionFault>
     ensures { result ≡ rate_of text.now }
 {
-    match told(Quantity::Rate, text) {
+    match option_number(Quantity::Rate, text) {
         Ok(0) => Err(OptionFault::NoRate),
         rate => rate,
     }
 }
 
-/// The packets that a text such as `1000p` or `1000` tells, at most 2^60 - 1.
+/// Parses a number of packets such as `1000p` or `1000`, at most 2^60 - 1.
 ///
 /// # Errors
 ///
-/// `Unread`, as `read` says why.
+/// Returns `Unread` with the fault of `read`.
 pub fn packets_of(text: &str) -> Result<u64, OptionFault>
     ensures { result ≡ packets_of text.now }
 {
-    told(Quantity::Packets, text)
+    option_number(Quantity::Packets, text)
 }

@@ -1,41 +1,42 @@
-//! What `tc`'s options ask for (`TuningOptions`), and the parameters and the optional elements of it.
+//! Options of `tc` (`TuningOptions`), with their parameters and optional elements.
 ghost use Rattle.std.specs.Prelude.{◌≡◌, ◌≤◌, ◌*◌, nat_lt};
 ghost use Rattle.pie_units.specs.Opening.{can_stall, elements_for, gain_of, params_for};
 
 use pie_params::{Decay, Delay, Elements, Params, Picking, RawParams, Size, Step};
 
-/// What is asked for.
+/// The options of a queue.
 #[derive(Clone, Copy)]
 pub struct TuningOptions {
-    /// The link's rate, in bits a second; 0 where it isn't known.
+    /// The link's rate, in bits per second; 0 if it is unknown.
     pub rate: u64,
     /// The reference queueing delay, in nanoseconds.
     pub target: u64,
     /// The time between two updates, in nanoseconds.
     pub t_update: u64,
-    /// How many packets may wait.
+    /// The greatest number of waiting packets.
     pub packets: u64,
     /// The gain alpha, in thousandths per second.
     pub alpha: u64,
     /// The gain beta, in thousandths per second.
     pub beta: u64,
-    /// Whether packets of ECN-capable endpoints are marked.
+    /// True if packets of ECN-capable endpoints are marked.
     pub ecn: bool,
-    /// Whether delays are taken from the departure rate (RFC 8033, section 5.2), and not from time stamps (section 4.3).
+    /// True if delays come from the departure rate (RFC 8033, section 5.2), false if they come from time stamps
+    /// (section 4.3).
     pub dq_rate_estimator: bool,
-    /// Whether a packet is picked less often the smaller it is.
+    /// True if smaller packets have a smaller probability.
     pub bytemode: bool,
-    /// The link's MTU, in bytes, of which a packet's size is a part in `bytemode`.
+    /// The link's MTU, in bytes. In `bytemode` a packet's probability is in proportion to its size over the MTU.
     pub mtu: u64,
-    /// Whether packets are picked by the random word alone, not de-randomized (RFC 8033, section 5.4).
+    /// True if the random word alone picks packets, without de-randomization (RFC 8033, section 5.4).
     pub no_derandomization: bool,
-    /// Whether an update raises the probability as far as the control law says (RFC 8033, section 5.5).
+    /// True if the rise of the probability in an update has no cap (RFC 8033, section 5.5).
     pub no_cap_drop_adjustment: bool,
-    /// At which delays the probability decays.
+    /// The delays at which the probability decays.
     pub decay: Decay,
 }
 
-/// What a gain of `tc`, which counts sixteenths per second, is in thousandths per second, rounded down.
+/// Converts a gain of `tc`, in sixteenths per second, to thousandths per second, rounded down.
 pub fn gain_of(gain: u64) -> u64
     requires { gain ≤ 32 }
     ensures { result ≡ gain_of gain }
@@ -43,58 +44,58 @@ pub fn gain_of(gain: u64) -> u64
     gain * 1000 / 16
 }
 
-/// RFC 8033's optional elements of what is asked for, as `tc` and ns-3 have them.
-pub fn elements_for(asked: &TuningOptions) -> Elements
-    ensures { result ≡ elements_for asked.now }
+/// Returns the optional elements of RFC 8033 for these options, as in `tc` and ns-3.
+pub fn elements_for(tuning: &TuningOptions) -> Elements
+    ensures { result ≡ elements_for tuning.now }
 {
     Elements {
-        delay: if asked.dq_rate_estimator {
+        delay: if tuning.dq_rate_estimator {
             Delay::Rate
         } else {
             Delay::Stamp
         },
-        picking: if asked.no_derandomization {
+        picking: if tuning.no_derandomization {
             Picking::Random
         } else {
             Picking::Derandomized
         },
-        step: if asked.no_cap_drop_adjustment {
+        step: if tuning.no_cap_drop_adjustment {
             Step::Uncapped
         } else {
             Step::Capped
         },
-        size: if asked.bytemode {
+        size: if tuning.bytemode {
             Size::Scaled
         } else {
             Size::Unscaled
         },
-        decay: asked.decay,
+        decay: tuning.decay,
     }
 }
 
-/// The nine parameters of what is asked for. Those that `tc` has no option for are the defaults at the link's rate, but for `mean_pkt`, which is
-/// the MTU in `bytemode`. Packets are marked up to the default, or never.
-pub fn params_for(asked: &TuningOptions) -> RawParams
-    ensures { result ≡ params_for asked.now }
+/// Returns the nine parameters for these options. Parameters without an option of `tc` are the defaults at the link's
+/// rate, except `mean_pkt`, which is the MTU in `bytemode`. Packets are marked up to the default threshold, or never.
+pub fn params_for(tuning: &TuningOptions) -> RawParams
+    ensures { result ≡ params_for tuning.now }
 {
-    let usual = Params::for_rate(asked.rate).raw();
+    let usual = Params::for_rate(tuning.rate).raw();
     RawParams {
-        target: asked.target,
-        t_update: asked.t_update,
-        alpha: asked.alpha,
-        beta: asked.beta,
-        mean_pkt: if asked.bytemode {
-            asked.mtu
+        target: tuning.target,
+        t_update: tuning.t_update,
+        alpha: tuning.alpha,
+        beta: tuning.beta,
+        mean_pkt: if tuning.bytemode {
+            tuning.mtu
         } else {
             usual.mean_pkt
         },
-        mark_ecnth: if asked.ecn { usual.mark_ecnth } else { 0 },
+        mark_ecnth: if tuning.ecn { usual.mark_ecnth } else { 0 },
         ..usual
     }
 }
 
-/// Whether a queue of `limit_bytes` is drained in less than the target at this rate, in bits a second: then it is full before it waits so long,
-/// and all losses are tail drops.
+/// Returns true if `limit_bytes` bytes leave in less than the target at `rate` bits per second. Then the queue is full
+/// before its delay reaches the target, and all losses are tail drops.
 pub fn is_short(rate: u64, params: &RawParams) -> bool
     ensures { result ≡ nat_lt (params.now.limit_bytes * 8_000_000_000) (rate * params.now.target) }
 {
@@ -102,13 +103,14 @@ pub fn is_short(rate: u64, params: &RawParams) -> bool
     u128::from(params.limit_bytes) * 8_000_000_000 < wanted
 }
 
-/// Whether the departure rate's estimator, where it is asked for, can stall at this rate: `dq_threshold` is above half of what waits where the
-/// queue is at the target, so a cycle may not begin for long, and the estimate stands still (RFC 8033, section 5.2).
-pub fn can_stall(asked: &TuningOptions, params: &RawParams) -> bool
-    ensures { result ≡ can_stall asked.now params.now }
+/// Returns true if the estimator of the departure rate is chosen and can stall at this rate: `dq_threshold` is above
+/// half of the bytes in the queue at the target. Then a long time can pass without a cycle, and the estimate does not
+/// change (RFC 8033, section 5.2).
+pub fn can_stall(tuning: &TuningOptions, params: &RawParams) -> bool
+    ensures { result ≡ can_stall tuning.now params.now }
 {
-    let wanted = u128::from(asked.rate) * u128::from(params.target);
-    asked.dq_rate_estimator
-        && asked.rate != 0
+    let wanted = u128::from(tuning.rate) * u128::from(params.target);
+    tuning.dq_rate_estimator
+        && tuning.rate != 0
         && wanted < u128::from(params.dq_threshold) * 16_000_000_000
 }

@@ -1,24 +1,27 @@
-//! Units, as `tc` has them: their letters may be of any case.
+//! Units of `tc`. Their letters may have any case.
 ghost use Rattle.std.specs.Prelude.{◌≡◌, ◌≤◌, ◌^◌, IfSome};
 ghost use Rattle.pie_units.specs.Scale.{base_scale, is_any, is_either, is_word, moment_scale, packets_scale, prefix_scale};
 ghost use Rattle.pie_units.specs.Scale.{rate_scale, scale_of, size_scale, time_scale};
 
-/// What a text tells.
+/// The kind of a number.
 #[derive(Clone, Copy, Debug, PartialEq, Eq)]
 pub enum Quantity {
-    /// A moment, in nanoseconds: a time, also in minutes, `m`, or hours, `h`; or whole nanoseconds without a unit.
+    /// A moment, in nanoseconds: a time, which may also be in minutes, `m`, or hours, `h`; or whole nanoseconds without
+    /// a unit.
     Moment,
     /// A time, in nanoseconds: `ns`, `us`, `ms` or `s`, or longer `nsec`, `nsecs`, `usec` and so on.
     Time,
-    /// A rate, in bits a second: `bit`, `kbit`, `mbit`, `gbit`, `tbit`, or in bytes `bps`, `kbps` and so on; `kibit` and `kibps` count by 1024.
+    /// A rate, in bits per second: `bit`, `kbit`, `mbit`, `gbit`, `tbit`, or in bytes `bps`, `kbps` and so on; `kibit`
+    /// and `kibps` are multiples of 1024.
     Rate,
-    /// A size, in bytes, also without a unit: `b`, `k`, `kb`, `m`, `mb`, `g`, `gb`, `kbit`, `mbit` or `gbit`, which count by 1024.
+    /// A size, in bytes, also without a unit: `b`, `k`, `kb`, `m`, `mb`, `g`, `gb`, `kbit`, `mbit` or `gbit`, which are
+    /// multiples of 1024.
     Size,
     /// Packets, also without a unit: `p`.
     Packets,
 }
 
-/// Whether a text is this word, its letters of any case.
+/// Returns true if `text` is `word`, with letters of any case.
 #[tactic(auto, unfolding(crate::specs::Scale::is_word))]
 fn is_word(word: &[u8], text: &[u8]) -> bool
     ensures { result ≡ is_word word.now text.now }
@@ -26,21 +29,21 @@ fn is_word(word: &[u8], text: &[u8]) -> bool
     text.eq_ignore_ascii_case(word)
 }
 
-/// Whether a text is one of two words.
+/// Returns true if `text` is one of two words.
 fn is_either(first: &[u8], second: &[u8], text: &[u8]) -> bool
     ensures { result ≡ is_either first.now second.now text.now }
 {
     is_word(first, text) || is_word(second, text)
 }
 
-/// Whether a text is one of three words.
+/// Returns true if `text` is one of three words.
 fn is_any(first: &[u8], second: &[u8], third: &[u8], text: &[u8]) -> bool
     ensures { result ≡ is_any first.now second.now third.now text.now }
 {
     is_word(first, text) || is_either(second, third, text)
 }
 
-/// The nanoseconds of a unit of time.
+/// Returns the number of nanoseconds of a unit of time.
 #[tactic(auto, unfolding(crate::specs::Scale::time_scale))]
 fn time_scale(unit: &[u8]) -> Option<u64>
     ensures { result ≡ time_scale unit.now }
@@ -54,7 +57,7 @@ fn time_scale(unit: &[u8]) -> Option<u64>
     }
 }
 
-/// What the letters before `bit` or `bps` come to.
+/// Returns the factor of the letters before `bit` or `bps`.
 #[tactic(auto, unfolding(crate::specs::Scale::prefix_scale))]
 fn prefix_scale(prefix: &[u8]) -> Option<u64>
     ensures scale { result ≡ prefix_scale prefix.now }
@@ -74,7 +77,7 @@ fn prefix_scale(prefix: &[u8]) -> Option<u64>
     }
 }
 
-/// The bits a second of `bit` and of `bps`, a byte a second.
+/// Returns the bits per second of `bit` and of `bps`, a byte per second.
 fn base_scale(base: &[u8]) -> Option<u64>
     ensures scale { result ≡ base_scale base.now }
     ensures few { IfSome result (λ scale. scale ≤ 8) }
@@ -86,7 +89,7 @@ fn base_scale(base: &[u8]) -> Option<u64>
     }
 }
 
-/// The bits a second of a unit of rates.
+/// Returns the bits per second of a unit of rates.
 #[tactic(auto, unfolding(crate::specs::Scale::rate_scale))]
 fn rate_scale(unit: &[u8]) -> Option<u64>
     ensures { result ≡ rate_scale unit.now }
@@ -99,7 +102,7 @@ fn rate_scale(unit: &[u8]) -> Option<u64>
     }
 }
 
-/// The bytes of a unit of sizes.
+/// Returns the bytes of a unit of sizes.
 #[tactic(auto, unfolding(crate::specs::Scale::size_scale))]
 fn size_scale(unit: &[u8]) -> Option<u64>
     ensures { result ≡ size_scale unit.now }
@@ -116,7 +119,7 @@ fn size_scale(unit: &[u8]) -> Option<u64>
     }
 }
 
-/// What a unit of this kind comes to, in nanoseconds, bits a second, bytes or packets.
+/// Returns the value of a unit of this kind, in nanoseconds, bits per second, bytes or packets.
 pub(crate) fn scale_of(kind: Quantity, unit: &[u8]) -> Option<u64>
     ensures { result ≡ scale_of kind unit.now }
 {
@@ -129,7 +132,7 @@ pub(crate) fn scale_of(kind: Quantity, unit: &[u8]) -> Option<u64>
     }
 }
 
-/// Packets, in which a number without a unit is too.
+/// Returns 1 for the unit of packets, which is optional.
 fn packets_scale(unit: &[u8]) -> Option<u64>
     ensures { result ≡ packets_scale unit.now }
 {
@@ -139,7 +142,7 @@ fn packets_scale(unit: &[u8]) -> Option<u64>
     }
 }
 
-/// The nanoseconds of a unit of time, of minutes or hours, or of none.
+/// Returns the nanoseconds of a unit of time, of minutes or hours, or of no unit.
 fn moment_scale(unit: &[u8]) -> Option<u64>
     ensures { result ≡ moment_scale unit.now }
 {

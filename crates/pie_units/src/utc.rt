@@ -1,4 +1,4 @@
-//! Times of day, as UTC writes them: `2026-11-24T20:00:00.265333333Z`.
+//! Wall-clock times in UTC: `2026-11-24T20:00:00.265333333Z`.
 ghost use Rattle.std.specs.Prelude.{◌≡◌, ◌≤◌, ◌-◌, ◌^◌, IfSome, length, min};
 ghost use Rattle.pie_units.specs.Utc.{date_part, has_marks, nanos_in, number_in, number_within, seconds_part, unix_of, utc_in, utc_with};
 
@@ -9,7 +9,7 @@ use std::fmt::Display;
 use std::str::FromStr;
 use thiserror::Error;
 
-/// What ends a time of day.
+/// The end of a wall-clock time.
 const END: &[u8] = b"Z";
 
 /// The nanoseconds of a day.
@@ -18,18 +18,19 @@ const DAY: u64 = 86_400_000_000_000;
 /// The nanoseconds of a second.
 const SECOND: u64 = 1_000_000_000;
 
-/// Why a text is no time of day.
+/// The reason why a text is not a wall-clock time.
 #[derive(Clone, Copy, Debug, PartialEq, Eq, Error)]
 pub enum UtcFault {
-    /// It is written otherwise, or there is no such date or hour.
+    /// The text has another form, or the date or hour does not exist.
     #[error("a time of day is written in UTC as 2026-11-24T20:00:00Z, with at most nine decimals of a second")]
     NotUtc,
-    /// It is before 1970, or above 2^64 - 1 nanoseconds after its beginning.
+    /// The time is before 1970, or more than 2^64 - 1 nanoseconds after its beginning.
     #[error("a time of day is from 1970 to 2554-07-21T23:34:33.709551615Z")]
     OutOfRange,
 }
 
-/// A time of day: so many nanoseconds after 1970-01-01T00:00:00Z, leap seconds not counted. It is written with nine decimals of a second.
+/// A wall-clock time: the number of nanoseconds after 1970-01-01T00:00:00Z, without leap seconds. It is written with
+/// nine decimals of a second.
 #[derive(Clone, Copy)]
 pub struct Utc(pub u64);
 
@@ -51,7 +52,7 @@ impl Display for Utc {
     }
 }
 
-/// The number that up to four digits write, if there is nothing else.
+/// Parses a number of up to four digits, if `digits` has nothing else.
 fn number_in(digits: &[u8]) -> Option<u64>
     ensures { result ≡ number_in digits.now }
 {
@@ -61,7 +62,7 @@ fn number_in(digits: &[u8]) -> Option<u64>
     Some(number_after(0, digits).min(9999) as u64)
 }
 
-/// The same, where it is from one number to another.
+/// Parses a number of up to four digits that is at least `first` and at most `last`.
 fn number_within(digits: &[u8], first: u64, last: u64) -> Option<u64>
     ensures number { result ≡ number_within digits.now first last }
     ensures within { IfSome result (λ number. number ≤ last) }
@@ -73,7 +74,7 @@ fn number_within(digits: &[u8], first: u64, last: u64) -> Option<u64>
     Some(number)
 }
 
-/// Whether what stands between the numbers of a date and an hour is there.
+/// Returns true if the separators between the numbers of a date and an hour are present.
 #[tactic(auto, unfolding(crate::specs::Utc::has_marks))]
 fn has_marks(text: &[u8]) -> bool
     requires { 19 ≤ length text.now }
@@ -82,7 +83,7 @@ fn has_marks(text: &[u8]) -> bool
     text[4] == b'-' && text[7] == b'-' && text[10] == b'T' && text[13] == b':' && text[16] == b':'
 }
 
-/// The date with which a text begins.
+/// Parses the date at the start of a text.
 #[tactic(auto, unfolding(crate::specs::Utc::date_part))]
 fn date_part(text: &[u8]) -> Option<Date>
     requires { 19 ≤ length text.now }
@@ -95,7 +96,7 @@ fn date_part(text: &[u8]) -> Option<Date>
     Some(Date { year, month, day })
 }
 
-/// The nanoseconds that the decimals of a second write, at most nine of them.
+/// Returns the nanoseconds of the decimals of a second, at most nine of them.
 #[tactic(auto, unfolding(crate::specs::Utc::nanos_in))]
 fn nanos_in(decimals: &[u8]) -> u64
     requires { length decimals.now ≤ 9 }
@@ -104,7 +105,7 @@ fn nanos_in(decimals: &[u8]) -> u64
     parts_of(9, b"", decimals).min(999_999_999) as u64
 }
 
-/// The seconds of the day that a text writes behind its date.
+/// Parses the hour after the date, in seconds of the day.
 #[tactic(auto, unfolding(crate::specs::Utc::seconds_part))]
 fn seconds_part(text: &[u8]) -> Option<u64>
     requires { 19 ≤ length text.now }
@@ -117,7 +118,7 @@ fn seconds_part(text: &[u8]) -> Option<u64>
     Some(hour * 3600 + minute * 60 + second)
 }
 
-/// What a date, seconds of its day and nanoseconds come to.
+/// Returns the wall-clock time of a date, seconds of its day and nanoseconds.
 #[tactic(auto, unfolding(crate::specs::Utc::unix_of))]
 fn unix_of(date: Date, seconds: u64, nanos: u64) -> Result<u64, UtcFault>
     requires year { date.year ≤ 9999 }
@@ -137,7 +138,7 @@ fn unix_of(date: Date, seconds: u64, nanos: u64) -> Result<u64, UtcFault>
     Ok(unix as u64)
 }
 
-/// What a text comes to that is long enough, and ends behind these decimals of a second.
+/// Parses a text that has at least 19 bytes and ends with these decimals of a second.
 #[tactic(auto, unfolding(crate::specs::Utc::utc_with))]
 fn utc_with(text: &[u8], decimals: &[u8]) -> Result<u64, UtcFault>
     requires long { 19 ≤ length text.now }
@@ -156,7 +157,7 @@ fn utc_with(text: &[u8], decimals: &[u8]) -> Result<u64, UtcFault>
     unix_of(date, seconds, nanos_in(decimals))
 }
 
-/// The nanoseconds after 1970-01-01T00:00:00Z that a text writes.
+/// Parses a wall-clock time, in nanoseconds after 1970-01-01T00:00:00Z.
 #[tactic(auto, unfolding(crate::specs::Utc::utc_in))]
 pub(crate) fn utc_in(text: &[u8]) -> Result<u64, UtcFault>
     ensures { result ≡ utc_in text.now }

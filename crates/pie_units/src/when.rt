@@ -1,4 +1,4 @@
-//! A bound of moments as a person writes it: a moment, or a time of day.
+//! Bounds of moments in human-readable form: a moment, or a wall-clock time.
 ghost use Rattle.std.specs.Prelude.{◌≡◌};
 ghost use Rattle.pie_units.specs.When.{is_date, when_in};
 
@@ -7,34 +7,34 @@ use crate::utc::{UtcFault, utc_in};
 use std::str::FromStr;
 use thiserror::Error;
 
-/// A moment, or a time of day.
+/// A moment, or a wall-clock time.
 #[derive(Clone, Copy)]
 pub enum When {
     /// A moment in nanoseconds: at most 2^60 - 1.
     Moment(u64),
-    /// A time of day, in nanoseconds after 1970-01-01T00:00:00Z.
+    /// A wall-clock time, in nanoseconds after 1970-01-01T00:00:00Z.
     Unix(u64),
 }
 
-/// Why a text is neither.
+/// The reason why a text is neither.
 #[derive(Clone, Copy, Debug, PartialEq, Eq, Error)]
 pub enum WhenFault {
-    /// It is no moment.
+    /// The text is not a moment.
     #[error("{0}")]
     Moment(MomentFault),
-    /// It is no time of day.
+    /// The text is not a wall-clock time.
     #[error("{0}")]
     Utc(UtcFault),
 }
 
-/// Whether a text begins as a date does: its fifth byte is `-`, which no moment has.
+/// Returns true if a text begins as a date does: its fifth byte is `-`, which no moment has.
 fn is_date(text: &[u8]) -> bool
     ensures { result ≡ is_date text.now }
 {
     text.len() > 4 && text[4] == b'-'
 }
 
-/// What a text writes.
+/// Parses a bound.
 fn when_in(text: &[u8]) -> Result<When, WhenFault>
     ensures { result ≡ when_in text.now }
 {

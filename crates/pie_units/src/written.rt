@@ -4,27 +4,27 @@ ghost use Rattle.pie_units.specs.Written.{decimals_in, digit_count, number_after
 
 use crate::unit::{Quantity, scale_of};
 
-/// The greatest number that is read.
+/// The greatest value of a text.
 const GREATEST: u128 = (1 << 60) - 1;
 
-/// How many parts of a number are one: it has at most 18 decimals.
+/// The number of parts of one: a number has at most 18 decimals.
 const PARTS: u128 = 1_000_000_000_000_000_000;
 
-/// As many zeros as a number may have decimals.
+/// Zeros, as many as a number may have decimals.
 const ZEROS: &[u8] = b"000000000000000000";
 
-/// Why a text comes to no number of its kind.
+/// The reason why a text is not a number of its kind.
 #[derive(Clone, Copy, Debug, PartialEq, Eq)]
 pub enum UnitFault {
-    /// It is no number with a unit of its kind.
+    /// The text is not a number with a unit of its kind.
     NotANumber,
-    /// It doesn't come to a whole number, or has more than 18 decimals.
+    /// The value is not a whole number, or the text has more than 18 decimals.
     TooPrecise,
-    /// It comes to more than 2^60 - 1.
+    /// The value is above 2^60 - 1.
     TooGreat,
 }
 
-/// How many digits stand first in a text.
+/// Returns the number of digits at the start of a text.
 pub(crate) fn digit_count(text: &[u8]) -> usize
     ensures count { result ≡ digit_count text.now }
     ensures within { result ≤ length text.now }
@@ -32,7 +32,7 @@ pub(crate) fn digit_count(text: &[u8]) -> usize
     text.iter().take_while(|byte| byte.is_ascii_digit()).count()
 }
 
-/// A number with one more digit behind it; at most 2^128 - 1.
+/// Returns the number with one more digit at its end; at most 2^128 - 1.
 fn with_digit(number: u128, digit: u8) -> u128
     ensures { result ≡ min (number * 10 + (digit - 48)) (2 ^ 128 - 1) }
 {
@@ -40,7 +40,7 @@ fn with_digit(number: u128, digit: u8) -> u128
     number.saturating_mul(10).saturating_add(u128::from(units))
 }
 
-/// The number that digits write, where they follow those of another; at most 2^128 - 1.
+/// Returns the number of the digits `digits` after the number `before`; at most 2^128 - 1.
 #[tactic(auto, using(crate::proofs::WrittenFacts::number_more, crate::proofs::WrittenFacts::number_none))]
 pub(crate) fn number_after(before: u128, digits: &[u8]) -> u128
     ensures { result ≡ min (number_after before digits.now) (2 ^ 128 - 1) }
@@ -52,7 +52,7 @@ pub(crate) fn number_after(before: u128, digits: &[u8]) -> u128
     number
 }
 
-/// The digits behind a point that stands first in a text; none where none is behind it.
+/// Returns the digits after a point at the start of a text; empty if there is none.
 pub(crate) fn decimals_in(text: &[u8]) -> &[u8]
     ensures decimals { result.now ≡ decimals_in text.now }
     ensures few { length result.now ≤ length text.now - 1 }
@@ -63,7 +63,7 @@ pub(crate) fn decimals_in(text: &[u8]) -> &[u8]
     }
 }
 
-/// The unit behind so many decimals and their point.
+/// Returns the unit after the point and `decimals` decimals.
 pub(crate) fn unit_in(decimals: usize, text: &[u8]) -> &[u8]
     requires { decimals ≤ length text.now - 1 }
     ensures { result.now ≡ unit_in decimals text.now }
@@ -75,7 +75,7 @@ pub(crate) fn unit_in(decimals: usize, text: &[u8]) -> &[u8]
     }
 }
 
-/// The whole number that so many parts are, where they are one that can be.
+/// Returns the whole number that `parts` parts make, if they make one in range.
 fn whole_in(parts: u128) -> Result<u64, UnitFault>
     ensures { result ≡ whole_in parts }
 {
@@ -88,7 +88,7 @@ fn whole_in(parts: u128) -> Result<u64, UnitFault>
     }
 }
 
-/// The number with these digits before the point and behind it, in parts with so many decimals; at most 2^128 - 1.
+/// Returns the number with these digits before and after the point, in parts with `places` decimals; at most 2^128 - 1.
 #[tactic(auto, using(crate::proofs::WrittenFacts::number_joined))]
 pub(crate) fn parts_of(places: usize, whole: &[u8], decimals: &[u8]) -> u128
     requires few { length decimals.now ≤ places }
@@ -101,7 +101,7 @@ pub(crate) fn parts_of(places: usize, whole: &[u8], decimals: &[u8]) -> u128
     number_after(digits, zeros)
 }
 
-/// What a number of at most 18 decimals comes to in a unit that is so many.
+/// Returns the value of a number with at most 18 decimals in a unit of the value `scale`.
 #[tactic(auto, using(crate::proofs::WrittenFacts::value_kept))]
 fn product_of(whole: &[u8], decimals: &[u8], scale: u64) -> Result<u64, UnitFault>
     requires { length decimals.now ≤ 18 }
@@ -110,7 +110,7 @@ fn product_of(whole: &[u8], decimals: &[u8], scale: u64) -> Result<u64, UnitFaul
     whole_in(parts_of(18, whole, decimals).saturating_mul(u128::from(scale)))
 }
 
-/// What a number comes to in a unit that is so many.
+/// Returns the value of a number in a unit of the value `scale`.
 fn value_by(whole: &[u8], decimals: &[u8], scale: u64) -> Result<u64, UnitFault>
     ensures { result ≡ value_by whole.now decimals.now (Some scale) }
 {
@@ -123,7 +123,7 @@ fn value_by(whole: &[u8], decimals: &[u8], scale: u64) -> Result<u64, UnitFault>
     product_of(whole, decimals, scale)
 }
 
-/// What the number with these digits, and this text behind them, comes to.
+/// Returns the value of the digits `whole` followed by the text `rest`.
 fn value_with(kind: Quantity, whole: &[u8], rest: &[u8]) -> Result<u64, UnitFault>
     ensures { result ≡ value_with kind whole.now rest.now }
 {
@@ -134,12 +134,14 @@ fn value_with(kind: Quantity, whole: &[u8], rest: &[u8]) -> Result<u64, UnitFaul
     }
 }
 
-/// What a text of this kind comes to: digits, with a point among them or before them, at most 18 of them behind it, and a unit, whose letters may be
-/// of any case. It is a whole number of nanoseconds, bits a second, bytes or packets, and at most 2^60 - 1.
+/// Parses a text of this kind: digits, with a point among or before them, at most 18 digits after the point, and a
+/// unit, whose letters may have any case. Returns a whole number of nanoseconds, bits per second, bytes or packets, at
+/// most 2^60 - 1.
 ///
 /// # Errors
 ///
-/// In this order: `NotANumber`, `TooPrecise` for more than 18 decimals, `TooGreat`, `TooPrecise` for what is no whole number.
+/// Returns the first that applies: `NotANumber`; `TooPrecise` if there are more than 18 decimals; `TooGreat`;
+/// `TooPrecise` if the value is not a whole number.
 pub fn read(kind: Quantity, text: &[u8]) -> Result<u64, UnitFault>
     ensures { result ≡ value_of kind text.now }
 {

@@ -1,9 +1,9 @@
-"""PIE (RFC 8033) in a notebook: the proved controller of libpie.so, one event at a time or a numpy array of them; histories that `pie audit` decides
-again; and what `pie explain` says of them as pandas frames.
+"""PIE (RFC 8033) in Python: the proved controller of libpie.so, for single events or numpy arrays of events;
+histories for `pie audit`; and the output of `pie explain` as pandas frames.
 
-Moments and times are whole nanoseconds from a start of the caller's choosing, at most 2^60 - 1; probabilities are whole numbers of 10^-12; sizes are
-in bytes. Where a number is asked for, a text with a unit does too, as tc(8) has them: "15ms", "100mbit", "256kb". What is refused raises `Refused`,
-with the library's words, and changes nothing.
+Moments and times are whole nanoseconds from a start that the caller chooses, at most 2^60 - 1; probabilities are
+whole numbers of 10^-12; sizes are bytes. Each numeric argument may also be a text with a unit of tc(8): "15ms",
+"100mbit", "256kb". An error raises `Refused` with the library's description, and changes nothing.
 """
 from ._library import VERSION
 from .controller import Controller, Ecn, Kind, State, Updated, Verdict

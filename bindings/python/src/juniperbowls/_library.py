@@ -49,7 +49,7 @@ ALL, REFUSED, GROW, EVENTS, KIND, OUT = range(6)  # why a loop over an array end
 _STATE, _EVENT, _PARAMS, _OPENING = POINTER(RawState), POINTER(RawEvent), POINTER(RawParams), POINTER(RawOpening)
 _QUEUE, _NUMBER, _LENGTH = POINTER(RawQueue), POINTER(c_uint64), POINTER(c_size_t)
 _TEXT = (c_void_p, c_size_t)  # where a record is written, and how much room there is
-# each call's result, and what it takes
+# the result and the arguments of each call
 CALLS: dict[str, tuple[object, tuple[object, ...]]] = {
     "pie_default_params": (None, (_PARAMS,)),
     "pie_check_params": (c_uint32, (_PARAMS,)),

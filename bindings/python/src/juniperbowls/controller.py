@@ -1,4 +1,4 @@
-"""A controller for whoever has the queue: it is told of arrivals and departures, one at a time."""
+"""A controller for a queue that the caller owns: single calls for arrivals and departures."""
 from __future__ import annotations
 
 from ctypes import byref
@@ -13,7 +13,7 @@ from .refusal import Refusal, Refused
 
 
 class Verdict(IntEnum):
-    """What becomes of a packet that arrives."""
+    """The verdict on an arriving packet."""
     ENQUEUE = 0
     MARK = 1
     EARLY = 2
@@ -22,7 +22,7 @@ class Verdict(IntEnum):
 
     @property
     def is_queued(self) -> bool:
-        """Whether the packet is to be queued: as it is, or marked."""
+        """True if the packet is queued, marked or unmarked."""
         return self <= Verdict.MARK
 
 
@@ -35,7 +35,7 @@ class Ecn(IntEnum):
 
 
 class Kind(IntEnum):
-    """What an event is."""
+    """The kind of an event."""
     ARRIVE = 1
     DEPART = 2
     UPDATE = 3
@@ -45,8 +45,8 @@ class Kind(IntEnum):
 
 
 class Updated(NamedTuple):
-    """What an update answers: the moment from which the next isn't too soon, the delay that it took (ns), and after it the probability (10^-12) and
-    the burst allowance (ns)."""
+    """The result of an update: the moment from which the next update is not too soon, the delay that it used (ns),
+    and the probability (10^-12) and the burst allowance (ns) after it."""
     due: int
     delay: int
     prob: int
@@ -104,7 +104,8 @@ def set_params(state: RawState, params: Params, asked: RawEvent) -> None:
 
 
 class Held:
-    """What holds a controller's numbers. A copy, and what pickle restores, has numbers of its own; with a history there is none."""
+    """The owner of a controller's numbers. A copy, and an unpickled object, has numbers of its own; an object with
+    a history cannot be copied."""
 
     _state: RawState
     _history: Recorder | None
@@ -130,7 +131,7 @@ class Held:
 
     @property
     def due(self) -> int:
-        """The moment from which the next update isn't too soon."""
+        """The moment from which the next update is not too soon."""
         return int(LIBRARY.pie_due(byref(self._state)))
 
 
@@ -151,13 +152,15 @@ class Controller(Held):
         self._state, self._history = opened(opening), history
 
     def arrive(self, queued: int, size: int, room: int, ecn: int, word: int, moment: int | str, *, tag: int = 0, caller: int = 1) -> Verdict:
-        """Decides on a packet that arrives, with so many bytes in the queue, room for so many packets more, and a random word of 64 bits."""
+        """Decides an arriving packet, with `queued` bytes in the queue, room for `room` more packets, and a random
+        word of 64 bits."""
         asked = event(Kind.ARRIVE, moment, caller, size=size, ecn=ecn, word=word, tag=tag)
         waiting, packets = number("queued", queued), number("room", room, 32)
         return Verdict(self._told(LIBRARY.pie_arrive_event(byref(self._state), waiting, packets, byref(asked)), asked))
 
     def depart(self, size: int, left: int, arrived: int, moment: int | str, *, tag: int = 0, ecn: int = Ecn.NOT, caller: int = 2) -> None:
-        """Takes in that a packet left, with so many bytes behind it. `arrived` is `state.moment` as it was right after its arrival."""
+        """Records the departure of a packet that leaves `left` bytes in the queue. `arrived` is `state.moment`
+        right after its arrival."""
         asked = event(Kind.DEPART, moment, caller, size=size, ecn=ecn, tag=tag)
         self._told(LIBRARY.pie_depart_event(byref(self._state), number("left", left), number("arrived", arrived), byref(asked)), asked)
 
@@ -167,7 +170,7 @@ class Controller(Held):
         self._told(LIBRARY.pie_empty_event(byref(self._state), byref(asked)), asked)
 
     def update(self, queued: int, moment: int | str, *, caller: int = 3) -> Updated:
-        """Makes an update, from `due` on, with so many bytes in the queue."""
+        """Makes an update, from `due` on, with `queued` bytes in the queue."""
         asked = event(Kind.UPDATE, moment, caller)
         self._told(LIBRARY.pie_update_event(byref(self._state), number("queued", queued), byref(asked)), asked)
         return Updated(self.due, asked.delay, asked.prob, asked.burst)

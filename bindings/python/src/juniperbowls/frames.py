@@ -1,5 +1,5 @@
-"""What the program `pie` says of a history, and a history's events, as pandas frames. Whole numbers stay whole: a column in which some are missing is
-of the type UInt64, words are categories, times of day datetimes."""
+"""The output of the program `pie` for a history, and a history's events, as pandas frames. Whole numbers stay
+whole: a column with missing numbers has the type UInt64; keywords are categories, wall-clock times datetimes."""
 from __future__ import annotations
 
 import contextlib
@@ -40,13 +40,14 @@ class Fault(RuntimeError):
 
 
 class Finding(NamedTuple):
-    """What an audit found: `clean`, and the last event's number, or `differs`, and that of the first event that does."""
+    """The finding of an audit: `clean` with the number of the last event, or `differs` with that of the first event
+    that differs."""
     word: str
     event: int
 
     @property
     def is_clean(self) -> bool:
-        """Whether each event is what the rules give."""
+        """True if every event is what the rules give."""
         return self.word == "clean"
 
 
@@ -80,13 +81,14 @@ def explain(history: Place, *options: str, pie: str | None = None) -> pd.DataFra
 
 
 def explain_parts(history: Place, *options: str, rows: int = 500_000, pie: str | None = None) -> Iterator[pd.DataFrame]:
-    """The same in parts of some so many rows, for histories that are larger than the memory: each part can be written and forgotten."""
+    """Yields the frame in parts of about `rows` rows, for histories that are larger than the memory."""
     with contextlib.closing(_explained(history, options, rows, pie)) as parts:
         yield from map(_timed, parts)
 
 
 def _timed(rows: pd.DataFrame) -> pd.DataFrame:
-    """Returns a frame with its times of day as datetimes, unless pandas's nanoseconds do not reach so far."""
+    """Returns a frame with its wall-clock times as datetimes, unless they are out of the range of pandas's
+    nanoseconds."""
     import pandas as pd
 
     if "wall" not in rows:
@@ -152,7 +154,7 @@ def _table(names: list[str], body: bytes, first: int) -> pd.DataFrame:
 
 
 def _numbers(values: npt.NDArray[Any], missing: npt.NDArray[np.bool_]) -> Any:
-    """Whole numbers, of which some may be missing."""
+    """Returns whole numbers, some of which may be missing."""
     import pandas as pd
 
     return pd.arrays.IntegerArray(values.astype(np.uint64), missing.copy()) if missing.any() else values
@@ -193,12 +195,12 @@ def read_history(history: Place) -> pd.DataFrame:
 
 
 def _count_at(fields: list[bytes]) -> int:
-    """The place of the number of events before a text that resumes: 29, or 30 where the decay is told."""
+    """The position of the number of events in a `resume` record: 29, or 30 if the record has the decay."""
     return 29 + (fields[6] in (b"zero", b"half"))
 
 
 def read_opening(history: Place) -> Opening:
-    """What a history, or a trace, was opened with. A `ValueError` where its first record says no opening."""
+    """Returns the opening of a history or a trace. Raises `ValueError` if its first record is not an opening."""
     with open(history, encoding="utf-8-sig") as text:
         kind, *fields = text.readline().rstrip("\r\n").split(",")
     profile, choices = Profile.ALWAYS_ON, Choices.USUAL

@@ -88,7 +88,7 @@ class Recorder:
         self._put(text)
 
     def lost(self, count: int) -> None:
-        """Writes that so many events are missing: no audit is clean then."""
+        """Writes that this many events are missing. An audit of the text then ends with a fault."""
         missing = number("count", count)
         text = _text(lambda to, room: LIBRARY.pie_write_lost(missing, to, room))
         if not text:
@@ -118,7 +118,7 @@ class Recorder:
 
 
 def _text(write: Callable[[ctypes.Array[ctypes.c_char], int], Any]) -> bytes:
-    """What a call writes into the room that it is given."""
+    """Returns the bytes that a call writes into a buffer of this size."""
     room = ctypes.create_string_buffer(RECORD_ROOM)
     length = write(room, RECORD_ROOM)
     return room.raw[:length]

@@ -1,4 +1,4 @@
-"""What a controller is opened with: parameters, and the rest. Numbers may be told as texts with units, as tc has them."""
+"""The configuration of a controller: parameters and other fields. Numbers may be texts with units of tc."""
 from __future__ import annotations
 
 from ctypes import byref, c_uint64
@@ -10,7 +10,7 @@ from .refusal import Refused
 
 
 class Profile(IntEnum):
-    """Whether the controller turns itself on and off (RFC 8033, section 5.3)."""
+    """Profile: whether the controller turns itself on and off (RFC 8033, section 5.3)."""
     ALWAYS_ON = 1
     ON_AND_OFF = 2
 
@@ -26,7 +26,7 @@ class Choices(IntFlag):
 
 
 class Mode(IntEnum):
-    """What the event log of a history does when it is full."""
+    """Behavior of a full event log of a history."""
     BOUNDED = 0
     ROLLING = 1
 
@@ -105,7 +105,7 @@ class Params:
         return RawParams(*(number(name, getattr(self, name)) for name in NINE))
 
     def replace(self, **changes: int | str) -> Params:
-        """The same with some changed, which may be texts: `replace(target="20ms")`."""
+        """Returns a copy with some fields changed, which may be texts: `replace(target="20ms")`."""
         return replace(self, **{name: whole(name, value) for name, value in changes.items()})
 
     def check(self) -> str | None:
@@ -116,7 +116,8 @@ class Params:
 
 @dataclass(frozen=True)
 class Opening:
-    """What a controller is opened with. Of the last four the history alone knows."""
+    """The configuration of a controller. The last four fields do not affect decisions; they are written to the
+    history and bound the memory of a replay."""
     params: Params
     #: of the opening, in ns
     moment: int
@@ -141,7 +142,7 @@ class Opening:
         return cls(params, raw.moment, profile, choices, mode, raw.packets, raw.tail, raw.events).replace(**changes)
 
     def replace(self, **changes: int | str) -> Opening:
-        """The same with some of its numbers or parameters changed, which may be texts."""
+        """Returns a copy with some fields or parameters changed, which may be texts."""
         numbers = {name: whole(name, value) for name, value in changes.items()}
         params = self.params.replace(**{name: numbers.pop(name) for name in NINE if name in numbers})
         return replace(self, params=params, **numbers)

@@ -48,7 +48,8 @@ def _whole(name: str, values: npt.NDArray[Any]) -> npt.NDArray[Any]:
 
 
 def column(name: str, values: npt.ArrayLike, kind: str, count: int | None = None) -> npt.NDArray[Any]:
-    """Whole numbers as an array of this type, which numpy would cut; one number stands for `count`."""
+    """Returns whole numbers as an array of this type, without truncation by numpy; one number is repeated `count`
+    times."""
     found = np.asarray(values)
     if found.dtype.kind == "b":
         raise TypeError(f"{name}: these are truth values, and no numbers")
@@ -75,16 +76,17 @@ def events(kinds: npt.ArrayLike, moments: npt.ArrayLike, **columns: npt.ArrayLik
 
 
 class Queue(Held):
-    """Packets in order, with PIE in front. What is refused raises `Refused` and changes nothing. `history` names a file, or is a `Recorder`: then
-    every event is recorded, by the library's writers, and `pie audit` finds the history clean. An existing file is left unchanged, unless `force`
-    replaces it. Random words that are not handed in come from a generator that `seed` begins. It is for one thread at a time. A copy
-    (`copy.copy`) goes on by itself, with the same random words; a queue that records a history has none.
+    """A packet queue with PIE. An error raises `Refused` and changes nothing. `history` is a file name or a
+    `Recorder`: every event is then recorded, by the library's writers, and `pie audit` finds the history clean. An
+    existing file is left unchanged, unless `force` replaces it. Random words that are not passed come from a
+    generator with the seed `seed`. One thread at a time may use it. A copy (`copy.copy`) continues independently,
+    with the same random words; a queue that records a history cannot be copied.
 
-    >>> queue = Queue(Opening.for_rate("10mbit"), history="link.history", seed=1)
-    >>> queue.arrive(moment="1ms", size=1500, ecn=Ecn.ECT0)
-    <Verdict.ENQUEUE: 0>
-    >>> queue.depart(moment="2ms")
-    Packet(tag=0, size=1500, ecn=<Ecn.ECT0: 2>)
+        >>> queue = Queue(Opening.for_rate("10mbit"), history="link.history", seed=1)
+        >>> queue.arrive(moment="1ms", size=1500, ecn=Ecn.ECT0)
+        <Verdict.ENQUEUE: 0>
+        >>> queue.depart(moment="2ms")
+        Packet(tag=0, size=1500, ecn=<Ecn.ECT0: 2>)
     """
 
     def __init__(self, opening: Opening, history: Place | Recorder | None = None, seed: int | None = None, force: bool = False):
@@ -109,12 +111,12 @@ class Queue(Held):
 
     @property
     def packets(self) -> int:
-        """How many packets wait."""
+        """Number of queued packets."""
         return int(self._queue.packets)
 
     @property
     def bytes(self) -> int:
-        """How many bytes wait."""
+        """Number of queued bytes."""
         return int(self._queue.bytes)
 
     @property
@@ -124,8 +126,8 @@ class Queue(Held):
 
     def arrive(self, moment: int | str, size: int, ecn: int = Ecn.NOT, *, word: int | None = None, tag: int | None = None,
                caller: int = 1) -> Verdict:
-        """A packet arrives: it is queued, marked and queued, or dropped. Tags count from 0 where none is told. A call that is refused uses no random
-        word."""
+        """Decides an arriving packet: it is queued, marked and queued, or dropped. Without `tag` packets are
+        numbered from 0. A refused call uses no random word."""
         asked = event(Kind.ARRIVE, moment, caller, size=size, ecn=ecn, word=0 if word is None else word, tag=self._arrivals if tag is None else tag)
         drawn = self._draw(1 if word is None else 0)
         if word is None:
@@ -139,7 +141,7 @@ class Queue(Held):
         return Verdict(asked.answer)
 
     def _draw(self, count: int) -> npt.NDArray[np.uint64]:
-        """Returns so many random words: those that were kept first."""
+        """Returns this many random words, saved ones first."""
         kept, self._words = self._words[:count], self._words[count:]
         more = self._random.integers(1 << 64, size=count - len(kept), dtype=np.uint64)
         return np.concatenate([kept, more]) if len(kept) else more
@@ -155,7 +157,7 @@ class Queue(Held):
         return Packet(asked.tag, asked.size, Ecn(asked.ecn)) if asked.answer == 0 else None
 
     def update(self, moment: int | str | None = None, *, caller: int = 3) -> Updated:
-        """Makes an update, at `due` where no moment is told."""
+        """Makes an update; without a moment at `due`."""
         asked = event(Kind.UPDATE, self.due if moment is None else moment, caller)
         self._decide_one(asked)
         return Updated(self.due, asked.delay, asked.prob, asked.burst)
@@ -197,9 +199,10 @@ class Queue(Held):
         self._record(asked)
 
     def decide(self, asked: Events, keeps_refused: bool = False) -> Events:
-        """Decides events (made by `events`) in their order, and gives them back as they were answered: departures with the packet that left, or
-        answer 5 where none did. At the first that is refused `Refused` has its `index`, and in `events` those before it as they were answered; with
-        `keeps_refused` its `answer` is above 100, and the next is decided."""
+        """Decides events (made by `events`) in order and returns them with their results: departures with the
+        packet that left, or answer 5 if the queue was empty. At the first error `Refused` has its `index`, and
+        `events` has the earlier events with their results. With `keeps_refused` the event's `answer` is above 100,
+        and the next event is decided."""
         made = np.array(asked, dtype=EVENT, ndmin=1)
         strange = np.flatnonzero((made["kind"] < Kind.ARRIVE) | (made["kind"] > Kind.RESET))
         if len(strange):
@@ -217,11 +220,12 @@ class Queue(Held):
 
     def offer(self, moments: npt.ArrayLike, sizes: npt.ArrayLike, rate: int | str, *, ecn: npt.ArrayLike = Ecn.NOT,
               words: npt.ArrayLike | None = None, tags: npt.ArrayLike | None = None, until: int | str = 0, caller: int = 1) -> Events:
-        """Offers packets that arrive at these moments to a link of this rate, which takes the oldest as soon as it has sent the one before; an update
-        is made whenever one is due. Gives back all events in their order: arrivals, departures by caller 2, updates by caller 3. After the last
-        arrival it goes on to the moment `until`; a later call goes on from there. A pause is as many updates as come due in it: a `ValueError`, and
-        nothing is decided, where these are more than 2^26. At an arrival that is refused `Refused` has its `index`, and in `events` all before it;
-        the arrivals from it on may be offered again, and use the random words that they would have had."""
+        """Passes packets with these arrival moments through a link of this rate, which takes the oldest packet as
+        soon as it is free; updates are made when they are due. Returns all events in order: arrivals, departures by
+        caller 2, updates by caller 3. After the last arrival the link continues to the moment `until`; a later call
+        continues from there. A pause has as many updates as are due in it; more than 2^26 raise `ValueError`, and
+        nothing is decided. At an arrival with an error `Refused` has its `index`, and `events` has all events
+        before it; the remaining arrivals can be passed again, and use the random words that they would have had."""
         speed = whole("rate", rate)
         if not 1 <= speed < 1 << 60:
             raise ValueError("rate: a link has a rate of 1 bit a second to 2^60 - 1")
@@ -261,7 +265,8 @@ class Queue(Held):
             self._go_on(np.concatenate([*parts, out[:made]]) if self._queue.why == EVENTS else None)
 
     def _check_pauses(self, moments: npt.NDArray[Any], end: int) -> None:
-        """Refuses moments so far away that the updates up to them would fill the memory. An arrival after the last moment is refused at its place."""
+        """Rejects moments so far ahead that the updates up to them would fill the memory. An arrival after the last
+        moment is rejected at its place."""
         late = np.flatnonzero(moments > MAX_MOMENT)
         reached = moments[:late[0]] if len(late) else moments
         last = min(max(int(reached.max(initial=0)), 0 if len(late) else end), MAX_MOMENT)

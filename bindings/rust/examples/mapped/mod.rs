@@ -17,10 +17,11 @@ unsafe extern "C" {
     fn posix_fallocate(file: c_int, offset: i64, bytes: i64) -> c_int;
 }
 
-/// Makes a file of so many words, all 0, and maps it for the rest of the process. Nobody may make it shorter meanwhile.
+/// Makes a file of this many words, all 0, and maps it for the rest of the process. No program may shorten it
+/// meanwhile.
 ///
 /// # Errors
-/// Where there is such a file already, and what the system answers.
+/// If the file exists, and errors of the system.
 pub fn new_file(name: &Path, words: usize) -> io::Result<&'static [AtomicU64]> {
     let bytes = words * 8;
     let file = OpenOptions::new().read(true).write(true).create_new(true).open(name)?;
@@ -34,6 +35,7 @@ pub fn new_file(name: &Path, words: usize) -> io::Result<&'static [AtomicU64]> {
     if place as isize == -1 {
         return Err(io::Error::last_os_error());
     }
-    // SAFETY: so many bytes are mapped there, aligned to a page, and stay; others see them as such words alone.
+    // SAFETY: this many bytes are mapped there, aligned to a page, until the process ends; others access them as
+    // these words only.
     Ok(unsafe { slice::from_raw_parts(place.cast::<AtomicU64>(), words) })
 }

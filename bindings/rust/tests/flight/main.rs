@@ -29,13 +29,13 @@ fn bytes_of(memory: &[AtomicU64]) -> Vec<u8> {
     memory.iter().flat_map(|it| it.load(Ordering::Acquire).to_ne_bytes()).collect()
 }
 
-/// The text of memory that stands still.
+/// Returns the text of memory that does not change.
 fn left(bytes: &[u8]) -> (Result<(), DumpFault>, Vec<u8>) {
     let mut text = Vec::new();
     (flight::dump_left(bytes, &mut text), text)
 }
 
-/// What a text says of itself: how many events were before it, and the number of its last.
+/// Returns the number of events before a text, and the number of its last event.
 fn numbers(text: &[u8]) -> (u64, u64) {
     let text = std::str::from_utf8(text).unwrap();
     assert!(text.ends_with('\n'));
@@ -124,7 +124,7 @@ fn the_time_of_day() {
     assert_eq!(text().lines().count(), 1);
 }
 
-/// What packets waited takes more than 64 bits.
+/// The sum of the waiting times takes more than 64 bits.
 #[test]
 fn long_waits() {
     let Queue { opening, mut pie, .. } = Queue::open(2);
@@ -146,7 +146,7 @@ fn long_waits() {
     assert!(waited_high > 0);
 }
 
-/// A writer that takes so many bytes.
+/// A writer with room for this many bytes.
 struct Takes(usize);
 
 impl Write for Takes {
@@ -227,10 +227,10 @@ fn damaged(bytes: &[u8], random: &mut Random) -> Vec<u8> {
     changed
 }
 
-/// The time of day of the moment 0 that small recorders are told.
+/// The wall-clock time at moment 0 of small recorders.
 const UNIX_TIME: u64 = 1_795_550_400_000_000_000;
 
-/// A small recorder's memory, and what C is told of the same events.
+/// Returns a small recorder's memory, and the input of the C recorder with the same events.
 fn small(seed: u64, wanted: u64, events: u64) -> (Vec<u8>, Told) {
     let mut queue = Queue::open(seed);
     let memory = zeros(flight::words(wanted, queue.opening.packets).unwrap());
@@ -247,7 +247,7 @@ fn small(seed: u64, wanted: u64, events: u64) -> (Vec<u8>, Told) {
     (bytes_of(&memory), told)
 }
 
-/// Whatever is in the memory, a dump ends.
+/// A dump of arbitrary memory ends.
 #[test]
 fn damaged_memory() {
     let (bytes, _) = small(3, 60, 500);

@@ -1,4 +1,5 @@
-/* The recorder in C (include/pie_flight.h) beside that in Rust: what it keeps of the same events, and the text that it writes of memory.
+/* Compares the C recorder (include/pie_flight.h) with the Rust recorder: its memory after the same events, and its
+ * text of a memory.
  * usage: peer keep EVENTS UNIX_TIME    reads a struct pie_opening and a struct pie_state, and then of each event the state that it left and the
  *                                      event; writes the memory of a recorder that keeps at least so many, and that is told the time of day at
  *                                      the moment 0

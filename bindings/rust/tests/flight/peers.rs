@@ -12,7 +12,7 @@ use crate::queue::Made;
 
 const TOP: &str = concat!(env!("CARGO_MANIFEST_DIR"), "/../..");
 
-/// What a program with these words answers to these bytes: its status, and what it writes.
+/// Returns the status and the output of a program with these arguments and this input.
 fn run(program: &Path, words: &[&str], input: &[u8]) -> (i32, Vec<u8>) {
     let mut child = Command::new(program)
         .args(words)
@@ -81,7 +81,7 @@ fn event_bytes(made: &Made) -> Vec<u8> {
     }
 }
 
-/// What the recorder in C is told.
+/// Returns the input of the C recorder.
 pub struct Told(Vec<u8>);
 
 impl Told {
@@ -95,7 +95,7 @@ impl Told {
         self.0.extend(event_bytes(made));
     }
 
-    /// The memory of a recorder in C that keeps at least so many events, and that is told the time of day at the moment 0.
+    /// Returns the memory of a C recorder for at least this many events, with this wall-clock time at moment 0.
     pub fn memory_of_c(&self, events: u64, unix_time: u64) -> Vec<u8> {
         let (status, memory) = run(peer(), &["keep", &events.to_string(), &unix_time.to_string()], &self.0);
         assert_eq!(status, 0);
@@ -103,7 +103,7 @@ impl Told {
     }
 }
 
-/// What the recorder in C answers that writes the text of memory, and the text.
+/// Returns the status and the text of the C recorder for a memory.
 pub fn text_of_c(memory: &[u8]) -> (i32, Vec<u8>) {
     run(peer(), &["text"], memory)
 }

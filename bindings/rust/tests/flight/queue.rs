@@ -28,7 +28,7 @@ impl Random {
     }
 }
 
-/// What a call left.
+/// The result of a call.
 pub enum Made {
     Event(Event),
     Params(ParamsEvent, u16, u64),

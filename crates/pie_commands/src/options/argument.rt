@@ -1,4 +1,4 @@
-//! What a subcommand takes, as data: its options, and the files that it reads.
+//! The arguments of a subcommand as data: its options and the files that it reads.
 ghost use Rattle.std.specs.Prelude.{◌≡◌, false};
 ghost use Rattle.clap.specs.Words.{new_rule, rule_of};
 ghost use Rattle.pie_commands.specs.Arguments.{rule_for};
@@ -8,7 +8,7 @@ use clap::builder::ValueParser;
 use clap::{Arg, ArgAction};
 use std::alloc::Global;
 
-/// What the words give an option, or name in place of one.
+/// The kind of value that an option takes, or a file argument.
 #[derive(Clone, Copy)]
 pub(crate) enum Takes {
     /// Nothing: it is there or not.
@@ -17,7 +17,7 @@ pub(crate) enum Takes {
     Number(u64, u64),
     /// A text, which help calls so.
     Value(&'static str),
-    /// The same, of an option that this letter stands for too.
+    /// A text of this name in the help, for an option that also has this one-letter name.
     Lettered(char, &'static str),
     /// A file, with no option before it.
     File,
@@ -35,16 +35,16 @@ pub(crate) struct Argument {
     pub(crate) help: &'static str,
 }
 
-/// What the command line has of a subcommand.
+/// The page of a subcommand: its name, help and arguments.
 #[derive(Clone, Copy)]
 pub(crate) struct Page<'a> {
     /// The word that asks for it.
     pub(crate) word: &'a str,
-    /// What it is for.
+    /// Its purpose, in one line.
     pub(crate) about: &'a str,
-    /// What its help says below its options.
+    /// The help text below its options.
     pub(crate) help: &'a str,
-    /// What it takes.
+    /// Its options and files.
     pub(crate) arguments: &'a [Argument],
 }
 
@@ -57,7 +57,7 @@ macro_rules! row {
 
 pub(crate) use row;
 
-/// What asks to be told how far reading has come.
+/// The option that requests progress reports.
 pub(crate) const PROGRESS: Argument =
     row!("progress": Nothing, "Show on standard error how much was read, as is done where that is a terminal");
 
@@ -65,7 +65,7 @@ pub(crate) const PROGRESS: Argument =
 pub(crate) const OUTPUT: Argument = row!("output": Lettered('o', "FILE"),
     "Write to this file, which is there once all of it was written, and not to standard output");
 
-/// What allows that file to be replaced.
+/// The option that allows an existing output file to be replaced.
 pub(crate) const FORCE: Argument =
     row!("force": Nothing, "Replace the file that -o names, where it is there already");
 

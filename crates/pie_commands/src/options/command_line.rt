@@ -30,7 +30,7 @@ fn plain<'a>(alloc: Global, name: &'a str, about: &'a str, help: &'a str) -> Com
     Command::new(alloc, name).about(about).after_help(help)
 }
 
-/// What there is of a command, with one more argument, which is made only where there is a command.
+/// Adds an argument to a command. If there is no command, the argument isn't built.
 fn with_argument<'a>(
     alloc: Global,
     begun: Result<Command<'a>, AllocError>,
@@ -52,7 +52,7 @@ fn argument_at(arguments: &[Argument], place: usize) -> Argument
     arguments[place]
 }
 
-/// The subcommand of this name, with what it takes.
+/// Builds the subcommand of this name, with its arguments.
 fn command_of<'a>(
     alloc: Global,
     name: &'a str,
@@ -69,7 +69,7 @@ fn command_of<'a>(
     command
 }
 
-/// What there is of a subcommand.
+/// Returns the page of a subcommand.
 fn page_of<'a>(subcommand: Subcommand) -> Page<'a>
     ensures word { result.word.now ≡ word_of subcommand }
     ensures arguments { map rule_for result.arguments.now ≡ rules_for subcommand }
@@ -104,7 +104,7 @@ fn alone<'a>(alloc: Global) -> Command<'a>
         .subcommand_required(true)
 }
 
-/// What there is of `pie`, with one more subcommand.
+/// Adds a subcommand to the command `pie`, if memory sufficed so far.
 fn with_subcommand<'a>(
     alloc: Global,
     begun: Result<Command<'a>, AllocError>,

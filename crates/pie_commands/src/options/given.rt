@@ -1,4 +1,4 @@
-//! What the words give the options of a subcommand.
+//! The values of the options of a subcommand.
 ghost use Rattle.std.specs.Prelude.{◌≡◌, ◌≤◌, option_map};
 ghost use Rattle.clap.specs.Words.{first_of, found_of, rows_of};
 ghost use Rattle.pie_commands.specs.Words.{file_in, file_made, flag_given, number_given, number_or, output_in};
@@ -31,7 +31,7 @@ pub(crate) fn number_or(
         .max(least)
 }
 
-/// Whether an option with no value is there.
+/// Returns true if the option `name`, which has no value, is given.
 pub(crate) fn flag(options: &ArgMatches<'_>, name: &str) -> bool
     ensures { result ≡ flag_given name.now (rows_of (found_of options.now)) }
 {

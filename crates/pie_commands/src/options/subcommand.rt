@@ -3,7 +3,7 @@ ghost use Rattle.std.specs.Prelude.{◌≡◌, IfSome, Some};
 ghost use Rattle.pie_commands.specs.declared.options.subcommand.Subcommand.{Subcommand};
 ghost use Rattle.pie_commands.specs.SubcommandWords.{word_of};
 
-/// What `pie` is asked to do.
+/// A subcommand of `pie`.
 #[derive(Clone, Copy)]
 pub(crate) enum Subcommand {
     /// Run a trace.

@@ -4,7 +4,7 @@ use Rattle.pie_record.specs.declared.history_record.Line.TheVariants.{Made}
 use Rattle.pie_audit.specs.Origin.{at_opening}
 use Rattle.pie_storm.proofs.storming.auditor_of.Goals as goal
 
--- the lines of the events so far, and of one more
+-- the lines of the events so far and of one more
 one-more : (events : List Event) (i : ℕ) (event : Event) → event ≡ get_or events i event → i < length events
     → map Made (take (i + 1) events) ≡ map Made (take i events) ++ Made event ∷ []
 one-more events i event is within =

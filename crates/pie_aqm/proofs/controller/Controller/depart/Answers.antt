@@ -1,7 +1,7 @@
 use Rattle.std.proofs.Common.{◌≡◌, arith}
 use Rattle.pie_aqm.specs.{Depart, after_call}
 use Rattle.pie_aqm.proofs.Sounds.{threshold-holds, Sound_call, stays_sound}
-use Rattle.pie_aqm.proofs.Laws.{shows_with, uncapped}
+use Rattle.pie_aqm.proofs.Laws.{represents_with, uncapped}
 use Rattle.pie_aqm.proofs.controller.Controller.depart.Goals as goal
 
 pub invariant_of-self : goal.invariant_of-self
@@ -25,4 +25,4 @@ returns-clause-threshold c = rw (← c.self.view_is) (threshold-holds c.self.ins
 pub returns-clause-shows : goal.returns-clause-shows
 returns-clause-shows c =
     let a = c.args in
-    shows_with a.self.now _ (Depart a.size a.left a.since a.moment) (returns-clause-after c) (returns-clause-threshold c)
+    represents_with a.self.now _ (Depart a.size a.left a.since a.moment) (returns-clause-after c) (returns-clause-threshold c)

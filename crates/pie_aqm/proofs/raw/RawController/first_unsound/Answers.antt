@@ -2,4 +2,4 @@ use Rattle.pie_aqm.proofs.Sounds.{sound_is}
 use Rattle.pie_aqm.proofs.raw.RawController.first_unsound.Goals as goal
 
 pub returns-clause-sound : goal.returns-clause-sound
-returns-clause-sound c = rw c.look.ensures (sound_is _)
+returns-clause-sound c = rw c.find_unsound.ensures (sound_is _)

@@ -1,7 +1,7 @@
 use Rattle.std.proofs.Common.{rules}
-use Rattle.pie_control.proofs.Laws.{shows_idled}
+use Rattle.pie_control.proofs.Laws.{represents_idled}
 use Rattle.pie_control.proofs.control.Control.idle.Goals as goal
 
 pub returns-clause-shows : goal.returns-clause-shows
 returns-clause-shows c opening start events shows =
-    shows_idled opening start events c.args.self.now _ shows c.args.moment (search rules)
+    represents_idled opening start events c.args.self.now _ shows c.args.moment (search rules)

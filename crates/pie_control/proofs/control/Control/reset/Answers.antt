@@ -1,7 +1,7 @@
 use Rattle.std.proofs.Common.{rules}
-use Rattle.pie_control.proofs.Laws.{shows_reset}
+use Rattle.pie_control.proofs.Laws.{represents_reset}
 use Rattle.pie_control.proofs.control.Control.reset.Goals as goal
 
 pub returns-clause-shows : goal.returns-clause-shows
 returns-clause-shows c opening start events shows =
-    shows_reset opening start events c.args.self.now _ shows c.args.params.now (search rules)
+    represents_reset opening start events c.args.self.now _ shows c.args.params.now (search rules)

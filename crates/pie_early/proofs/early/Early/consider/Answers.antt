@@ -1,7 +1,7 @@
--- The decision by the registers' numbers is that by the registers.
+-- The decision on plain numbers is the decision on the checked ones.
 use Rattle.pie_early.proofs.Names.{◌≡◌, accu_after, choice_of, counted}
 use Rattle.pie_early.specs.declared.decision.Decision.{Decision}
-use Rattle.pie_early.proofs.Laws.{accu_below, shows_arrival, grown, picked}
+use Rattle.pie_early.proofs.Laws.{accu_below, represents_arrival, grown, picked}
 use Rattle.pie_early.proofs.early.Early.consider.Goals as goal
 
 pub invariant_of-self : goal.invariant_of-self
@@ -24,7 +24,7 @@ returns-clause-shows c events shown =
     = rw (← c.raw.ensures.same, ← c.raw-2.ensures, ← c.self.view_is) c.decide-decision.ensures.choice in
     let accu : d.accu ≡ accu_after a.elements a.params.now a.control.now a.offered a.self.now
     = rw (← c.raw.ensures.same, ← c.raw-2.ensures, ← c.self.view_is) c.decide-decision.ensures.accu in
-    rw (choice, accu) (shows_arrival a.elements.picking a.params.now a.control.now (counted a.elements a.params.now a.control.now a.offered)
+    rw (choice, accu) (represents_arrival a.elements.picking a.params.now a.control.now (counted a.elements a.params.now a.control.now a.offered)
     a.offered.bytes a.offered.word a.self.now events a.offered.ecn shown)
 
 pub returns-clause-grows : goal.returns-clause-grows

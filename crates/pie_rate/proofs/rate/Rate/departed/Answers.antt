@@ -1,7 +1,7 @@
 use Rattle.std.proofs.Common.{rules, sym, subst, ◌<◌, ◌^◌}
 use Rattle.pie_rate.specs.Departures.{departure}
 use Rattle.pie_rate.specs.Estimate.{Estimate, IsWithin}
-use Rattle.pie_rate.proofs.Laws.{shows_after, within_after}
+use Rattle.pie_rate.proofs.Laws.{represents_after, within_after}
 use Rattle.pie_rate.proofs.rate.Rate.departed.Goals as goal
 
 pub invariant_of-self : goal.invariant_of-self
@@ -14,4 +14,4 @@ pub returns-clause-shows : goal.returns-clause-shows
 returns-clause-shows c departures shown =
     let a = c.args in
     rw (c.departed.ensures, c.units.ensures.value)
-    (shows_after a.threshold departures (departure a.size a.bytes_left a.moment) c.self.inside.raw c.requires (rw (← c.self.view_is) at shown))
+    (represents_after a.threshold departures (departure a.size a.bytes_left a.moment) c.self.inside.raw c.requires (rw (← c.self.view_is) at shown))

@@ -1,0 +1,62 @@
+"""The scenarios of docs/RESULTS.md: for each its name, the section of RFC 7928 that asks for it, its traffic in words, its queues, the number of
+blocks, and its options. beside.py runs them, and docs/results.py makes tables of them.
+
+A block is one draw of start times, round trips and short flows, and of the order of the queues; every queue of a scenario gets the same blocks.
+
+Options (beside.py takes the same):
+  --seconds 12, --from 4          the length of a run; its parts are the first 4 s and the rest
+  --rate 10mbit,8s:2mbit          the rate, and its changes
+  --flows GROUP ..                COUNT:KIND:RTT[:SINCE-UNTIL]; KIND is a congestion control, udp=RATE, ect=RATE (UDP that is ECN-capable and ignores
+                                  marks), burst=PACKETSxPERIOD (UDP), voice (UDP of 200 bytes each 20 ms), or dns=COUNT (single packets of UDP,
+                                  COUNT a second). back:COUNT:.. goes the other way
+  --short 14600x2                 TCP flows of 14,600 bytes, two a second
+  --limit 200ms                   of each queue, in packets of 1500 bytes at the first rate
+  --probe 100ms                   a probe each 100 ms; 200 ms below 10 Mbit/s
+  --reverse 10mbit                the rate of the way back, with a tail drop queue of the same limit
+  --bucket 1                      bytes of htb's bucket
+  --ecn, --offload, --grant 5ms   TCP asks for ECN and queues mark; senders pass super-packets; the link sends at its grants"""
+import shlex
+
+# name, section of RFC 7928, words, queues, blocks, options; the ones that tell most come first
+TABLE = [
+    ("four", "5.1", "4 CUBIC", "tail,stamp,wide,pfifo,pie,fq_codel", 6, ""),
+    ("full", "", "UDP of 12 Mbit/s alone", "tail,pfifo", 3, "--seconds 8 --from 2 --flows 1:udp=12mbit:20ms"),
+    ("two", "", "2 Mbit/s, 4 CUBIC", "stamp,pie", 6, "--rate 2mbit --seconds 25 --from 5"),
+    ("slow", "", "0.5 Mbit/s, 4 CUBIC, limit 1 s", "stamp,slowwide,pie", 6, "--rate 500kbit --limit 1s --seconds 40 --from 10"),
+    ("far", "6.2", "4 CUBIC, 100 ms", "stamp,half,wide,pie", 4, "--flows 4:cubic:100ms"),
+    ("udp", "5.2", "4 CUBIC, UDP of 12 Mbit/s", "stamp,pie,fq_codel", 4, "--flows 4:cubic:20ms 1:udp=12mbit:20ms"),
+    ("choices", "5.1", "4 CUBIC", "half,rate,pie-rate,cake", 4, ""),
+    ("hundred", "8.2.4", "100 CUBIC", "stamp,pie,fq_codel", 4, "--flows 100:cubic:20ms"),
+    ("step", "8.2.5", "10, 2 and 10 Mbit/s, 4 CUBIC", "stamp,rate,pie,pie-rate", 3,
+     "--rate 10mbit,8s:2mbit,18s:10mbit --seconds 32 --from 0"),
+    ("probe20", "", "4 CUBIC, a probe each 20 ms", "stamp,fq_codel", 4, "--probe 20ms"),
+    ("probe200", "", "4 CUBIC, a probe each 200 ms", "stamp,fq_codel", 4, "--probe 200ms"),
+    ("hundred20", "", "100 CUBIC, a probe each 20 ms", "fq_codel", 3, "--probe 20ms --flows 100:cubic:20ms"),
+    ("hundred200", "", "100 CUBIC, a probe each 200 ms", "fq_codel", 3, "--probe 200ms --flows 100:cubic:20ms"),
+    ("mixed", "7.2", "2 CUBIC, 2 voice, DNS, web", "stamp,pie,fq_codel,pfifo", 4,
+     "--seconds 16 --flows 2:cubic:20ms 2:voice:20ms 1:dns=5:20ms --short 14600x3,146000x0.5"),
+    ("trips", "6.2", "2 CUBIC each at 10, 50, 200 ms", "stamp,pie,fq_codel", 4, "--seconds 16 --flows 2:cubic:10ms 2:cubic:50ms 2:cubic:200ms"),
+    ("ecn", "12.1", "4 CUBIC, ECN", "stamp,pie", 4, "--ecn"),
+    ("ecnudp", "12.1", "4 CUBIC, ECN, ECN-capable UDP of 12 Mbit/s", "stamp,marks", 3, "--ecn --flows 4:cubic:20ms 1:ect=12mbit:20ms"),
+    ("ecnmany", "12.1", "16 CUBIC, ECN", "stamp,marks", 3, "--ecn --flows 16:cubic:20ms"),
+    ("short", "7.2", "1 CUBIC, short flows", "tail,stamp,fq_codel", 3,
+     "--seconds 20 --flows 1:cubic:20ms --short 1460x2,14600x2,146000x0.5,730000x0.1"),
+    ("one", "8.2.2", "1 CUBIC", "stamp,pie", 4, "--flows 1:cubic:20ms"),
+    ("tight", "", "4 CUBIC, limit 10 ms", "stamp,pie", 3, "--limit 10ms"),
+    ("back", "9.2", "4 CUBIC each way", "stamp,pie", 3, "--reverse 10mbit --flows 4:cubic:20ms back:4:cubic:20ms"),
+    ("bbrcubic", "5.3", "2 CUBIC, 2 BBR", "stamp,pie,fq_codel", 3, "--flows 2:cubic:20ms 2:bbr:20ms"),
+    ("offload", "", "4 CUBIC, segmentation offload", "stamp,pie", 3, "--offload"),
+    ("burst", "7.2", "1 CUBIC, bursts of 40 packets", "stamp,pie", 3, "--flows 1:cubic:20ms 1:burst=40x1s:20ms"),
+    ("near", "6.2", "4 CUBIC, 5 ms", "stamp,pie", 3, "--flows 4:cubic:5ms"),
+    ("farther", "6.2", "4 CUBIC, 500 ms", "stamp,pie", 3, "--seconds 25 --from 10 --flows 4:cubic:500ms"),
+    ("sixteen", "8.2.3", "16 CUBIC", "stamp,pie", 3, "--flows 16:cubic:20ms"),
+    ("onoff", "8.2.6", "2 CUBIC, and 16 more from 5 to 10 s", "stamp,half,pie", 3,
+     "--seconds 15 --from 0 --flows 2:cubic:20ms 8:cubic:20ms:5s-10s 8:cubic:20ms:5s-10s"),
+    ("grant30", "", "4 CUBIC, grants of 30 ms", "stamp,rate", 3, "--grant 30ms"),
+    ("bucket", "", "2 Mbit/s, 4 CUBIC, a bucket of 1514 bytes in htb", "pie", 6, "--rate 2mbit --seconds 25 --from 5 --bucket 1514"),
+    ("fifty", "", "50 Mbit/s, 4 CUBIC", "stamp,pie", 3, "--rate 50mbit --seconds 7 --from 3"),
+]
+# scenarios that get the blocks of another
+SAME_BLOCKS = {"choices": "four", "probe20": "four", "probe200": "four", "hundred20": "hundred", "hundred200": "hundred", "bucket": "two"}
+SCENARIOS = {name: {"name": name, "section": section, "words": words, "queues": queues.split(","), "blocks": blocks, "options": shlex.split(options)}
+             for name, section, words, queues, blocks, options in TABLE}

@@ -1,0 +1,69 @@
+#!/usr/bin/env bash
+# Compares the module's decisions with those of Linux's sch_pie.c, decision by decision: eight CUBIC flows at RATE pass through pie_recorded in a booted
+# kernel, pie-tap writes the history to a disk, and bench/steps/run.sh gives each step of it, with its random word, to the code of sch_pie.c. Each
+# difference must be one that docs/PARAMETERS.md names. A million arrivals take some minutes of a processor.
+# needs: a request, program
+#
+# usage: [PIE=program] [HEADERS=folder] [KEEP=folder for all files] [RATE=400mbit] [SECONDS_OF_TRAFFIC=45] bindings/kernel/beside_pie.sh [ROOT]
+set -eu
+cd "$(dirname "$0")/../.."
+me=bindings/kernel/beside_pie.sh
+pie=${PIE:-$PWD/crates/pie/out/pie}
+[ -x "$pie" ] || { echo "NOT RUN: $me: no program $pie"; exit 0; }
+# shellcheck source=guest.sh
+. bindings/kernel/guest.sh
+build_module . "$work/root/mods/sch_pie_recorded.ko"
+cat > "$work/init" <<'END'
+#!/bin/busybox sh
+box=/bin/busybox
+$box mkdir -p /etc
+$box mount -t proc proc /proc
+$box mount -t sysfs sys /sys
+$box mount -t devtmpfs dev /dev
+$box mount -t tmpfs run /run
+exec > /dev/console 2>&1
+for name in virtio_ring virtio virtio_pci_legacy_dev virtio_pci_modern_dev virtio_pci virtio_blk veth sch_htb sch_netem sch_pie_recorded; do
+    [ ! -e /mods/$name.ko ] || $box insmod /mods/$name.ko || echo "FAILED insmod $name"
+done
+for name in a r b; do
+    /bin/ip netns add $name
+    /bin/ip -n $name link set lo up
+done
+/bin/ip link add a0 netns a type veth peer name ra netns r
+/bin/ip link add b0 netns b type veth peer name rb netns r
+/bin/ip -n a addr add 10.0.1.1/24 dev a0
+/bin/ip -n r addr add 10.0.1.2/24 dev ra
+/bin/ip -n b addr add 10.0.2.1/24 dev b0
+/bin/ip -n r addr add 10.0.2.2/24 dev rb
+for at in a:a0 r:ra r:rb b:b0; do
+    /bin/ip -n ${at%:*} link set ${at#*:} up
+done
+/bin/ip -n a route add default via 10.0.1.2
+/bin/ip -n b route add default via 10.0.2.2
+/bin/ip netns exec r $box sysctl -q -w net.ipv4.ip_forward=1
+/bin/tc -n b qdisc add dev b0 root netem delay 10ms limit 100000
+/bin/tc -n r qdisc add dev rb root handle 1: htb default 1
+/bin/tc -n r class add dev rb parent 1: classid 1:1 htb rate $rate
+/bin/tc -n r qdisc add dev rb parent 1:1 handle 2: pie_recorded events 1000000 || echo "FAILED tc"
+/bin/ip netns exec r /bin/pie-tap follow rb > /dev/vda &
+tap=$!
+/bin/ip netns exec b /bin/iperf3 -s -D
+$box sleep 1
+/bin/ip netns exec a /bin/iperf3 -c 10.0.2.1 -P 8 -t $seconds -f m | $box grep 'SUM.*receiver'
+/bin/tc -n r -s qdisc show dev rb
+/bin/tc -n r qdisc del dev rb root
+wait $tap
+$box sync
+echo ended
+$box poweroff -f
+END
+fill_root "$work/init" virtio virtio_ring virtio_pci_legacy_dev virtio_pci_modern_dev virtio_pci virtio_blk veth sch_htb sch_netem
+truncate -s 1G "$work/disk"
+# shellcheck disable=SC2086
+LIMIT=3000 boot "rate=${RATE:-400mbit} seconds=${SECONDS_OF_TRAFFIC:-45}" $SIMULATED -m 1536 -drive "file=$work/disk,format=raw,if=virtio"
+tr -d '\r' < "$work/console" | grep -A 6 -E 'SUM|pie_recorded'
+tr -d '\0' < "$work/disk" > "$work/history"
+echo "$me: Linux $release: $(grep -c '^arrive' "$work/history") arrivals; $("$pie" audit < "$work/history")"
+# the purge at the end is no step of sch_pie.c
+sed '/^reset,/,$d' "$work/history" > "$work/steps"
+bench/steps/run.sh "$pie" "$work/steps"

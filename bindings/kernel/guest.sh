@@ -1,0 +1,70 @@
+# For the scripts that boot a kernel of Debian under qemu-system-x86_64 (boot.sh, measure.sh, beside_pie.sh); each reads this file by `.` in the folder at
+# the top of the project. `me` is the script's name.
+root=${1:-/}
+headers=${HEADERS:-/usr/src}
+for program in qemu-system-x86_64 busybox tc ip iperf3 cpio cc python3 strings; do
+    if ! command -v $program > /dev/null; then
+        echo "NOT RUN: $me: no $program here (bindings/kernel/install.sh)"
+        exit 0
+    fi
+done
+kernel=$(ls "$root"/boot/vmlinuz-* 2> /dev/null | sort -V | tail -n 1)
+release=${kernel##*/vmlinuz-}
+if [ -z "$kernel" ] || ! [ -d "$headers/linux-headers-$release" ]; then
+    echo "NOT RUN: $me: no kernel in $root/boot, or no headers of it in $headers"
+    exit 0
+fi
+work=${KEEP:-$(mktemp -d)}
+[ -n "${KEEP-}" ] || trap 'rm -rf "$work"' EXIT
+mkdir -p "$work/build/bindings" "$work/root"/{bin,dev,proc,sys,tmp,run,var} "$work/root/mods/mutants"
+cp -r bindings/kernel "$work/build/bindings/"
+cp -r bindings/kernel "$work/source"
+cp -r include "$work/build/"
+
+# build_module FOLDER FILE: builds the modules of a folder below bindings/kernel, and copies one to FILE
+build_module() {
+    make -s -C "$headers/linux-headers-$release" M="$work/build/bindings/kernel/$1" modules > "$work/make.log" 2>&1 || { cat "$work/make.log" >&2; exit 1; }
+    cp "$work/build/bindings/kernel/$1"/*.ko "$2"
+}
+
+# fill_root INIT MODULE..: fills the first file system: INIT is its first process; MODULE.. are modules of the kernel, as far as they are modules there
+fill_root() {
+    local plugins path library name
+    cp "$1" "$work/root/init"
+    chmod +x "$work/root/init"
+    shift
+    for name in "$@"; do
+        find "$root/lib/modules/$release/" -name "$name.ko*" -exec cp {} "$work/root/mods/" \;
+    done
+    find "$work/root/mods" -name '*.xz' -exec xz -d {} +
+    cp "$(command -v busybox)" "$work/root/bin/"
+    plugins=$work/root$(strings "$(command -v tc)" | grep -m 1 '^/.*/tc/$')
+    mkdir -p "$plugins"
+    make -s -B -C "$work/source" tools PIE_C="$PWD/dist/x86_64/pie_c.S" CPPFLAGS="-I$PWD/include" > "$work/make.log" 2>&1 || { cat "$work/make.log" >&2; exit 1; }
+    cp "$work/source/q_pie_recorded.so" "$plugins"
+    for path in "$(command -v tc)" "$(command -v ip)" "$(command -v iperf3)" "$work/source/pie-tap"; do
+        cp "$path" "$work/root/bin/"
+        for library in $(ldd "$path" | grep -o '/[^ ]*'); do
+            mkdir -p "$work/root${library%/*}"
+            cp -n -L "$library" "$work/root$library"
+        done
+    done
+    (cd "$work/root" && find . | cpio -o -H newc --quiet | gzip -1) > "$work/initrd"
+}
+
+# boot PARAMETERS [OPTION..]: boots with these parameters of the kernel and options of qemu, until the first process ends. Fails if it did not end well.
+boot() {
+    local parameters=$1
+    shift
+    timeout "${LIMIT:-900}" qemu-system-x86_64 -display none -monitor none -no-reboot -kernel "$kernel" -initrd "$work/initrd" \
+        -append "console=ttyS0 quiet panic=-1 panic_on_warn=1 mitigations=off random.trust_cpu=on $parameters rdinit=/init" \
+        -serial "file:$work/console" "$@" < /dev/null > "$work/qemu.log" 2>&1 || true
+    if ! grep -q '^ended' "$work/console" || grep -E '^FAILED|WARNING:|BUG:|Oops|KASAN|possible circular' "$work/console"; then
+        cat "$work/qemu.log" "$work/console" >&2
+        echo "$me: the kernel $release did not end well" >&2
+        exit 1
+    fi
+}
+
+# in simulated time: an instruction takes a nanosecond, and two runs are alike
+SIMULATED="-m 768 -smp 1 -icount shift=0,sleep=off -rtc clock=vm -cpu Nehalem,+rdrand"

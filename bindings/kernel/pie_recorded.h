@@ -1,0 +1,40 @@
+/* SPDX-License-Identifier: GPL-2.0 OR MIT */
+/*
+ * The options and statistics of the queue discipline pie_recorded, as they are in netlink messages.
+ * Options 1 to 8 are those of pie (TCA_PIE_TARGET to TCA_PIE_DQ_RATE_ESTIMATOR); each is a u32.
+ */
+#ifndef PIE_RECORDED_H
+#define PIE_RECORDED_H
+
+#include <linux/pkt_sched.h>
+#include <linux/types.h>
+
+enum {
+	TCA_PIE_RECORDED_MAX_BURST = 16, /* burst allowance, in us */
+	TCA_PIE_RECORDED_MARK_ECNTH, /* packets are marked below this probability, in 10^-9 */
+	TCA_PIE_RECORDED_DECAY, /* 1: the probability decays below target / 2; 0: at no delay */
+	TCA_PIE_RECORDED_EVENTS, /* events that the record keeps at least; 0: no record */
+	TCA_PIE_RECORDED_FLOWS, /* 1: tags contain the packet's flow */
+	TCA_PIE_RECORDED_END
+};
+
+#define TCA_PIE_RECORDED_MAX (TCA_PIE_RECORDED_END - 1)
+
+/* The statistics: those of pie, and more. */
+struct tc_pie_recorded_xstats {
+	struct tc_pie_xstats pie;
+	__u64 burst;		/* burst allowance, in ns */
+	__u64 early;		/* drops by probability */
+	__u64 over_bytes;	/* drops by the limit in bytes */
+	__u64 over_packets;	/* drops by the limit in packets */
+	__u64 refused;		/* packets that could not be decided, and were dropped */
+	__u64 purged;		/* packets that a purge of the queue dropped */
+	__u64 updates;
+	__u64 resets;
+	__u64 changes;
+	__u64 recorded;		/* events that were written to the record */
+	__u32 serial;		/* number of the record; 0: none */
+	__u32 reserved;
+};
+
+#endif

@@ -1,0 +1,69 @@
+//! Blocks of 32 bytes, in which the bytes up to a comma are marked: those that end a field or a line are among them.
+ghost use Rattle.std.specs.Prelude.{◌≡◌, ◌≢◌, ◌≤◌, ◌<◌, ◌+◌, ◌↔◌, ℕ, if◌then◌else◌, nat_le, slice_index};
+ghost use Rattle.std.specs.Int.{bit_at};
+ghost use Rattle.memchr.specs.Lanes.{HasLanes};
+ghost use Rattle.pie_record.specs.{length, AreMarked};
+
+use std::simd::prelude::*;
+
+/// Returns the 32 bytes from `at` on.
+#[inline(always)]
+fn load(bytes: &[u8], at: usize) -> u8x32
+    requires { at + 32 ≤ length bytes.now }
+    ensures { HasLanes result (λ k. slice_index bytes.now (at + k)) }
+{
+    u8x32::from_slice(&bytes[at..])
+}
+
+/// Returns 255 in each lane that is at most `byte`, and 0 in the others.
+#[inline(always)]
+fn up_to(lanes: u8x32, byte: u8) -> u8x32
+    ensures { HasLanes result (λ k. if nat_le (slice_index lanes k) byte then 255 else 0) }
+{
+    lanes
+        .simd_le(u8x32::splat(byte))
+        .select(u8x32::splat(255), u8x32::splat(0))
+}
+
+/// Returns the top bits of the lanes, that of lane `k` as bit `k`.
+#[inline(always)]
+fn top_bits(lanes: u8x32) -> u64
+    ensures bits { (k : ℕ) → (bit_at result k ≡ 1) ↔ (128 ≤ slice_index lanes k) }
+    ensures long { length lanes ≡ 32 }
+{
+    lanes.simd_ge(u8x32::splat(128)).to_bitmask()
+}
+
+/// Returns a mask of the 32 bytes from `at` on: bit `k` is set if the byte at `at + k` is at most a comma.
+#[inline(always)]
+pub(crate) fn marked(bytes: &[u8], at: usize) -> u64
+    requires { at + 32 ≤ length bytes.now }
+    ensures { AreMarked bytes.now at at result }
+{
+    let block = load(bytes, at);
+    let low = up_to(block, b',');
+    top_bits(low)
+}
+
+/// Returns the place of the lowest bit.
+#[inline(always)]
+pub(crate) fn lowest(mask: u64) -> usize
+    requires { mask ≢ 0 }
+    ensures bound { result < 64 }
+    ensures set { bit_at mask result ≡ 1 }
+    ensures below { (k : ℕ) → k < result → bit_at mask k ≡ 0 }
+{
+    mask.trailing_zeros() as usize
+}
+
+/// Returns the mask without the bit at `place`.
+#[inline(always)]
+pub(crate) fn without(mask: u64, place: usize) -> u64
+    requires bound { place < 64 }
+    requires set { bit_at mask place ≡ 1 }
+    ensures smaller { result < mask }
+    ensures kept { (k : ℕ) → k < 64 → k ≢ place → bit_at result k ≡ bit_at mask k }
+    ensures no_more { (k : ℕ) → bit_at result k ≡ 1 → (bit_at mask k ≡ 1) × (k ≢ place) }
+{
+    mask & !(1 << place)
+}

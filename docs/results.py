@@ -1,0 +1,514 @@
+#!/usr/bin/env python3
+"""Writes docs/RESULTS.md and docs/ellipses.svg from docs/RESULTS.in and the stored runs: bench/uml/results.csv, bench/uml/short.csv and
+bindings/ns3/results.csv. Every figure of the page is an expression in RESULTS.in, between {{ and }}, that calls functions of this script.
+
+usage: docs/results.py [--check]      --check: writes nothing. Status 1 if a file differs from what the runs give, or RESULTS.in has a figure of its
+                                      own"""
+import csv
+import functools
+import math
+import re
+import sys
+import textwrap
+from pathlib import Path
+from statistics import fmean, median, stdev
+
+ROOT = Path(__file__).resolve().parents[1]
+sys.path[:0] = [str(ROOT / "bench"), str(ROOT / "bench/uml")]
+sys.dont_write_bytecode = True
+from equivalence import compare, compare_pairs  # noqa: E402
+from scenarios import SAME_BLOCKS, SCENARIOS  # noqa: E402
+
+# decimal numbers of RESULTS.in that are settings of a scenario, or of RFC 8033
+SETTINGS = {"0.5", "0.85", "1.85", "1.5", "4.4", "5.1"}
+DIGITS = {"goodput": 2, "jain": 2, "early": 0, "tail": 0, "marks": 0, "lost": 0, "probes": 0}
+NAMES = {"tail": "tail drop, here", "stamp": "PIE, here", "wide": "the same, target 20 ms", "half": "the same, `--decay half`",
+         "rate": "PIE by rate, here",
+         "marks": "PIE, here, `--mark_ecnth 100%`", "slowwide": "PIE, here, target 30 ms", "pfifo": "`pfifo`", "pie": "`pie`",
+         "pie-rate": "`pie dq_rate_estimator`", "fq_codel": "`fq_codel`", "cake": "`cake`"}
+
+
+def read(name):
+    with open(ROOT / name, newline="") as file:
+        return list(csv.DictReader(file))
+
+
+class Runs:
+    """The stored rows, by scenario, queue and part."""
+
+    def __init__(self, rows):
+        self.rows = {}
+        for row in rows:
+            if row["late"] not in ("", "0") or not (row["audit"] == "-" or row["audit"].startswith("clean,")):
+                sys.exit(f"docs/results.py: a run that is late or not clean: {row}")
+            part = (float(row["from"]), float(row["to"]))
+            self.rows.setdefault((row["scenario"], row["queue"]), {}).setdefault(part, {})[int(row["block"])] = row
+
+    def parts(self, scenario):
+        """The parts of a scenario: those that follow each other, and the whole."""
+        return sorted(next(parts for (name, _), parts in self.rows.items() if name == scenario))
+
+    def part(self, scenario, name):
+        """`start` is the first part, `after` the second, `whole` all; or as 18-32."""
+        parts = self.parts(scenario)
+        last = max(to for _, to in parts)
+        split = [it for it in parts if it != (parts[0][0], last) or len(parts) == 1]
+        if name in ("start", "after"):
+            return split[min(name == "after", len(split) - 1)]
+        return (parts[0][0], last) if name == "whole" else tuple(float(it) for it in name.split("-"))
+
+    def blocks(self, scenario, queue, part="after"):
+        """The rows by block; nothing if the scenario did not run with this queue."""
+        found = self.rows.get((scenario, queue), {})
+        return found.get(self.part(scenario, part), {}) if found else {}
+
+    def values(self, scenario, queue, field, part="after"):
+        return {block: float(row[field]) for block, row in sorted(self.blocks(scenario, queue, part).items()) if row[field]}
+
+
+RUNS = Runs(read("bench/uml/results.csv"))
+SHORT = read("bench/uml/short.csv")
+NS3 = read("bindings/ns3/results.csv")
+
+
+def shown(number, field="probe", digits=None):
+    text = f"{number:.{DIGITS.get(field, 1) if digits is None else digits}f}"
+    return text[1:] if re.fullmatch(r"-0\.?0*", text) else text
+
+
+def value(scenario, queue, field, part="after", digits=None):
+    """The mean over blocks."""
+    found = list(RUNS.values(scenario, queue, field, part).values())
+    return shown(fmean(found), field, digits) if found else ""
+
+
+def spread(scenario, queue, field, part="after", digits=None):
+    """The mean over blocks, and in brackets the least and the greatest."""
+    found = list(RUNS.values(scenario, queue, field, part).values())
+    return f"{shown(fmean(found), field, digits)} ({shown(min(found), field, digits)} to {shown(max(found), field, digits)})" if found else ""
+
+
+def percent(scenario, queue, field, part="after", digits=1):
+    found = RUNS.values(scenario, queue, field, part).values()
+    return f"{100 * fmean(found):.{digits}f}" if found else ""
+
+
+def share(scenario):
+    """Probes among the packets that the link sent, in per cent, over all queues and blocks."""
+    parts = [RUNS.values(scenario, queue, "share") for name, queue in RUNS.rows if name == scenario]
+    return f"{100 * fmean(value for part in parts for value in part.values()):.1f}"
+
+
+def lost(scenario, queue, part="after"):
+    """Probes that were dropped, in per cent of those that were sent."""
+    found, sent = (sum(RUNS.values(scenario, queue, field, part).values()) for field in ("lost", "probes"))
+    return f"{100 * found / sent:.0f}"
+
+
+def group(scenario, queue, place, part="after", digits=2):
+    """The goodput of one group of flows."""
+    rows = RUNS.blocks(scenario, queue, part).values()
+    return f"{fmean(float(row['groups'].split('/')[place]) for row in rows):.{digits}f}" if rows else ""
+
+
+def difference_of(scenario, one, other, field, part="after", other_scenario=None):
+    """The mean difference of the blocks that both queues got."""
+    ours, theirs = RUNS.values(scenario, one, field, part), RUNS.values(other_scenario or scenario, other, field, part)
+    both = sorted(ours.keys() & theirs.keys())
+    return [ours[it] for it in both], [theirs[it] for it in both]
+
+
+# The margins: half of a difference between queues that are known to differ. Of waits what a target of 20 ms makes in place of 15; of goodput,
+# as a share, what a limit of 10 ms costs in place of 200.
+def margin(field):
+    if field == "probe":
+        ours, theirs = difference_of("four", "wide", "stamp", "probe")
+        return abs(fmean(ours) - fmean(theirs)) / 2
+    full, tight = (fmean(RUNS.values(scenario, "stamp", "goodput").values()) for scenario in ("four", "tight"))
+    return abs(full - tight) / full / 2
+
+
+def margin_of(field, theirs):
+    """The margin in ms, or in Mbit/s as a share of the other's goodput."""
+    return margin(field) * (fmean(theirs) if field == "goodput" else 1)
+
+
+@functools.cache
+def test(scenario, one, other, field, part="after", other_scenario=None):
+    ours, theirs = difference_of(scenario, one, other, field, part, other_scenario)
+    return compare_pairs(ours, theirs, margin_of(field, theirs)) if len(ours) > 1 else None
+
+
+def interval(found, field, digits=None):
+    digits = digits if digits is not None else DIGITS.get(field, 1)
+    return f"{shown(found[0], field, digits)} ({shown(found[1], field, digits)} to {shown(found[2], field, digits)})"
+
+
+def difference(scenario, one, other, field, part="after", other_scenario=None, digits=None):
+    """The difference, its interval and the verdict, in words."""
+    found = test(scenario, one, other, field, part, other_scenario)
+    return f"{interval(found, field, digits)}, {found[3]}"
+
+
+def add(scenario, queue, *fields):
+    """The sum of the means of several counts."""
+    return shown(sum(fmean(RUNS.values(scenario, queue, field).values()) for field in fields), "early")
+
+
+def verdict_sentence(scenario):
+    goodput, wait = (test(scenario, "stamp", "pie", field) for field in ("goodput", "probe"))
+    return (f"The goodput differs by {interval(goodput, 'goodput')}, which is `{goodput[3]}`, and the wait by {interval(wait, 'probe')}, "
+            f"which is `{wait[3]}`")
+
+
+def table(heads, lines):
+    return "\n".join(["|" + "|".join(heads) + "|", "|---" * len(heads) + "|", *("|" + "|".join(line) + "|" for line in lines)])
+
+
+def name_of_part(part):
+    return f"{part[0]:g} to {part[1]:g}"
+
+
+def was_run(scenario):
+    return any(name == scenario for name, _ in RUNS.rows)
+
+
+def scenarios_table():
+    """Every scenario that was run."""
+    lines = []
+    for name, it in SCENARIOS.items():
+        if was_run(name):
+            queues = [queue for queue in it["queues"] if (name, queue) in RUNS.rows]
+            blocks = sorted({len(RUNS.blocks(name, queue, "whole")) for queue in queues})
+            count = " to ".join(map(str, blocks[:1] + blocks[1:][-1:]))
+            lines.append([f"`{name}`", it["words"], it["section"], " ".join(queues), count, share(name)])
+    return table(["name", "traffic", "RFC 7928", "queues", "blocks", "probes, % of packets"], lines)
+
+
+def split_parts(scenario):
+    """The parts without the whole."""
+    parts = RUNS.parts(scenario)
+    whole = (min(begin for begin, _ in parts), max(to for _, to in parts))
+    return [it for it in parts if it != whole or len(parts) == 1]
+
+
+def pairs_of(one="stamp", other="pie"):
+    """Scenario and part of each comparison of two queues."""
+    for name in SCENARIOS:
+        if RUNS.rows.get((name, one)) and RUNS.rows.get((name, other)):
+            for part in split_parts(name):
+                yield name, f"{part[0]:g}-{part[1]:g}", part
+
+
+def same_table(one="stamp", other="pie"):
+    lines = []
+    for name, part, bounds in pairs_of(one, other):
+        cells = [SCENARIOS[name]["words"], name_of_part(bounds)]
+        for field in ("goodput", "probe"):
+            found = test(name, one, other, field, part)
+            if found is None:
+                cells += ["", ""]
+                continue
+            ours, theirs = difference_of(name, one, other, field, part)
+            digits = 3 if field == "goodput" and fmean(theirs) < 3 else None
+            means = f"{shown(fmean(ours), field, digits)}, {shown(fmean(theirs), field, digits)}"
+            cells += [means, f"{interval(found, field, digits)} {found[3]}, {found[4]:.2f}"]
+        lines.append(cells)
+    return table(["traffic", "seconds", "goodput, here and `pie`", "difference", "wait, here and `pie`", "difference"], lines)
+
+
+def verdicts(field, one="stamp", other="pie"):
+    """Returns the number of comparisons with each verdict, in words."""
+    found = [test(name, one, other, field, part) for name, part, _ in pairs_of(one, other)]
+    found = [it[3] for it in found if it]
+    return f"{found.count('same')} same, {found.count('different')} different, {found.count('open')} open"
+
+
+def longer():
+    """The number of parts after a start in which the mean wait of a probe is greater here, of how many."""
+    found = [test(name, "stamp", "pie", "probe", which) for name, which, bounds in pairs_of() if bounds[0] > 0]
+    found = [it[0] for it in found if it]
+    return f"{sum(it > 0 for it in found)} of {len(found)}"
+
+
+def same_calibration_table():
+    """Compares the same algorithm through both bottlenecks."""
+    lines = []
+    for name, one, other in (("full", "tail", "pfifo"), ("four", "tail", "pfifo")):
+        for field, unit in (("probe", "ms"), ("goodput", "Mbit/s")):
+            ours, theirs = difference_of(name, one, other, field)
+            found = test(name, one, other, field)
+            lines.append([SCENARIOS[name]["words"], f"{'wait' if field == 'probe' else 'goodput'}, {unit}", shown(fmean(ours), field, 3),
+                          shown(fmean(theirs), field, 3), interval(found, field, 3), found[3]])
+    return table(["traffic", "of", "tail drop, here", "`pfifo`", "difference", "verdict"], lines)
+
+
+@functools.cache
+def halves():
+    """Each queue beside itself: the blocks with odd numbers and those with even ones."""
+    found = []
+    for name, queue in RUNS.rows:
+        for part in split_parts(name):
+            for field in ("goodput", "probe"):
+                values = RUNS.values(name, queue, field, f"{part[0]:g}-{part[1]:g}")
+                odd, even = ([it for block, it in values.items() if block % 2 == left] for left in (1, 0))
+                if min(len(odd), len(even)) >= 2:
+                    found.append((name, queue, part, field, compare(odd, even, margin_of(field, even))))
+    return found
+
+
+def halves_count():
+    found = [it[-1][3] for it in halves()]
+    return f"{len(found)} comparisons: {found.count('same')} same, {found.count('open')} open, {found.count('different')} different"
+
+
+def halves_different():
+    """Returns the comparisons of a queue with itself whose verdict is `different`, in words."""
+    found = [f"`{name}` ({NAMES[queue]}, {'wait' if field == 'probe' else 'goodput'} at {name_of_part(part)} s)"
+             for name, queue, part, field, it in halves() if it[3] == "different"]
+    return ", ".join(found) or "none"
+
+
+def control_table():
+    """Queues that are known to differ: a target of 20 ms beside 15."""
+    lines = []
+    for name, one, other, field in (("four", "wide", "stamp", "probe"), ("far", "wide", "stamp", "probe"), ("slow", "slowwide", "stamp", "probe"),
+                                    ("four", "tail", "stamp", "probe"), ("udp", "fq_codel", "stamp", "probe")):
+        found = test(name, one, other, field)
+        lines.append([SCENARIOS[name]["words"], f"{NAMES[one]}, beside PIE, here", interval(found, field), found[3]])
+    ours, theirs = (list(RUNS.values(name, "stamp", "goodput").values()) for name in ("tight", "four"))
+    found = compare(ours, theirs, margin_of("goodput", theirs))
+    lines.append(["4 CUBIC", "a limit of 10 ms beside 200: goodput", interval(found, "goodput"), found[3]])
+    return table(["traffic", "queues", "difference", "verdict"], lines)
+
+
+def base_text():
+    """The delay of the empty queue in each kind of bottleneck, in us."""
+    rows = [row for parts in RUNS.rows.values() for blocks in parts.values() for row in blocks.values()]
+    parts = []
+    for is_ours in (True, False):
+        found = [1e3 * float(row["base"]) for row in rows if (row["audit"] != "-") == is_ours]
+        least, most = f"{min(found):.0f}", f"{max(found):.0f}"
+        parts.append(f"{least} µs" if least == most else f"{least} to {most} µs")
+    return f"{parts[0]} here and {parts[1]}"
+
+
+def queues_table(scenario, queues, more=()):
+    """Goodput, waits and losses of queues, each as (scenario, queue)."""
+    lines = []
+    for queue in queues:
+        it = more[queue] if queue in more else scenario
+        if RUNS.blocks(it, queue):
+            start = [value(it, queue, field, "start") for field in ("goodput", "probe")]
+            lines.append([NAMES[queue], *start, value(it, queue, "goodput"), value(it, queue, "wait"), spread(it, queue, "probe"),
+                          value(it, queue, "probe99", digits=0), value(it, queue, "early"), value(it, queue, "tail")])
+    return table(["queue", "goodput, start", "wait, start", "goodput after", "packets' wait", "wait", "its 99th", "early drops", "tail drops"], lines)
+
+
+def probes_table():
+    lines = []
+    for queue in ("stamp", "fq_codel"):
+        for name in ("four", "hundred"):
+            cells = [NAMES[queue], SCENARIOS[name]["words"]]
+            for scenario in (f"{name}20", name, f"{name}200") if name == "hundred" else ("probe20", name, "probe200"):
+                found = value(scenario, queue, "probe") if was_run(scenario) else ""
+                cells.append(f"{found} ({share(scenario)} %)" if found else "")
+            lines.append(cells)
+    return table(["queue", "traffic", "each 20 ms", "each 100 ms", "each 200 ms"], lines)
+
+
+def took(scenario, queue, size):
+    """The times of all short flows of this size, in ms; one that did not end counts as a minute."""
+    rows = (row for row in SHORT if (row["scenario"], row["queue"], row["bytes"]) == (scenario, queue, str(size)))
+    return sorted(6e4 if row["took"] == "" else float(row["took"]) for row in rows)
+
+
+def short_table():
+    sizes = sorted({int(row["bytes"]) for row in SHORT if row["scenario"] == "short"})
+    lines = []
+    for queue in SCENARIOS["short"]["queues"]:
+        cells = [NAMES[queue]]
+        for size in sizes:
+            times = took("short", queue, size)
+            cells.append(f"{median(times):.0f}, {times[max(0, math.ceil(len(times) * 0.95) - 1)]:.0f}" if times else "")
+        lines.append([*cells, group("short", queue, 0)])
+    counts = [len(took("short", "stamp", size)) for size in sizes]
+    return table(["queue", *(f"{size} bytes, {count} flows" for size, count in zip(sizes, counts)), "long flow's goodput"], lines)
+
+
+def step_table():
+    lines = []
+    for queue in SCENARIOS["step"]["queues"]:
+        if RUNS.blocks("step", queue, "whole"):
+            cells = [value("step", queue, "goodput", "8-18"), spread("step", queue, "probe", "8-18"), value("step", queue, "goodput", "18-32"),
+                     value("step", queue, "wait", "18-32"), spread("step", queue, "probe", "18-32"), percent("step", queue, "prob", "18-32")]
+            lines.append([NAMES[queue], *cells])
+    return table(["queue", "at 2: goodput", "wait", "at 10 again: goodput", "packets' wait", "wait", "probability, %"], lines)
+
+
+def shares_table():
+    """Returns the results of each group in scenarios whose flows differ."""
+    lines = []
+    for name, groups in (("udp", "4 CUBIC / UDP"), ("trips", "2 at 10 / 50 / 200 ms"), ("bbrcubic", "2 CUBIC / 2 BBR")):
+        for queue in SCENARIOS[name]["queues"]:
+            rows = RUNS.blocks(name, queue)
+            if rows:
+                count = len(next(iter(rows.values()))["groups"].split("/"))
+                lines.append([groups, NAMES[queue], " / ".join(group(name, queue, it) for it in range(count)), value(name, queue, "jain"),
+                              value(name, queue, "probe"), value(name, queue, "probe99", digits=0)])
+    return table(["flows", "queue", "goodput of each group", "Jain's index of TCP", "wait", "its 99th"], lines)
+
+
+def mixed_table():
+    lines = []
+    for queue in SCENARIOS["mixed"]["queues"]:
+        if RUNS.blocks("mixed", queue):
+            voice = [value("mixed", queue, "voice"), value("mixed", queue, "voice99", digits=0), value("mixed", queue, "voice_lost")]
+            web = [f"{median(took('mixed', queue, size)):.0f}" for size in (14600, 146000)]
+            lines.append([NAMES[queue], group("mixed", queue, 0), *voice, value("mixed", queue, "dns"), *web])
+    return table(["queue", "2 CUBIC", "voice: wait", "its 99th", "lost", "DNS: wait", "14,600 bytes", "146,000 bytes"], lines)
+
+
+def ecn_table():
+    lines = []
+    for name in ("ecn", "ecnmany", "ecnudp"):
+        for queue in SCENARIOS[name]["queues"]:
+            if RUNS.blocks(name, queue):
+                cells = [value(name, queue, field) for field in ("wait", "marks", "early", "tail")]
+                lines.append([SCENARIOS[name]["words"], NAMES[queue], group(name, queue, 0), *cells, lost(name, queue), percent(name, queue, "prob")])
+    heads = ["traffic", "queue", "goodput of TCP", "packets' wait", "marks", "early drops", "tail drops", "probes lost, %", "probability, %"]
+    return table(heads, lines)
+
+
+def ns3_rows(queue, mbit, flows, ecn):
+    return {row["seed"]: row for row in NS3 if (row["queue"], row["mbit"], row["flows"], row["ecn"]) == (queue, mbit, flows, ecn)}
+
+
+def ns3_table():
+    others = {"pie-stamp": "`PieQueueDisc`", "pie-mark-stamp": "its marks changed", "pie-mark-burst-stamp": "its marks and bursts changed"}
+    lines = []
+    for mbit, flows, ecn in sorted({(row["mbit"], row["flows"], row["ecn"]) for row in NS3}, key=lambda it: (int(it[0]), int(it[1]), it[2])):
+        for queue, name in others.items():
+            ours, theirs = ns3_rows("recorded-stamp", mbit, flows, ecn), ns3_rows(queue, mbit, flows, ecn)
+            if min(len(ours), len(theirs)) < 2:
+                continue
+            cells = [f"{mbit} Mbit/s, {flows} flows{', ECN' * (ecn == '1')}", name, f"{len(ours)}, {len(theirs)}"]
+            for field, least in (("link_mbit", 0.01), ("wait_mean_ms", None)):
+                one, other = ([float(row[field]) for row in rows.values()] for rows in (ours, theirs))
+                found = compare(one, other, least * fmean(other) if least else margin("probe"))
+                cells += [f"{fmean(one):.1f}, {fmean(other):.1f}", f"{interval(found, field, 2 if least else 1)} {found[3]}"]
+            lines.append(cells)
+    return table(["traffic", "beside", "seeds", "link, here and there", "difference", "wait, here and there", "difference"], lines)
+
+
+def burst_sentence():
+    """The number of runs of four flows that never settle: those that wait above 20 ms on average."""
+    parts = []
+    names = {"pie-stamp": "`PieQueueDisc`", "recorded-stamp": "this repository", "pie-mark-burst-stamp": "`PieQueueDisc` with marks and bursts changed"}
+    for queue, name in names.items():
+        rows = [row for mbit in ("10", "50") for row in ns3_rows(queue, mbit, "4", "0").values()]
+        if rows:
+            parts.append(f"{sum(float(row['wait_mean_ms']) > 20 for row in rows)} of {len(rows)} with {name}")
+    return f"Some runs of four flows wait above 20 ms on average: {', '.join(parts)}."
+
+
+# ---- the picture ----
+
+COLOURS = {"stamp": "#1f5fa8", "pie": "#b0303a", "fq_codel": "#3a8a3a", "cake": "#c08020", "tail": "#888888", "pfifo": "#333333", "half": "#7a4fa0",
+           "rate": "#20a0a0", "wide": "#70b0e0", "pie-rate": "#e08080", "marks": "#a0a020", "slowwide": "#70b0e0"}
+WIDE, HIGH, ACROSS = 230, 150, 4
+
+
+def ellipse_of(points):
+    """Centre, half axes and angle of the ellipse of one standard deviation."""
+    xs, ys = zip(*points)
+    if len(points) < 2:
+        return fmean(xs), fmean(ys), 0, 0, 0
+    x, y = fmean(xs), fmean(ys)
+    a, c = stdev(xs) ** 2, stdev(ys) ** 2
+    b = sum((it - x) * (other - y) for it, other in points) / (len(points) - 1)
+    middle, reach = (a + c) / 2, math.hypot((a - c) / 2, b)
+    return x, y, math.sqrt(max(middle + reach, 0)), math.sqrt(max(middle - reach, 0)), math.degrees(math.atan2(2 * b, a - c) / 2)
+
+
+def panel(name, left, top):
+    """One scenario: waits to the left, from long to short, and goodput upwards, so that the better is up and to the right."""
+    queues = [queue for queue in SCENARIOS[name]["queues"] if RUNS.blocks(name, queue)]
+    points = {}
+    for queue in queues:
+        waits, goodputs = RUNS.values(name, queue, "probe"), RUNS.values(name, queue, "goodput")
+        points[queue] = [(waits[it], goodputs[it]) for it in waits.keys() & goodputs.keys()]
+    every = [point for them in points.values() for point in them]
+    xs, ys = [x for x, _ in every], [y for _, y in every]
+    wide, high = max(max(xs) - min(xs), 1.0) * 1.2, max(max(ys) - min(ys), 0.02 * max(ys)) * 1.3
+    middle_x, middle_y = (max(xs) + min(xs)) / 2, (max(ys) + min(ys)) / 2
+    inner_x, inner_y = WIDE - 44, HIGH - 44
+    out = [f'<g transform="translate({left},{top})"><text x="34" y="12" font-weight="bold">{name}</text>',
+           f'<rect x="34" y="18" width="{inner_x}" height="{inner_y}" fill="none" stroke="#999"/>']
+    for queue, them in points.items():
+        scaled = [(34 + inner_x * (0.5 - (x - middle_x) / wide), 18 + inner_y * (0.5 - (y - middle_y) / high)) for x, y in them]
+        x, y, one, other, angle = ellipse_of(scaled)
+        out.append(f'<ellipse cx="{x:.1f}" cy="{y:.1f}" rx="{max(one, 2):.1f}" ry="{max(other, 2):.1f}" '
+                   f'transform="rotate({angle:.0f} {x:.1f} {y:.1f})" fill="{COLOURS[queue]}" fill-opacity="0.35" stroke="{COLOURS[queue]}"/>')
+    out += [f'<text x="34" y="{HIGH - 14}">{middle_x + wide / 2:.1f}</text>', f'<text x="{34 + inner_x}" y="{HIGH - 14}" text-anchor="end">'
+            f'{middle_x - wide / 2:.1f} ms</text>', f'<text x="31" y="26" text-anchor="end">{middle_y + high / 2:.2f}</text>',
+            f'<text x="31" y="{18 + inner_y}" text-anchor="end">{middle_y - high / 2:.2f}</text></g>']
+    return "\n".join(out)
+
+
+@functools.cache
+def picture():
+    names = [name for name in SCENARIOS if was_run(name) and sum(bool(RUNS.blocks(name, queue)) for queue in SCENARIOS[name]["queues"]) > 1]
+    down = -(-len(names) // ACROSS)
+    used = [queue for queue in COLOURS if any(RUNS.blocks(name, queue) for name in names if was_run(name))]
+    legend = "".join(f'<text x="{20 + 110 * (place % 8)}" y="{14 + 14 * (place // 8)}" fill="{COLOURS[queue]}">&#9679; {queue}</text>'
+                     for place, queue in enumerate(used))
+    panels = "\n".join(panel(name, WIDE * (place % ACROSS), 36 + HIGH * (place // ACROSS)) for place, name in enumerate(names))
+    return (f'<svg xmlns="http://www.w3.org/2000/svg" viewBox="0 0 {WIDE * ACROSS} {36 + HIGH * down}" font-family="sans-serif" font-size="9">\n'
+            f'<rect width="100%" height="100%" fill="white"/>\n{legend}\n{panels}\n</svg>\n')
+
+
+def wrapped(block):
+    """A paragraph, or the items of a list, in lines of 100 columns. Tables, headings, pictures and commands stay as they are."""
+    if re.search(r"^(\||#|!|    )", block, re.M) and not re.match(r"\d+\. ", block):
+        return block
+    items = re.split(r"\n(?=\d+\. )", block)
+    return "\n".join(textwrap.fill(" ".join(item.split()), 100, subsequent_indent="   " if re.match(r"\d+\. ", item) else "", break_long_words=False,
+                                   break_on_hyphens=False) for item in items)
+
+
+@functools.cache
+def page():
+    text = (ROOT / "docs/RESULTS.in").read_text()
+    text = re.sub(r"\{\{(.*?)\}\}", lambda found: str(eval(found[1], globals())), text, flags=re.S)  # noqa: S307 (its own page)
+    return "\n\n".join(wrapped(block) for block in text.rstrip("\n").split("\n\n")) + "\n"
+
+
+def own_figures():
+    """Decimal numbers that RESULTS.in has itself: each has to be a version, a section or a setting."""
+    text = re.sub(r"\{\{.*?\}\}|^    .*$|\[[^\]]*\]\([^)]*\)|`[^`\n]*`", "", (ROOT / "docs/RESULTS.in").read_text(), flags=re.M | re.S)
+    found = re.findall(r"(?<![\w.])(?:section |Section |Linux |ns-3 |DPDK |version )?\d+\.\d+", text)
+    return [it for it in found if it[0].isdigit() and it not in SETTINGS]
+
+
+def differences(stored):
+    """What differs between pages and what the runs give; `stored` has texts in place of files."""
+    made = {"docs/RESULTS.md": page(), "docs/ellipses.svg": picture()}
+    wrong = [f"{name} is not what the stored runs give: docs/results.py makes it" for name, text in made.items()
+             if (stored[name] if name in stored else (ROOT / name).read_text()) != text]
+    return wrong + [f"docs/RESULTS.in has a figure of its own: {it}" for it in own_figures()]
+
+
+def main():
+    if "--check" not in sys.argv:
+        (ROOT / "docs/RESULTS.md").write_text(page())
+        (ROOT / "docs/ellipses.svg").write_text(picture())
+        return 0
+    wrong = differences({})
+    for it in wrong:
+        print(f"docs/results.py: {it}")
+    return 1 if wrong else 0
+
+
+if __name__ == "__main__":
+    sys.exit(main())

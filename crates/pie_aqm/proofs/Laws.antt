@@ -5,12 +5,12 @@ use Rattle.std.specs.List.{filter_map, after_last}
 use Rattle.std.proofs.lemmas.Bool.Decides.{nat_tests}
 use Rattle.std.proofs.lemmas.List.{append-nil, append_assoc, map-append}
 use Rattle.pie_aqm.specs.{RawParams, Departure, Profile, One, Two, ControllerEvent, Opened, moment_of, params_set, ActivityEvent, active_of, change_at}
-use Rattle.pie_aqm.specs.{change_by, clears_rate, clears_wait, clears_wait_at, control_at, updates_shown, control_of, wait_at, wait_input}
-use Rattle.pie_aqm.specs.{waited_noted, waited_of, control_input, delay_noted, departure_input, departures_shown, departures_of, early_at}
-use Rattle.pie_aqm.specs.{arrivals_shown, early_of, early_input, events_of, is_active, is_active_in, is_calm_at_end, now_of, activity_event, noted, noted_after}
+use Rattle.pie_aqm.specs.{change_by, clears_rate, clears_wait, clears_wait_at, control_at, update_inputs, control_of, wait_at, wait_input}
+use Rattle.pie_aqm.specs.{waited_at_end, waited_of, control_input, delay_at_end, departure_input, departure_inputs, departures_of, early_at}
+use Rattle.pie_aqm.specs.{arrival_inputs, early_of, early_input, events_of, is_active, is_active_in, is_calm_at_end, now_of, activity_event, activity_events, activity_events_after}
 use Rattle.pie_aqm.specs.{params_of, parts_of, turns_on_by, Place, last_or, places, keeps_wait, measures, Enqueue, ArrivingPacket, considered_where}
 use Rattle.pie_aqm.specs.{verdict_input, accu_left, offered, verdict, Elements, departure, Estimate, Parts, Arrive, Call, Change, Depart}
-use Rattle.pie_aqm.specs.{HasThreshold, Pass, Restart, Update, after_call, event_of_call, RepresentsCall, Arrived, Departed, Updated, Reset, Changed, Shows}
+use Rattle.pie_aqm.specs.{HasThreshold, Pass, Restart, Update, after_call, event_of_call, RepresentsCall, Arrived, Departed, Updated, Reset, Changed, Represents}
 use Rattle.pie_aqm.specs.{estimate_of, held_of, greatest, anew, bytes_with, capped, control_updated, delay_in, departed, is_calm, judged, no_estimate}
 use Rattle.pie_aqm.specs.{opened, opens_active, passed, renewed, stays_active, turns_on, updated, wait_of}
 use Rattle.pie_aqm.proofs.Places.{filter_map-push, from_places-push, greatest-push, last_or-one, place_of, since-push, with_one}
@@ -45,20 +45,20 @@ params-push opened events event =
 -- ---- Events with their activity
 
 activity_after-push : (opened : Opened) (earlier : List ActivityEvent) (events : List ControllerEvent) (event : ControllerEvent)
-    → noted_after opened earlier (events ++ event ∷ []) ≡ noted_after opened earlier events ++ activity_event opened (noted_after opened earlier events) event
+    → activity_events_after opened earlier (events ++ event ∷ []) ≡ activity_events_after opened earlier events ++ activity_event opened (activity_events_after opened earlier events) event
     ∷ []
-unfolding noted_after
+unfolding activity_events_after
 activity_after-push opened earlier [] event = refl
 activity_after-push opened earlier (first ∷ events) event = activity_after-push opened (earlier ++ activity_event opened earlier first ∷ []) events event
 
 activity-push : (opened : Opened) (events : List ControllerEvent) (event : ControllerEvent)
-    → noted opened (events ++ event ∷ []) ≡ noted opened events ++ activity_event opened (noted opened events) event ∷ []
-unfolding noted
+    → activity_events opened (events ++ event ∷ []) ≡ activity_events opened events ++ activity_event opened (activity_events opened events) event ∷ []
+unfolding activity_events
 activity-push opened events event = activity_after-push opened [] events event
 
 events-activity_after : (opened : Opened) (earlier : List ActivityEvent) (events : List ControllerEvent)
-    → events_of (noted_after opened earlier events) ≡ events_of earlier ++ events
-unfolding noted_after
+    → events_of (activity_events_after opened earlier events) ≡ events_of earlier ++ events
+unfolding activity_events_after
 events-activity_after opened earlier [] = sym (append-nil (events_of earlier))
 events-activity_after opened earlier (first ∷ events) =
     events-activity_after opened (earlier ++ activity_event opened earlier first ∷ []) events
@@ -66,8 +66,8 @@ events-activity_after opened earlier (first ∷ events) =
     ∙ append_assoc (events_of earlier) (first ∷ []) events
 
 -- the events with their activity are the events
-pub events-activity : (opened : Opened) (events : List ControllerEvent) → events_of (noted opened events) ≡ events
-unfolding noted
+pub events-activity : (opened : Opened) (events : List ControllerEvent) → events_of (activity_events opened events) ≡ events
+unfolding activity_events
 events-activity opened events = events-activity_after opened [] events
 
 -- true if one more event activates the controller
@@ -76,12 +76,12 @@ turned_on opened events event = turns_on_by event (active_of opened events) (par
 
 -- the place of one more event
 abbrev last_place : Opened → List ControllerEvent → ControllerEvent → Place ActivityEvent
-last_place opened events event = place_of (noted opened events) (activity_event opened (noted opened events) event)
+last_place opened events event = place_of (activity_events opened events) (activity_event opened (activity_events opened events) event)
 
 -- the elements filtered from the places, with one more event
 filtered-push : {Y : Type 0} (h : Place ActivityEvent → Option Y) (opened : Opened) (events : List ControllerEvent) (event : ControllerEvent)
-    → filter_map h (places (noted opened (events ++ event ∷ [])))
-    ≡ with_one (filter_map h (places (noted opened events))) (h (last_place opened events event))
+    → filter_map h (places (activity_events opened (events ++ event ∷ [])))
+    ≡ with_one (filter_map h (places (activity_events opened events))) (h (last_place opened events event))
 filtered-push h opened events event = simp (activity-push, from_places-push)
 
 -- ---- Activity
@@ -95,14 +95,14 @@ active_next Two active (Some new) = new
 pub active-push : (opened : Opened) (events : List ControllerEvent) (event : ControllerEvent)
     → active_of opened (events ++ event ∷ [])
     ≡ active_next opened.profile (active_of opened events) (change_by event (active_of opened events) (turned_on opened events event)
-    (is_calm_at_end opened (noted opened events)))
+    (is_calm_at_end opened (activity_events opened events)))
 unfolding active_of is_active
 active-push opened events event =
-    by opened.profile ∙ ap (active_next opened.profile (is_active_in opened.profile opened (noted opened events))) shown
+    by opened.profile ∙ ap (active_next opened.profile (is_active_in opened.profile opened (activity_events opened events))) shown
   where
     shown : change_at opened (last_place opened events event)
-        ≡ change_by event (is_active opened (noted opened events)) (turns_on_by event (is_active opened (noted opened events)) (params_of opened events))
-        (is_calm_at_end opened (noted opened events))
+        ≡ change_by event (is_active opened (activity_events opened events)) (turns_on_by event (is_active opened (activity_events opened events)) (params_of opened events))
+        (is_calm_at_end opened (activity_events opened events))
     shown = rw (events-activity opened events) refl
 
     in_one : (change : Option Bool) → true ≡ active_next One true change
@@ -112,16 +112,16 @@ active-push opened events event =
     in_two changes None = refl
     in_two changes (Some new) = last_or-one false changes (Some new)
 
-    by : (profile : Profile) → is_active_in profile opened (noted opened (events ++ event ∷ []))
-        ≡ active_next profile (is_active_in profile opened (noted opened events)) (change_at opened (last_place opened events event))
+    by : (profile : Profile) → is_active_in profile opened (activity_events opened (events ++ event ∷ []))
+        ≡ active_next profile (is_active_in profile opened (activity_events opened events)) (change_at opened (last_place opened events event))
     by One = in_one (change_at opened (last_place opened events event))
     by Two = ap (λ (xs : List Bool). last_or false xs) (filtered-push (change_at opened) opened events event)
-        ∙ in_two (filter_map (change_at opened) (places (noted opened events))) (change_at opened (last_place opened events event))
+        ∙ in_two (filter_map (change_at opened) (places (activity_events opened events))) (change_at opened (last_place opened events event))
 
 -- in profile one the controller is always active
 pub one_is_active : (opened : Opened) (events : List ControllerEvent) → opened.profile ≡ One → active_of opened events ≡ true
 unfolding active_of is_active
-one_is_active opened events one = ap (λ (profile : Profile). is_active_in profile opened (noted opened events)) one
+one_is_active opened events one = ap (λ (profile : Profile). is_active_in profile opened (activity_events opened events)) one
 
 -- ---- The inputs of the parts
 
@@ -130,10 +130,10 @@ abbrev pub departures_next : ControllerEvent → Bool → Bool → List Departur
 departures_next event measured on departures now = if clears_rate event on then [] else with_one departures (departure_input event measured now)
 
 pub departures-push : (opened : Opened) (events : List ControllerEvent) (event : ControllerEvent)
-    → departures_shown opened (events ++ event ∷ [])
+    → departure_inputs opened (events ++ event ∷ [])
     ≡ departures_next event (measures (active_of opened events) opened.elements.delay) (turned_on opened events event)
-    (departures_shown opened events) (max (now_of opened events) (moment_of event))
-unfolding departures_shown departures_of active_of
+    (departure_inputs opened events) (max (now_of opened events) (moment_of event))
+unfolding departure_inputs departures_of active_of
 departures-push opened events event = simp (activity-push, since-push, events-activity, moment-push)
 
 -- the time that the last departed packet spent in the queue, after one more event at this moment
@@ -144,39 +144,39 @@ pub waited-push : (opened : Opened) (events : List ControllerEvent) (event : Con
     → waited_of opened (events ++ event ∷ [])
     ≡ waited_next event (keeps_wait (active_of opened events) opened.elements.delay) (turned_on opened events event) (waited_of opened events)
     (max (now_of opened events) (moment_of event))
-unfolding waited_of waited_noted active_of last_or
+unfolding waited_of waited_at_end active_of last_or
 waited-push opened events event =
     simp (activity-push, since-push, events-activity, moment-push)
     (by (clears_wait event (turned_on opened events event))
     (wait_input event (keeps_wait (active_of opened events) opened.elements.delay) (max (now_of opened events) (moment_of event))))
   where
     before : List ℕ
-    before = filter_map (wait_at opened) (after_last (clears_wait_at opened) (places (noted opened events)))
+    before = filter_map (wait_at opened) (after_last (clears_wait_at opened) (places (activity_events opened events)))
 
     by : (b : Bool) (wait : Option ℕ) → last_or 0 (if b then [] else with_one before wait) ≡ (if b then 0 else unwrap_or wait (last_or 0 before))
     by true wait = refl
     by false wait = last_or-one 0 before wait
 
 pub control-push : (opened : Opened) (events : List ControllerEvent) (event : ControllerEvent)
-    → updates_shown opened (events ++ event ∷ [])
-    ≡ with_one (updates_shown opened events) (control_input event (active_of opened events) (turned_on opened events event)
-    (params_of opened events) opened.elements (delay_noted opened (noted opened events)) (max (now_of opened events) (moment_of event)))
-unfolding updates_shown control_of active_of
+    → update_inputs opened (events ++ event ∷ [])
+    ≡ with_one (update_inputs opened events) (control_input event (active_of opened events) (turned_on opened events event)
+    (params_of opened events) opened.elements (delay_at_end opened (activity_events opened events)) (max (now_of opened events) (moment_of event)))
+unfolding update_inputs control_of active_of
 control-push opened events event =
     rw (filtered-push (control_at opened) opened events event, events-activity opened events, moment-push opened events event) refl
 
 pub early-push : (opened : Opened) (events : List ControllerEvent) (event : ControllerEvent)
-    → arrivals_shown opened (events ++ event ∷ [])
-    ≡ with_one (arrivals_shown opened events) (early_input event (active_of opened events) (turned_on opened events event)
-    opened.elements (params_of opened events) (parts_of opened (updates_shown opened events)))
-unfolding arrivals_shown early_of updates_shown active_of
+    → arrival_inputs opened (events ++ event ∷ [])
+    ≡ with_one (arrival_inputs opened events) (early_input event (active_of opened events) (turned_on opened events event)
+    opened.elements (params_of opened events) (parts_of opened (update_inputs opened events)))
+unfolding arrival_inputs early_of update_inputs active_of
 early-push opened events event = rw (filtered-push (early_at opened) opened events event, events-activity opened events) refl
 
 -- ---- The state of early drop after an arrival, for any list that it represents
 
 -- the list after an arrival and its verdict
-pub early-step : (h : Held) (a : ArrivingPacket) (events : List EarlyEvent) → Early.Shows events h.accu
-    → Early.Shows (events ++ verdict_input (verdict h a) (considered_where h.active h.params h.control a.queued)
+pub early-step : (h : Held) (a : ArrivingPacket) (events : List EarlyEvent) → Early.Represents events h.accu
+    → Early.Represents (events ++ verdict_input (verdict h a) (considered_where h.active h.params h.control a.queued)
     (counted h.elements h.params h.control (offered a)) h.elements.picking ∷ []) (accu_left h a)
 unfolding verdict accu_left
 early-step h a events shown =
@@ -190,10 +190,10 @@ early-step h a events shown =
 
 -- ---- The parts' abstraction relations, as equations
 
-parts-is : (o : Opened) (events : List ControlEvent) (parts : Parts) → Control.Shows o.params o.moment events parts → parts ≡ parts_of o events
+parts-is : (o : Opened) (events : List ControlEvent) (parts : Parts) → Control.Represents o.params o.moment events parts → parts ≡ parts_of o events
 parts-is o events parts shown = rw (← shown.prob, ← shown.old_delay, ← shown.burst, ← shown.last) refl
 
-rate-is : (threshold : ℕ) (departures : List Departure) (e : Estimate) → Rate.Shows threshold departures e → e ≡ estimate_of threshold departures
+rate-is : (threshold : ℕ) (departures : List Departure) (e : Estimate) → Rate.Represents threshold departures e → e ≡ estimate_of threshold departures
 rate-is threshold departures e shown = rw (← shown.average, ← shown.begun) refl
 
 none-is : (threshold : ℕ) → estimate_of threshold [] ≡ no_estimate
@@ -203,7 +203,7 @@ none-is threshold = sym (rate-is threshold [] no_estimate (none_represented thre
 
 active-opened : (profile : Profile) (elements : Elements) (params : RawParams) (moment : ℕ)
     → opens_active profile ≡ active_of (record { profile = profile; elements = elements; params = params; moment = moment }) []
-unfolding active_of is_active noted noted_after places last_or
+unfolding active_of is_active activity_events activity_events_after places last_or
 active-opened One elements params moment = refl
 active-opened Two elements params moment = refl
 
@@ -217,9 +217,9 @@ active-update profile active calm = grind (arith, nat_tests)
 -- ---- Without an event
 
 pub Represents_opened : (profile : Profile) (elements : Elements) (params : RawParams) (moment : ℕ) (new : Held)
-    → new ≡ opened profile elements params moment → Shows (record { profile = profile; elements = elements; params = params; moment = moment }) [] new
-unfolding Shows held_of now_of params_of departures_shown departures_of waited_of waited_noted updates_shown control_of arrivals_shown early_of noted
-    noted_after places greatest last_or Control.probability Control.last_delay Control.last_moment Control.granted_burst Control.burst_allowance
+    → new ≡ opened profile elements params moment → Represents (record { profile = profile; elements = elements; params = params; moment = moment }) [] new
+unfolding Represents held_of now_of params_of departure_inputs departures_of waited_of waited_at_end update_inputs control_of arrival_inputs early_of activity_events
+    activity_events_after places greatest last_or Control.probability Control.last_delay Control.last_moment Control.granted_burst Control.burst_allowance
     Early.accumulated
 Represents_opened profile elements params moment new is =
     let now : moment ≡ max moment 0 = omega arith in
@@ -248,39 +248,39 @@ module _ (o : Opened) (events : List ControllerEvent) where
     elements = o.elements;
     params = unwrap_or (params_set event) (params_of o events);
     moment = max (now_of o events) (moment_of event);
-    active = active_next o.profile (active_of o events) (change_by event (active_of o events) on (is_calm_at_end o (noted o events)));
+    active = active_next o.profile (active_of o events) (change_by event (active_of o events) on (is_calm_at_end o (activity_events o events)));
     rate = estimate_of (unwrap_or (params_set event) (params_of o events)).dq_threshold (departures_next event
-        (measures (active_of o events) o.elements.delay) on (departures_shown o events) (max (now_of o events) (moment_of event)));
+        (measures (active_of o events) o.elements.delay) on (departure_inputs o events) (max (now_of o events) (moment_of event)));
     waited = waited_next event (keeps_wait (active_of o events) o.elements.delay) on (waited_of o events)
         (max (now_of o events) (moment_of event));
-    control = parts_of o (with_one (updates_shown o events) (control_input event (active_of o events) on (params_of o events) o.elements
-        (delay_noted o (noted o events)) (max (now_of o events) (moment_of event))));
-    accu = Early.accumulated (with_one (arrivals_shown o events) (early_input event (active_of o events) on o.elements (params_of o events)
-        (parts_of o (updates_shown o events))));
+    control = parts_of o (with_one (update_inputs o events) (control_input event (active_of o events) on (params_of o events) o.elements
+        (delay_at_end o (activity_events o events)) (max (now_of o events) (moment_of event))));
+    accu = Early.accumulated (with_one (arrival_inputs o events) (early_input event (active_of o events) on o.elements (params_of o events)
+        (parts_of o (update_inputs o events))));
   }
 
   held-push : (event : ControllerEvent) → held_of o (events ++ event ∷ []) ≡ next_if (turned_on o events event) event
   unfolding held_of
   held-push event = simp (params-push, moment-push, active-push, departures-push, waited-push, control-push, early-push)
 
-  delay-is : (queued : ℕ) → delay_noted o (noted o events) queued ≡ delay_in (held_of o events) queued
-  unfolding held_of delay_noted departures_shown waited_of
+  delay-is : (queued : ℕ) → delay_at_end o (activity_events o events) queued ≡ delay_in (held_of o events) queued
+  unfolding held_of delay_at_end departure_inputs waited_of
   delay-is queued = rw (events-activity o events) refl
 
-  calm-is : (queued : ℕ) → is_calm_at_end o (noted o events) queued ≡ is_calm (held_of o events) queued
-  unfolding held_of updates_shown
+  calm-is : (queued : ℕ) → is_calm_at_end o (activity_events o events) queued ≡ is_calm (held_of o events) queued
+  unfolding held_of update_inputs
   calm-is queued = rw (delay-is queued, events-activity o events) refl
 
   -- the state of the control law after these inputs
-  own : (us : List ControlEvent) → Control.Shows o.params o.moment us (parts_of o us)
+  own : (us : List ControlEvent) → Control.Represents o.params o.moment us (parts_of o us)
   own us = record { prob = refl; old_delay = refl; burst = refl; last = refl }
 
   -- the control law and early drop after a reset or activation
-  control-reset : parts_of o (updates_shown o events ++ reset (params_of o events) ∷ []) ≡ renewed (params_of o events) (parts_of o (updates_shown o events))
-  control-reset = sym (parts-is o _ _ (represents_reset o.params o.moment (updates_shown o events) _ _ (own (updates_shown o events)) (params_of o events) refl))
+  control-reset : parts_of o (update_inputs o events ++ reset (params_of o events) ∷ []) ≡ renewed (params_of o events) (parts_of o (update_inputs o events))
+  control-reset = sym (parts-is o _ _ (represents_reset o.params o.moment (update_inputs o events) _ _ (own (update_inputs o events)) (params_of o events) refl))
 
-  early-cleared : Early.accumulated (arrivals_shown o events ++ cleared ∷ []) ≡ 0
-  early-cleared = sym (represents-next (arrivals_shown o events) (Early.accumulated (arrivals_shown o events)) cleared refl)
+  early-cleared : Early.accumulated (arrival_inputs o events ++ cleared ∷ []) ≡ 0
+  early-cleared = sym (represents-next (arrival_inputs o events) (Early.accumulated (arrival_inputs o events)) cleared refl)
 
   depart-next : (size left since moment : ℕ) → (held_of o events).params.dq_threshold ≤ 65536
       → next_if false (Departed size left since moment) ≡ departed (held_of o events) size left since moment
@@ -296,10 +296,10 @@ module _ (o : Opened) (events : List ControllerEvent) where
       t : ℕ
       t = (params_of o events).dq_threshold
 
-      rated : (b : Bool) → estimate_of t (with_one (departures_shown o events) (if b then Some d else None))
-          ≡ (if b then after_departure t (estimate_of t (departures_shown o events)) d else estimate_of t (departures_shown o events))
-      rated true = sym (rate-is t (departures_shown o events ++ d ∷ []) (after_departure t (estimate_of t (departures_shown o events)) d)
-          (represents_after t (departures_shown o events) d (estimate_of t (departures_shown o events)) small (record { average = refl; begun = refl })))
+      rated : (b : Bool) → estimate_of t (with_one (departure_inputs o events) (if b then Some d else None))
+          ≡ (if b then after_departure t (estimate_of t (departure_inputs o events)) d else estimate_of t (departure_inputs o events))
+      rated true = sym (rate-is t (departure_inputs o events ++ d ∷ []) (after_departure t (estimate_of t (departure_inputs o events)) d)
+          (represents_after t (departure_inputs o events) d (estimate_of t (departure_inputs o events)) small (record { average = refl; begun = refl })))
       rated false = refl
 
       kept : (b : Bool) → unwrap_or (if b then Some (wait_of left since (max (now_of o events) moment)) else None) (waited_of o events)
@@ -314,7 +314,7 @@ module _ (o : Opened) (events : List ControllerEvent) where
   })
     where
       us : List ControlEvent
-      us = updates_shown o events
+      us = update_inputs o events
 
       by : (delay now : ℕ) (b : Bool) → parts_of o (us ++ (if b then update_at (params_of o events) o.elements delay now else idled now) ∷ [])
           ≡ (if b then control_updated o.elements (params_of o events) (parts_of o us) delay now else record (parts_of o us) { last = now })
@@ -334,7 +334,7 @@ module _ (o : Opened) (events : List ControllerEvent) where
       ≡ (if on then record (anew (judged (held_of o events) a moment)) { active = true } else judged (held_of o events) a moment)
   unfolding held_of
   arrive-next a moment true = simp (active-on, none-is, control-reset, early-cleared)
-  arrive-next a moment false = simp (sym (early-step (held_of o events) a (arrivals_shown o events) refl))
+  arrive-next a moment false = simp (sym (early-step (held_of o events) a (arrival_inputs o events) refl))
 
   call-next : (call : Call) → HasThreshold (held_of o events) call
       → next_if (turned_on o events (event_of_call (held_of o events) call)) (event_of_call (held_of o events) call) ≡ after_call (held_of o events) call
@@ -346,9 +346,9 @@ module _ (o : Opened) (events : List ControllerEvent) where
   call-next (Restart moment) small = reset-next moment
   call-next (Change params moment) small = change-next params moment
 
-pub Represents_call : (o : Opened) (events : List ControllerEvent) (held : Held) → Shows o events held → (call : Call) → HasThreshold held call
-    → Shows o (events ++ event_of_call held call ∷ []) (after_call held call)
-unfolding Shows
+pub Represents_call : (o : Opened) (events : List ControllerEvent) (held : Held) → Represents o events held → (call : Call) → HasThreshold held call
+    → Represents o (events ++ event_of_call held call ∷ []) (after_call held call)
+unfolding Represents
 Represents_call o events held shows =
     subst (λ (h : Held). (call : Call) → HasThreshold h call → after_call h call ≡ held_of o (events ++ event_of_call h call ∷ [])) (sym shows)
     (λ call small. sym (held-push o events (event_of_call (held_of o events) call) ∙ call-next o events call small))
@@ -361,18 +361,18 @@ has_threshold held _ small = tt
 pub threshold_held : (held : Held) (call : Call) → first_bad held.params ≡ None → HasThreshold held call
 threshold_held held call good = has_threshold held call (threshold-holds held.params good).1
 
-pub represents_called : (o : Opened) (events : List ControllerEvent) (held : Held) → Shows o events held → held.params.dq_threshold ≤ 65536
-    → (call : Call) → Shows o (events ++ event_of_call held call ∷ []) (after_call held call)
+pub represents_called : (o : Opened) (events : List ControllerEvent) (held : Held) → Represents o events held → held.params.dq_threshold ≤ 65536
+    → (call : Call) → Represents o (events ++ event_of_call held call ∷ []) (after_call held call)
 represents_called o events held shows small call = Represents_call o events held shows call (has_threshold held call small)
 
 -- the state equals the look-back
-pub held_is : (o : Opened) (events : List ControllerEvent) (held : Held) → Shows o events held → held ≡ held_of o events
-unfolding Shows
+pub held_is : (o : Opened) (events : List ControllerEvent) (held : Held) → Represents o events held → held ≡ held_of o events
+unfolding Represents
 held_is o events held shows = shows
 
 -- an equal state represents the same events
-pub moved : (o : Opened) (events : List ControllerEvent) (held new : Held) → new ≡ held → Shows o events held → Shows o events new
-moved o events held new e shows = subst (λ (h : Held). Shows o events h) (sym e) shows
+pub moved : (o : Opened) (events : List ControllerEvent) (held new : Held) → new ≡ held → Represents o events held → Represents o events new
+moved o events held new e shows = subst (λ (h : Held). Represents o events h) (sym e) shows
 
 -- a call on the state
 pub represents_with : (held new : Held) (call : Call) → new ≡ after_call held call → HasThreshold held call → RepresentsCall held call new

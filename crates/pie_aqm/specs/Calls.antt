@@ -3,7 +3,7 @@ use Rattle.std.specs.Prelude.{◌≡◌, ℕ, ◌^◌, ◌<◌, ◌≤◌, List,
 use Rattle.pie_aqm.specs.Types.{RawParams, ArrivingPacket}
 use Rattle.pie_aqm.specs.Held.{Held}
 use Rattle.pie_params.specs.Range.{first_bad}
-use Rattle.pie_aqm.specs.History.{Shows}
+use Rattle.pie_aqm.specs.History.{Represents}
 use Rattle.pie_aqm.specs.Events.{ControllerEvent, Opened, Arrived, Departed, Passed, Updated, Reset, Changed}
 use Rattle.pie_aqm.specs.Steps.{arrived, bytes_with, changed, departed, passed, reset, updated, verdict}
 
@@ -38,8 +38,8 @@ event_of_call h (Change params moment) = Changed params moment
 -- the abstraction relation across a call: if the old state represents events e1 to en, the new state represents e1 to
 -- en and the event of the call
 unfoldable pub RepresentsCall : Held → Call → Held → Type 0
-RepresentsCall old call new = (opened : Opened) (events : List ControllerEvent) → Shows opened events old
-    → Shows opened (events ++ event_of_call old call ∷ []) new
+RepresentsCall old call new = (opened : Opened) (events : List ControllerEvent) → Represents opened events old
+    → Represents opened (events ++ event_of_call old call ∷ []) new
 
 -- a call whose moment and parameters are in their ranges
 abbrev pub IsTaken : Call → Type 0

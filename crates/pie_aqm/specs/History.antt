@@ -35,7 +35,7 @@ pub record ActivityEvent : Type 0 where
 
 -- these events, without the activity
 abbrev pub events_of : List ActivityEvent → List ControllerEvent
-events_of noted = map (λ (n : ActivityEvent). n.event) noted
+events_of activity_events = map (λ (n : ActivityEvent). n.event) activity_events
 
 -- the parameters in force before the event of a place, and the effective moment at it
 abbrev pub params_at : Opened → Place ActivityEvent → RawParams
@@ -77,7 +77,7 @@ departure_at opened place =
 
 -- the departures since the estimate was cleared
 unfoldable pub departures_of : Opened → List ActivityEvent → List Departure
-departures_of opened noted = filter_map (departure_at opened) (after_last (clears_rate_at opened) (places noted))
+departures_of opened activity_events = filter_map (departure_at opened) (after_last (clears_rate_at opened) (places activity_events))
 
 -- ---- Time stamps
 
@@ -98,16 +98,16 @@ abbrev pub wait_at : Opened → Place ActivityEvent → Option ℕ
 wait_at opened place = wait_input place.event.event (keeps_wait place.event.active opened.elements.delay) (moment_at opened place)
 
 -- the time that the last departed packet since then spent in the queue; 0 without one (section 4.3)
-unfoldable pub waited_noted : Opened → List ActivityEvent → ℕ
-waited_noted opened noted = last_or 0 (filter_map (wait_at opened) (after_last (clears_wait_at opened) (places noted)))
+unfoldable pub waited_at_end : Opened → List ActivityEvent → ℕ
+waited_at_end opened activity_events = last_or 0 (filter_map (wait_at opened) (after_last (clears_wait_at opened) (places activity_events)))
 
 -- ---- The queueing delay
 
 -- the queueing delay of `queued` bytes
-unfoldable pub delay_noted : Opened → List ActivityEvent → ℕ → ℕ
-delay_noted opened noted queued =
-    let threshold = (params_of opened (events_of noted)).dq_threshold in
-    delay_by opened.elements.delay (waited_noted opened noted) (delay_of queued (average threshold (departures_of opened noted)) threshold)
+unfoldable pub delay_at_end : Opened → List ActivityEvent → ℕ → ℕ
+delay_at_end opened activity_events queued =
+    let threshold = (params_of opened (events_of activity_events)).dq_threshold in
+    delay_by opened.elements.delay (waited_at_end opened activity_events) (delay_of queued (average threshold (departures_of opened activity_events)) threshold)
 
 -- ---- The control law
 
@@ -124,11 +124,11 @@ control_input event active turned_on params elements delay now = None
 abbrev pub control_at : Opened → Place ActivityEvent → Option ControlEvent
 control_at opened place =
     control_input place.event.event place.event.active (turns_on_at opened place) (params_at opened place) opened.elements
-    (delay_noted opened place.before) (moment_at opened place)
+    (delay_at_end opened place.before) (moment_at opened place)
 
 -- the inputs of the control law: updates and resets
 unfoldable pub control_of : Opened → List ActivityEvent → List ControlEvent
-control_of opened noted = filter_map (control_at opened) (places noted)
+control_of opened activity_events = filter_map (control_at opened) (places activity_events)
 
 -- the state of the control law after these inputs
 abbrev pub parts_of : Opened → List ControlEvent → Parts
@@ -169,7 +169,7 @@ early_at opened place =
 
 -- the inputs of early drop: arrivals, and events that clear the accumulated probability
 unfoldable pub early_of : Opened → List ActivityEvent → List EarlyEvent
-early_of opened noted = filter_map (early_at opened) (places noted)
+early_of opened activity_events = filter_map (early_at opened) (places activity_events)
 
 -- ---- Activity
 
@@ -181,8 +181,8 @@ change_by event active turned_on calm = None
 
 -- true if an update with `queued` bytes in the queue, after these events, is calm (section 4.4)
 abbrev pub is_calm_at_end : Opened → List ActivityEvent → ℕ → Bool
-is_calm_at_end opened noted queued =
-    is_calm_after (control_of opened noted) (params_of opened (events_of noted)) opened.elements (delay_noted opened noted queued)
+is_calm_at_end opened activity_events queued =
+    is_calm_after (control_of opened activity_events) (params_of opened (events_of activity_events)) opened.elements (delay_at_end opened activity_events queued)
 
 abbrev pub change_at : Opened → Place ActivityEvent → Option Bool
 change_at opened place = change_by place.event.event place.event.active (turns_on_at opened place) (is_calm_at_end opened place.before)
@@ -190,41 +190,41 @@ change_at opened place = change_by place.event.event place.event.active (turns_o
 -- true if the controller is active: always in profile one. In profile two the last change decides, and without a change
 -- the controller is inactive
 abbrev pub is_active_in : Profile → Opened → List ActivityEvent → Bool
-is_active_in One opened noted = true
-is_active_in Two opened noted = last_or false (filter_map (change_at opened) (places noted))
+is_active_in One opened activity_events = true
+is_active_in Two opened activity_events = last_or false (filter_map (change_at opened) (places activity_events))
 
 unfoldable pub is_active : Opened → List ActivityEvent → Bool
-is_active opened noted = is_active_in opened.profile opened noted
+is_active opened activity_events = is_active_in opened.profile opened activity_events
 
 -- an event after these, with the activity before it
 abbrev pub activity_event : Opened → List ActivityEvent → ControllerEvent → ActivityEvent
 activity_event opened earlier event = record { event = event; active = is_active opened earlier }
 
 -- these events with their activity, followed by one for each further event
-unfoldable pub noted_after : Opened → List ActivityEvent → List ControllerEvent → List ActivityEvent
-noted_after opened earlier [] = earlier
-noted_after opened earlier (event ∷ events) = noted_after opened (earlier ++ activity_event opened earlier event ∷ []) events
+unfoldable pub activity_events_after : Opened → List ActivityEvent → List ControllerEvent → List ActivityEvent
+activity_events_after opened earlier [] = earlier
+activity_events_after opened earlier (event ∷ events) = activity_events_after opened (earlier ++ activity_event opened earlier event ∷ []) events
 
 -- each event, with the activity of the controller before it
-unfoldable pub noted : Opened → List ControllerEvent → List ActivityEvent
-noted opened events = noted_after opened [] events
+unfoldable pub activity_events : Opened → List ControllerEvent → List ActivityEvent
+activity_events opened events = activity_events_after opened [] events
 
 -- ---- The whole state
 
 unfoldable pub active_of : Opened → List ControllerEvent → Bool
-active_of opened events = is_active opened (noted opened events)
+active_of opened events = is_active opened (activity_events opened events)
 
-unfoldable pub departures_shown : Opened → List ControllerEvent → List Departure
-departures_shown opened events = departures_of opened (noted opened events)
+unfoldable pub departure_inputs : Opened → List ControllerEvent → List Departure
+departure_inputs opened events = departures_of opened (activity_events opened events)
 
 unfoldable pub waited_of : Opened → List ControllerEvent → ℕ
-waited_of opened events = waited_noted opened (noted opened events)
+waited_of opened events = waited_at_end opened (activity_events opened events)
 
-unfoldable pub updates_shown : Opened → List ControllerEvent → List ControlEvent
-updates_shown opened events = control_of opened (noted opened events)
+unfoldable pub update_inputs : Opened → List ControllerEvent → List ControlEvent
+update_inputs opened events = control_of opened (activity_events opened events)
 
-unfoldable pub arrivals_shown : Opened → List ControllerEvent → List EarlyEvent
-arrivals_shown opened events = early_of opened (noted opened events)
+unfoldable pub arrival_inputs : Opened → List ControllerEvent → List EarlyEvent
+arrival_inputs opened events = early_of opened (activity_events opened events)
 
 -- the estimate of the departure rate after these departures
 abbrev pub estimate_of : ℕ → List Departure → Estimate
@@ -241,12 +241,12 @@ held_of opened events = record {
   params = params_of opened events;
   moment = now_of opened events;
   active = active_of opened events;
-  rate = estimate_of (params_of opened events).dq_threshold (departures_shown opened events);
+  rate = estimate_of (params_of opened events).dq_threshold (departure_inputs opened events);
   waited = waited_of opened events;
-  control = parts_of opened (updates_shown opened events);
-  accu = accumulated (arrivals_shown opened events);
+  control = parts_of opened (update_inputs opened events);
+  accu = accumulated (arrival_inputs opened events);
 }
 
 -- the abstraction relation: the state of a controller with this opening after these events
-unfoldable pub Shows : Opened → List ControllerEvent → Held → Type 0
-Shows opened events held = held ≡ held_of opened events
+unfoldable pub Represents : Opened → List ControllerEvent → Held → Type 0
+Represents opened events held = held ≡ held_of opened events

@@ -1,6 +1,6 @@
 //! The controller and its calls, for numbers in their ranges.
 ghost use Rattle.std.specs.Prelude.{◌≡◌, ◌+◌, ◌^◌, ◌≤◌, ◌↔◌, List, [], ◌∷◌, ◌++◌, true, false, None, Some, IsOk, IfOk, IfErr};
-ghost use Rattle.pie_aqm.specs.{Arrive, Change, Depart, Pass, Restart, Update, IsSound, Shows, RepresentsCall, first_unsound, arrived, cause, changed};
+ghost use Rattle.pie_aqm.specs.{Arrive, Change, Depart, Pass, Restart, Update, IsSound, Represents, RepresentsCall, first_unsound, arrived, cause, changed};
 ghost use Rattle.pie_aqm.specs.{delay_answered, delay_in, departed, due, is_too_soon, opened, passed, reset, updated, verdict};
 ghost use Rattle.pie_event.specs.Cause.{verdict_of};
 ghost use Rattle.pie_event.specs.Verdict.{is_queued};
@@ -34,7 +34,7 @@ impl Controller {
     #[tactic(auto, using(crate::proofs::Laws::Represents_opened))]
     pub fn open(profile: Profile, elements: Elements, params: Params, moment: Nanos) -> Self
         ensures value { result ≡ opened profile elements params moment }
-        ensures shows { Shows (record { profile = profile; elements = elements; params = params; moment = moment }) [] result }
+        ensures represents { Represents (record { profile = profile; elements = elements; params = params; moment = moment }) [] result }
     {
         Controller {
             raw: RawController::opened(profile, elements, params.raw(), moment.units()),
@@ -76,7 +76,7 @@ impl Controller {
         ensures verdict { result ≡ verdict self.old arrival }
         ensures fits { is_queued result ≡ true → (arrival.is_full ≡ false) × (arrival.queued + arrival.size ≤ 2 ^ 30) }
         ensures after { self.new ≡ arrived self.old arrival moment }
-        ensures shows { RepresentsCall self.old (Arrive arrival moment) self.new }
+        ensures represents { RepresentsCall self.old (Arrive arrival moment) self.new }
     {
         self.raw.arrive_either_way(arrival, moment.units())
     }
@@ -108,7 +108,7 @@ impl Controller {
     pub fn depart(&mut self, size: u32, left: u64, since: Nanos, moment: Nanos)
         ensures after { self.new ≡ departed self.old size left since moment }
         ensures threshold { self.old.params.dq_threshold ≤ 65536 }
-        ensures shows { RepresentsCall self.old (Depart size left since moment) self.new }
+        ensures represents { RepresentsCall self.old (Depart size left since moment) self.new }
     {
         self.raw.depart(size, left, since.units(), moment.units());
     }
@@ -118,7 +118,7 @@ impl Controller {
     #[tactic(auto, using(crate::proofs::Laws::represents_with))]
     pub fn pass(&mut self, moment: Nanos)
         ensures after { self.new ≡ passed self.old moment }
-        ensures shows { RepresentsCall self.old (Pass moment) self.new }
+        ensures represents { RepresentsCall self.old (Pass moment) self.new }
     {
         self.raw.pass(moment.units());
     }
@@ -132,7 +132,7 @@ impl Controller {
         requires { queued ≤ 2 ^ 30 }
         ensures delay { result ≡ delay_answered self.old queued }
         ensures after { self.new ≡ updated self.old queued moment }
-        ensures shows { RepresentsCall self.old (Update queued moment) self.new }
+        ensures represents { RepresentsCall self.old (Update queued moment) self.new }
     {
         self.raw.update(queued, moment.units())
     }
@@ -142,7 +142,7 @@ impl Controller {
     #[tactic(auto, using(crate::proofs::Laws::represents_with))]
     pub fn reset(&mut self, moment: Nanos)
         ensures after { self.new ≡ reset self.old moment }
-        ensures shows { RepresentsCall self.old (Restart moment) self.new }
+        ensures represents { RepresentsCall self.old (Restart moment) self.new }
     {
         self.raw.reset(moment.units());
     }
@@ -151,7 +151,7 @@ impl Controller {
     #[tactic(auto, using(crate::proofs::Laws::represents_with))]
     pub fn set_params(&mut self, params: Params, moment: Nanos)
         ensures after { self.new ≡ changed self.old params moment }
-        ensures shows { RepresentsCall self.old (Change params moment) self.new }
+        ensures represents { RepresentsCall self.old (Change params moment) self.new }
     {
         self.raw.set_params(params.raw(), moment.units());
     }

@@ -1,6 +1,6 @@
 //! Laws: a controller's state stays in its ranges and equals the look-back.
 ghost use Rattle.std.specs.Prelude.{◌≡◌, ◌≤◌, ◌<◌, ◌^◌, ◌++◌, ◌∷◌, [], ℕ, List, None};
-ghost use Rattle.pie_aqm.specs.{RawParams, Elements, Profile, ControllerEvent, Opened, Call, IsTaken, after_call, event_of_call, IsSound, Shows, held_of};
+ghost use Rattle.pie_aqm.specs.{RawParams, Elements, Profile, ControllerEvent, Opened, Call, IsTaken, after_call, event_of_call, IsSound, Represents, held_of};
 ghost use Rattle.pie_aqm.specs.{opened};
 ghost use Rattle.pie_params.specs.Range.{first_bad};
 ghost use Rattle.pie_aqm.specs.Held.{Held};
@@ -24,8 +24,8 @@ pub fn calls_keep_it_sound()
 #[tactic(auto, using(crate::proofs::Laws::Represents_opened, crate::proofs::Laws::represents_called, crate::proofs::Laws::held_is))]
 pub fn calls_look_back()
     ensures opens { (profile : Profile) (elements : Elements) (params : RawParams) (moment : ℕ)
-        → Shows (record { profile = profile; elements = elements; params = params; moment = moment }) [] (opened profile elements params moment) }
-    ensures calls { (opened : Opened) (events : List ControllerEvent) (held : Held) → Shows opened events held → held.params.dq_threshold ≤ 65536
-        → (call : Call) → Shows opened (events ++ event_of_call held call ∷ []) (after_call held call) }
-    ensures look_back { (opened : Opened) (events : List ControllerEvent) (held : Held) → Shows opened events held → held ≡ held_of opened events }
+        → Represents (record { profile = profile; elements = elements; params = params; moment = moment }) [] (opened profile elements params moment) }
+    ensures calls { (opened : Opened) (events : List ControllerEvent) (held : Held) → Represents opened events held → held.params.dq_threshold ≤ 65536
+        → (call : Call) → Represents opened (events ++ event_of_call held call ∷ []) (after_call held call) }
+    ensures look_back { (opened : Opened) (events : List ControllerEvent) (held : Held) → Represents opened events held → held ≡ held_of opened events }
 {}

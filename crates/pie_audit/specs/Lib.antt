@@ -10,7 +10,7 @@ pub mod Setters
 pub mod Start
 pub mod Following
 pub mod Lines
-pub mod Told
+pub mod Preambles
 unfoldable pub use Names.*
 unfoldable pub use Agreeing.*
 unfoldable pub use Origin.*

@@ -6,13 +6,13 @@ pub use Rattle.std.specs.Option.{is_some}
 pub use Rattle.std.specs.Prelude.{All, Bool, Err, IfErr, IfOk, IfSome, List, None, Ok, OnOk, Option, Result, Some, [], codes, false, length, map, min}
 pub use Rattle.std.specs.Prelude.{nat_lt, not, option_map, take, true, unwrap_or, ℕ, ⊤}
 pub use Rattle.pie_audit.specs.declared.auditor.Finding.TheVariants.{Clean, Differs}
-pub use Rattle.pie_book.specs.Beside.{held_after_calls}
-pub use Rattle.pie_book.specs.Core.{CoreView, Shows}
+pub use Rattle.pie_book.specs.CallerQueue.{held_after_calls}
+pub use Rattle.pie_book.specs.Core.{CoreView, Represents}
 pub use Rattle.pie_book.specs.Decision.{IsLegal, IsLegalAt, answer_by, decision, refusal_by_rule}
 pub use Rattle.pie_book.specs.Estimates.{active_after}
 pub use Rattle.pie_book.specs.Excerpt.{Ends, ExcerptView}
 unfoldable pub use Rattle.pie_book.specs.History.{waiting_after}
-pub use Rattle.pie_book.specs.declared.standing.Standing.{Standing}
+pub use Rattle.pie_book.specs.declared.snapshot.CoreSnapshot.{CoreSnapshot}
 pub use Rattle.pie_event.specs.Opening.{opening_refusal}
 pub use Rattle.pie_event.specs.Ranges.{CommandFits, ParamsFit}
 pub use Rattle.pie_event.specs.declared.command.Answer.{Answer}
@@ -22,16 +22,16 @@ pub use Rattle.pie_event.specs.declared.command.Event.{Event}
 pub use Rattle.pie_event.specs.declared.opening.Opening.{Opening}
 pub use Rattle.pie_event.specs.declared.refusal.OpenRefusal.TheVariants.{Memory}
 pub use Rattle.pie_event.specs.declared.setter.Setter.{Setter}
-pub use Rattle.pie_excerpt.specs.Beginning.{Beginning, GoesOn, is_resumed}
-unfoldable pub use Rattle.pie_excerpt.specs.Beginning.{resumed_of}
-pub use Rattle.pie_excerpt.specs.Written.{IsWritten, excerpt_rows, part_rows}
+pub use Rattle.pie_excerpt.specs.Preamble.{Preamble, Resumes, is_resumed}
+unfoldable pub use Rattle.pie_excerpt.specs.Preamble.{resumed_of}
+pub use Rattle.pie_excerpt.specs.Written.{IsWritten, excerpt_rows, resumed_rows}
 pub use Rattle.pie_params.specs.Range.{first_bad}
 pub use Rattle.pie_record.specs.Fault.{IsOfInput, IsWrite, is_device}
 unfoldable pub use Rattle.pie_record.specs.FirstRecord.{version_of, opening_of}
 pub use Rattle.pie_record.specs.HistoryLines.{Coming, LinesView, coming_after, coming_from}
 unfoldable pub use Rattle.pie_record.specs.HistoryLines.{event_count, fault_from, history_opening, latest_clock, lines_from}
-pub use Rattle.pie_record.specs.ReadBack.{EventFits, TellsHistory}
-unfoldable pub use Rattle.pie_record.specs.ReadBack.{TellEach}
+pub use Rattle.pie_record.specs.ReadBack.{EventFits, IsHistoryText}
+unfoldable pub use Rattle.pie_record.specs.ReadBack.{AreLinesOf}
 pub use Rattle.pie_record.specs.Text.{TakesRow, HasField, Row, records_of}
 unfoldable pub use Rattle.pie_record.specs.Text.{rows_text}
 pub use Rattle.pie_record.specs.Write.{event_row, written_rows}

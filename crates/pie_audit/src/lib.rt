@@ -15,18 +15,18 @@
 pub mod auditor;
 pub mod begun;
 pub mod following;
-pub mod hearing;
 pub mod law;
-pub mod telling;
+pub mod processor;
 pub mod text;
+pub mod visitor;
 
 pub use auditor::{Auditor, Finding};
 pub use begun::{TextBegun, begin};
 pub use following::{Follower, lines_that_agree_have_few_events};
-pub use hearing::{Auditing, Hears, hear_lines};
 pub use law::{
-    clean_is_legal, clean_parts_are_legal, events_are_lines, findings_look_back,
-    recorded_calls_are_clean, written_parts_are_told,
+    clean_excerpts_are_legal, clean_is_legal, events_are_lines, findings_look_back,
+    recorded_calls_are_clean, written_excerpts_are_read,
 };
-pub use telling::{Tells, beginnings_tell, tell};
+pub use processor::{TextProcessor, preambles_determine, process_text};
 pub use text::{audit, write_finding};
+pub use visitor::{Auditing, LineVisitor, visit_lines};

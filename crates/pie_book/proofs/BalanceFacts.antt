@@ -3,23 +3,23 @@ use Rattle.std.proofs.Common.{◌≡◌, ◌≤◌, ◌+◌, ◌*◌, ◌==◌, 
 use Rattle.std.proofs.Common.{length-append, length-drop, subst, None}
 use Rattle.std.proofs.lemmas.Bool.Decides.{nat_tests}
 use Rattle.pie_book.specs.{Waiting, Command, Arrive, Depart, CoreView, bytes_of}
-use Rattle.pie_book.specs.{core_after, standing_of, IsBalanced, are_balanced, suits_delay, suits_picking, age_of_oldest}
-use Rattle.pie_book.specs.{handed_in, Opening, opened_by, first_core, end_refusal}
+use Rattle.pie_book.specs.{core_after, snapshot_of, IsBalanced, are_balanced, suits_delay, suits_picking, age_of_oldest}
+use Rattle.pie_book.specs.{caller_moment, Opening, opened_by, first_core, end_refusal}
 use Rattle.pie_params.specs.declared.elements.Delay.{Delay}
 use Rattle.pie_params.specs.declared.elements.Delay.TheVariants.{Rate, Stamp}
 use Rattle.pie_params.specs.declared.elements.Picking.{Picking}
 use Rattle.pie_params.specs.declared.elements.Picking.TheVariants.{Derandomized, Random}
-use Rattle.pie_book.specs.declared.standing.Standing.{Standing}
+use Rattle.pie_book.specs.declared.snapshot.CoreSnapshot.{CoreSnapshot}
 use Rattle.pie_aqm.specs.Steps as Steps
 use Rattle.pie_early.specs.Decision as Early
 
 -- ---- Numbers and facts
 
-pub balanced_to : (s : Standing) → IsBalanced s → are_balanced s ≡ true
+pub balanced_to : (s : CoreSnapshot) → IsBalanced s → are_balanced s ≡ true
 unfolding are_balanced
 balanced_to s b = let no_update = b.no_update in grind (arith, nat_tests, b, no_update)
 
-pub balanced_of : (s : Standing) → are_balanced s ≡ true → IsBalanced s
+pub balanced_of : (s : CoreSnapshot) → are_balanced s ≡ true → IsBalanced s
 unfolding are_balanced
 balanced_of s e = record {
   events = grind (arith, nat_tests, e);
@@ -37,17 +37,17 @@ balanced_of s e = record {
 -- ---- One more command
 
 module _ (core : CoreView) where
-  events-next : (command : Command) → IsBalanced (standing_of core)
+  events-next : (command : Command) → IsBalanced (snapshot_of core)
       → let t = (core_after core command).stats in
       core.count + 1 ≡ t.arrivals + (t.left + t.empty + t.updates + t.resets + t.changes)
   events-next command b = let e = b.events in grind (arith, nat_tests, e)
 
-  arrivals-next : (command : Command) → IsBalanced (standing_of core)
+  arrivals-next : (command : Command) → IsBalanced (snapshot_of core)
       → let t = (core_after core command).stats in
       t.arrivals ≡ (t.enqueued + t.marked) + (t.early + t.over_bytes + t.over_packets)
   arrivals-next command b = let e = b.arrivals in grind (arith, nat_tests, e)
 
-  queued-next : (command : Command) → IsBalanced (standing_of core)
+  queued-next : (command : Command) → IsBalanced (snapshot_of core)
       → let after = core_after core command in
       after.stats.enqueued + after.stats.marked ≡ after.stats.left + length after.waiting
   queued-next (Arrive moment packet word) b =
@@ -65,38 +65,38 @@ module _ (core : CoreView) where
   largest-queue-next : (command : Command) → bytes_of (core_after core command).waiting ≤ (core_after core command).stats.largest_queue
   largest-queue-next command = omega arith
 
-  largest-delay-next : (command : Command) → IsBalanced (standing_of core)
+  largest-delay-next : (command : Command) → IsBalanced (snapshot_of core)
       → (core_after core command).held.control.old_delay ≤ (core_after core command).stats.largest_delay
   largest-delay-next command b = let e = b.largest_delay in grind (arith, nat_tests, e)
 
-  last-wait-next : (command : Command) → IsBalanced (standing_of core) → (core_after core command).held.waited ≤ (core_after core command).stats.waited
+  last-wait-next : (command : Command) → IsBalanced (snapshot_of core) → (core_after core command).held.waited ≤ (core_after core command).stats.waited
   last-wait-next command b = let e = b.last_wait in grind (arith, nat_tests, e)
 
-  waits-next : (command : Command) → IsBalanced (standing_of core)
+  waits-next : (command : Command) → IsBalanced (snapshot_of core)
       → (core_after core command).stats.waited ≤ (core_after core command).stats.left * (core_after core command).held.moment
   waits-next command b =
       let e = b.waits in
-      let now : ℕ = Steps.now_at core.held (handed_in command) in
+      let now : ℕ = Steps.now_at core.held (caller_moment command) in
       let more : core.stats.left * core.held.moment ≤ core.stats.left * now = grind (arith, nat_tests) in
       let one : (core.stats.left + 1) * now ≡ core.stats.left * now + now = omega arith in
       let moment : (core_after core command).held.moment ≡ now = grind (arith, nat_tests) in
       let age : age_of_oldest now core.waiting ≤ now = grind (arith, nat_tests) in
       rw moment (grind (arith, nat_tests, e, more, one, age))
 
-  no-update-next : (command : Command) → IsBalanced (standing_of core)
+  no-update-next : (command : Command) → IsBalanced (snapshot_of core)
       → let after = core_after core command in (not (after.stats.updates == 0) || (after.held.control.prob == 0)) ≡ true
   no-update-next command b = let e = b.no_update in grind (arith, nat_tests, e)
 
-  delay-next : (command : Command) → IsBalanced (standing_of core)
+  delay-next : (command : Command) → IsBalanced (snapshot_of core)
       → suits_delay (core_after core command).held.elements.delay (core_after core command).held ≡ true
   delay-next command b = let e = b.delay in grind (arith, nat_tests, e)
 
-  picking-next : (command : Command) → IsBalanced (standing_of core)
+  picking-next : (command : Command) → IsBalanced (snapshot_of core)
       → suits_picking (core_after core command).held.elements.picking (core_after core command).held ≡ true
   unfolding Steps.accu_left
   picking-next command b = let e = b.picking in grind (arith, nat_tests, e)
 
-  pub balanced_next : (command : Command) → IsBalanced (standing_of core) → IsBalanced (standing_of (core_after core command))
+  pub balanced_next : (command : Command) → IsBalanced (snapshot_of core) → IsBalanced (snapshot_of (core_after core command))
   balanced_next command b = record {
     events = events-next command b;
     arrivals = arrivals-next command b;
@@ -120,7 +120,7 @@ first-picking : (picking : Picking) (opening : Opening) → suits_picking pickin
 first-picking Derandomized opening = refl
 first-picking Random opening = refl
 
-pub balanced_first : (opening : Opening) → IsBalanced (standing_of (first_core opening))
+pub balanced_first : (opening : Opening) → IsBalanced (snapshot_of (first_core opening))
 balanced_first opening = record {
   events = refl;
   arrivals = refl;
@@ -138,7 +138,7 @@ balanced_first opening = record {
 pub balanced_ended : (core : CoreView) (packets bytes : ℕ) → length core.waiting ≤ packets → bytes_of core.waiting ≤ bytes
     → end_refusal (record { core = core; packets = packets; bytes = bytes }) ≡ None
     → are_balanced (record { count = core.count; controller = core.held; packets = packets; bytes = bytes; stats = core.stats }) ≡ true
-    → IsBalanced (standing_of core)
+    → IsBalanced (snapshot_of core)
 balanced_ended core packets bytes few small ended balanced =
     let many : length core.waiting ≡ packets = grind (arith, nat_tests, few, ended) in
     let whole : bytes_of core.waiting ≡ bytes = grind (arith, nat_tests, few, small, ended) in

@@ -8,10 +8,10 @@ use Rattle.std.proofs.lemmas.List.{map-append, drop-append-le, append_assoc}
 use Rattle.std.proofs.lemmas.List.Elements.{All-cons, All-head, All-nil, All-push, All-tail, All-pop}
 use Rattle.std.proofs.lemmas.List.Sums.{sum_by_push}
 use Rattle.pie_book.specs.{Packet, Waiting, One, Held, Command, Arrive, Depart, Answer, Event, Opening, opened_by, arrival_of, cause_after, CoreView}
-use Rattle.pie_book.specs.{Shows, counted, refusal_of, registers_of, with_queue, IsLegal, IsLegalAt, answer_by, decision, refusal_by_rule}
+use Rattle.pie_book.specs.{Represents, counted, refusal_of, registers_of, with_queue, IsLegal, IsLegalAt, answer_by, decision, refusal_by_rule}
 use Rattle.pie_book.specs.{delay_after, delay_answered, held_after, admitted, bytes_after, departed_count, effective_moment, waiting_after}
-use Rattle.pie_book.specs.{registers_after, event_of, opened_of, shown, age_of_oldest, largest_delay, largest_queue, stats_after, waited, answer_in}
-use Rattle.pie_book.specs.{call_in, waiting_next, bytes_of, HasThreshold, after_call, Place, places, greatest, Deed, deed, departure, fits, handed_in}
+use Rattle.pie_book.specs.{registers_after, event_of, opened_of, controller_events, age_of_oldest, largest_delay, largest_queue, stats_after, waited, answer_in}
+use Rattle.pie_book.specs.{call_in, waiting_next, bytes_of, HasThreshold, after_call, Place, places, greatest, Deed, deed, departure, fits, caller_moment}
 use Rattle.pie_book.specs.{deed_of, admission, departed, marked, queued, count_of, is_departure, bytes_departed, is_update, first_bad, SetParams}
 use Rattle.pie_book.specs.{IsNext, CommandFits, refusal_with, active_after, arriving_size, controller_event, oldest_since, controller_event_at, delay_at, core_after}
 use Rattle.pie_book.specs.{first_core, registers_with, after_calls, call_at, calls_of, held_after_calls, Follows, cause_in, apply_in, outcome}
@@ -29,15 +29,15 @@ use Rattle.pie_aqm.specs.Steps as Steps
 
 -- the effective moment after one more event is the greater of the one before it and the caller's moment
 pub effective_moment-push : (opening : Opening) (history : List Event) (event : Event)
-    → effective_moment opening (history ++ event ∷ []) ≡ max (effective_moment opening history) (handed_in event.command)
+    → effective_moment opening (history ++ event ∷ []) ≡ max (effective_moment opening history) (caller_moment event.command)
 unfolding effective_moment
 effective_moment-push opening history event =
-    rw (map-append (λ (e : Event). handed_in e.command) history (event ∷ []))
-    (greatest-push (opening.moment ∷ map (λ (e : Event). handed_in e.command) history) (handed_in event.command))
+    rw (map-append (λ (e : Event). caller_moment e.command) history (event ∷ []))
+    (greatest-push (opening.moment ∷ map (λ (e : Event). caller_moment e.command) history) (caller_moment event.command))
 
 -- the queued packets after one more event
 admitted-push : (opening : Opening) (history : List Event) (event : Event) → admitted opening (history ++ event ∷ [])
-    ≡ with_one (admitted opening history) (admission (max (effective_moment opening history) (handed_in event.command)) (deed_of event))
+    ≡ with_one (admitted opening history) (admission (max (effective_moment opening history) (caller_moment event.command)) (deed_of event))
 unfolding admitted
 admitted-push opening history event = simp (from_places-push, effective_moment-push)
 
@@ -50,11 +50,11 @@ departed_count-push history event = sum_by_push (λ (e : Event). cond (is_some (
 -- the waiting packets after one more event
 pub waiting_after-push : (opening : Opening) (history : List Event) (event : Event) → departed_count history ≤ length (admitted opening history)
     → waiting_after opening (history ++ event ∷ [])
-    ≡ waiting_next (waiting_after opening history) (max (effective_moment opening history) (handed_in event.command)) (deed_of event)
+    ≡ waiting_next (waiting_after opening history) (max (effective_moment opening history) (caller_moment event.command)) (deed_of event)
 unfolding waiting_after
 waiting_after-push opening history event fewer =
     rw (admitted-push opening history event, departed_count-push history event)
-    (by_deed (deed_of event) (departed_count history) (admitted opening history) (max (effective_moment opening history) (handed_in event.command))
+    (by_deed (deed_of event) (departed_count history) (admitted opening history) (max (effective_moment opening history) (caller_moment event.command))
     fewer)
   where
     by_deed : (d : Deed) (n : ℕ) (entries : List Waiting) (now : ℕ) → n ≤ length entries
@@ -71,7 +71,7 @@ pub departed-push : (opening : Opening) (history : List Event) (event : Event) �
 unfolding waiting_after
 departed-push opening history event fewer waits =
     let some = λ (is : is_some (departure (deed_of event)) ≡ true). (rw length-drop at waits is) in
-    let more = longer (admission (max (effective_moment opening history) (handed_in event.command)) (deed_of event)) in
+    let more = longer (admission (max (effective_moment opening history) (caller_moment event.command)) (deed_of event)) in
     rw (admitted-push opening history event, departed_count-push history event) (grind (arith, nat_tests))
   where
     longer : (one : Option Waiting) → length (admitted opening history) ≤ length (with_one (admitted opening history) one)
@@ -188,12 +188,12 @@ departed-of-legal opening = legal-all opening (λ h. departed_count h ≤ length
 -- in profile one the controller is always active
 pub one_is_active_after : (opening : Opening) (history : List Event) → opening.choices.profile ≡ One → active_after opening history ≡ true
 unfolding held_after Controller.held_of
-one_is_active_after opening history one = one_is_active (opened_of opening) (shown opening history) one
+one_is_active_after opening history one = one_is_active (opened_of opening) (controller_events opening history) one
 
-module _ (opening : Opening) (core : CoreView) (history : List Event) (shows : Shows opening core history) where
+module _ (opening : Opening) (core : CoreView) (history : List Event) (shows : Represents opening core history) where
   pub held-is : core.held ≡ held_after opening history
   unfolding held_after
-  held-is = held_is (opened_of opening) (shown opening history) core.held shows.controller
+  held-is = held_is (opened_of opening) (controller_events opening history) core.held shows.controller
 
   pub delay_is : Steps.delay_in core.held (bytes_of core.waiting) ≡ delay_after opening history
   delay_is = λ i. Steps.delay_in (held-is i) (bytes_of (shows.waiting i))
@@ -219,13 +219,13 @@ module _ (opening : Opening) (core : CoreView) (history : List Event) (shows : S
       λ i. Some (cause (held-is i) (arrival_of (shows.waiting i) (shows.packets i) packet word) (length (shows.waiting i)))
 
 -- the cause of the core's answer is the cause after the history
-pub cause_found : (opening : Opening) (core : CoreView) (history : List Event) → Shows opening core history → (command : Command)
+pub cause_found : (opening : Opening) (core : CoreView) (history : List Event) → Represents opening core history → (command : Command)
     → cause_in core command ≡ cause_after opening history command
 cause_found opening core history shows (Arrive moment packet word) = cause_is opening core history shows moment packet word
 cause_found opening core history shows _ = refl
 
 -- the result of a command in a book is the outcome after the history
-pub outcome_is : (opening : Opening) (core : CoreView) (history : List Event) → Shows opening core history → (held : ℕ) (command : Command)
+pub outcome_is : (opening : Opening) (core : CoreView) (history : List Event) → Represents opening core history → (held : ℕ) (command : Command)
     → apply_in opening core held command ≡ outcome opening (record { history = history; held = held }) command
 outcome_is opening core history shows held command =
     λ i. refused_or (or_full (refusal_is opening core history shows command i)
@@ -233,8 +233,8 @@ outcome_is opening core history shows held command =
 
 -- ---- Without an event
 
-pub first_shows : (opening : Opening) → Shows opening (first_core opening) []
-unfolding places admitted departed_count effective_moment greatest waiting_after shown stats_after largest_queue largest_delay waited
+pub first_shows : (opening : Opening) → Represents opening (first_core opening) []
+unfolding places admitted departed_count effective_moment greatest waiting_after controller_events stats_after largest_queue largest_delay waited
 first_shows opening = record {
   legal = All-nil (IsLegalAt opening);
   packets = refl;
@@ -246,15 +246,15 @@ first_shows opening = record {
   stats = refl;
 }
 
-pub first_shown : (opening : Opening) (core : CoreView) → core ≡ first_core opening → Shows opening core []
-first_shown opening core is = subst (λ (c : CoreView). Shows opening c []) (sym is) (first_shows opening)
+pub first_shown : (opening : Opening) (core : CoreView) → core ≡ first_core opening → Represents opening core []
+first_shown opening core is = subst (λ (c : CoreView). Represents opening c []) (sym is) (first_shows opening)
 
 -- ---- One more event
 
 -- each command's event is the controller's event of its call
 controller_event-command : (core : CoreView) (now : ℕ) (command : Command)
     → controller_event (deed command (answer_in core command)) (arriving_size command) (oldest_since core.waiting) (bytes_of core.waiting)
-    (bytes_of (waiting_next core.waiting now (deed command (answer_in core command)))) (handed_in command)
+    (bytes_of (waiting_next core.waiting now (deed command (answer_in core command)))) (caller_moment command)
     ≡ event_of_call core.held (call_in core command)
 controller_event-command core now (Arrive moment packet word) =
     let sum : (packet : Packet) → bytes_of (core.waiting ++ (record { packet = packet; since = now }) ∷ []) ≡ bytes_of core.waiting + packet.size =
@@ -266,31 +266,31 @@ controller_event-command core now (Depart moment) = grind (arith, nat_tests)
 controller_event-command core now _ = refl
 
 -- the effective moment after a call
-moment-next : (core : CoreView) (command : Command) → (after_call core.held (call_in core command)).moment ≡ now_at core.held (handed_in command)
+moment-next : (core : CoreView) (command : Command) → (after_call core.held (call_in core command)).moment ≡ now_at core.held (caller_moment command)
 moment-next core command = grind (arith, nat_tests)
 
 controller_events-push : (opening : Opening) (history : List Event) (event : Event)
-    → shown opening (history ++ event ∷ []) ≡ shown opening history ++ controller_event_at opening (place_of history event) ∷ []
-unfolding shown
+    → controller_events opening (history ++ event ∷ []) ≡ controller_events opening history ++ controller_event_at opening (place_of history event) ∷ []
+unfolding controller_events
 controller_events-push opening history event = simp (places-push, map-append)
 
-module _ (opening : Opening) (core : CoreView) (history : List Event) (shows : Shows opening core history) where
+module _ (opening : Opening) (core : CoreView) (history : List Event) (shows : Represents opening core history) where
   pub next-shows : (caller : ℕ) (command : Command) → HasThreshold core.held (call_in core command) → refusal_of core command ≡ None
-      → Shows opening (core_after core command) (history ++ event_of caller command (answer_in core command) ∷ [])
+      → Represents opening (core_after core command) (history ++ event_of caller command (answer_in core command) ∷ [])
   next-shows caller command small free =
       let event : Event = event_of caller command (answer_in core command) in
       let all : List Event = history ++ event ∷ [] in
       let d : Deed = deed command (answer_in core command) in
-      let now : ℕ = now_at core.held (handed_in command) in
+      let now : ℕ = now_at core.held (caller_moment command) in
       let moment : now ≡ effective_moment opening (history ++ event ∷ []) =
-      ap (λ (m : ℕ). max m (handed_in command)) shows.moment ∙ sym (effective_moment-push opening history event) in
+      ap (λ (m : ℕ). max m (caller_moment command)) shows.moment ∙ sym (effective_moment-push opening history event) in
       let waiting : waiting_next core.waiting now d ≡ waiting_after opening (history ++ event ∷ []) =
-      (λ i. waiting_next (shows.waiting i) (max (shows.moment i) (handed_in command)) d)
+      (λ i. waiting_next (shows.waiting i) (max (shows.moment i) (caller_moment command)) d)
       ∙ sym (waiting_after-push opening history event (departed-of-legal opening history shows.legal)) in
       let told : controller_event d (arriving_size command) (oldest_since core.waiting) (bytes_of core.waiting)
-      (bytes_of (waiting_next core.waiting now d)) (handed_in command) ≡ controller_event_at opening (place_of history event) =
+      (bytes_of (waiting_next core.waiting now d)) (caller_moment command) ≡ controller_event_at opening (place_of history event) =
       λ i. controller_event d (arriving_size command) (oldest_since (shows.waiting i)) (bytes_of (shows.waiting i)) (bytes_of (waiting i))
-      (handed_in command) in
+      (caller_moment command) in
       let counts : with_queue (counted core.stats d (Steps.delay_answered core.held (bytes_of core.waiting)) (age_of_oldest now core.waiting))
       (bytes_of (waiting_next core.waiting now d))
       ≡ with_queue (counted (stats_after opening history) d (delay_answered opening history)
@@ -308,7 +308,7 @@ module _ (opening : Opening) (core : CoreView) (history : List Event) (shows : S
         moment = moment-next core command ∙ moment;
         waiting = waiting;
         controller = rw (controller_events-push opening history event, ← told, controller_event-command core now command)
-            (Represents_call (opened_of opening) (shown opening history) core.held shows.controller (call_in core command) small);
+            (Represents_call (opened_of opening) (controller_events opening history) core.held shows.controller (call_in core command) small);
         stats = counts ∙ sym (stats_after-push opening history event);
       }
 
@@ -326,16 +326,16 @@ good-next core (SetParams moment params) good fit = fit.1.in_range
 good-next core _ good fit = good
 
 -- a core that represents a history represents it with a command that it accepts
-pub next_shown : (opening : Opening) (core : CoreView) (history : List Event) → Shows opening core history → (caller : ℕ) (command : Command)
+pub next_shown : (opening : Opening) (core : CoreView) (history : List Event) → Represents opening core history → (caller : ℕ) (command : Command)
     → first_bad core.held.params ≡ None → refusal_of core command ≡ None
-    → Shows opening (core_after core command) (history ++ event_of caller command (answer_in core command) ∷ [])
+    → Represents opening (core_after core command) (history ++ event_of caller command (answer_in core command) ∷ [])
 next_shown opening core history shows caller command good free =
     next-shows opening core history shows caller command (threshold_held core.held (call_in core command) good) free
 
 -- ---- One more event
 
 -- a legal event after a history is the next event of a core that represents the history
-pub next-legal : (opening : Opening) (core : CoreView) (history : List Event) (event : Event) → Shows opening core history
+pub next-legal : (opening : Opening) (core : CoreView) (history : List Event) (event : Event) → Represents opening core history
     → IsLegalAt opening (place_of history event) → IsNext core event
 next-legal opening core history event shows here = record {
   taken = refusal_is opening core history shows event.command ∙ here.taken;
@@ -343,12 +343,12 @@ next-legal opening core history event shows here = record {
 }
 
 -- the core then represents the history with the event
-pub next-core : (opening : Opening) (core : CoreView) (history : List Event) (event : Event) → Shows opening core history
-    → first_bad core.held.params ≡ None → IsNext core event → Shows opening (core_after core event.command) (history ++ event ∷ [])
+pub next-core : (opening : Opening) (core : CoreView) (history : List Event) (event : Event) → Represents opening core history
+    → first_bad core.held.params ≡ None → IsNext core event → Represents opening (core_after core event.command) (history ++ event ∷ [])
 next-core opening core history event shows good next =
     let same : event_of event.caller event.command (answer_in core event.command) ≡ event =
     ap (λ (answer : Answer). event_of event.caller event.command answer) (sym next.answered) in
-    subst (λ (e : Event). Shows opening (core_after core event.command) (history ++ e ∷ [])) same
+    subst (λ (e : Event). Represents opening (core_after core event.command) (history ++ e ∷ [])) same
     (next_shown opening core history shows event.caller event.command good next.taken)
 
 -- ---- A whole history
@@ -356,13 +356,13 @@ next-core opening core history event shows good next =
 -- a core that represents these events and satisfies P
 pub record IsRun (P : List Event → CoreView → Type 0) (opening : Opening) (history : List Event) : Type 0 where
   pub core : CoreView
-  pub shows : Shows opening core history
+  pub shows : Represents opening core history
   pub good : first_bad core.held.params ≡ None
   pub holds : P history core
 
 -- P is kept by each accepted command
 abbrev pub Stays : (List Event → CoreView → Type 0) → Opening → Type 0
-Stays P opening = (core : CoreView) (history : List Event) (event : Event) → Shows opening core history → P history core → CommandFits event.command
+Stays P opening = (core : CoreView) (history : List Event) (event : Event) → Represents opening core history → P history core → CommandFits event.command
     → refusal_of core event.command ≡ None
     → P (history ++ event ∷ []) (core_after core event.command)
 
@@ -426,7 +426,7 @@ run_beside opening history command good legal fit free =
 -- ---- Events that follow from a core are legal after each history that the core represents
 
 module _ (opening : Opening) where
-  pub follows_legal : (core : CoreView) (history rest : List Event) → Shows opening core history → first_bad core.held.params ≡ None
+  pub follows_legal : (core : CoreView) (history rest : List Event) → Represents opening core history → first_bad core.held.params ≡ None
       → All (λ event. CommandFits event.command) rest → Follows core rest ↔ IsLegal opening (history ++ rest)
   unfolding Follows
   follows_legal core history [] shows good fit = (λ follows. rw (append-nil history) shows.legal, λ legal. tt)
@@ -443,13 +443,13 @@ module _ (opening : Opening) where
       )
 
   -- the core after events that follow from it represents the history with them
-  pub follows_shown : (core : CoreView) (history events : List Event) → Shows opening core history → first_bad core.held.params ≡ None
-      → All (λ event. CommandFits event.command) events → Follows core events → Shows opening (core_along core events) (history ++ events)
+  pub follows_shown : (core : CoreView) (history events : List Event) → Represents opening core history → first_bad core.held.params ≡ None
+      → All (λ event. CommandFits event.command) events → Follows core events → Represents opening (core_along core events) (history ++ events)
   unfolding Follows core_along
-  follows_shown core history [] shows good fit follows = subst (λ (h : List Event). Shows opening core h) (sym (append-nil history)) shows
+  follows_shown core history [] shows good fit follows = subst (λ (h : List Event). Represents opening core h) (sym (append-nil history)) shows
   follows_shown core history (event ∷ events) shows good fit follows =
       let joined : (history ++ event ∷ []) ++ events ≡ history ++ (event ∷ events) = append_assoc history (event ∷ []) events in
-      subst (λ (h : List Event). Shows opening (core_along (core_after core event.command) events) h) joined
+      subst (λ (h : List Event). Represents opening (core_along (core_after core event.command) events) h) joined
       (follows_shown (core_after core event.command) (history ++ event ∷ []) events (next-core opening core history event shows good follows.0)
       (good-next core event.command good (All-head (λ e. CommandFits e.command) event events fit)) (All-tail (λ e. CommandFits e.command) event events fit)
       follows.1)

@@ -12,14 +12,14 @@ use Rattle.pie_event.specs.declared.registers.Registers.{Registers}
 use Rattle.pie_event.specs.declared.resume_refusal.ResumeRefusal.TheVariants as resume
 use Rattle.pie_event.specs.declared.resume_refusal.QueueRefusal.TheVariants as queue
 use Rattle.pie_event.specs.declared.resume_refusal.EndRefusal.TheVariants as end
-use Rattle.pie_book.specs.declared.standing.Standing.{Standing}
+use Rattle.pie_book.specs.declared.snapshot.CoreSnapshot.{CoreSnapshot}
 use Rattle.pie_event.specs.declared.refusal.Refusal.TheVariants.{Moment, Size, TooSoon, Exhausted, HistoryFull}
 use Rattle.pie_aqm.proofs.Examples.{small, worked as worked_calls}
 use Rattle.pie_book.specs.Run.{Step, asked, folded, start, without_folds, answers, answers_from, before_full, progress_after, event_of}
 use Rattle.pie_book.specs.{Packet, Command, Arrive, Depart, Update, Reset, SetParams, Answer, Enqueued, Marked, DroppedEarly, DroppedBytes}
-use Rattle.pie_book.specs.{Empty, Left, Updated, Done, Event, Mode, Bounded, Rolling, One, Opening, RawParams, Stats, handed_in}
+use Rattle.pie_book.specs.{Empty, Left, Updated, Done, Event, Mode, Bounded, Rolling, One, Opening, RawParams, Stats, caller_moment}
 use Rattle.pie_book.specs.{registers_after, largest_queue, largest_delay, stats_after, waited, held_after, effective_moment, admitted, departed_count}
-use Rattle.pie_book.specs.{waiting_after, shown, deed, fits, last_events, without_last, tail_with, first_run, core_after, first_core, CoreView}
+use Rattle.pie_book.specs.{waiting_after, controller_events, deed, fits, last_events, without_last, tail_with, first_run, core_after, first_core, CoreView}
 use Rattle.pie_book.specs.{IsLegalAt, refusal_after, held_after_calls, calls_of, after_calls, resume_refusal, queue_refusal}
 use Rattle.pie_book.specs.{end_refusal, core_of, ResumingView, are_reached, DroppedPackets, ExcerptView, event_of_entry, MayOpen, HasLimits}
 use Rattle.pie_book.specs.{IsNotContinued, Profile, Two, Elements}
@@ -33,7 +33,7 @@ use Rattle.pie_event.specs.declared.cause.Cause.TheVariants as causes
 
 -- the definitions that theorems on worked histories unfold
 unfoldable pub worked : Type 0
-unfolding worked_calls admitted effective_moment waiting_after departed_count held_after shown registers_after stats_after largest_queue largest_delay
+unfolding worked_calls admitted effective_moment waiting_after departed_count held_after controller_events registers_after stats_after largest_queue largest_delay
     waited progress_after answers_from calls_of after_calls are_reached are_balanced core_along cause
 worked = ⊤
 
@@ -137,7 +137,7 @@ order = (refl, refl, refl)
 
 -- the moments of some events
 abbrev moments : List Event → List ℕ
-moments events = map (λ event. handed_in event.command) events
+moments events = map (λ event. caller_moment event.command) events
 
 -- the last events and the others; the oldest event leaves a full tail of a rolling book; the first events up to one
 -- that sets parameters
@@ -158,11 +158,11 @@ entries = (refl, refl, refl)
 
 -- ---- A core that resumes from the snapshot after the run, and from the waiting packets: the order of refusals
 
-abbrev numbers : Standing
+abbrev numbers : CoreSnapshot
 numbers = record { count = 14; controller = held_after opening (history 14); packets = 4; bytes = 3048; stats = stats_after opening (history 14) }
 
 -- an accumulated probability and a statistic that are one too great
-abbrev unsound : ℕ → ℕ → Standing
+abbrev unsound : ℕ → ℕ → CoreSnapshot
 unsound packets bytes = record numbers {
   controller = record numbers.controller { accu = 8_500_000_000_000 };
   packets = packets;

@@ -5,10 +5,10 @@ use Rattle.pie_book.specs.Types.{RawParams, Held, Event, Opening, Parts}
 use Rattle.pie_aqm.specs.History.{held_of}
 use Rattle.pie_aqm.specs.Steps as Steps
 use Rattle.pie_book.specs.History.{bytes_after}
-use Rattle.pie_book.specs.Shown.{opened_of, shown}
+use Rattle.pie_book.specs.ControllerEvents.{opened_of, controller_events}
 
 unfoldable pub held_after : Opening → List Event → Held
-held_after opening history = held_of (opened_of opening) (shown opening history)
+held_after opening history = held_of (opened_of opening) (controller_events opening history)
 
 -- the parameters in force
 abbrev pub params_after : Opening → List Event → RawParams

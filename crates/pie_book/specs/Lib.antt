@@ -1,6 +1,6 @@
 pub mod Types
 pub mod History
-pub mod Shown
+pub mod ControllerEvents
 pub mod Estimates
 pub mod Registers
 pub mod Statistics
@@ -9,13 +9,13 @@ pub mod Core
 pub mod Book
 pub mod Run
 pub mod Recorded
-pub mod Beside
+pub mod CallerQueue
 pub mod Balanced
-pub mod Standing
+pub mod Snapshot
 pub mod Excerpt
 unfoldable pub use Types.*
 unfoldable pub use History.*
-unfoldable pub use Shown.*
+unfoldable pub use PassKnowledge.*
 unfoldable pub use Estimates.*
 unfoldable pub use Registers.*
 unfoldable pub use Statistics.*
@@ -26,5 +26,5 @@ unfoldable pub use Run.*
 unfoldable pub use Recorded.*
 unfoldable pub use Beside.*
 unfoldable pub use Balanced.*
-unfoldable pub use Standing.*
+unfoldable pub use CoreSnapshot.*
 unfoldable pub use Excerpt.*

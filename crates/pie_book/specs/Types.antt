@@ -26,7 +26,7 @@ pub use Rattle.pie_params.specs.Elements.{usual}
 pub use Rattle.pie_event.specs.Verdict.{answer_of}
 pub use Rattle.pie_event.specs.Cause.{verdict_of}
 pub use Rattle.pie_event.specs.Deed.{Deed, admission, arrival_deed, deed, deed_of, departed, departure, departure_deed, dropped_bytes, dropped_early}
-pub use Rattle.pie_event.specs.Deed.{dropped_packets, fits, found_none, handed_in, is_arrival, is_update, marked, nothing, queued, set, updated}
+pub use Rattle.pie_event.specs.Deed.{dropped_packets, fits, found_none, caller_moment, is_arrival, is_update, marked, nothing, queued, set, updated}
 pub use Rattle.pie_event.specs.Deed.{was_reset, with_ce}
 pub use Rattle.pie_event.specs.Opening.{are_in_range, last_moment, opening_of, opening_refusal}
 pub use Rattle.pie_event.specs.Ranges.{AnswerFits, CommandFits, ParamsFit, RegistersFit, StatsFit}

@@ -2,7 +2,7 @@
 //! event.
 ghost use Rattle.std.specs.Prelude.{◌≡◌, ◌<◌, ◌++◌, ◌∷◌, [], List, None, Some, IfOk, IfErr, OnErr, OnOk, ◌==◌, ◌≤◌, ◌^◌, ◌+◌, length, true, false};
 ghost use Rattle.pie_book.specs.{Event, Opening, decision, refusal_by_rule, event_of, refused_or, Arrive, Depart, Update, Reset, SetParams};
-ghost use Rattle.pie_book.specs.{handed_in, arrival_deed, IsSize, bytes_of, HasThreshold, Shows, closed, refusal_of, after_command, answer_in};
+ghost use Rattle.pie_book.specs.{caller_moment, arrival_deed, IsSize, bytes_of, HasThreshold, Represents, closed, refusal_of, after_command, answer_in};
 ghost use Rattle.pie_book.specs.{call_in, arrival_of, departure_call, waiting_next, answer_of, step_in, core_after, IsNext};
 ghost use Rattle.pie_event.specs.Verdict.{is_queued};
 
@@ -25,10 +25,10 @@ impl Core {
     #[inline(always)]
     #[tactic(auto, using(crate::proofs::CoreFacts::refusal_is))]
     pub fn step(&mut self, caller: u16, command: Command) -> Result<Answer, Refusal>
-        ensures decides { (opening : Opening) (history : List Event) → Shows opening self.old history
+        ensures decides { (opening : Opening) (history : List Event) → Represents opening self.old history
             → result ≡ refused_or (refusal_by_rule opening history command) (decision opening history command) }
-        ensures shows { (opening : Opening) (history : List Event) → Shows opening self.old history
-            → IfOk result (λ answer. Shows opening self.new (history ++ event_of caller command answer ∷ [])) }
+        ensures represents { (opening : Opening) (history : List Event) → Represents opening self.old history
+            → IfOk result (λ answer. Represents opening self.new (history ++ event_of caller command answer ∷ [])) }
         ensures answers { result ≡ step_in self.old command }
         ensures after { OnOk result (self.new ≡ core_after self.old command) }
         ensures refused { OnErr result (self.new ≡ self.old) }
@@ -43,7 +43,7 @@ impl Core {
     pub(crate) fn taken(&self, command: &Command) -> Result<Nanos, Refusal>
         ensures refused { IfErr result (λ why. refusal_of self.now command.now ≡ Some why) }
         ensures taken { IfOk result (λ _. refusal_of self.now command.now ≡ None) }
-        ensures moment { IfOk result (λ moment. moment ≡ handed_in command.now) }
+        ensures moment { IfOk result (λ moment. moment ≡ caller_moment command.now) }
         ensures room { IfOk result (λ _. self.now.count < self.now.events) }
     {
         self.raw.taken(command)
@@ -55,15 +55,15 @@ impl Core {
     pub(crate) fn advance(&mut self, caller: u16, moment: Nanos, command: Command) -> Recorded
         requires taken { refusal_of self.old command ≡ None }
         requires room { self.old.count < self.old.events }
-        requires moment { moment ≡ handed_in command }
+        requires moment { moment ≡ caller_moment command }
         ensures event { result ≡ event_of caller command result.answer }
         ensures answer { result.answer ≡ answer_in self.old command }
         ensures next { IsNext self.old result }
         ensures after { self.new ≡ core_after self.old command }
-        ensures decides { (opening : Opening) (history : List Event) → Shows opening self.old history
+        ensures decides { (opening : Opening) (history : List Event) → Represents opening self.old history
             → result.answer ≡ decision opening history command }
-        ensures shows { (opening : Opening) (history : List Event) → Shows opening self.old history
-            → Shows opening self.new (history ++ event_of caller command result.answer ∷ []) }
+        ensures represents { (opening : Opening) (history : List Event) → Represents opening self.old history
+            → Represents opening self.new (history ++ event_of caller command result.answer ∷ []) }
     {
         let recorded = self.raw.decide(caller, moment, command);
         self.raw.close();
@@ -76,7 +76,7 @@ impl RawCore {
     fn taken(&self, command: &Command) -> Result<Nanos, Refusal>
         ensures refused { IfErr result (λ why. refusal_of self.now command.now ≡ Some why) }
         ensures taken { IfOk result (λ _. refusal_of self.now command.now ≡ None) }
-        ensures moment { IfOk result (λ moment. moment ≡ handed_in command.now) }
+        ensures moment { IfOk result (λ moment. moment ≡ caller_moment command.now) }
         ensures room { IfOk result (λ _. self.now.count < self.now.events) }
     {
         let Some(moment) = Nanos::from_units(command.moment()) else {
@@ -108,7 +108,7 @@ impl RawCore {
     fn decide(&mut self, caller: u16, moment: Nanos, command: Command) -> Recorded
         requires taken { refusal_of self.old command ≡ None }
         requires room { self.old.count < self.old.events }
-        requires moment { moment ≡ handed_in command }
+        requires moment { moment ≡ caller_moment command }
         ensures event { result ≡ event_of caller command (answer_in self.old command) }
         ensures after { self.new ≡ after_command self.old command }
         ensures threshold { HasThreshold self.old.held (call_in self.old command) }

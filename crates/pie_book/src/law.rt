@@ -1,6 +1,6 @@
 //! Laws. Each function has an empty body: its contract is the law.
 ghost use Rattle.std.specs.Prelude.{◌≡◌, List, true, ◌++◌, ◌∷◌, [], ℕ, All, None, nat_lt};
-ghost use Rattle.pie_book.specs.{One, Event, Rolling, Opening, CoreView, Shows, registers_of, registers_after, active_after, answers, without_folds};
+ghost use Rattle.pie_book.specs.{One, Event, Rolling, Opening, CoreView, Represents, registers_of, registers_after, active_after, answers, without_folds};
 ghost use Rattle.pie_book.specs.{AreSameUntilFull, RawParams, Command, IsLegal, decision, refusal_by_rule, event_of, stats_after, Update, first_core};
 ghost use Rattle.pie_book.specs.{core_after, held_after_calls, opened_by, call_of, refusal_of, answer_by, is_too_soon, waiting_after, first_bad};
 ghost use Rattle.pie_book.specs.{answer_in, apply_in, cause_after, cause_in, core_along, outcome, Follows};
@@ -37,7 +37,7 @@ pub fn profile_one_is_always_active()
 /// The body is empty: the contract is the law, for a caller without the book.
 #[tactic(auto, using(crate::proofs::CoreFacts::registers_is))]
 pub fn registers_look_back()
-    ensures { (opening : Opening) (core : CoreView) (history : List Event) → Shows opening core history
+    ensures { (opening : Opening) (core : CoreView) (history : List Event) → Represents opening core history
         → registers_of core ≡ registers_after opening history }
 {}
 
@@ -49,21 +49,21 @@ pub fn registers_look_back()
 /// The body is empty: the contract is the law.
 #[tactic(auto, using(crate::proofs::CoreFacts::refusal_is, crate::proofs::CoreFacts::next_decided, crate::proofs::CoreFacts::cause_found, crate::proofs::CoreFacts::outcome_is))]
 pub fn steps_look_back()
-    ensures refusal { (opening : Opening) (core : CoreView) (history : List Event) → Shows opening core history
+    ensures refusal { (opening : Opening) (core : CoreView) (history : List Event) → Represents opening core history
         → (command : Command) → refusal_of core command ≡ refusal_by_rule opening history command }
-    ensures answer { (opening : Opening) (core : CoreView) (history : List Event) → Shows opening core history
+    ensures answer { (opening : Opening) (core : CoreView) (history : List Event) → Represents opening core history
         → (command : Command) → answer_in core command ≡ decision opening history command }
-    ensures cause { (opening : Opening) (core : CoreView) (history : List Event) → Shows opening core history
+    ensures cause { (opening : Opening) (core : CoreView) (history : List Event) → Represents opening core history
         → (command : Command) → cause_in core command ≡ cause_after opening history command }
-    ensures outcome { (opening : Opening) (core : CoreView) (history : List Event) → Shows opening core history
+    ensures outcome { (opening : Opening) (core : CoreView) (history : List Event) → Represents opening core history
         → (held : ℕ) (command : Command)
         → apply_in opening core held command ≡ outcome opening (record { history = history; held = held }) command }
-    ensures after { (opening : Opening) (core : CoreView) (history : List Event) → Shows opening core history
+    ensures after { (opening : Opening) (core : CoreView) (history : List Event) → Represents opening core history
         → (caller : ℕ) (command : Command) → first_bad core.held.params ≡ None → refusal_of core command ≡ None
-        → Shows opening (core_after core command) (history ++ event_of caller command (answer_in core command) ∷ []) }
-    ensures along { (opening : Opening) (core : CoreView) (history : List Event) (events : List Event) → Shows opening core history
+        → Represents opening (core_after core command) (history ++ event_of caller command (answer_in core command) ∷ []) }
+    ensures along { (opening : Opening) (core : CoreView) (history : List Event) (events : List Event) → Represents opening core history
         → first_bad core.held.params ≡ None → All (λ event. CommandFits event.command) events → Follows core events
-        → Shows opening (core_along core events) (history ++ events) }
+        → Represents opening (core_along core events) (history ++ events) }
 {}
 
 /// States that all numbers fit their fields' types: after every legal history, from an opening that a book accepts,
@@ -104,13 +104,13 @@ pub fn all_numbers_are_held()
 /// The body is empty: the contract is the law.
 #[tactic(auto, using(crate::proofs::CoreFacts::next_decided))]
 pub fn parts_decide_as_a_core()
-    ensures opens { (opening : Opening) → Shows opening (first_core opening) [] }
+    ensures opens { (opening : Opening) → Represents opening (first_core opening) [] }
     ensures opened { (opening : Opening) → (first_core opening).held ≡ opened_by opening }
-    ensures decides { (opening : Opening) (core : CoreView) (history : List Event) → Shows opening core history
+    ensures decides { (opening : Opening) (core : CoreView) (history : List Event) → Represents opening core history
         → (command : Command) → answer_by core.held core.waiting core.packets command ≡ decision opening history command }
-    ensures shows { (opening : Opening) (core : CoreView) (history : List Event) → Shows opening core history
+    ensures represents { (opening : Opening) (core : CoreView) (history : List Event) → Represents opening core history
         → (caller : ℕ) (command : Command) → first_bad core.held.params ≡ None → refusal_of core command ≡ None
-        → Shows opening (core_after core command) (history ++ event_of caller command (answer_by core.held core.waiting core.packets command) ∷ []) }
+        → Represents opening (core_after core command) (history ++ event_of caller command (answer_by core.held core.waiting core.packets command) ∷ []) }
     ensures holds { (core : CoreView) (command : Command)
         → (core_after core command).held ≡ after_call core.held (call_of core.waiting core.packets command) }
     ensures too_soon { (core : CoreView) (moment : ℕ) → is_too_soon core.held.moment (due_of core.held.params core.held.control) (Update moment)

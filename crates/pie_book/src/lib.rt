@@ -2,7 +2,7 @@
 //! equal the look-back over the whole history.
 //!
 //! The definitions in `specs/`, which the contracts cite, look back over the list of all events and accumulate nothing.
-//! `Shows` is the abstraction relation between a core and a history, `Tells` that between a book and a history.
+//! `Represents` is the abstraction relation between a core and a history, `BookRepresents` that between a book and a history.
 //!
 //! - `Core::step` and `Book::apply`, for every history that the core or the book represents: the answer is the decision
 //!   after that history, or exactly its refusal (clause `decides`). Afterwards core or book represent the history with
@@ -13,7 +13,7 @@
 //! - `open` and `open_with` refuse only for the listed reasons, in that order, or for lack of memory.
 //! - The readers return the definitions' values: `registers`, `stats`, `count` and `waiting` of the whole history,
 //!   `checkpoint` and `checkpoint_stats` of the history without the tail.
-//! - `Core::standing` and `Book::checkpoint_standing` return a snapshot of a core. `Core::resume` begins a core from a
+//! - `Core::snapshot` and `Book::checkpoint_snapshot` return a snapshot of a core. `Core::resume` begins a core from a
 //!   snapshot and then takes the waiting packets one by one. `Book::resume` opens a book that continues from a core.
 //!   The core has the numbers of the snapshot (`core_of`), so it represents each history that the snapshot represents.
 //! - `Book::excerpt` copies the last events with the state before them (`Ends`).
@@ -30,7 +30,7 @@ mod deciding_core;
 pub mod excerpt;
 pub mod law;
 mod recorded;
-pub mod standing;
+pub mod snapshot;
 mod tally;
 
 pub use book::{Book, ContinueRefusal};
@@ -46,6 +46,6 @@ pub use pie_event::{
     Opening, Profile, QueueRefusal, Refusal, Registers, ResumeRefusal, Stats, TooSmall,
 };
 pub use recorded::Recorded;
-pub use standing::{
-    Resuming, Standing, excerpts_are_legal_after_any_history, packets_that_waited_are_taken,
+pub use snapshot::{
+    CoreSnapshot, Resuming, excerpts_are_legal_after_any_history, packets_that_waited_are_taken,
 };

@@ -1,6 +1,6 @@
 -- The state after a call for a packet is the controller's state, if it was sound.
 use Rattle.std.specs.Prelude.{IsTrue, None}
-use Rattle.pie_c.specs.{Arrive, Call, Change, IsTaken, Pass, Restart, after_call, event_of_call, ControllerEvent, Opened, Shows, Arrives, Departs, Leaves}
+use Rattle.pie_c.specs.{Arrive, Call, Change, IsTaken, Pass, Restart, after_call, event_of_call, ControllerEvent, Opened, Represents, Arrives, Departs, Leaves}
 use Rattle.pie_c.specs.{Makes, Passes, Steps, params_refusal, KeepsSound, LooksBack}
 use Rattle.pie_c.proofs.Names.{reset_refusal, ◌≡◌, ℕ, ◌≤◌, ◌<◌, ◌^◌, ◌==◌, if◌then◌else◌, nat_lt, Bool, true, false, List, [], ◌∷◌, Some, ◌++◌}
 use Rattle.pie_c.proofs.Names.{arith, refl, ◌∙◌, eqb-true, nat_tests, ArrivingPacket, Verdict, Depart, RawParams, first_bad, Held, accu_left}
@@ -53,8 +53,8 @@ module _ (s t : PieState) (call : Call) (refusal : ℕ) (keeps : KeepsSound) (lo
       by true taken = state-sound _ (keeps (held_in s) (held-sound s sound) call (taken refl))
       by false taken = sound
 
-  pub represents-call : (o : Opened) (events : List ControllerEvent) → refusal ≡ 0 → Shows o events (held_in s)
-      → Shows o (events ++ event_of_call (held_in s) call ∷ []) (held_in t)
+  pub represents-call : (o : Opened) (events : List ControllerEvent) → refusal ≡ 0 → Represents o events (held_in s)
+      → Represents o (events ++ event_of_call (held_in s) call ∷ []) (held_in t)
   represents-call o events free shows =
       rw (left, free, held-state (after_call (held_in s) call)) (looks o events (held_in s) shows (threshold-held s sound) call)
 

@@ -1,11 +1,11 @@
 -- Facts about the events that the summing calls add to a period.
 use Rattle.std.specs.Prelude.{Option}
-use Rattle.pie_c.specs.{Cause, answer_of, Clock, Explained, LivePeriod, Met, Holds, IsSet, Meets, clock_of, noted_of, updated_by, Adds, ExplainsCall}
+use Rattle.pie_c.specs.{Cause, answer_of, Clock, Explained, LivePeriod, Conditions, Holds, IsSet, HasConditions, clock_of, meter_input_of, updated_by, Adds, ExplainsCall}
 use Rattle.pie_c.specs.{conditions_of, cause_after, held_after, wait_of, deed_of, Setter, explanation, moment_of, with_after}
 use Rattle.pie_c.proofs.Names.{◌≡◌, ◌≤◌, min, ◌==◌, arith, ℕ, Bool, true, false, nat_le, List, [], ◌∷◌, ◌++◌, refl, sym, ap, subst, nat_tests}
 use Rattle.pie_c.proofs.Names.{Event, Verdict, verdict_number, PieState, arrival_refusal, if_taken, moment_refusal, unless_refused, update_refusal}
 use Rattle.pie_c.proofs.Names.{held_in, with_departure, Held, waiting_after, Opening}
-use Rattle.pie_summary.specs.declared.noted.Noted.{Noted}
+use Rattle.pie_summary.specs.declared.meter_input.MeterInput.{MeterInput}
 use Rattle.pie_summary.specs.Sums.{answer_place, size_by, size_in}
 use Rattle.std.specs.Bool.{Decides}
 use Rattle.pie_book.specs.Registers.{registers_after}
@@ -16,23 +16,23 @@ pub unmoved : (before after : PieState) (refusal : ℕ) (held : Held) → after 
 unmoved before after refusal held is = grind (arith, nat_tests)
 
 -- an event with this explanation is recorded as `noted` if the fields for its kind are
-pub explained-as : (before after : PieState) (day : Option Clock) (made : Event) (decided : Option Cause) (wait : ℕ) (one : Explained) (met : Met) (noted : Noted)
+pub explained-as : (before after : PieState) (day : Option Clock) (made : Event) (decided : Option Cause) (wait : ℕ) (one : Explained) (met : Conditions) (noted : MeterInput)
     → met ≡ conditions_of (before.active == 1) before.params.target before.last after → ExplainsCall before after day made decided wait one
-    → (Meets met one → one.told.event.answer ≡ made.answer → size_in one ≡ size_by made.command → noted ≡ noted_of one)
-    → (noted ≡ noted_of one) × (one.told.clock ≡ day)
+    → (HasConditions met one → one.told.event.answer ≡ made.answer → size_in one ≡ size_by made.command → noted ≡ meter_input_of one)
+    → (noted ≡ meter_input_of one) × (one.told.clock ≡ day)
 explained-as before after day made decided wait one met noted is tells notes = (
-  notes (subst (λ (m : Met). Meets m one) (sym is) tells.meets) (ap (λ (e : Event). e.answer) tells.event)
+  notes (subst (λ (m : Conditions). HasConditions m one) (sym is) tells.meets) (ap (λ (e : Event). e.answer) tells.event)
       (ap (λ (e : Event). size_by e.command) tells.event),
   tells.clock,
 )
 
 -- the addition of a call, from whether it was accepted
-pub adds-by : (refusal : ℕ) (before after : LivePeriod) (explained-as : Explained → Type 0) (taken : Bool) (noted : Noted) → IsSet before after
+pub adds-by : (refusal : ℕ) (before after : LivePeriod) (explained-as : Explained → Type 0) (taken : Bool) (noted : MeterInput) → IsSet before after
     → (taken ≡ false → after ≡ before)
-    → ((all : List Explained) (one : Explained) → taken ≡ true → noted ≡ noted_of one → one.told.clock ≡ clock_of before → Holds before all
+    → ((all : List Explained) (one : Explained) → taken ≡ true → noted ≡ meter_input_of one → one.told.clock ≡ clock_of before → Holds before all
     → Holds after (all ++ one ∷ []))
     → Decides taken (refusal ≡ 0)
-    → ((one : Explained) → refusal ≡ 0 → explained-as one → (noted ≡ noted_of one) × (one.told.clock ≡ clock_of before))
+    → ((one : Explained) → refusal ≡ 0 → explained-as one → (noted ≡ meter_input_of one) × (one.told.clock ≡ clock_of before))
     → Adds refusal before after explained-as
 adds-by refusal before after explained-as taken noted set same adds decides is = record {
   refused = λ r. grind (arith, same, decides);

@@ -1,7 +1,7 @@
 -- The texts of waiting packets and of events are their records.
 use Rattle.std.specs.Prelude.{All, map, nat_le}
-use Rattle.pie_c.specs.{flat_map, Waiting, rows_text, text_of, event_row, written_rows, queued_row, part_rows, PieStats, WrittenEvent, opening_text}
-use Rattle.pie_c.specs.{event_of_written, written_text, CanWait, bits_of, is_snapshot, queued_text, resume_of, resume_text, set_by_of, standing_in}
+use Rattle.pie_c.specs.{flat_map, Waiting, rows_text, text_of, event_row, written_rows, queued_row, resumed_rows, PieStats, WrittenEvent, opening_text}
+use Rattle.pie_c.specs.{event_of_written, written_text, CanWait, bits_of, is_snapshot, queued_text, resume_of, resume_text, set_by_of, snapshot_in}
 use Rattle.pie_c.specs.{waiting_text}
 use Rattle.pie_c.proofs.Names.{◌≡◌, ℕ, suc, ◌++◌, List, [], ◌∷◌, true, false, Some, refl, arith, nat_tests, Ecn, Event, waiting_after, PieOpening}
 use Rattle.pie_c.proofs.Names.{PieState, is_bad_size, opening_in, opening_of, opening_refusal, last_moment, is_sound}
@@ -40,7 +40,7 @@ pub part_written : (o : PieOpening) (s : PieState) (t : PieStats) (count set_by 
     → map event_of_written kept ≡ map Some events
     → resume_text (resume_of o s t count set_by packets bytes)
     ++ (flat_map waiting_text (waiting_after (opening_in o) past) ++ flat_map written_text kept)
-    ≡ rows_text (part_rows (opening_in o) (standing_in s t count packets bytes) past (set_by_of set_by) (map event_row events))
+    ≡ rows_text (resumed_rows (opening_in o) (snapshot_in s t count packets bytes) past (set_by_of set_by) (map event_row events))
 unfolding rows_text
 part_written o s t count set_by packets bytes past events kept free sound stands can is =
     rw (

@@ -1,6 +1,6 @@
 -- Refusals and return values of the calls. The state after a call is the controller's state after its step.
 use Rattle.std.specs.Prelude.{ℕ, ◌≡◌, ◌≤◌, ◌^◌, ◌==◌, ◌&&◌, true, max, nat_lt, not, List, [], ◌∷◌, ◌++◌, if◌then◌else◌}
-use Rattle.pie_c.specs.Names.{Arrive, Call, Depart, IsTaken, Pass, after_call, event_of_call, ControllerEvent, Opened, Held, IsSound, Shows, arrived}
+use Rattle.pie_c.specs.Names.{Arrive, Call, Depart, IsTaken, Pass, after_call, event_of_call, ControllerEvent, Opened, Held, IsSound, Represents, arrived}
 use Rattle.pie_c.specs.Names.{capped, delay_answered, departed, due, is_too_soon, updated, verdict, PieParams, ecn_at, is_bad_size, verdict_number}
 use Rattle.pie_c.specs.Names.{PieState, PieUpdated, last_moment, are_in_range}
 use Rattle.pie_aqm.specs.declared.verdict.ArrivingPacket.{ArrivingPacket}
@@ -14,8 +14,8 @@ KeepsSound = (held : Held) → IsSound held → (call : Call) → IsTaken call �
 
 -- the state represents the call
 abbrev pub LooksBack : Type 0
-LooksBack = (opened : Opened) (events : List ControllerEvent) (held : Held) → Shows opened events held → held.params.dq_threshold ≤ 65536
-    → (call : Call) → Shows opened (events ++ event_of_call held call ∷ []) (after_call held call)
+LooksBack = (opened : Opened) (events : List ControllerEvent) (held : Held) → Represents opened events held → held.params.dq_threshold ≤ 65536
+    → (call : Call) → Represents opened (events ++ event_of_call held call ∷ []) (after_call held call)
 
 -- ---- Return value and state of a call
 
@@ -52,8 +52,8 @@ arrival_of queued size room bits word = record { queued = queued; is_full = room
 pub record Makes (before : PieState) (call : Call) (refusal : ℕ) (left : PieState) : Type 0 where
   pub after : left ≡ if_taken refusal before (state_of (after_call (held_in before) call))
   pub sound : is_sound before ≡ true → is_sound left ≡ true
-  pub shows : (opened : Opened) (events : List ControllerEvent) → refusal ≡ 0 → Shows opened events (held_in before)
-      → Shows opened (events ++ event_of_call (held_in before) call ∷ []) (held_in left)
+  pub shows : (opened : Opened) (events : List ControllerEvent) → refusal ≡ 0 → Represents opened events (held_in before)
+      → Represents opened (events ++ event_of_call (held_in before) call ∷ []) (held_in left)
 
 -- the state after a call for a packet, if it was sound
 abbrev pub Leaves : PieState → Call → ℕ → PieState → Type 0

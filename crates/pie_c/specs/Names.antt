@@ -16,7 +16,7 @@ pub use Rattle.pie_abi.specs.declared.stats.PieStats.{PieStats}
 pub use Rattle.pie_aqm.specs.Calls.{Arrive, Call, Change, Depart, IsTaken, Pass, Restart, after_call, event_of_call}
 pub use Rattle.pie_aqm.specs.Events.{ControllerEvent, Opened}
 pub use Rattle.pie_aqm.specs.Held.{Held, IsSound}
-unfoldable pub use Rattle.pie_aqm.specs.History.{Shows}
+unfoldable pub use Rattle.pie_aqm.specs.History.{Represents}
 pub use Rattle.pie_aqm.specs.Steps.{arrived, capped, delay_answered, departed, due, is_too_soon, opened, updated}
 unfoldable pub use Rattle.pie_aqm.specs.Steps.{cause, verdict}
 pub use Rattle.pie_book.specs.Decision.{cause_after}
@@ -33,7 +33,7 @@ pub use Rattle.pie_event.specs.declared.opening.Opening.{Opening}
 pub use Rattle.pie_event.specs.declared.setter.Setter.{Setter}
 pub use Rattle.pie_event.specs.declared.verdict.Verdict.TheVariants.{DroppedBytes, DroppedEarly, DroppedPackets, Enqueued, Marked}
 unfoldable pub use Rattle.pie_excerpt.specs.Rows.{queued_row, resume_row}
-pub use Rattle.pie_excerpt.specs.Written.{part_rows, resume_with}
+pub use Rattle.pie_excerpt.specs.Written.{resumed_rows, resume_with}
 pub use Rattle.pie_explain.specs.Explanation.{moment_of, with_after}
 unfoldable pub use Rattle.pie_explain.specs.Explanation.{explanation}
 pub use Rattle.pie_explain.specs.declared.explanation.Explained.{Explained}
@@ -49,6 +49,6 @@ unfoldable pub use Rattle.pie_record.specs.Text.{rows_text}
 pub use Rattle.pie_record.specs.Write.{event_row, written_rows}
 unfoldable pub use Rattle.pie_record.specs.Write.{opening_row}
 pub use Rattle.pie_record.specs.declared.clock.Clock.{Clock}
-pub use Rattle.pie_summary.specs.Live.{Holds, IsSet, Meets, clock_of, form_in, length_of, noted_of}
-pub use Rattle.pie_summary.specs.declared.live.LivePeriod.{LivePeriod}
-pub use Rattle.pie_summary.specs.declared.noted.Met.{Met}
+pub use Rattle.pie_summary.specs.LivePeriod.{Holds, IsSet, HasConditions, clock_of, form_in, length_of, meter_input_of}
+pub use Rattle.pie_summary.specs.declared.live_period.LivePeriod.{LivePeriod}
+pub use Rattle.pie_summary.specs.declared.meter_input.Conditions.{Conditions}

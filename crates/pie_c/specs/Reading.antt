@@ -1,7 +1,7 @@
 -- The return value of a call that parses a text, and the caller's number after it.
 use Rattle.std.specs.Prelude.{ℕ, Result, Ok, Err}
-use Rattle.pie_units.specs.declared.written.UnitFault.{UnitFault}
-use Rattle.pie_units.specs.declared.written.UnitFault.TheVariants.{NotANumber, TooPrecise, TooGreat}
+use Rattle.pie_units.specs.declared.number.UnitFault.{UnitFault}
+use Rattle.pie_units.specs.declared.number.UnitFault.TheVariants.{NotANumber, TooPrecise, TooGreat}
 
 -- the code of the reason why the text is not a number of its kind
 abbrev pub fault_number : UnitFault → ℕ

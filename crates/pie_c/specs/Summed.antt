@@ -1,6 +1,6 @@
 -- Events that the summing calls add to a period, as they are explained.
 use Rattle.std.specs.Prelude.{ℕ, ◌≡◌, ◌==◌, ◌||◌, Bool, nat_lt, List, [], ◌∷◌, ◌++◌, Option, Some, if◌then◌else◌}
-use Rattle.pie_c.specs.Names.{Cause, Event, Clock, Explained, LivePeriod, Met, Holds, IsSet, Meets, clock_of, cause, verdict, last_moment, ecn_at}
+use Rattle.pie_c.specs.Names.{Cause, Event, Clock, Explained, LivePeriod, Conditions, Holds, IsSet, HasConditions, clock_of, cause, verdict, last_moment, ecn_at}
 use Rattle.pie_c.specs.Names.{PieEvent, PieState}
 use Rattle.pie_c.specs.Calls.{arrival_of, arrival_refusal}
 use Rattle.pie_c.specs.Events.{arrival_with}
@@ -8,7 +8,7 @@ use Rattle.pie_c.specs.State.{held_in}
 
 -- the conditions of an event that left this state: the activity before it, the target, and the moment of the last
 -- update
-abbrev pub conditions_of : Bool → ℕ → ℕ → PieState → Met
+abbrev pub conditions_of : Bool → ℕ → ℕ → PieState → Conditions
 conditions_of was held last after = record {
   moment = after.moment;
   was = was;
@@ -27,7 +27,7 @@ pub record ExplainsCall (before after : PieState) (day : Option Clock) (made : E
   pub cause : one.told.cause ≡ decided
   pub waited : one.told.waited ≡ wait
   pub clock : one.told.clock ≡ day
-  pub meets : Meets (conditions_of (before.active == 1) before.params.target before.last after) one
+  pub meets : HasConditions (conditions_of (before.active == 1) before.params.target before.last after) one
 
 -- the period after a call with this refusal: if the period contained some events, it contains one more event with this
 -- explanation; after a refusal it is unchanged

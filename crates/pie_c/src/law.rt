@@ -2,9 +2,9 @@
 ghost use Rattle.std.specs.Prelude.{◌≡◌, ◌++◌, ◌∷◌, [], ℕ, All, List, Option, Some, map, true};
 ghost use Rattle.pie_c.specs.Names.{Opening};
 ghost use Rattle.pie_c.specs.{flat_map, Event, cause_after, held_after, wait_of, deed_of, Setter, explanation, moment_of, with_after, Clock};
-ghost use Rattle.pie_c.specs.{rows_text, event_row, written_rows, part_rows, PieOpening, PieStats, PieState, WrittenEvent, opening_text, event_of_written};
+ghost use Rattle.pie_c.specs.{rows_text, event_row, written_rows, resumed_rows, PieOpening, PieStats, PieState, WrittenEvent, opening_text, event_of_written};
 ghost use Rattle.pie_c.specs.{written_text, opening_in, opening_of, opening_refusal, CanWait, is_snapshot, resume_of, resume_text, set_by_of};
-ghost use Rattle.pie_c.specs.{standing_in, waiting_text, held_in, is_sound, ExplainsCall};
+ghost use Rattle.pie_c.specs.{snapshot_in, waiting_text, held_in, is_sound, ExplainsCall};
 ghost use Rattle.pie_book.specs.History.{waiting_after};
 
 /// States that the writing calls produce the records of a history (this project's own).
@@ -15,7 +15,7 @@ ghost use Rattle.pie_book.specs.History.{waiting_after};
 ///   and by that of each event, is the records of an excerpt (`part`).
 ///
 /// If the events are legal, both texts are clean by the laws of pie_audit: `recorded_calls_are_clean` and
-/// `written_parts_are_told`. The body is empty: the contract is the law.
+/// `written_excerpts_are_read`. The body is empty: the contract is the law.
 #[tactic(auto, using(crate::proofs::WrittenFacts::whole_written, crate::proofs::WrittenFacts::part_written))]
 pub fn written_calls_are_records()
     ensures whole { (o : PieOpening) (events : List Event) (kept : List WrittenEvent) → opening_refusal o ≡ 0 → map event_of_written kept ≡ map Some events
@@ -25,7 +25,7 @@ pub fn written_calls_are_records()
         → map event_of_written kept ≡ map Some events
         → resume_text (resume_of o s t count set_by packets bytes)
         ++ (flat_map waiting_text (waiting_after (opening_in o) past) ++ flat_map written_text kept)
-        ≡ rows_text (part_rows (opening_in o) (standing_in s t count packets bytes) past (set_by_of set_by) (map event_row events)) }
+        ≡ rows_text (resumed_rows (opening_in o) (snapshot_in s t count packets bytes) past (set_by_of set_by) (map event_row events)) }
 {}
 
 /// States that the summing calls add to a period their event as pie_explain explains it. `ExplainsCall` holds for that

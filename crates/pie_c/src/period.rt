@@ -2,7 +2,7 @@
 ghost use Rattle.std.specs.Prelude.{◌≡◌, ◌==◌, [], List, if◌then◌else◌};
 ghost use Rattle.pie_c.specs.{moment_refusal, after_writing, count_written, every_refusal, Explained, LivePeriod, Holds, form_in, length_of};
 ghost use Rattle.pie_summary.specs.Period.{at_last};
-ghost use Rattle.pie_summary.specs.Summary.{header, said_of};
+ghost use Rattle.pie_summary.specs.Summary.{header, summary_text_of};
 
 use pie_abi::code::{BAD_MOMENT, DONE};
 use pie_abi::write_text;
@@ -54,9 +54,9 @@ pub extern "C" fn pie_period_clock(period: &mut LivePeriod, moment: u64, unix: u
 #[unsafe(no_mangle)]
 pub extern "C" fn pie_write_period(period: &LivePeriod, out: &mut [u8]) -> usize
     ensures count { (all : List Explained) → Holds period.now all
-        → result ≡ count_written (at_last (length_of period.now) (said_of (form_in period.now)) all) out.old }
+        → result ≡ count_written (at_last (length_of period.now) (summary_text_of (form_in period.now)) all) out.old }
     ensures bytes { (all : List Explained) → Holds period.now all
-        → out.new ≡ after_writing (at_last (length_of period.now) (said_of (form_in period.now)) all) out.old }
+        → out.new ≡ after_writing (at_last (length_of period.now) (summary_text_of (form_in period.now)) all) out.old }
 {
     let mut line = LongRow::new();
     period.put_record(&mut line);

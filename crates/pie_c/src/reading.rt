@@ -6,7 +6,7 @@
 ghost use Rattle.std.specs.Prelude.{◌≡◌};
 ghost use Rattle.pie_c.specs.{fault_number, read_code, read_or_kept};
 ghost use Rattle.pie_units.specs.declared.unit.Quantity.TheVariants.{Packets, Rate, Size, Time};
-ghost use Rattle.pie_units.specs.Written.{value_of};
+ghost use Rattle.pie_units.specs.Number.{value_of};
 
 use pie_abi::code::{DONE, NOT_A_NUMBER, TOO_GREAT, TOO_PRECISE};
 use pie_units::{Quantity, UnitFault, read};

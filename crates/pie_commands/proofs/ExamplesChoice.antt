@@ -8,7 +8,7 @@ use Rattle.pie_units.specs.declared.when.When.TheVariants.{Moment, Unix}
 use Rattle.pie_units.specs.Date.{day_number}
 use Rattle.pie_units.specs.Utc.{date_part, has_marks, nanos_in, seconds_part, unix_of, utc_in, utc_with}
 use Rattle.pie_units.specs.Scale.{is_word, time_scale}
-use Rattle.pie_units.specs.Written.{digit_count, number_after}
+use Rattle.pie_units.specs.Number.{digit_count, number_after}
 
 -- these events, at every moment
 abbrev at_all_moments : Which → Selection

@@ -4,7 +4,7 @@ use Rattle.std.proofs.lemmas.Bool.Decides.{nat_tests}
 use Rattle.pie_commands.proofs.Names.{◌≡◌, ◌∙◌, ◌+◌, ◌<◌, ℕ, List, [], ◌∷◌, ◌++◌, add-one, get_or, length, take, Bool, false, Option, Some}
 use Rattle.pie_commands.proofs.Names.{None, inl, inr, refl, ap, subst, ◌||◌, Appends, Appends-nil, Appends-trans, append-nil, map-append}
 use Rattle.pie_commands.proofs.Names.{flat_map, flat_map-append, list_any, Text, Joined, EndView, Fault, ReadsNamed, text_given, IfSome, Result, Ok, Err, FindsEither, JoinsText, records_of, sym, map, reads-given}
-use Rattle.pie_commands.proofs.Names.{AreTold, AuditsFiles, EndsFiles, TellsRead, TellsText, Told, is_broken, is_unfound, lines_of, told_lines, worst}
+use Rattle.pie_commands.proofs.Names.{HaveOutcomes, AuditsFiles, EndsFiles, HasReadOutcome, HasTextOutcome, FileOutcome, is_broken, is_unfound, lines_of, outcome_lines, worst}
 use Rattle.pie_commands.proofs.FileFacts.{IsLeft, left-stays, opens-left}
 use Rattle.pie_commands.specs.Files.{CanOpen, opens_after}
 use Rattle.pie_commands.specs.declared.file_audits.Unaudited.{Unaudited}
@@ -18,16 +18,16 @@ use Rattle.pie_record.specs.declared.fault.TraceFault.TheVariants as trace_fault
 pub tells-given : {R : Type 0} (works joined : Bool) (remaining : R → Option (List ℕ)) (first : R) (input : Option R)
     (files : Text → Option (List ℕ)) (earlier : List Text) (name : Text) (before : Option EndView) (told : Result Joined Unaudited)
     (after : Option EndView) → IsLeft first earlier input
-    → TellsRead joined ((works ≡ true) × CanOpen input (files name) name) (ReadsNamed remaining input files name) before told after
-    → TellsText joined ((works ≡ true) × (opens_after files earlier name ≡ true)) (text_given (remaining first) files (Some name)) before told after
+    → HasReadOutcome joined ((works ≡ true) × CanOpen input (files name) name) (ReadsNamed remaining input files name) before told after
+    → HasTextOutcome joined ((works ≡ true) × (opens_after files earlier name ≡ true)) (text_given (remaining first) files (Some name)) before told after
 tells-given {R} works joined remaining first input files earlier name before told after left tells = by joined told tells
   where
     is : (known : Option (List ℕ)) → ReadsNamed remaining input files name known → known ≡ text_given (remaining first) files (Some name)
     is known reads = reads-given remaining first input files name known (left-stays first earlier input left) reads
 
     by : (joined : Bool) (told : Result Joined Unaudited)
-        → TellsRead joined ((works ≡ true) × CanOpen input (files name) name) (ReadsNamed remaining input files name) before told after
-        → TellsText joined ((works ≡ true) × (opens_after files earlier name ≡ true)) (text_given (remaining first) files (Some name)) before told after
+        → HasReadOutcome joined ((works ≡ true) × CanOpen input (files name) name) (ReadsNamed remaining input files name) before told after
+        → HasTextOutcome joined ((works ≡ true) × (opens_after files earlier name ≡ true)) (text_given (remaining first) files (Some name)) before told after
     by joined (Err Unopened) tells = (λ opens. tells.0 (opens.0, opens-left first files earlier input name left opens.1), tells.1)
     by joined (Err (Faulty why)) tells =
         (subst (λ (k : Option (List ℕ)). IfSome k (λ text. FindsEither (records_of text) (Err why))) (is tells.0 tells.1) tells.2.0, tells.2.1)
@@ -42,28 +42,28 @@ any-more : {X : Type 0} (test : X → Bool) (xs : List X) (x : X) (before : Bool
 any-more test xs x before is = grind (arith, nat_tests, list_any-append)
 
 -- the lines of the files, with one more
-lines-more : (told : List Told) (one : Told) → flat_map told_lines (told ++ one ∷ []) ≡ flat_map told_lines told ++ told_lines one
+lines-more : (told : List FileOutcome) (one : FileOutcome) → flat_map outcome_lines (told ++ one ∷ []) ≡ flat_map outcome_lines told ++ outcome_lines one
 lines-more told one =
-    flat_map-append told_lines told (one ∷ []) ∙ ap (λ (line : List ℕ). flat_map told_lines told ++ line) (append-nil (told_lines one))
+    flat_map-append outcome_lines told (one ∷ []) ∙ ap (λ (line : List ℕ). flat_map outcome_lines told ++ line) (append-nil (outcome_lines one))
 
 -- one file more at the end
 told-more : (works joined : Bool) (input : Option (List ℕ)) (files : Text → Option (List ℕ)) (earlier : List Text) (before : Option EndView)
-    (told : List Told) (between : Option EndView) (one : Told) (after : Option EndView) → AreTold works joined input files earlier before told between
-    → TellsText joined ((works ≡ true) × (opens_after files (earlier ++ map (λ t. t.0) told) one.0 ≡ true)) (text_given input files (Some one.0)) between
+    (told : List FileOutcome) (between : Option EndView) (one : FileOutcome) (after : Option EndView) → HaveOutcomes works joined input files earlier before told between
+    → HasTextOutcome joined ((works ≡ true) × (opens_after files (earlier ++ map (λ t. t.0) told) one.0 ≡ true)) (text_given input files (Some one.0)) between
     one.1 after
-    → AreTold works joined input files earlier before (told ++ one ∷ []) after
+    → HaveOutcomes works joined input files earlier before (told ++ one ∷ []) after
 told-more works joined input files earlier before [] between one after told is =
-    let first : TellsText joined ((works ≡ true) × (opens_after files earlier one.0 ≡ true)) (text_given input files (Some one.0)) between one.1 after =
-    subst (λ (e : List Text). TellsText joined ((works ≡ true) × (opens_after files e one.0 ≡ true)) (text_given input files (Some one.0)) between one.1
+    let first : HasTextOutcome joined ((works ≡ true) × (opens_after files earlier one.0 ≡ true)) (text_given input files (Some one.0)) between one.1 after =
+    subst (λ (e : List Text). HasTextOutcome joined ((works ≡ true) × (opens_after files e one.0 ≡ true)) (text_given input files (Some one.0)) between one.1
     after) (append-nil earlier) is in
-    let here : TellsText joined ((works ≡ true) × (opens_after files earlier one.0 ≡ true)) (text_given input files (Some one.0)) before one.1 after =
-    subst (λ (e : Option EndView). TellsText joined ((works ≡ true) × (opens_after files earlier one.0 ≡ true)) (text_given input files (Some one.0)) e
+    let here : HasTextOutcome joined ((works ≡ true) × (opens_after files earlier one.0 ≡ true)) (text_given input files (Some one.0)) before one.1 after =
+    subst (λ (e : Option EndView). HasTextOutcome joined ((works ≡ true) × (opens_after files earlier one.0 ≡ true)) (text_given input files (Some one.0)) e
     one.1 after) told first in (after, here, refl)
 told-more works joined input files earlier before (first ∷ more) between one after told is = (
   told.0,
   told.1,
   told-more works joined input files (earlier ++ first.0 ∷ []) told.0 more between one after told.2
-      (subst (λ (e : List Text). TellsText joined ((works ≡ true) × (opens_after files e one.0 ≡ true)) (text_given input files (Some one.0)) between one.1
+      (subst (λ (e : List Text). HasTextOutcome joined ((works ≡ true) × (opens_after files e one.0 ≡ true)) (text_given input files (Some one.0)) between one.1
       after) (sym (append_assoc earlier (first.0 ∷ []) (map (λ t. t.0) more))) is),
 )
 
@@ -72,7 +72,7 @@ pub audits-none : (works joined : Bool) (input : Option (List ℕ)) (files : Tex
 audits-none works joined input files before = record {
   told = [];
   in_order = refl;
-  are_told = refl;
+  outcomes = refl;
   written = Appends-nil before;
   any_unfound = refl;
   any_broken = refl;
@@ -81,19 +81,19 @@ audits-none works joined input files before = record {
 pub audits-more : (works joined : Bool) (input : Option (List ℕ)) (files : Text → Option (List ℕ)) (names : List Text) (unfound broken : Bool)
     (end after : Option EndView) (before mid now : Option (List ℕ)) (name : Text) (told : Result Joined Unaudited)
     → AuditsFiles works joined input files names unfound broken end before mid
-    → TellsText joined ((works ≡ true) × (opens_after files names name ≡ true)) (text_given input files (Some name)) end told after
+    → HasTextOutcome joined ((works ≡ true) × (opens_after files names name ≡ true)) (text_given input files (Some name)) end told after
     → Appends mid now (lines_of name told)
     → AuditsFiles works joined input files (names ++ name ∷ []) (unfound || is_unfound told) (broken || is_broken told) after before now
 audits-more works joined input files names unfound broken end after before mid now name told audits tells written = record {
   told = audits.told ++ (name, told) ∷ [];
-  in_order = map-append (λ (t : Told). t.0) audits.told ((name, told) ∷ []) ∙ ap (λ (all : List Text). all ++ name ∷ []) audits.in_order;
-  are_told = told-more works joined input files [] None audits.told end (name, told) after audits.are_told
-      (subst (λ (e : List Text). TellsText joined ((works ≡ true) × (opens_after files e name ≡ true)) (text_given input files (Some name)) end told after)
+  in_order = map-append (λ (t : FileOutcome). t.0) audits.told ((name, told) ∷ []) ∙ ap (λ (all : List Text). all ++ name ∷ []) audits.in_order;
+  outcomes = told-more works joined input files [] None audits.told end (name, told) after audits.outcomes
+      (subst (λ (e : List Text). HasTextOutcome joined ((works ≡ true) × (opens_after files e name ≡ true)) (text_given input files (Some name)) end told after)
       (sym audits.in_order) tells);
-  written = rw (lines-more audits.told (name, told)) (Appends-trans before mid now (flat_map told_lines audits.told) (lines_of name told)
+  written = rw (lines-more audits.told (name, told)) (Appends-trans before mid now (flat_map outcome_lines audits.told) (lines_of name told)
       audits.written written);
-  any_unfound = any-more (λ (t : Told). is_unfound t.1) audits.told (name, told) unfound audits.any_unfound;
-  any_broken = any-more (λ (t : Told). is_broken t.1) audits.told (name, told) broken audits.any_broken;
+  any_unfound = any-more (λ (t : FileOutcome). is_unfound t.1) audits.told (name, told) unfound audits.any_unfound;
+  any_broken = any-more (λ (t : FileOutcome). is_broken t.1) audits.told (name, told) broken audits.any_broken;
 }
 
 -- the audits of the first names

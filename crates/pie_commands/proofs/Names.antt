@@ -13,14 +13,14 @@ pub use Rattle.clap.specs.Words.{App, HasMatchesOf, Text, app_of, found_of, kind
 pub use Rattle.pie_audit.specs.Text.{FindsEither}
 pub use Rattle.pie_commands.proofs.FileFacts.{reads-given}
 pub use Rattle.pie_commands.proofs.WordFacts.{name-found, options-in, same-word}
-pub use Rattle.pie_commands.specs.Choice.{tale_of, told_by, units_of}
+pub use Rattle.pie_commands.specs.Choice.{output_kind_of, output_text, units_of}
 unfoldable pub use Rattle.pie_commands.specs.Choice.{choice_of}
 pub use Rattle.pie_commands.specs.CutEnds.{CutsInto, CutsLast, around, between, cut_ends, end_of_cut, is_named, last_of}
 unfoldable pub use Rattle.pie_commands.specs.CutEnds.{wanted_of}
 pub use Rattle.pie_commands.specs.Ends.{EndsBy, Migrates, end_of, status_of}
 pub use Rattle.pie_commands.specs.ExplainEnds.{end_of_explain, explain_ends}
-pub use Rattle.pie_commands.specs.FileAudits.{AreTold, AuditsFiles, EndsEither, EndsFiles, TellsRead, TellsText, Told, is_broken, is_unfound}
-pub use Rattle.pie_commands.specs.FileAudits.{lines_of, told_lines, worst}
+pub use Rattle.pie_commands.specs.FileAudits.{HaveOutcomes, AuditsFiles, EndsEither, EndsFiles, HasReadOutcome, HasTextOutcome, FileOutcome, is_broken, is_unfound}
+pub use Rattle.pie_commands.specs.FileAudits.{lines_of, outcome_lines, worst}
 pub use Rattle.pie_commands.specs.Files.{Name, ReadsNamed, file_of, text_given}
 pub use Rattle.pie_commands.specs.Output.{Held, IsEmpty, Keeps, Places, Settles}
 pub use Rattle.pie_commands.specs.Outputs.{EndsAt, EndsIn, is_whole, settled}

@@ -5,7 +5,7 @@ use Rattle.std.proofs.lemmas.Bool.Decides.{nat_tests}
 use Rattle.pie_commands.proofs.Names.{◌≡◌, ◌∙◌, ℕ, List, [], ◌∷◌, Option, Some, Bool, true, subst, sym, IfErr, IfOk, Result, Ok, Err, option_map, App}
 use Rattle.pie_commands.proofs.Names.{HasMatchesOf, Text, kind_of, subcommand_name_of, subcommand_rows_of, takes, End, Unable, Failed, Audit, file_in}
 use Rattle.pie_commands.proofs.Names.{files_in, is_forced, is_joined, options_in, pie_app, subcommand_in, name-found, options-in, same-word, Joined}
-use Rattle.pie_commands.proofs.Names.{EndView, text_given, Held, Keeps, AreTold, Told, TellsText, EndsEither, EndsFiles, Answers, EndsAs, EndsTask}
+use Rattle.pie_commands.proofs.Names.{EndView, text_given, Held, Keeps, HaveOutcomes, FileOutcome, HasTextOutcome, EndsEither, EndsFiles, Answers, EndsAs, EndsTask}
 use Rattle.pie_commands.proofs.Names.{EndsTo, Finds, may_differ, output_for}
 use Rattle.pie_commands.proofs.Names.{FindsEither, JoinsText, records_of, list_any, not, ◌++◌, ap, refl, false, None, if◌then◌else◌, ◌&&◌}
 use Rattle.std.specs.Prelude.{is_some}
@@ -54,7 +54,7 @@ opens-kept old new earlier name keeps opens = go (is_dash name) (old name) refl 
 
 told-kept : (joined : Bool) (input : Option (List ℕ)) (old new : Held) → Keeps old new → (opens more : Type 0) → (opens → more) → (name : Text)
     (before : Option EndView) (told : Result Joined Unaudited) (after : Option EndView)
-    → TellsText joined more (text_given input new (Some name)) before told after → TellsText joined opens (text_given input old (Some name)) before told after
+    → HasTextOutcome joined more (text_given input new (Some name)) before told after → HasTextOutcome joined opens (text_given input old (Some name)) before told after
 told-kept joined input old new keeps opens more first name before (Err Unopened) after tells = (λ o. tells.0 (first o), tells.1)
 told-kept joined input old new keeps opens more first name before (Err (Faulty why)) after tells = (
   known-kept (text_given input old (Some name)) (text_given input new (Some name)) (λ text. FindsEither (records_of text) (Err why))
@@ -73,8 +73,8 @@ told-kept false input old new keeps opens more first name before (Ok told) after
 )
 
 all-kept : (works joined : Bool) (input : Option (List ℕ)) (old new : Held) → Keeps old new → (earlier : List Text) (before : Option EndView)
-    (told : List Told) (after : Option EndView) → AreTold works joined input new earlier before told after
-    → AreTold works joined input old earlier before told after
+    (told : List FileOutcome) (after : Option EndView) → HaveOutcomes works joined input new earlier before told after
+    → HaveOutcomes works joined input old earlier before told after
 all-kept works joined input old new keeps earlier before [] after told = told
 all-kept works joined input old new keeps earlier before (one ∷ more) after told = (
   told.0,

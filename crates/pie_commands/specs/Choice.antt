@@ -20,8 +20,8 @@ use Rattle.pie_units.specs.declared.when.WhenFault.{WhenFault}
 use Rattle.pie_explain.specs.Output.{pages}
 use Rattle.pie_summary.specs.ByFlow.{flows_whole}
 use Rattle.pie_summary.specs.Summary.{summary_of}
-use Rattle.pie_commands.specs.declared.explain.Tale.{Tale}
-use Rattle.pie_commands.specs.declared.explain.Tale.TheVariants.{Each, Flows, Sums}
+use Rattle.pie_commands.specs.declared.explain.OutputKind.{OutputKind}
+use Rattle.pie_commands.specs.declared.explain.OutputKind.TheVariants.{Each, Flows, Sums}
 
 -- ---- moments
 
@@ -110,16 +110,16 @@ form_of options = record { csv = flag_given (codes "csv") options; by_wall = fla
 
 -- the kind of output about the chosen events: each event; sums by flow; or summaries, with or without a digest of
 -- lost and marked packets. Sums and summaries cover all events or each interval
-abbrev pub tale_by : Bool → Bool → Option ℕ → Option ℕ → Form → Tale
-tale_by true packets (Some most) every form = Flows (record { form = form; every = every; most = most })
-tale_by true packets None every form = Sums (record { form = form; every = every; packets = packets })
-tale_by false packets flows every form = Each form
+abbrev pub output_kind_by : Bool → Bool → Option ℕ → Option ℕ → Form → OutputKind
+output_kind_by true packets (Some most) every form = Flows (record { form = form; every = every; most = most })
+output_kind_by true packets None every form = Sums (record { form = form; every = every; packets = packets })
+output_kind_by false packets flows every form = Each form
 
-abbrev pub tale_of : List Row → Tale
-tale_of options = tale_by (is_summary options) (is_digest options) (flows_of options) (every_of options) (form_of options)
+abbrev pub output_kind_of : List Row → OutputKind
+output_kind_of options = output_kind_by (is_summary options) (is_digest options) (flows_of options) (every_of options) (form_of options)
 
 -- the output of a kind for these explained events
-abbrev pub told_by : Tale → List Explained → List ℕ
-told_by (Each form) = pages form
-told_by (Sums summaries) = summary_of summaries
-told_by (Flows by_flow) = flows_whole by_flow
+abbrev pub output_text : OutputKind → List Explained → List ℕ
+output_text (Each form) = pages form
+output_text (Sums summaries) = summary_of summaries
+output_text (Flows by_flow) = flows_whole by_flow

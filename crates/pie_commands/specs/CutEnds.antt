@@ -6,11 +6,11 @@ use Rattle.std.specs.Str.{bytes_eq}
 use Rattle.clap.specs.Words.{Row, Text}
 use Rattle.pie_record.specs.declared.fault.TraceFault.{TraceFault}
 use Rattle.pie_record.specs.Text.{Row as Fields}
-use Rattle.pie_excerpt.specs.Beginning.{is_resumed}
+use Rattle.pie_excerpt.specs.Preamble.{is_resumed}
 use Rattle.pie_cut.specs.declared.fault.CutFault.{CutFault}
 use Rattle.pie_cut.specs.declared.fault.CutFault.TheVariants as fault
 use Rattle.pie_cut.specs.declared.span.Span.{Span}
-use Rattle.pie_cut.specs.Answer.{CutsEither, TextTold}
+use Rattle.pie_cut.specs.Answer.{CutsEither, HasTextResult}
 use Rattle.pie_cut.specs.Last.{LastEither}
 use Rattle.pie_cut.specs.Segment.{IsInSegments, every_answer}
 use Rattle.pie_units.specs.declared.when.When.{When}
@@ -82,7 +82,7 @@ end_of_cut (Err fault.NoEvents) = Failed
 -- into pieces of either kind
 abbrev pub CutsInto : Pieces → List Fields → Result ℕ CutFault → Option (List ℕ) → Option (List ℕ) → Type 0
 CutsInto (Part span) rows given before now = CutsEither span rows given before now
-CutsInto (Every every) rows given before now = TextTold every_answer (IsInSegments every) (is_resumed rows) rows given before now
+CutsInto (Every every) rows given before now = HasTextResult every_answer (IsInSegments every) (is_resumed rows) rows given before now
 
 -- a cut of the last `many` events, after a first pass found the number of the last event or a fault
 abbrev pub CutsUpTo : ℕ → Result ℕ TraceFault → List Fields → Result ℕ CutFault → Option (List ℕ) → Option (List ℕ) → Type 0

@@ -5,7 +5,7 @@ use Rattle.std.specs.Fmt.{decimal}
 use Rattle.std.specs.Io.KnownBytes.{Appends}
 use Rattle.pie_record.specs.declared.fault.TraceFault.{TraceFault}
 use Rattle.pie_record.specs.declared.fault.TraceFault.TheVariants as trace_fault
-use Rattle.pie_record.specs.Fault.{IsTold, is_device}
+use Rattle.pie_record.specs.Fault.{NoDeviceFailed, is_device}
 use Rattle.pie_trace.specs.declared.run.RunEnd.{RunEnd}
 use Rattle.pie_trace.specs.Migrate.{history_events, history_fault, migrated_text}
 use Rattle.pie_trace.specs.Resumed.{RunsEither}
@@ -28,8 +28,8 @@ is_unwritten (Fault trace_fault.Write) = true
 is_unwritten _ = false
 
 -- the exit status of the program: 141 if the writer failed because its reader is gone
-abbrev pub told_status : Bool → End → ℕ
-told_status closed end = if closed && is_unwritten end then 141 else status_of end
+abbrev pub end_status : Bool → End → ℕ
+end_status closed end = if closed && is_unwritten end then 141 else status_of end
 
 -- ---- any subcommand
 
@@ -70,15 +70,15 @@ end_found (finding.Differs event) = Differs
 
 -- the end of an audit with this result: at a fault nothing was written; otherwise the line of the finding was
 -- written, or the writer failed
-abbrev pub TellsFound : Result Finding TraceFault → End → Option (List ℕ) → Option (List ℕ) → Type 0
-TellsFound (Err why) end before now = (end ≡ Fault why) × (now ≡ before)
-TellsFound (Ok found) end before now = (end ≡ Fault trace_fault.Write) ⊎ ((end ≡ end_found found) × Appends before now (finding_line found))
+abbrev pub WritesFinding : Result Finding TraceFault → End → Option (List ℕ) → Option (List ℕ) → Type 0
+WritesFinding (Err why) end before now = (end ≡ Fault why) × (now ≡ before)
+WritesFinding (Ok found) end before now = (end ≡ Fault trace_fault.Write) ⊎ ((end ≡ end_found found) × Appends before now (finding_line found))
 
 -- the end of an audit of a history or an excerpt: the line of its finding is written, or the writer failed. If the
 -- text has a fault, the reader or memory failed, or the audit could not begin, nothing is written
 abbrev pub EndsAudit : Option (List ℕ) → End → Option (List ℕ) → Option (List ℕ) → Type 0
 EndsAudit known end before now = ((end ≡ Unable) × (now ≡ before))
-    ⊎ ((found : Result Finding TraceFault) × TellsFound found end before now × IfSome known (λ text. FindsEither (records_of text) found))
+    ⊎ ((found : Result Finding TraceFault) × WritesFinding found end before now × IfSome known (λ text. FindsEither (records_of text) found))
 
 -- ---- `pie migrate`
 
@@ -87,7 +87,7 @@ EndsAudit known end before now = ((end ≡ Unable) × (now ≡ before))
 abbrev pub Migrates : List Row → Result ℕ TraceFault → Option (List ℕ) → Option (List ℕ) → Type 0
 Migrates rows given before now = IfOk given (λ events. (history_fault (2 ^ 32) rows ≡ None) × (events ≡ history_events (2 ^ 32) rows))
     × IfErr given (λ why. is_device why ≡ false → history_fault (2 ^ 32) rows ≡ Some why)
-    × (IsTold given → Appends before now (migrated_text (2 ^ 32) rows))
+    × (NoDeviceFailed given → Appends before now (migrated_text (2 ^ 32) rows))
 
 abbrev pub EndsMigrate : Option (List ℕ) → End → Option (List ℕ) → Option (List ℕ) → Type 0
 EndsMigrate = EndsBy end_of Migrates

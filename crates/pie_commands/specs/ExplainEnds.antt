@@ -8,7 +8,7 @@ use Rattle.pie_explain.specs.declared.selection.Selection.{Selection}
 use Rattle.pie_explain.specs.Either.{ExplainsEither}
 use Rattle.pie_commands.specs.declared.end.End.{End}
 use Rattle.pie_commands.specs.declared.end.End.TheVariants.{Done, Differs, Fault, Failed}
-use Rattle.pie_commands.specs.Choice.{choice_of, tale_of, told_by}
+use Rattle.pie_commands.specs.Choice.{choice_of, output_kind_of, output_text}
 use Rattle.pie_commands.specs.Ends.{EndsBy, WritesNothing}
 
 -- the end of an explanation with this answer
@@ -27,4 +27,4 @@ explain_ends (Some choice) tale known = EndsBy end_of_explain (ExplainsEither ch
 
 -- the end of an explanation with the selection and the kind of output of these options
 abbrev pub EndsExplain : List Row → Option (List ℕ) → End → Option (List ℕ) → Option (List ℕ) → Type 0
-EndsExplain options = explain_ends (choice_of options) (told_by (tale_of options))
+EndsExplain options = explain_ends (choice_of options) (output_text (output_kind_of options))

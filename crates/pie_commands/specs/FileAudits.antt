@@ -43,11 +43,11 @@ lines_of name (Err why) = []
 lines_of name (Ok joined) = named_line name joined.finding ++ line_of_joint name joined.joint
 
 -- a file's name, with its finding and joint, or the reason why it was not audited
-abbrev pub Told : Type 0
-Told = Text × Result Joined Unaudited
+abbrev pub FileOutcome : Type 0
+FileOutcome = Text × Result Joined Unaudited
 
-abbrev pub told_lines : Told → List ℕ
-told_lines told = lines_of told.0 told.1
+abbrev pub outcome_lines : FileOutcome → List ℕ
+outcome_lines told = lines_of told.0 told.1
 
 -- ---- the status
 
@@ -84,34 +84,34 @@ worst false false = Done
 -- and how the text joins `before`; a text with a fault or a difference leaves no end. For separate files: the
 -- finding and no joint. There is no finding if the file could not be opened or read, if its text has a fault, and
 -- if memory is short
-abbrev pub TellsText : Bool → Type 0 → Option (List ℕ) → Option EndView → Result Joined Unaudited → Option EndView → Type 0
-TellsText joined opens known before (Err Unopened) after = (opens → ⊥) × (joined ≡ true → after ≡ None)
-TellsText joined opens known before (Err (Faulty why)) after =
+abbrev pub HasTextOutcome : Bool → Type 0 → Option (List ℕ) → Option EndView → Result Joined Unaudited → Option EndView → Type 0
+HasTextOutcome joined opens known before (Err Unopened) after = (opens → ⊥) × (joined ≡ true → after ≡ None)
+HasTextOutcome joined opens known before (Err (Faulty why)) after =
     IfSome known (λ text. FindsEither (records_of text) (Err why)) × (joined ≡ true → after ≡ None)
-TellsText true opens known before (Ok told) after = IsLeftBy told.finding after × IfSome known (λ text. JoinsText (records_of text) before told after)
-TellsText false opens known before (Ok told) after =
+HasTextOutcome true opens known before (Ok told) after = IsLeftBy told.finding after × IfSome known (λ text. JoinsText (records_of text) before told after)
+HasTextOutcome false opens known before (Ok told) after =
     (told.joint ≡ None) × IfSome known (λ text. FindsEither (records_of text) (Ok told.finding))
 
 -- the result of a text that was read by `reads`, or of a file that could not be opened
-abbrev pub TellsRead : Bool → Type 0 → (Option (List ℕ) → Type 0) → Option EndView → Result Joined Unaudited → Option EndView → Type 0
-TellsRead joined opens reads before (Err Unopened) after = (opens → ⊥) × (joined ≡ true → after ≡ None)
-TellsRead joined opens reads before told after = (known : Option (List ℕ)) × reads known × TellsText joined opens known before told after
+abbrev pub HasReadOutcome : Bool → Type 0 → (Option (List ℕ) → Type 0) → Option EndView → Result Joined Unaudited → Option EndView → Type 0
+HasReadOutcome joined opens reads before (Err Unopened) after = (opens → ⊥) × (joined ≡ true → after ≡ None)
+HasReadOutcome joined opens reads before told after = (known : Option (List ℕ)) × reads known × HasTextOutcome joined opens known before told after
 
 -- the results of one file after another, after files of the names `earlier`. If `works`, each file with a known
 -- text can be opened, and standard input once
-abbrev pub AreTold : Bool → Bool → Option (List ℕ) → (Text → Option (List ℕ)) → List Text → Option EndView → List Told → Option EndView → Type 0
-AreTold works joined input files earlier before [] after = after ≡ before
-AreTold works joined input files earlier before (told ∷ more) after = (between : Option EndView)
-    × TellsText joined ((works ≡ true) × (opens_after files earlier told.0 ≡ true)) (text_given input files (Some told.0)) before told.1 between
-    × AreTold works joined input files (earlier ++ told.0 ∷ []) between more after
+abbrev pub HaveOutcomes : Bool → Bool → Option (List ℕ) → (Text → Option (List ℕ)) → List Text → Option EndView → List FileOutcome → Option EndView → Type 0
+HaveOutcomes works joined input files earlier before [] after = after ≡ before
+HaveOutcomes works joined input files earlier before (told ∷ more) after = (between : Option EndView)
+    × HasTextOutcome joined ((works ≡ true) × (opens_after files earlier told.0 ≡ true)) (text_given input files (Some told.0)) before told.1 between
+    × HaveOutcomes works joined input files (earlier ++ told.0 ∷ []) between more after
 
 -- each of these files was audited in turn, and the lines of each were written; no end comes before the first
 pub record AuditsFiles (works joined : Bool) (input : Option (List ℕ)) (files : Text → Option (List ℕ)) (names : List Text) (unfound broken : Bool)
     (end : Option EndView) (before now : Option (List ℕ)) : Type 0 where
-  pub told : List Told
+  pub told : List FileOutcome
   pub in_order : map (λ t. t.0) told ≡ names
-  pub are_told : AreTold works joined input files [] None told end
-  pub written : Appends before now (flat_map told_lines told)
+  pub outcomes : HaveOutcomes works joined input files [] None told end
+  pub written : Appends before now (flat_map outcome_lines told)
   pub any_unfound : unfound ≡ list_any (λ t. is_unfound t.1) told
   pub any_broken : broken ≡ list_any (λ t. is_broken t.1) told
 

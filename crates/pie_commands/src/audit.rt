@@ -1,7 +1,7 @@
 //! `pie audit`: of one history, or of any number of files.
 ghost use Rattle.std.specs.Prelude.{◌≡◌, map};
 ghost use Rattle.clap.specs.Words.{found_of, rows_of};
-ghost use Rattle.pie_commands.specs.Ends.{TellsFound, end_found};
+ghost use Rattle.pie_commands.specs.Ends.{WritesFinding, end_found};
 ghost use Rattle.pie_commands.specs.FileAudits.{EndsEither};
 ghost use Rattle.pie_commands.specs.Words.{files_in, is_joined};
 
@@ -35,7 +35,7 @@ pub(crate) fn ended<W: Write, E: Write>(
     output: &mut W,
     errors: &mut E,
 ) -> End
-    ensures { TellsFound found result (W.contents output.old) (W.contents output.new) }
+    ensures { WritesFinding found result (W.contents output.old) (W.contents output.new) }
 {
     match found {
         Ok(found) => match write_finding(found, output) {

@@ -13,7 +13,7 @@ ghost use Rattle.pie_commands.specs.Ends.{EndsBy};
 use crate::end::{End, failed, faulted};
 use crate::faults::{fault, named_fault};
 use crate::files::NamedFiles;
-use crate::moments::{NO_ORDER, bound, in_order, said};
+use crate::moments::{NO_ORDER, bound, in_order, parsed};
 use crate::options::{file, number};
 use crate::screen::{Screen, shows_progress};
 use crate::tasks::{Task, of_options};
@@ -94,8 +94,8 @@ fn wanted_of<E: Write>(options: &ArgMatches<'_>, errors: &mut E) -> Option<Wante
     ensures chosen { result ≡ wanted_of (rows_of (found_of options.now)) }
     ensures some { IfSome result WantsSome }
 {
-    let from = said(bound(options, "from"), "from", errors)?;
-    let to = said(bound(options, "to"), "to", errors)?;
+    let from = parsed(bound(options, "from"), "from", errors)?;
+    let to = parsed(bound(options, "to"), "to", errors)?;
     if !in_order(from, to) {
         fault(errors, NO_ORDER);
         return None;

@@ -1,6 +1,6 @@
 //! The result of the program and its exit status.
 ghost use Rattle.std.specs.Prelude.{◌≡◌, false, true};
-ghost use Rattle.pie_commands.specs.Ends.{end_of, is_unwritten, status_of, told_status};
+ghost use Rattle.pie_commands.specs.Ends.{end_of, is_unwritten, status_of, end_status};
 ghost use Rattle.pie_commands.specs.Outputs.{is_whole, settled};
 
 use crate::faults::fault;
@@ -48,7 +48,7 @@ impl End {
     /// its reader is gone (`is_closed`), as with `head`, nothing is written and the status is 141. A shell gives this
     /// status to a program that SIGPIPE ended.
     pub fn told<E: Write>(self, is_closed: bool, errors: &mut E) -> u8
-        ensures status { result ≡ told_status is_closed self }
+        ensures status { result ≡ end_status is_closed self }
         ensures quiet { is_closed ≡ true → E.contents errors.new ≡ E.contents errors.old }
         ensures silent { is_unwritten self ≡ false → E.contents errors.new ≡ E.contents errors.old }
     {

@@ -3,12 +3,12 @@ ghost use Rattle.std.specs.Prelude.{◌≡◌, IfSome};
 ghost use Rattle.clap.specs.Words.{found_of, rows_of};
 ghost use Rattle.pie_record.specs.Text.{records_of};
 ghost use Rattle.pie_explain.specs.Either.{ExplainsEither};
-ghost use Rattle.pie_commands.specs.Choice.{choice_of, chosen, every_of, form_of, is_either, is_summary, lasts, tale_by, tale_of, told_by, which_of};
+ghost use Rattle.pie_commands.specs.Choice.{choice_of, chosen, every_of, form_of, is_either, is_summary, lasts, output_kind_by, output_kind_of, output_text, which_of};
 ghost use Rattle.pie_commands.specs.ExplainEnds.{EndsExplain, end_of_explain};
 
 use crate::end::{End, failed, faulted};
 use crate::faults::fault;
-use crate::moments::{NO_ORDER, bound, in_order, moment, said};
+use crate::moments::{NO_ORDER, bound, in_order, moment, parsed};
 use crate::options::{flag, number};
 use crate::watched::Watched;
 use clap::ArgMatches;
@@ -106,9 +106,9 @@ fn choice_of<E: Write>(options: &ArgMatches<'_>, errors: &mut E) -> Option<Selec
         fault(errors, NO_CHOICE);
         return None;
     };
-    let from = said(bound(options, "from"), "from", errors)?;
-    let to = said(bound(options, "to"), "to", errors)?;
-    let every = said(moment(options, "every"), "every", errors)?;
+    let from = parsed(bound(options, "from"), "from", errors)?;
+    let to = parsed(bound(options, "to"), "to", errors)?;
+    let every = parsed(moment(options, "every"), "every", errors)?;
     if !lasts(every) {
         fault(errors, NO_PERIOD);
         return None;
@@ -135,7 +135,7 @@ fn form_of(options: &ArgMatches<'_>) -> Form
 }
 
 /// The kind of output about the chosen events.
-pub(crate) enum Tale {
+pub(crate) enum OutputKind {
     /// Each of them.
     Each(Form),
     /// Summaries, of all or of each period, with what there is to say of lost and marked packets between them or without.
@@ -145,27 +145,33 @@ pub(crate) enum Tale {
 }
 
 /// Each event, or with these choices sums over them.
-fn tale_by(summary: bool, packets: bool, flows: Option<u64>, every: Option<u64>, form: Form) -> Tale
-    ensures { result ≡ tale_by summary packets flows every form }
+fn output_kind_by(
+    summary: bool,
+    packets: bool,
+    flows: Option<u64>,
+    every: Option<u64>,
+    form: Form,
+) -> OutputKind
+    ensures { result ≡ output_kind_by summary packets flows every form }
 {
     match (summary, flows) {
-        (true, Some(most)) => Tale::Flows(ByFlow { form, every, most }),
-        (true, None) => Tale::Sums(Summary {
+        (true, Some(most)) => OutputKind::Flows(ByFlow { form, every, most }),
+        (true, None) => OutputKind::Sums(Summary {
             form,
             every,
             packets,
         }),
-        (false, _) => Tale::Each(form),
+        (false, _) => OutputKind::Each(form),
     }
 }
 
 /// Returns the kind of output that these options request.
-fn tale_of(options: &ArgMatches<'_>) -> Tale
-    ensures { result ≡ tale_of (rows_of (found_of options.now)) }
+fn output_kind_of(options: &ArgMatches<'_>) -> OutputKind
+    ensures { result ≡ output_kind_of (rows_of (found_of options.now)) }
 {
     let (packets, flows) = (flag(options, "digest"), number(options, "flows"));
     let (every, form) = (every_of(options), form_of(options));
-    tale_by(is_summary(options), packets, flows, every, form)
+    output_kind_by(is_summary(options), packets, flows, every, form)
 }
 
 /// Writes what there is to say of the chosen events.
@@ -174,15 +180,17 @@ fn tell<R: Read + Drop, W: Write>(
     input: R,
     output: &mut W,
     choice: Selection,
-    tale: Tale,
+    tale: OutputKind,
 ) -> Result<u64, ExplainFault>
-    ensures { IfSome (R.remaining input) (λ text. ExplainsEither choice (told_by tale) (records_of text) result (W.contents output.old)
+    ensures { IfSome (R.remaining input) (λ text. ExplainsEither choice (output_text tale) (records_of text) result (W.contents output.old)
         (W.contents output.new)) }
 {
     match tale {
-        Tale::Each(form) => pie_explain::explain(alloc, input, output, choice, form),
-        Tale::Sums(summaries) => pie_explain::explain(alloc, input, output, choice, summaries),
-        Tale::Flows(by_flow) => pie_explain::explain(alloc, input, output, choice, by_flow),
+        OutputKind::Each(form) => pie_explain::explain(alloc, input, output, choice, form),
+        OutputKind::Sums(summaries) => pie_explain::explain(
+            alloc, input, output, choice, summaries,
+        ),
+        OutputKind::Flows(by_flow) => pie_explain::explain(alloc, input, output, choice, by_flow),
     }
 }
 
@@ -220,7 +228,7 @@ pub(crate) fn explain<H: Clock, R: Read + Drop, W: Write, E: Write>(
     match choice_of(options, errors) {
         Some(choice) => {
             let watched = Watched::new(input, &mut *errors, rt, is_shown);
-            let given = tell(alloc, watched, output, choice, tale_of(options));
+            let given = tell(alloc, watched, output, choice, output_kind_of(options));
             ended(errors, given)
         }
         None => End::Failed,

@@ -1,7 +1,7 @@
 //! `pie audit FILE..`: of files, each in turn; with `--joined` of those of one history, in its order.
 ghost use Rattle.std.specs.Prelude.{◌≡◌, ◌<◌, ◌||◌, [], Err, IfErr, IfOk, IfSome, None, Ok, OnErr, OnOk, get_or, length, map, true, ⊤};
 ghost use Rattle.std.specs.Io.KnownBytes.{Appends};
-ghost use Rattle.pie_commands.specs.FileAudits.{EndsFiles, TellsRead, TellsText, is_broken, is_unfound, line_of_joint, lines_of, named_line, worst};
+ghost use Rattle.pie_commands.specs.FileAudits.{EndsFiles, HasReadOutcome, HasTextOutcome, is_broken, is_unfound, line_of_joint, lines_of, named_line, worst};
 ghost use Rattle.pie_audit.specs.Text.{FindsEither};
 ghost use Rattle.pie_record.specs.Text.{records_of};
 ghost use Rattle.pie_commands.specs.Files.{CanOpen, ReadsNamed, left_for};
@@ -36,7 +36,7 @@ fn found_in<R: Read + Drop>(
     reader: R,
     end: &mut Option<TextEnd>,
 ) -> Result<Joined, TraceFault>
-    ensures told { IfOk result (λ joined. TellsText are_joined ⊤ (R.remaining reader) end.old (Ok joined) end.new) }
+    ensures told { IfOk result (λ joined. HasTextOutcome are_joined ⊤ (R.remaining reader) end.old (Ok joined) end.new) }
     ensures fault { IfSome (R.remaining reader) (λ text. IfErr result (λ why. FindsEither (records_of text) (Err why))) }
     ensures none { OnErr result (are_joined ≡ true → end.new ≡ None) }
 {
@@ -53,7 +53,7 @@ fn found_in<R: Read + Drop>(
 }
 
 /// Audits the file of this name. Returns why it was not audited, with a line on `errors`, if it can't be opened or read, or has a fault.
-fn told_named<H: NamedFiles + Clock, R: Read + Drop, E: Write>(
+fn outcome_of_named<H: NamedFiles + Clock, R: Read + Drop, E: Write>(
     rt: &H,
     alloc: Global,
     is_shown: bool,
@@ -63,7 +63,7 @@ fn told_named<H: NamedFiles + Clock, R: Read + Drop, E: Write>(
     end: &mut Option<TextEnd>,
     errors: &mut E,
 ) -> Result<Joined, Unaudited>
-    ensures told { TellsRead are_joined ((H.works ≡ true) × CanOpen input.old (H.holds rt.now name.now) name.now)
+    ensures told { HasReadOutcome are_joined ((H.works ≡ true) × CanOpen input.old (H.holds rt.now name.now) name.now)
         (ReadsNamed R.remaining input.old (H.holds rt.now) name.now) end.old result end.new }
     ensures input { input.new ≡ left_for name.now input.old }
 {
@@ -124,12 +124,12 @@ fn audit_named<H: NamedFiles + Clock, R: Read + Drop, W: Write, E: Write>(
     output: &mut W,
     errors: &mut E,
 ) -> io::Result<Result<Joined, Unaudited>>
-    ensures told { IfOk result (λ told. TellsRead are_joined ((H.works ≡ true) × CanOpen input.old (H.holds rt.now name.now) name.now)
+    ensures told { IfOk result (λ told. HasReadOutcome are_joined ((H.works ≡ true) × CanOpen input.old (H.holds rt.now name.now) name.now)
         (ReadsNamed R.remaining input.old (H.holds rt.now) name.now) end.old told end.new) }
     ensures written { IfOk result (λ told. Appends (W.contents output.old) (W.contents output.new) (lines_of name.now told)) }
     ensures input { input.new ≡ left_for name.now input.old }
 {
-    match told_named(rt, alloc, is_shown, are_joined, name, input, end, errors) {
+    match outcome_of_named(rt, alloc, is_shown, are_joined, name, input, end, errors) {
         Ok(joined) => {
             write_joined(name, joined, output)?;
             Ok(Ok(joined))

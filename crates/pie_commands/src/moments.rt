@@ -36,7 +36,7 @@ pub(crate) fn bound(options: &ArgMatches<'_>, name: &str) -> Result<Option<When>
 
 /// Returns the value that was read from the option `name`. If its text is not valid, writes a line to `errors` and
 /// returns `None`.
-pub(crate) fn said<T: Copy, F: Copy + Display, E: Write>(
+pub(crate) fn parsed<T: Copy, F: Copy + Display, E: Write>(
     read: Result<T, F>,
     name: &str,
     errors: &mut E,

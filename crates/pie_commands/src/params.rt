@@ -64,7 +64,7 @@ fn read_of<E: Write>(read: Result<u64, OptionFault>, name: &str, errors: &mut E)
 
 /// Returns the values of all options. If a text is not a valid number of its kind or names no choice, writes a line
 /// to `errors` and returns `None`.
-fn asked_in<E: Write>(options: &ArgMatches<'_>, errors: &mut E) -> Option<TuningOptions>
+fn tuning_in<E: Write>(options: &ArgMatches<'_>, errors: &mut E) -> Option<TuningOptions>
     ensures asked { IfSome result (AsksFor (rows_of (found_of options.now))) }
     ensures none { result ≡ None → (asked : TuningOptions) → AsksFor (rows_of (found_of options.now)) asked → ⊥ }
 {
@@ -94,7 +94,7 @@ fn asked_in<E: Write>(options: &ArgMatches<'_>, errors: &mut E) -> Option<Tuning
 }
 
 /// Says which gains are rounded.
-fn say_rounded<E: Write>(options: &ArgMatches<'_>, errors: &mut E) {
+fn report_rounded<E: Write>(options: &ArgMatches<'_>, errors: &mut E) {
     for name in ["alpha", "beta"] {
         if number(options, name).unwrap_or(0) % 2 == 1 {
             let _ = writeln!(
@@ -106,7 +106,7 @@ fn say_rounded<E: Write>(options: &ArgMatches<'_>, errors: &mut E) {
 }
 
 /// Says that the queue is full before it can wait for the target.
-fn say_short<E: Write>(asked: &TuningOptions, params: &RawParams, errors: &mut E) {
+fn report_short<E: Write>(asked: &TuningOptions, params: &RawParams, errors: &mut E) {
     if is_short(asked.rate, params) {
         let limit = params.limit_bytes;
         let _ = writeln!(
@@ -117,7 +117,7 @@ fn say_short<E: Write>(asked: &TuningOptions, params: &RawParams, errors: &mut E
 }
 
 /// Says that the departure rate's estimator can stall.
-fn say_stall<E: Write>(asked: &TuningOptions, params: &RawParams, errors: &mut E) {
+fn report_stall<E: Write>(asked: &TuningOptions, params: &RawParams, errors: &mut E) {
     if can_stall(asked, params) {
         let threshold = params.dq_threshold;
         let _ = writeln!(
@@ -135,7 +135,7 @@ pub(crate) fn params<W: Write, E: Write>(
 ) -> End
     ensures { EndsParams (rows_of (found_of options.now)) result (W.contents output.old) (W.contents output.new) }
 {
-    let Some(asked) = asked_in(options, errors) else {
+    let Some(asked) = tuning_in(options, errors) else {
         return End::Failed;
     };
     let params = match Params::check(params_for(&asked)) {
@@ -145,9 +145,9 @@ pub(crate) fn params<W: Write, E: Write>(
     if asked.packets == 0 || u64::from(Limits::MOST_PACKETS) < asked.packets {
         return failed(errors, "--limit is 1 to 1048576 packets");
     }
-    say_rounded(options, errors);
-    say_short(&asked, &params.raw(), errors);
-    say_stall(&asked, &params.raw(), errors);
+    report_rounded(options, errors);
+    report_short(&asked, &params.raw(), errors);
+    report_stall(&asked, &params.raw(), errors);
     let opening = opening_for(asked.packets as u32, elements_for(&asked), params);
     match write_opening(&opening, output) {
         Ok(()) => End::Done,

@@ -115,7 +115,7 @@ fn answer<H: Threads + Wait + Sync + NamedFiles + Screen, R: Read + Drop, W: Wri
         → Answers words H.works (R.remaining input) H.fresh (H.holds rt.old) (H.holds rt.new) result (W.contents output.old) (W.contents output.new) }
 {
     match found {
-        Ok(matches) => match asked_of(matches) {
+        Ok(matches) => match chosen_subcommand(matches) {
             Some((subcommand, options)) => {
                 performed(rt, alloc, subcommand, options, input, output, errors)
             }
@@ -126,7 +126,9 @@ fn answer<H: Threads + Wait + Sync + NamedFiles + Screen, R: Read + Drop, W: Wri
 }
 
 /// Returns the subcommand of the command line with its options, or `None` if there is no subcommand.
-fn asked_of<'a, 'b>(matches: &'b ArgMatches<'a>) -> Option<(Subcommand, &'b ArgMatches<'a>)>
+fn chosen_subcommand<'a, 'b>(
+    matches: &'b ArgMatches<'a>,
+) -> Option<(Subcommand, &'b ArgMatches<'a>)>
     ensures name { IfSome result (λ asked. Some (word_of asked.0) ≡ subcommand_name_of matches.now) }
     ensures rows { IfSome result (λ asked. Some (rows_of (found_of asked.1.now))
         ≡ option_map (λ (given : Text × List Row). given.1) (subcommand_rows_of matches.now)) }

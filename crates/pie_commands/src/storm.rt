@@ -119,7 +119,7 @@ pub(crate) fn make_storm<H: Threads + Wait + Clock + Sync, W: Write, E: Write>(
         Err(why) => return unable(errors, why),
     };
     let events = made.end.events.as_slice();
-    say_counts(options, events, errors);
+    report_counts(options, events, errors);
     let written = write_storm(alloc, &made.plan, events, output);
     drop(made);
     match written {
@@ -140,7 +140,7 @@ fn changes_of_caller(events: &[Event]) -> u64 {
 }
 
 /// Says on `errors` how many events there are, and how many changes of caller, where the options ask for it. A failed write is passed over.
-fn say_counts<E: Write>(options: &ArgMatches<'_>, events: &[Event], errors: &mut E) {
+fn report_counts<E: Write>(options: &ArgMatches<'_>, events: &[Event], errors: &mut E) {
     if flag(options, "count") {
         let (count, changes) = (events.len(), changes_of_caller(events));
         let _ = writeln!(errors, "pie: {count} events, {changes} changes of caller");

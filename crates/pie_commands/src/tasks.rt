@@ -42,7 +42,7 @@ fn write_counts<E: Write>(end: &RunEnd, errors: &mut E) -> io::Result<()>
 }
 
 /// Says on `errors` how many events and refused records a run without a fault had, where the options ask for it. A failed write is passed over.
-fn say_counts<E: Write>(
+fn report_counts<E: Write>(
     options: &ArgMatches<'_>,
     given: &Result<RunEnd, TraceFault>,
     errors: &mut E,
@@ -73,7 +73,7 @@ pub(crate) fn perform_over<H: Clock, R: Read + Drop, W: Write, E: Write>(
         Task::Run => {
             let watched = Watched::new(input, &mut *errors, rt, is_shown);
             let given = run_trace(alloc, watched, output);
-            say_counts(options, &given, errors);
+            report_counts(options, &given, errors);
             ended(errors, given)
         }
         Task::Audit => {

@@ -6,7 +6,7 @@ use Rattle.std.proofs.lemmas.Bool.Decides.{nat_tests}
 use Rattle.pie_params.specs.declared.raw.RawParams.{RawParams}
 use Rattle.pie_params.specs.declared.elements.Elements.{Elements}
 use Rattle.pie_control.specs.{ControlEvent, updated, idled, reset, Update, update_at, updates_after_reset, probability, last_delay, last_moment}
-use Rattle.pie_control.specs.{granted_burst, burst_allowance, burst_after, ends_calm, is_calm, updates_after_refill, burst_after_refill, Shows, next}
+use Rattle.pie_control.specs.{granted_burst, burst_allowance, burst_after, ends_calm, is_calm, updates_after_refill, burst_after_refill, Represents, next}
 use Rattle.pie_control.specs.Parts.{Parts}
 
 -- the event added at the end is the first of the reversed list
@@ -40,7 +40,7 @@ pub burst_granted : (opening : RawParams) (events : List ControlEvent)
 unfolding burst_allowance
 burst_granted opening events = omega arith
 
-module _ (opening : RawParams) (start : ℕ) (events : List ControlEvent) (before after : Parts) (shows : Shows opening start events before) where
+module _ (opening : RawParams) (start : ℕ) (events : List ControlEvent) (before after : Parts) (shows : Represents opening start events before) where
   pub represents_updated : (params : RawParams) (elements : Elements) (delay moment : ℕ)
       → after ≡ record {
         prob = next elements params before.prob delay before.old_delay;
@@ -48,7 +48,7 @@ module _ (opening : RawParams) (start : ℕ) (events : List ControlEvent) (befor
         burst = burst_after elements params before delay;
         last = moment;
       }
-      → Shows opening start (events ++ update_at params elements delay moment ∷ []) after
+      → Represents opening start (events ++ update_at params elements delay moment ∷ []) after
   unfolding probability last_delay last_moment
   represents_updated params elements delay moment is = record {
     prob = rw (is, reversed events (update_at params elements delay moment), shows.prob, shows.old_delay) refl;
@@ -58,7 +58,7 @@ module _ (opening : RawParams) (start : ℕ) (events : List ControlEvent) (befor
   }
 
   -- an idle update changes only the last moment
-  pub represents_idled : (moment : ℕ) → after ≡ record before { last = moment } → Shows opening start (events ++ idled moment ∷ []) after
+  pub represents_idled : (moment : ℕ) → after ≡ record before { last = moment } → Represents opening start (events ++ idled moment ∷ []) after
   unfolding probability last_delay last_moment burst_allowance granted_burst
   represents_idled moment is = record {
     prob = rw (is, reversed events (idled moment)) shows.prob;
@@ -68,7 +68,7 @@ module _ (opening : RawParams) (start : ℕ) (events : List ControlEvent) (befor
   }
 
   pub represents_reset : (params : RawParams) → after ≡ record before { prob = 0; old_delay = 0; burst = params.max_burst }
-      → Shows opening start (events ++ reset params ∷ []) after
+      → Represents opening start (events ++ reset params ∷ []) after
   unfolding probability last_delay last_moment burst_allowance granted_burst
   represents_reset params is = record {
     prob = rw (is, reversed events (reset params)) refl;

@@ -76,7 +76,7 @@ is_calm_after events params elements delay =
 
 -- the abstraction relation: the state of a controller that was opened with these parameters at the moment `start` and
 -- then received these events
-pub record Shows (opening : RawParams) (start : ℕ) (events : List ControlEvent) (parts : Parts) : Type 0 where
+pub record Represents (opening : RawParams) (start : ℕ) (events : List ControlEvent) (parts : Parts) : Type 0 where
   pub prob : parts.prob ≡ probability events
   pub old_delay : parts.old_delay ≡ last_delay events
   pub burst : parts.burst ≡ burst_allowance opening events

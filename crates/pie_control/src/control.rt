@@ -1,7 +1,7 @@
 ghost use Rattle.std.specs.Prelude.{◌≡◌, ℕ, ◌^◌, ◌≤◌, List, [], ◌∷◌, ◌++◌, if◌then◌else◌};
 ghost use Rattle.pie_params.specs.declared.raw.RawParams.{RawParams};
 ghost use Rattle.pie_control.specs.declared.update.TheConstants.{MAX_DELAY};
-ghost use Rattle.pie_control.specs.{ControlEvent, idled, reset, update_at, Shows, burst_after, ends_calm, granted_burst, is_calm_after, next};
+ghost use Rattle.pie_control.specs.{ControlEvent, idled, reset, update_at, Represents, burst_after, ends_calm, granted_burst, is_calm_after, next};
 
 use crate::raw::RawControl;
 use pie_fixed::{Nanos, Prob};
@@ -34,7 +34,7 @@ impl Control {
         ensures old { result.old_delay ≡ 0 }
         ensures burst { result.burst ≡ params.now.max_burst }
         ensures last { result.last ≡ moment }
-        ensures shows { Shows params.now moment [] result }
+        ensures represents { Represents params.now moment [] result }
     {
         Control {
             raw: RawControl::opened(params.max_burst().units(), moment.units()),
@@ -78,11 +78,11 @@ impl Control {
         ensures old { self.new.old_delay ≡ delay }
         ensures burst { self.new.burst ≡ burst_after elements params.now self.old delay }
         ensures last { self.new.last ≡ moment }
-        ensures shows { (opening : RawParams) (start : ℕ) (events : List ControlEvent) →
-            Shows opening start events self.old →
-            Shows opening start (events ++ update_at params.now elements delay moment ∷ []) self.new }
+        ensures represents { (opening : RawParams) (start : ℕ) (events : List ControlEvent) →
+            Represents opening start events self.old →
+            Represents opening start (events ++ update_at params.now elements delay moment ∷ []) self.new }
         ensures look_back { (opening : RawParams) (start : ℕ) (events : List ControlEvent) →
-            Shows opening start events self.old → result ≡ is_calm_after events params.now elements delay }
+            Represents opening start events self.old → result ≡ is_calm_after events params.now elements delay }
     {
         self.raw
             .update(&params.raw(), elements, delay, moment.units())
@@ -92,9 +92,9 @@ impl Control {
     /// project's own).
     pub fn idle(&mut self, moment: Nanos)
         ensures after { self.new ≡ record self.old { last = moment } }
-        ensures shows { (opening : RawParams) (start : ℕ) (events : List ControlEvent) →
-            Shows opening start events self.old →
-            Shows opening start (events ++ idled moment ∷ []) self.new }
+        ensures represents { (opening : RawParams) (start : ℕ) (events : List ControlEvent) →
+            Represents opening start events self.old →
+            Represents opening start (events ++ idled moment ∷ []) self.new }
     {
         self.raw.idle(moment.units());
     }
@@ -106,9 +106,9 @@ impl Control {
         ensures old { self.new.old_delay ≡ 0 }
         ensures burst { self.new.burst ≡ params.now.max_burst }
         ensures last { self.new.last ≡ self.old.last }
-        ensures shows { (opening : RawParams) (start : ℕ) (events : List ControlEvent) →
-            Shows opening start events self.old →
-            Shows opening start (events ++ reset params.now ∷ []) self.new }
+        ensures represents { (opening : RawParams) (start : ℕ) (events : List ControlEvent) →
+            Represents opening start events self.old →
+            Represents opening start (events ++ reset params.now ∷ []) self.new }
     {
         self.raw.reset(params.max_burst().units());
     }
@@ -137,7 +137,7 @@ impl Control {
 
         // at most the `max_burst` in force when the allowance was last set to it
         ensures granted { (opening : RawParams) (start : ℕ) (events : List ControlEvent) →
-            Shows opening start events self.now → self.now.burst ≤ granted_burst opening events }
+            Represents opening start events self.now → self.now.burst ≤ granted_burst opening events }
     {
         self.raw.burst
     }

@@ -4,7 +4,7 @@ use Rattle.pie_record.specs.Field.{number}
 use Rattle.pie_event.specs.declared.opening.Opening.{Opening}
 use Rattle.pie_units.specs.declared.when.When.{When}
 use Rattle.pie_units.specs.declared.when.When.TheVariants.{Moment, Unix}
-use Rattle.pie_cut.specs.declared.span.Met.{Met}
+use Rattle.pie_cut.specs.declared.span.Position.{Position}
 use Rattle.pie_cut.specs.declared.span.Span.{Span}
 use Rattle.pie_cut.specs.Segment.{segment}
 use Rattle.pie_cut.specs.Excerpt.{is_past, is_reached}
@@ -30,7 +30,7 @@ abbrev at_times : ℕ → ℕ → Span
 at_times from to = within (Some (Unix from)) (Some (Unix to))
 
 -- an event with this number, this moment, and this time of day or none
-abbrev met : ℕ → ℕ → Option ℕ → Met
+abbrev met : ℕ → ℕ → Option ℕ → Position
 met number moment time = record { number = number; moment = moment; time = time }
 
 -- a text after 100 events: event 100 is not in it, 101 is the first selected event, 103 the last, and 104 is after

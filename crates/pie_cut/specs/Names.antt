@@ -12,26 +12,26 @@ pub use Rattle.pie_audit.specs.Origin.{Origin, at_core, at_opening, count_after,
 unfoldable pub use Rattle.pie_book.specs.Core.{core_along}
 pub use Rattle.pie_audit.specs.Following.{Follows, next_number}
 pub use Rattle.pie_audit.specs.Setters.{setter_in}
-pub use Rattle.pie_audit.specs.Start.{Start, from_opening, setter_told, start_after}
+pub use Rattle.pie_audit.specs.Start.{Start, from_opening, setter_from_start, start_after}
 pub use Rattle.pie_audit.specs.Text.{FindsEither, IsFound, whole_finding}
 unfoldable pub use Rattle.pie_audit.specs.Text.{excerpt_lines}
-pub use Rattle.pie_audit.specs.Told.{BeginningsTell, BeginsAt, StandsAt, TextToldBy, coming_by, fault_by, whole_lines}
+pub use Rattle.pie_audit.specs.Preambles.{PreamblesDetermine, BeginsAt, BeginsAtCore, TextToldBy, coming_by, fault_by, whole_lines}
 pub use Rattle.pie_audit.specs.declared.auditor.Finding.{Finding}
 pub use Rattle.pie_audit.specs.declared.auditor.Finding.TheVariants.{Clean, Differs}
-pub use Rattle.pie_book.specs.Core.{CoreView, Shows}
+pub use Rattle.pie_book.specs.Core.{CoreView, Represents}
 pub use Rattle.pie_book.specs.Decision.{IsLegal}
 unfoldable pub use Rattle.pie_book.specs.History.{waiting_after}
-pub use Rattle.pie_book.specs.declared.standing.Standing.{Standing}
+pub use Rattle.pie_book.specs.declared.snapshot.CoreSnapshot.{CoreSnapshot}
 pub use Rattle.pie_event.specs.Opening.{are_in_range, opening_refusal}
 pub use Rattle.pie_event.specs.declared.command.Event.{Event}
 pub use Rattle.pie_event.specs.declared.opening.Limits.{Limits}
 pub use Rattle.pie_event.specs.declared.opening.Opening.{Opening}
 pub use Rattle.pie_event.specs.declared.setter.Setter.{Setter}
-pub use Rattle.pie_excerpt.specs.Beginning.{GoesOn, is_resumed}
+pub use Rattle.pie_excerpt.specs.Preamble.{Resumes, is_resumed}
 pub use Rattle.pie_excerpt.specs.Fits.{WaitingFits}
 pub use Rattle.pie_excerpt.specs.Rows.{queued_row}
 unfoldable pub use Rattle.pie_excerpt.specs.Rows.{resume_row}
-pub use Rattle.pie_excerpt.specs.Written.{IsWritten, part_rows, resume_with}
+pub use Rattle.pie_excerpt.specs.Written.{IsWritten, resumed_rows, resume_with}
 pub use Rattle.pie_queue.specs.declared.packet.Waiting.{Waiting}
 pub use Rattle.pie_record.specs.Fault.{is_device}
 pub use Rattle.pie_record.specs.HistoryLines.{Coming, events_in, history_lines, latest_clock}

@@ -10,11 +10,11 @@
 
 mod alike;
 mod cutter;
+mod excerpt_writer;
 pub mod fault;
 pub mod joined;
 mod last;
 mod law;
-mod part;
 mod segments;
 pub mod span;
 
@@ -22,6 +22,6 @@ pub use cutter::cut;
 pub use fault::CutFault;
 pub use joined::{Joined, Joint, TextEnd, audit_joined, texts_that_follow_are_one_history};
 pub use last::last_number;
-pub use law::{cuts_are_found_as_the_whole, segments_come_to_the_whole, texts_that_go_on_follow};
+pub use law::{cuts_are_found_as_the_whole, resumed_texts_follow, segments_combine_to_the_whole};
 pub use segments::cut_every;
 pub use span::Span;

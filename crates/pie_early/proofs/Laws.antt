@@ -1,6 +1,6 @@
 -- The change of the accumulated probability when an event is added at the end of the list.
 use Rattle.pie_early.proofs.Names.{◌≡◌, ℕ, ◌+◌, ◌*◌, ◌<◌, Bool, true, false, cond, List, [], ◌∷◌, ◌++◌, refl, sym, ap, ◌∙◌, arith, if◌then◌else◌}
-use Rattle.pie_early.proofs.Names.{ne_eqb, Derandomized, Enqueue, EarlyEvent, arrival, accumulated, Shows, ◌≤◌, nat_tests, RawParams, Picking}
+use Rattle.pie_early.proofs.Names.{ne_eqb, Derandomized, Enqueue, EarlyEvent, arrival, accumulated, Represents, ◌≤◌, nat_tests, RawParams, Picking}
 use Rattle.pie_early.proofs.Names.{accumulates, cleared, Parts, Ecn, Choice, always_picked, is_considered, is_picked, picked_choice, accu_at}
 use Rattle.pie_early.proofs.Names.{choice_at, Elements, name_of, place_of_cause, Offered, fate_of, counted}
 use Rattle.std.proofs.Common.{zero, suc, ◌-◌, not, length, drop, filter, replicate, add-one, append_assoc, ◌↔◌, ◌&&◌, ◌/◌}
@@ -72,7 +72,7 @@ accumulated-run before clearing (suc n) prob e some =
 abbrev pub accu_next : ℕ → EarlyEvent → ℕ
 accu_next held event = if is_clearing event then 0 else if joins event then held + prob_of event else held
 
-pub represents-next : (events : List EarlyEvent) (held : ℕ) (event : EarlyEvent) → Shows events held → Shows (events ++ event ∷ []) (accu_next held event)
+pub represents-next : (events : List EarlyEvent) (held : ℕ) (event : EarlyEvent) → Represents events held → Represents (events ++ event ∷ []) (accu_next held event)
 represents-next events held event shown = by (is_clearing event) refl
   where
     by : (clears : Bool) → is_clearing event ≡ clears
@@ -141,8 +141,8 @@ arrival-is picking params control prob bytes word held ecn =
     (grind (arith, nat_tests))
 
 pub represents_arrival : (picking : Picking) (params : RawParams) (control : Parts) (prob bytes word held : ℕ) (events : List EarlyEvent) (ecn : Ecn)
-    → Shows events held
-    → Shows (events ++ arrival (is_considered params control bytes) prob picking (choice_at picking params control prob bytes ecn word held) ∷ [])
+    → Represents events held
+    → Represents (events ++ arrival (is_considered params control bytes) prob picking (choice_at picking params control prob bytes ecn word held) ∷ [])
     (accu_at picking params control prob bytes word held)
 represents_arrival picking params control prob bytes word held events ecn shown =
     arrival-is picking params control prob bytes word held ecn
@@ -150,7 +150,7 @@ represents_arrival picking params control prob bytes word held events ecn shown 
     shown
 
 -- the look-back after a clear
-pub represents_cleared : (events : List EarlyEvent) (held : ℕ) → held ≡ 0 → Shows (events ++ cleared ∷ []) held
+pub represents_cleared : (events : List EarlyEvent) (held : ℕ) → held ≡ 0 → Represents (events ++ cleared ∷ []) held
 represents_cleared events held is = is ∙ sym (accumulated-clearing events cleared refl)
 
 -- ---- The cause of a considered arrival, and the verdict of a choice that depends on a test

@@ -8,7 +8,7 @@ pub use Rattle.pie_early.specs.Cause.{fate_of}
 pub use Rattle.pie_early.specs.Decision.{a_fifth, accu_after, accu_at, always_picked, choice_at, choice_of, counted, never_picked, picked_choice}
 unfoldable pub use Rattle.pie_early.specs.Decision.{is_considered, is_picked}
 pub use Rattle.pie_early.specs.Events.{EarlyEvent, arrival, cleared}
-pub use Rattle.pie_early.specs.History.{Shows}
+pub use Rattle.pie_early.specs.History.{Represents}
 unfoldable pub use Rattle.pie_early.specs.History.{accumulated}
 pub use Rattle.pie_early.specs.declared.decision.Offered.{Offered}
 pub use Rattle.pie_early.specs.declared.early.Choice.{Choice}

@@ -8,5 +8,5 @@ unfoldable pub accumulated : List EarlyEvent → ℕ
 accumulated events = sum_by prob_of (filter joins (after_last is_clearing events))
 
 -- the abstraction relation: the accumulated probability after these events
-abbrev pub Shows : List EarlyEvent → ℕ → Type 0
-Shows events held = held ≡ accumulated events
+abbrev pub Represents : List EarlyEvent → ℕ → Type 0
+Represents events held = held ≡ accumulated events

@@ -3,7 +3,7 @@ ghost use Rattle.pie_fixed.specs.declared.TheConstants.{ALWAYS_PICKED};
 ghost use Rattle.pie_params.specs.declared.elements.Picking.TheVariants.{Derandomized};
 ghost use Rattle.pie_early.specs.Decision.{accu_after, choice_of, counted, is_considered, is_pick, IsPicked};
 ghost use Rattle.pie_early.specs.Events.{EarlyEvent, arrival, cleared, is_clearing};
-ghost use Rattle.pie_early.specs.History.{Shows, accumulated};
+ghost use Rattle.pie_early.specs.History.{Represents, accumulated};
 
 use crate::decision::{Offered, decide};
 use pie_control::Control;
@@ -56,7 +56,7 @@ impl Early {
     #[tactic(auto, unfolding(crate::specs::History::accumulated))]
     pub fn opened() -> Self
         ensures value { result ≡ 0 }
-        ensures shows { Shows [] result }
+        ensures represents { Represents [] result }
     {
         Early { accu: 0 }
     }
@@ -98,12 +98,12 @@ impl Early {
 
         // the look-back over all inputs
         ensures look_back { (events : List EarlyEvent) →
-            Shows events self.old →
+            Represents events self.old →
             result ≡ choice_of elements params.now control.now offered (accumulated events) }
-        ensures shows { (events : List EarlyEvent) →
+        ensures represents { (events : List EarlyEvent) →
             let considered = is_considered params.now control.now offered.bytes in
-            Shows events self.old →
-            Shows (events ++ arrival considered (counted elements params.now control.now offered) elements.picking result ∷ []) self.new }
+            Represents events self.old →
+            Represents (events ++ arrival considered (counted elements params.now control.now offered) elements.picking result ∷ []) self.new }
 
         // if probabilities accumulate, the accumulated one grows between two picks by the probability at each arrival
         // that is considered at a probability above 0
@@ -122,8 +122,8 @@ impl Early {
     #[tactic(auto, using(crate::proofs::Laws::represents_cleared))]
     pub fn clear(&mut self)
         ensures value { self.new ≡ 0 }
-        ensures shows { (events : List EarlyEvent) →
-            Shows events self.old → Shows (events ++ cleared ∷ []) self.new }
+        ensures represents { (events : List EarlyEvent) →
+            Represents events self.old → Represents (events ++ cleared ∷ []) self.new }
     {
         self.accu = 0;
     }
@@ -133,14 +133,14 @@ impl Early {
         ensures value { result ≡ self.now }
         ensures bound { result < ALWAYS_PICKED }
         ensures look_back { (events : List EarlyEvent) →
-            Shows events self.now → result ≡ accumulated events }
+            Represents events self.now → result ≡ accumulated events }
 
         // after a clearing event and n queued arrivals, each considered at one probability above 0 that accumulates, it
         // is n times this probability
         ensures run { (before : List EarlyEvent) (clearing : EarlyEvent) (n prob : ℕ) →
             IsTrue (is_clearing clearing) →
             0 < prob →
-            Shows (before ++ clearing ∷ replicate n (arrival true prob Derandomized Choice.Enqueue)) self.now →
+            Represents (before ++ clearing ∷ replicate n (arrival true prob Derandomized Choice.Enqueue)) self.now →
             result ≡ n * prob }
     {
         Accu::of_units(self.accu)

@@ -6,7 +6,7 @@ use Rattle.pie_event.specs.declared.setter.Setter.TheVariants as setter
 -- the setter from the number in a preamble: unknown without a number, the opening for 0, otherwise the event with this
 -- number
 abbrev pub setter_from : Option ℕ → Setter
-setter_from None = setter.Untold
+setter_from None = setter.Unknown
 setter_from (Some number) = if number == 0 then setter.Opening else setter.Event number
 
 -- the number of the event that set the probability, if it is known and there is one

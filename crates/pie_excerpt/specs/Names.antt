@@ -6,11 +6,11 @@ pub use Rattle.std.specs.Prelude.{All, Bool, Err, IfErr, IfOk, IfSome, List, Non
 pub use Rattle.std.specs.Prelude.{map, nat_le, option_map, suc, take, true, zero, ℕ, ⊤}
 unfoldable pub use Rattle.csv.specs.Records.{field_at}
 pub use Rattle.csv.specs.Writing.{needs_quotes}
-pub use Rattle.pie_book.specs.Core.{CoreView, Shows}
+pub use Rattle.pie_book.specs.Core.{CoreView, Represents}
 pub use Rattle.pie_book.specs.Excerpt.{ExcerptView}
 unfoldable pub use Rattle.pie_book.specs.History.{waiting_after}
-pub use Rattle.pie_book.specs.Standing.{MayOpen, ResumingView, StandsFor, begun_with, core_of, end_refusal, queue_refusal, resume_refusal, with_packet}
-pub use Rattle.pie_book.specs.declared.standing.Standing.{Standing}
+pub use Rattle.pie_book.specs.Snapshot.{MayOpen, ResumingView, SnapshotRepresents, begun_with, core_of, end_refusal, queue_refusal, resume_refusal, with_packet}
+pub use Rattle.pie_book.specs.declared.snapshot.CoreSnapshot.{CoreSnapshot}
 pub use Rattle.pie_event.specs.Opening.{opening_refusal}
 pub use Rattle.pie_event.specs.Ranges.{CommandFits, StatsFit}
 pub use Rattle.pie_event.specs.declared.{command.Event.Event, opening.Choices.Choices, opening.Opening.Opening, resume_refusal.EndRefusal.EndRefusal}

@@ -64,16 +64,16 @@ fn stats_fit(s: Stats)
 pub fn resume_fits(resume: Resume)
     ensures { ResumeFits resume }
 {
-    let standing = resume.standing;
-    let c = standing.controller;
+    let snapshot = resume.snapshot;
+    let c = snapshot.controller;
     nine_fit(resume.params);
     nine_fit(c.params);
     setter_fits(resume.set_by);
     cycle_fits(c.rate.begun);
-    stats_fit(standing.stats);
+    stats_fit(snapshot.stats);
     let limits = resume.limits;
     let _ = (resume.opened, limits.packets, limits.tail, limits.events);
-    let _ = (standing.count, standing.packets, standing.bytes);
+    let _ = (snapshot.count, snapshot.packets, snapshot.bytes);
     let _ = (c.moment, c.control.prob, c.control.old_delay, c.accu);
     let _ = (c.control.burst, c.control.last, c.rate.average, c.waited);
 }

@@ -1,9 +1,9 @@
 //! The laws of reading back.
 ghost use Rattle.std.specs.Prelude.{◌≡◌, ◌∷◌, ◌++◌};
-ghost use Rattle.pie_excerpt.specs.{ℕ, All, List, Ok, Option, map, take, true, CommandFits, Event, Opening, waiting_after, Standing, Waiting};
-ghost use Rattle.pie_excerpt.specs.{HasField, Row, records_of, rows_text, BeginsWell, GoesOn, is_resumed, resumed_of, ResumeFits, WaitingFits};
+ghost use Rattle.pie_excerpt.specs.{ℕ, All, List, Ok, Option, map, take, true, CommandFits, Event, Opening, waiting_after, CoreSnapshot, Waiting};
+ghost use Rattle.pie_excerpt.specs.{HasField, Row, records_of, rows_text, HasPreamble, Resumes, is_resumed, resumed_of, ResumeFits, WaitingFits};
 ghost use Rattle.pie_excerpt.specs.{queued_of, resume_of, queued_row, resume_row, IsWritten, begun_at, resume_with, Resume};
-ghost use Rattle.pie_excerpt.specs.Beginning.{Beginning};
+ghost use Rattle.pie_excerpt.specs.Preamble.{Preamble};
 
 use pie_book::packets_that_waited_are_taken;
 use pie_record::openings_are_checked;
@@ -23,14 +23,14 @@ pub fn records_are_read_back()
 /// are read back with these (`text`). A beginning that reads well has an opening that a book accepts (`opens`; this project's own).
 ///
 /// It does nothing: its contract is the law.
-pub fn beginnings_are_written_again()
-    ensures again { (row : Row) (rows : List Row) (begun : Beginning) → resumed_of (row ∷ rows) ≡ Ok begun
+pub fn preambles_are_written_again()
+    ensures again { (row : Row) (rows : List Row) (begun : Preamble) → resumed_of (row ∷ rows) ≡ Ok begun
         → take begun.read (row ∷ rows) ≡ row ∷ map queued_row begun.core.waiting }
-    ensures alone { (rows more : List Row) (begun : Beginning) → resumed_of rows ≡ Ok begun
+    ensures alone { (rows more : List Row) (begun : Preamble) → resumed_of rows ≡ Ok begun
         → resumed_of (take begun.read rows ++ more) ≡ Ok (record begun { left = more }) }
-    ensures text { (rows more : List Row) (begun : Beginning) → resumed_of rows ≡ Ok begun → All HasField more
+    ensures text { (rows more : List Row) (begun : Preamble) → resumed_of rows ≡ Ok begun → All HasField more
         → records_of (rows_text (take begun.read rows ++ more)) ≡ take begun.read rows ++ more }
-    ensures opens { (rows : List Row) (begun : Beginning) → resumed_of rows ≡ Ok begun → BeginsWell rows begun }
+    ensures opens { (rows : List Row) (begun : Preamble) → resumed_of rows ≡ Ok begun → HasPreamble rows begun }
 {
     openings_are_checked();
 }
@@ -40,16 +40,16 @@ pub fn beginnings_are_written_again()
 /// is read back as it was written (`read_back`; this project's own).
 ///
 /// The function does nothing: its contract is the law.
-pub fn beginnings_go_on()
-    ensures resumes { (opening : Opening) (standing : Standing) (set_by : Option ℕ) (rows : List Row)
-        → is_resumed (resume_row (resume_with opening standing set_by) ∷ rows) ≡ true }
-    ensures read_back { (opening : Opening) (standing : Standing) (past : List Event) (set_by : Option ℕ) (more : List Row)
-        → All (λ event. CommandFits event.command) past → IsWritten opening standing past set_by
-        → resumed_of (resume_row (resume_with opening standing set_by) ∷ (map queued_row (waiting_after opening past) ++ more))
-        ≡ Ok (begun_at opening standing past set_by more) }
-    ensures goes_on { (opening : Opening) (standing : Standing) (past : List Event) (set_by : Option ℕ) (more : List Row)
-        → All (λ event. CommandFits event.command) past → IsWritten opening standing past set_by
-        → GoesOn (resume_row (resume_with opening standing set_by) ∷ (map queued_row (waiting_after opening past) ++ more)) opening past }
+pub fn preambles_are_resumed()
+    ensures resumes { (opening : Opening) (snapshot : CoreSnapshot) (set_by : Option ℕ) (rows : List Row)
+        → is_resumed (resume_row (resume_with opening snapshot set_by) ∷ rows) ≡ true }
+    ensures read_back { (opening : Opening) (snapshot : CoreSnapshot) (past : List Event) (set_by : Option ℕ) (more : List Row)
+        → All (λ event. CommandFits event.command) past → IsWritten opening snapshot past set_by
+        → resumed_of (resume_row (resume_with opening snapshot set_by) ∷ (map queued_row (waiting_after opening past) ++ more))
+        ≡ Ok (begun_at opening snapshot past set_by more) }
+    ensures goes_on { (opening : Opening) (snapshot : CoreSnapshot) (past : List Event) (set_by : Option ℕ) (more : List Row)
+        → All (λ event. CommandFits event.command) past → IsWritten opening snapshot past set_by
+        → Resumes (resume_row (resume_with opening snapshot set_by) ∷ (map queued_row (waiting_after opening past) ++ more)) opening past }
 {
     packets_that_waited_are_taken();
 }

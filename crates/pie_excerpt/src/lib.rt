@@ -1,20 +1,20 @@
 //! The preamble of an excerpt: the state of a core, and the packets that wait.
 //!
-//! pie_book defines their meaning (`Standing`, `Core::resume`). This crate writes them (`make_resume`,
+//! pie_book defines their meaning (`CoreSnapshot`, `Core::resume`). This crate writes them (`make_resume`,
 //! `put_queued`, and a whole excerpt by `write_excerpt`) and reads them (a whole preamble by `begin_resumed`).
 #![tactic(auto)]
 
-pub mod beginning;
 pub mod fits;
 pub mod law;
+pub mod preamble;
 pub mod reading;
 pub mod resume;
 mod writing;
 mod written;
 
-pub use beginning::{Begun, begin_resumed, fault_within, is_resume};
 pub use fits::{params_are_good, resume_fits};
-pub use law::{beginnings_are_written_again, beginnings_go_on, records_are_read_back};
+pub use law::{preambles_are_resumed, preambles_are_written_again, records_are_read_back};
+pub use preamble::{Begun, begin_resumed, fault_within, is_resume};
 pub use reading::read_resume;
 pub use resume::Resume;
 pub use writing::{make_resume, put_queued};

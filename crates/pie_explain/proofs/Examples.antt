@@ -1,7 +1,7 @@
 -- Worked examples: excerpts and the event that set the probability before them.
-use Rattle.pie_explain.proofs.Names.{◌≡◌, Bool, true, false, Some, None, refl, no_event, Start, from_opening, setter_told}
+use Rattle.pie_explain.proofs.Names.{◌≡◌, Bool, true, false, Some, None, refl, no_event, Start, from_opening, setter_from_start}
 use Rattle.pie_explain.specs.declared.fault.ExplainFault.TheVariants.{Earlier, NoEvent}
-use Rattle.pie_event.specs.declared.setter.Setter.TheVariants.{Event, Opening, Untold}
+use Rattle.pie_event.specs.declared.setter.Setter.TheVariants.{Event, Opening, Unknown}
 use Rattle.pie_event.specs.Setter.{setter_number, setter_from}
 
 -- an excerpt of the events from 101 on. If `tells`, it names the event that set the probability before it
@@ -9,15 +9,15 @@ abbrev after_100 : Bool → Start
 after_100 tells = record { events = 100; tells = tells }
 
 -- event 97 set the probability, or no event did; named or not. Event 101 is in the excerpt
-told : (setter_told (after_100 true) (Event 97) ≡ Event 97) × (setter_told (after_100 true) Opening ≡ Opening)
-    × (setter_told (after_100 false) (Event 97) ≡ Untold) × (setter_told (after_100 false) (Event 100) ≡ Untold)
-    × (setter_told (after_100 false) Opening ≡ Untold) × (setter_told (after_100 false) (Event 101) ≡ Event 101)
-    × (setter_told from_opening Opening ≡ Opening) × (setter_told from_opening (Event 3) ≡ Event 3)
+told : (setter_from_start (after_100 true) (Event 97) ≡ Event 97) × (setter_from_start (after_100 true) Opening ≡ Opening)
+    × (setter_from_start (after_100 false) (Event 97) ≡ Unknown) × (setter_from_start (after_100 false) (Event 100) ≡ Unknown)
+    × (setter_from_start (after_100 false) Opening ≡ Unknown) × (setter_from_start (after_100 false) (Event 101) ≡ Event 101)
+    × (setter_from_start from_opening Opening ≡ Opening) × (setter_from_start from_opening (Event 3) ≡ Event 3)
 told = (refl, refl, refl, refl, refl, refl, refl, refl)
 
 -- the event by the number in the first record
-numbers : (setter_from None ≡ Untold) × (setter_from (Some 0) ≡ Opening) × (setter_from (Some 97) ≡ Event 97)
-    × (setter_number Untold ≡ None) × (setter_number Opening ≡ None) × (setter_number (Event 97) ≡ Some 97)
+numbers : (setter_from None ≡ Unknown) × (setter_from (Some 0) ≡ Opening) × (setter_from (Some 97) ≡ Event 97)
+    × (setter_number Unknown ≡ None) × (setter_number Opening ≡ None) × (setter_number (Event 97) ≡ Some 97)
 numbers = (refl, refl, refl, refl, refl, refl)
 
 -- of events 101 to 200: event 5 and event 100 were before, event 0 and event 201 are none; of a text that opens no event was before

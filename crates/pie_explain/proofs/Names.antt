@@ -5,9 +5,9 @@ pub use Rattle.std.proofs.lemmas.List.{append-nil}
 pub use Rattle.std.specs.Option.{is_some}
 pub use Rattle.std.specs.Prelude.{Ok, if◌then◌else◌, map, min, nat_le, ◌&&◌}
 pub use Rattle.pie_explain.specs.{AuditorView, AuditsFrom, Event, Line, Made, Opening, Setter, Start, event_count, events_of, from_opening, moment_of}
-pub use Rattle.pie_explain.specs.{Origin, StandsAfter, at_core, at_opening, count_after, difference_from, ended_after, explanation_after, moment_after}
-pub use Rattle.pie_explain.specs.{core_along, moment_met, setter_in, with_after, with_core}
-pub use Rattle.pie_explain.specs.{no_event, picks, setter_told, told_after, told_if}
+pub use Rattle.pie_explain.specs.{Origin, RepresentsAfter, at_core, at_opening, count_after, difference_from, ended_after, explanation_after, moment_after}
+pub use Rattle.pie_explain.specs.{core_along, moment_at, setter_in, with_after, with_core}
+pub use Rattle.pie_explain.specs.{no_event, picks, setter_from_start, explanation_of, explanation_if}
 unfoldable pub use Rattle.pie_explain.specs.{explanation, explanation_in, explanations_since}
 pub use Rattle.pie_explain.specs.Names.{Explanation, Selection}
 pub use Rattle.pie_record.specs.declared.clock.Clock.{Clock}

@@ -8,7 +8,7 @@ use Rattle.pie_explain.specs.Record.{active_field, line_of, most_fields, onto, r
 use Rattle.std.specs.List.{flat_map}
 use Rattle.std.proofs.lemmas.List.Concat.{flat_map-append}
 use Rattle.pie_explain.specs.declared.form.Form.{Form}
-use Rattle.pie_explain.specs.Output.{header, pages, said, said_of}
+use Rattle.pie_explain.specs.Output.{header, pages, explanation_texts, explanation_text}
 use Rattle.pie_explain.specs.Report.{Grows}
 
 -- ==== A number is written with zeros before it
@@ -45,22 +45,22 @@ wall-line all wall old =
 
 -- ==== Explanations one by one, as a report
 
-said-push : (form : Form) (all : List Explained) (told : Explained) → said form (all ++ told ∷ []) ≡ said form all ++ said_of form told
-unfolding said
-said-push form all told = flat_map-append (said_of form) all (told ∷ [])
-    ∙ ap (λ (text : List ℕ). flat_map (said_of form) all ++ text) (append-nil (said_of form told))
+said-push : (form : Form) (all : List Explained) (told : Explained) → explanation_texts form (all ++ told ∷ []) ≡ explanation_texts form all ++ explanation_text form told
+unfolding explanation_texts
+said-push form all told = flat_map-append (explanation_text form) all (told ∷ [])
+    ∙ ap (λ (text : List ℕ). flat_map (explanation_text form) all ++ text) (append-nil (explanation_text form told))
 
-said-none : (form : Form) → said form [] ≡ []
-unfolding said
+said-none : (form : Form) → explanation_texts form [] ≡ []
+unfolding explanation_texts
 said-none form = refl
 
 pub pages_none : (form : Form) → pages form [] ≡ header form
 pages_none form = ap (λ (text : List ℕ). header form ++ text) (said-none form) ∙ append-nil (header form)
 
-pub pages_told : (form : Form) (all : List Explained) (told : Explained) (old now : List ℕ) → now ≡ old ++ said_of form told
+pub pages_told : (form : Form) (all : List Explained) (told : Explained) (old now : List ℕ) → now ≡ old ++ explanation_text form told
     → Grows (pages form all) (pages form (all ++ told ∷ [])) old now
 pages_told form all told old now is = record {
-  more = said_of form told;
+  more = explanation_text form told;
   grown = is;
-  turned = rw (said-push form all told) (sym (append_assoc (header form) (said form all) (said_of form told)));
+  turned = rw (said-push form all told) (sym (append_assoc (header form) (explanation_texts form all) (explanation_text form told)));
 }

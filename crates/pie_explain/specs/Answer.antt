@@ -64,8 +64,8 @@ pub record Explains (start : Start) (origin : Origin) (choice : Selection) (tale
 -- ---- how it ends
 
 -- what is written: the whole tale of the chosen events, of those that a text has after its beginning
-abbrev pub IsSaid : Selection → (List Explained → List ℕ) → Start → Origin → List Line → List ℕ → Type 0
-IsSaid choice whole start origin lines said = said ≡ whole (explanations_since start origin choice lines)
+abbrev pub IsExplanationText : Selection → (List Explained → List ℕ) → Start → Origin → List Line → List ℕ → Type 0
+IsExplanationText choice whole start origin lines explanation_texts = explanation_texts ≡ whole (explanations_since start origin choice lines)
 
 -- all lines were looked at, and the explained events counted
 abbrev pub HasExplained : Selection → Start → Origin → List Line → Follower → ℕ → Type 0

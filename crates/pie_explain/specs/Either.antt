@@ -1,11 +1,11 @@
 -- The result and the output of an explanation of a text: a whole history or an excerpt.
 use Rattle.pie_explain.specs.Names.{ℕ, List, Option, Result, Err, Selection, Explained}
 use Rattle.pie_record.specs.Text.{Row}
-use Rattle.pie_excerpt.specs.Beginning.{is_resumed}
-use Rattle.pie_audit.specs.Told.{TextToldBy}
+use Rattle.pie_excerpt.specs.Preamble.{is_resumed}
+use Rattle.pie_audit.specs.Preambles.{TextToldBy}
 use Rattle.pie_explain.specs.declared.fault.ExplainFault.{ExplainFault}
 use Rattle.pie_explain.specs.declared.fault.ExplainFault.TheVariants.{Trace}
-use Rattle.pie_explain.specs.Answer.{IsSaid, answer_since}
+use Rattle.pie_explain.specs.Answer.{IsExplanationText, answer_since}
 
 -- the result is the first fault of the preamble. Otherwise, for an excerpt, result and explanations are those of
 -- the excerpt's core for its lines, whatever numbers the preamble has. For both kinds of text they are those of
@@ -13,4 +13,4 @@ use Rattle.pie_explain.specs.Answer.{IsSaid, answer_since}
 -- the events of the text
 abbrev pub ExplainsEither : Selection → (List Explained → List ℕ) → List Row → Result ℕ ExplainFault → Option (List ℕ) → Option (List ℕ) → Type 0
 ExplainsEither choice whole rows result old now =
-    TextToldBy (λ why. Err (Trace why)) (answer_since choice) (IsSaid choice whole) (is_resumed rows) rows result old now
+    TextToldBy (λ why. Err (Trace why)) (answer_since choice) (IsExplanationText choice whole) (is_resumed rows) rows result old now

@@ -6,7 +6,7 @@ use Rattle.pie_book.specs.Core.{CoreView, cause_in, core_along, registers_of}
 use Rattle.pie_queue.specs.Queue.{bytes_of}
 use Rattle.pie_event.specs.declared.command.Event.{Event}
 use Rattle.pie_event.specs.declared.opening.Opening.{Opening}
-use Rattle.pie_event.specs.Deed.{deed_of, handed_in, is_update}
+use Rattle.pie_event.specs.Deed.{deed_of, caller_moment, is_update}
 use Rattle.pie_book.specs.History.{effective_moment, waiting_after}
 use Rattle.pie_book.specs.Estimates.{delay_after}
 use Rattle.pie_book.specs.Registers.{registers_after}
@@ -19,7 +19,7 @@ use Rattle.pie_event.specs.declared.setter.Setter.{Setter}
 
 -- the effective moment of an event after a history
 abbrev pub moment_of : Opening → List Event → Event → ℕ
-moment_of opening history event = max (effective_moment opening history) (handed_in event.command)
+moment_of opening history event = max (effective_moment opening history) (caller_moment event.command)
 
 -- the explanation of the event with this number after this history, with the numbers before it. `clock` is the last
 -- clock record
@@ -48,8 +48,8 @@ with_after opening history told = record {
 -- ---- the same of a core, whatever its state
 
 -- the effective moment of an event that a core is about to decide
-abbrev pub moment_met : CoreView → Event → ℕ
-moment_met core event = max core.held.moment (handed_in event.command)
+abbrev pub moment_at : CoreView → Event → ℕ
+moment_at core event = max core.held.moment (caller_moment event.command)
 
 -- the explanation of the event with this number that a core is about to decide, with the core's numbers. `clock` is
 -- the last clock record
@@ -57,11 +57,11 @@ unfoldable pub explanation_in : CoreView → ℕ → Event → Setter → Option
 explanation_in core number event set_by clock = record {
   number = number;
   event = event;
-  moment = moment_met core event;
+  moment = moment_at core event;
   before = registers_of core;
   delay = delay_in core.held (bytes_of core.waiting);
   cause = cause_in core event.command;
-  waited = wait_of (deed_of event) (moment_met core event) core.waiting;
+  waited = wait_of (deed_of event) (moment_at core event) core.waiting;
   set_by = set_by;
   updates = core.stats.updates;
   clock = clock;
@@ -76,7 +76,7 @@ with_core core told = record { told = told; after = registers_of core; delay = d
 -- the effective moment of an event after these
 abbrev pub moment_after : Origin → List Event → Event → ℕ
 moment_after (at_opening opening) events event = moment_of opening events event
-moment_after (at_core opening core told) events event = moment_met (core_along core events) event
+moment_after (at_core opening core told) events event = moment_at (core_along core events) event
 
 -- the event with this number after these
 abbrev pub explanation_after : Origin → List Event → ℕ → Event → Setter → Option Clock → Explanation

@@ -1,52 +1,52 @@
 -- The explanations of the events of a history's lines.
 use Rattle.std.specs.Prelude.{◌+◌, ◌∷◌, ◌++◌, if◌then◌else◌}
 use Rattle.pie_explain.specs.Names.{ℕ, Bool, true, false, List, [], Option, Some, None, option_map, filter_map, Line, Made, latest_clock, events_of}
-use Rattle.pie_explain.specs.Names.{Explained, Explanation, Selection, Setter, picks, setter_told, nat_lt, Start, Origin, count_after, difference_from}
+use Rattle.pie_explain.specs.Names.{Explained, Explanation, Selection, Setter, picks, setter_from_start, nat_lt, Start, Origin, count_after, difference_from}
 use Rattle.pie_explain.specs.Names.{ended_after, explanation_after, moment_after, setter_in}
 use Rattle.pie_audit.specs.Finding.{LinePlace, line_places, number_at}
 
 -- an explanation where this holds
-abbrev pub told_if : Bool → Explanation → Option Explanation
-told_if true told = Some told
-told_if false told = None
+abbrev pub explanation_if : Bool → Explanation → Option Explanation
+explanation_if true told = Some told
+explanation_if false told = None
 
 -- the explanation of a line after these lines, if the line is an event with the next number that is chosen
-abbrev pub told_after : Origin → Selection → List Line → Setter → Line → Option Explanation
-told_after origin choice lines set_by (Made event) =
-    told_if (picks choice (count_after origin lines + 1) (moment_after origin (events_of lines) event) (latest_clock lines) event)
+abbrev pub explanation_of : Origin → Selection → List Line → Setter → Line → Option Explanation
+explanation_of origin choice lines set_by (Made event) =
+    explanation_if (picks choice (count_after origin lines + 1) (moment_after origin (events_of lines) event) (latest_clock lines) event)
     (explanation_after origin (events_of lines) (count_after origin lines + 1) event set_by (latest_clock lines))
-told_after origin choice lines set_by _ = None
+explanation_of origin choice lines set_by _ = None
 
 -- nothing from an event on that differs
-abbrev pub told_unless : Option ℕ → Option Explanation → Option Explanation
-told_unless (Some event) told = None
-told_unless None told = told
+abbrev pub explanation_unless : Option ℕ → Option Explanation → Option Explanation
+explanation_unless (Some event) told = None
+explanation_unless None told = told
 
-abbrev pub told_unless_differs : Origin → List Line → Option Explanation → Option Explanation
-told_unless_differs origin lines told = told_unless (difference_from origin lines) told
+abbrev pub explanation_before_difference : Origin → List Line → Option Explanation → Option Explanation
+explanation_before_difference origin lines told = explanation_unless (difference_from origin lines) told
 
 -- what there is to say at a place, where no event up to it, itself included, differs
-abbrev pub told_at : Origin → Selection → LinePlace → Option Explained
-told_at origin choice place =
+abbrev pub explanation_at : Origin → Selection → LinePlace → Option Explained
+explanation_at origin choice place =
     option_map (ended_after origin (events_of (place.before ++ place.line ∷ [])))
-    (told_unless_differs origin (place.before ++ place.line ∷ [])
-    (told_after origin choice place.before (setter_in origin place.before) place.line))
+    (explanation_before_difference origin (place.before ++ place.line ∷ [])
+    (explanation_of origin choice place.before (setter_in origin place.before) place.line))
 
 -- what there is to say of the chosen events of these lines, in their order
 unfoldable pub explanations : Origin → Selection → List Line → List Explained
-explanations origin choice lines = filter_map (told_at origin choice) (line_places lines)
+explanations origin choice lines = filter_map (explanation_at origin choice) (line_places lines)
 
 -- ---- Excerpts: the events after the preamble
 
 -- an explanation, as the text gives it
-abbrev pub as_told : Start → Explained → Explained
-as_told start one = record one { told = record one.told { set_by = setter_told start one.told.set_by } }
+abbrev pub with_known_setter : Start → Explained → Explained
+with_known_setter start one = record one { told = record one.told { set_by = setter_from_start start one.told.set_by } }
 
 -- what there is to say at a place, where it is of an event of the text
-abbrev pub told_since : Start → Origin → Selection → LinePlace → Option Explained
-told_since start origin choice place =
-    if nat_lt start.events (number_at origin place) then option_map (as_told start) (told_at origin choice place) else None
+abbrev pub explanation_since : Start → Origin → Selection → LinePlace → Option Explained
+explanation_since start origin choice place =
+    if nat_lt start.events (number_at origin place) then option_map (with_known_setter start) (explanation_at origin choice place) else None
 
 -- what there is to say of the chosen events of a history of these lines, of those that a text has which begins so
 unfoldable pub explanations_since : Start → Origin → Selection → List Line → List Explained
-explanations_since start origin choice lines = filter_map (told_since start origin choice) (line_places lines)
+explanations_since start origin choice lines = filter_map (explanation_since start origin choice) (line_places lines)

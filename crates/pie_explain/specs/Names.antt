@@ -4,16 +4,16 @@ pub use Rattle.std.specs.List.{filter_map}
 pub use Rattle.std.specs.Prelude.{Bool, Err, List, None, Option, Result, Some, [], false, length, nat_lt, option_map, true, ℕ}
 pub use Rattle.pie_audit.specs.Auditor.{AuditorView, AuditsFrom}
 pub use Rattle.pie_audit.specs.Finding.{difference_from, events_of}
-pub use Rattle.pie_audit.specs.Origin.{Origin, StandsAfter, at_core, at_opening, count_after}
+pub use Rattle.pie_audit.specs.Origin.{Origin, RepresentsAfter, at_core, at_opening, count_after}
 pub use Rattle.pie_book.specs.Core.{core_along}
 pub use Rattle.pie_audit.specs.Setters.{setter_in}
-pub use Rattle.pie_audit.specs.Start.{Start, from_opening, setter_told}
+pub use Rattle.pie_audit.specs.Start.{Start, from_opening, setter_from_start}
 pub use Rattle.pie_audit.specs.declared.auditor.Finding.{Finding}
 pub use Rattle.pie_event.specs.declared.command.Event.{Event}
 pub use Rattle.pie_event.specs.declared.opening.Opening.{Opening}
 pub use Rattle.pie_event.specs.declared.setter.Setter.{Setter}
 pub use Rattle.pie_explain.specs.Selection.{is_whole, picks}
-pub use Rattle.pie_explain.specs.Explanation.{ended_after, explanation_after, moment_after, moment_met, moment_of, with_after, with_core}
+pub use Rattle.pie_explain.specs.Explanation.{ended_after, explanation_after, moment_after, moment_at, moment_of, with_after, with_core}
 unfoldable pub use Rattle.pie_explain.specs.Explanation.{explanation, explanation_in}
 pub use Rattle.pie_explain.specs.Report.{Grows}
 pub use Rattle.pie_explain.specs.declared.selection.Selection.{Selection}

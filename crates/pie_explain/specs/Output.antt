@@ -29,13 +29,13 @@ abbrev pub clock_for : Form → Option Clock → Option Clock
 clock_for form told = if form.by_wall then told else None
 
 -- what is written of an explanation
-unfoldable pub said_of : Form → Explained → List ℕ
-said_of form told = if form.csv then line_of (record_by form.by_wall told) else words_by (clock_for form told.told.clock) told
+unfoldable pub explanation_text : Form → Explained → List ℕ
+explanation_text form told = if form.csv then line_of (record_by form.by_wall told) else words_by (clock_for form told.told.clock) told
 
 -- the text of several explanations, one after the other
-unfoldable pub said : Form → List Explained → List ℕ
-said form all = flat_map (said_of form) all
+unfoldable pub explanation_texts : Form → List Explained → List ℕ
+explanation_texts form all = flat_map (explanation_text form) all
 
 -- the whole report: the text before the first explanation, and the explanations
 abbrev pub pages : Form → List Explained → List ℕ
-pages form all = header form ++ said form all
+pages form all = header form ++ explanation_texts form all

@@ -10,10 +10,10 @@ use Rattle.pie_event.specs.declared.command.Answer.{Answer}
 use Rattle.pie_event.specs.declared.command.Answer.TheVariants.{Enqueued, Marked, DroppedEarly, DroppedBytes, DroppedPackets, Empty, Left, Updated}
 use Rattle.pie_event.specs.declared.command.Answer.TheVariants.{Done}
 use Rattle.pie_event.specs.declared.registers.Registers.{Registers}
-use Rattle.pie_event.specs.Deed.{handed_in}
+use Rattle.pie_event.specs.Deed.{caller_moment}
 use Rattle.pie_record.specs.declared.words.Kind.TheVariants as kind
-use Rattle.pie_record.specs.declared.words.Said.TheVariants as said
-use Rattle.pie_record.specs.Words.{ecn_word, word_of_kind, word_said}
+use Rattle.pie_record.specs.declared.words.AnswerWord.TheVariants as explanation_texts
+use Rattle.pie_record.specs.Words.{ecn_word, word_of_kind, word_of_answer}
 use Rattle.pie_units.specs.Utc.{utc_text}
 use Rattle.pie_explain.specs.declared.explanation.Explained.{Explained}
 use Rattle.pie_explain.specs.declared.explanation.Explanation.{Explanation}
@@ -33,15 +33,15 @@ kind_word (SetParams moment params) = word_of_kind kind.Params
 
 -- the word of an answer, as in a history; an update's, which a history has no word for, is this record's own
 abbrev pub verdict_word : Answer → List ℕ
-verdict_word Enqueued = word_said said.Enqueue
-verdict_word Marked = word_said said.Mark
-verdict_word DroppedEarly = word_said said.Early
-verdict_word DroppedBytes = word_said said.Bytes
-verdict_word DroppedPackets = word_said said.Packets
-verdict_word Empty = word_said said.Empty
-verdict_word (Left packet) = word_said said.Left
+verdict_word Enqueued = word_of_answer explanation_texts.Enqueue
+verdict_word Marked = word_of_answer explanation_texts.Mark
+verdict_word DroppedEarly = word_of_answer explanation_texts.Early
+verdict_word DroppedBytes = word_of_answer explanation_texts.Bytes
+verdict_word DroppedPackets = word_of_answer explanation_texts.Packets
+verdict_word Empty = word_of_answer explanation_texts.Empty
+verdict_word (Left packet) = word_of_answer explanation_texts.Left
 verdict_word (Updated delay prob burst) = codes "updated"
-verdict_word Done = word_said said.Done
+verdict_word Done = word_of_answer explanation_texts.Done
 
 -- the word of what decided an arrival; none for another event
 abbrev pub cause_word : Option Cause → List ℕ
@@ -78,7 +78,7 @@ active_field false = codes "0"
 -- the event, the moment of its command, and its effective moment
 abbrev pub head_fields : Explanation → List (List ℕ)
 head_fields told =
-    decimal told.number ∷ kind_word told.event.command ∷ decimal told.event.caller ∷ decimal (handed_in told.event.command)
+    decimal told.number ∷ kind_word told.event.command ∷ decimal told.event.caller ∷ decimal (caller_moment told.event.command)
     ∷ decimal told.moment ∷ []
 
 -- the tag and the size of that packet
@@ -94,8 +94,8 @@ held_fields held delay =
     decimal held.bytes ∷ decimal held.packets ∷ decimal delay ∷ steady_fields held.prob held.accu held.burst
 
 -- what became of the event, what decided it, and the numbers that it met
-abbrev pub met_fields : Explanation → List (List ℕ)
-met_fields told = verdict_word told.event.answer ∷ cause_word told.cause ∷ held_fields told.before told.delay
+abbrev pub condition_fields : Explanation → List (List ℕ)
+condition_fields told = verdict_word told.event.answer ∷ cause_word told.cause ∷ held_fields told.before told.delay
 
 -- what else there is to say of it, and of the controller before it
 abbrev pub more_fields : Explanation → List (List ℕ)
@@ -106,7 +106,7 @@ more_fields told =
 -- the twenty-seven fields, and all but the last, whether the controller is active after it
 abbrev pub most_fields : Explained → List (List ℕ)
 most_fields all =
-    head_fields all.told ++ packet_fields (packet_of all.told.event) ++ met_fields all.told ++ more_fields all.told
+    head_fields all.told ++ packet_fields (packet_of all.told.event) ++ condition_fields all.told ++ more_fields all.told
     ++ held_fields all.after all.delay
 
 abbrev pub record_of : Explained → List (List ℕ)

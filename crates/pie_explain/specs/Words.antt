@@ -206,7 +206,7 @@ unfoldable pub setter_words : Setter → Registers → List ℕ
 setter_words setter.Opening before = joined (codes "  probability " ∷ per_cent before.prob ∷ codes ", as at the opening;" ∷ [])
 setter_words (setter.Event event) before =
     joined (codes "  probability " ∷ per_cent before.prob ∷ codes ", set by event " ∷ decimal event ∷ codes ";" ∷ [])
-setter_words setter.Untold before = joined (codes "  probability " ∷ per_cent before.prob ∷ codes ", set before this text begins;" ∷ [])
+setter_words setter.Unknown before = joined (codes "  probability " ∷ per_cent before.prob ∷ codes ", set before this text begins;" ∷ [])
 
 unfoldable pub before_words : Option Clock → Explanation → List ℕ
 before_words clock told =

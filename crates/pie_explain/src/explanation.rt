@@ -2,10 +2,10 @@
 ghost use Rattle.std.specs.Prelude.{◌≡◌, List};
 ghost use Rattle.pie_event.specs.declared.command.Event.{Event};
 ghost use Rattle.pie_event.specs.declared.opening.Opening.{Opening};
-ghost use Rattle.pie_book.specs.Core.{Shows};
+ghost use Rattle.pie_book.specs.Core.{Represents};
 ghost use Rattle.pie_event.specs.Deed.{deed_of};
 ghost use Rattle.pie_book.specs.Statistics.{wait_of};
-ghost use Rattle.pie_explain.specs.Explanation.{moment_met, moment_of};
+ghost use Rattle.pie_explain.specs.Explanation.{moment_at, moment_of};
 
 use pie_book::{Answer, Cause, Command, Core, Event, Registers};
 use pie_event::Setter;
@@ -68,12 +68,12 @@ fn waited(core: &Core, event: &Event, now: u64) -> u64
 /// The effective moment of an event that a core is about to decide.
 #[tactic(auto, unfolding(pie_book::specs::Registers::registers_after))]
 pub fn moment_of(core: &Core, event: &Event) -> u64
-    ensures after { (opening : Opening) (history : List Event) → Shows opening core.now history → result ≡ moment_of opening history event.now }
-    ensures in_state { result ≡ moment_met core.now event.now }
+    ensures after { (opening : Opening) (history : List Event) → Represents opening core.now history → result ≡ moment_of opening history event.now }
+    ensures in_state { result ≡ moment_at core.now event.now }
 {
     let before = core.registers();
-    let handed_in = event.command.moment();
-    before.moment.max(handed_in)
+    let caller_moment = event.command.moment();
+    before.moment.max(caller_moment)
 }
 
 impl Explained {
@@ -90,7 +90,7 @@ impl Explained {
         set_by: Setter,
         clock: Option<Clock>,
     ) -> Explained
-        ensures after { (opening : Opening) (history : List Event) → Shows opening core.now history
+        ensures after { (opening : Opening) (history : List Event) → Represents opening core.now history
             → result.told ≡ explanation opening history number event.now set_by clock }
         ensures in_state { result.told ≡ explanation_in core.now number event.now set_by clock }
     {
@@ -115,7 +115,7 @@ impl Explained {
     /// Takes what a core holds that has decided the event.
     #[inline(always)]
     pub(crate) fn end(&mut self, core: &Core)
-        ensures after { (opening : Opening) (history : List Event) → Shows opening core.now history
+        ensures after { (opening : Opening) (history : List Event) → Represents opening core.now history
             → self.new ≡ with_after opening history self.old.told }
         ensures in_state { self.new ≡ with_core core.now self.old.told }
     {

@@ -1,7 +1,7 @@
 //! The law of excerpts: their explanations are those of the whole history.
 ghost use Rattle.std.specs.Prelude.{◌≡◌, ◌++◌, map};
 ghost use Rattle.pie_explain.specs.{List, Option, length, true, false, Event, Opening, Line, Made, TraceFault, Start, from_opening, at_opening};
-ghost use Rattle.pie_explain.specs.{IsAsAudited, answer_since, explanations, as_told, explanations_since};
+ghost use Rattle.pie_explain.specs.{IsAsAudited, answer_since, explanations, with_known_setter, explanations_since};
 ghost use Rattle.pie_explain.specs.Names.{Selection};
 ghost use Rattle.pie_audit.specs.Text.{judged};
 
@@ -18,7 +18,7 @@ pub fn excerpts_are_explained_as_the_whole()
         ++ explanations_since (record { events = length past; tells = true }) (at_opening opening) choice (map Made past ++ lines) }
     ensures untold { (opening : Opening) (choice : Selection) (past : List Event) (lines : List Line)
         → explanations_since (record { events = length past; tells = false }) (at_opening opening) choice (map Made past ++ lines)
-        ≡ map (as_told (record { events = length past; tells = false }))
+        ≡ map (with_known_setter (record { events = length past; tells = false }))
         (explanations_since (record { events = length past; tells = true }) (at_opening opening) choice (map Made past ++ lines)) }
 {}
 

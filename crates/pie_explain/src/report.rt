@@ -1,7 +1,7 @@
 //! The interface of reports about explained events.
 ghost use Rattle.std.specs.Prelude.{◌≡◌, ◌++◌, ◌∷◌, [], ℕ, List, IfOk, OnOk, codes};
 ghost use Rattle.pie_explain.specs.declared.explanation.Explained.{Explained};
-ghost use Rattle.pie_explain.specs.Output.{header_of, said_of};
+ghost use Rattle.pie_explain.specs.Output.{header_of, explanation_text};
 ghost use Rattle.pie_explain.specs.Record.{line_of};
 ghost use Rattle.pie_explain.specs.Report.{Grows};
 ghost use Rattle.pie_explain.specs.Words.{words_by};
@@ -89,9 +89,14 @@ pub fn push_words(page: &mut Page, clock: Option<Clock>, told: &Explained) -> Re
 }
 
 /// Writes an explanation onto the page.
-#[tactic(auto, unfolding(crate::specs::Output::said_of))]
-fn push_said(page: &mut Page, records: &mut RecordWriter, form: Form, told: &Explained) -> Written
-    ensures { OnOk result (page.new ≡ page.old ++ said_of form told.now) }
+#[tactic(auto, unfolding(crate::specs::Output::explanation_text))]
+fn push_explanation(
+    page: &mut Page,
+    records: &mut RecordWriter,
+    form: Form,
+    told: &Explained,
+) -> Written
+    ensures { OnOk result (page.new ≡ page.old ++ explanation_text form told.now) }
 {
     if form.csv {
         return records.push(page, form.by_wall, told);
@@ -117,7 +122,7 @@ impl Report for Form {
     }
 
     fn tell(&self, state: &mut RecordWriter, told: &Explained, page: &mut Page) -> Written {
-        push_said(page, state, *self, told)
+        push_explanation(page, state, *self, told)
     }
 
     fn end(&self, state: &RecordWriter, page: &mut Page) -> Written {

@@ -358,7 +358,7 @@ fn push_setter(page: &mut String, set_by: Setter, before: &Registers) -> Written
             let event = Digits(event);
             write!(page, "  probability {prob}, set by event {event};")
         }
-        Setter::Untold => write!(page, "  probability {prob}, set before this text begins;"),
+        Setter::Unknown => write!(page, "  probability {prob}, set before this text begins;"),
     }
 }
 

@@ -1,7 +1,7 @@
 -- When an update is refused as too soon.
 use Rattle.pie_guarantees.proofs.Names.{◌≡◌, ◌<◌, ◌+◌, ℕ, List, [], ◌∷◌, ◌++◌, true, Some, arith, subst, sym, ◌∙◌, nat_tests}
 use Rattle.pie_guarantees.proofs.Names.{append_assoc, AtEachEvent, IsLawful, Event, Opening, Command, Update, Answer, Held, Waiting}
-use Rattle.pie_guarantees.proofs.Names.{deed, deed_of, is_update, handed_in, refusal_with, refusal_by_rule, after_call, call_of}
+use Rattle.pie_guarantees.proofs.Names.{deed, deed_of, is_update, caller_moment, refusal_with, refusal_by_rule, after_call, call_of}
 use Rattle.pie_guarantees.proofs.Names.{params_after, effective_moment, held_after, waiting_after, in-range, length}
 use Rattle.pie_event.specs.declared.refusal.Refusal.TheVariants.{TooSoon}
 use Rattle.pie_guarantees.proofs.Names.{effective_moment-push}
@@ -17,7 +17,7 @@ refused_before opening before later lawful moment due e =
     let it = sound_at opening before later lawful in
     omega (arith, it.1, it.0.last, soon _ _ _ _ moment due e)
 
-pub refused_ahead : AtEachEvent (λ opening before event. (ahead moment due : ℕ) → handed_in event.command ≡ effective_moment opening before + ahead
+pub refused_ahead : AtEachEvent (λ opening before event. (ahead moment due : ℕ) → caller_moment event.command ≡ effective_moment opening before + ahead
     → refusal_by_rule opening (before ++ event ∷ []) (Update moment) ≡ Some (TooSoon due)
     → moment < effective_moment opening before + ahead + (params_after opening (before ++ event ∷ [])).t_update)
 refused_ahead opening before event later lawful ahead moment due far e =

@@ -10,7 +10,7 @@ use Rattle.pie_guarantees.proofs.Names.{is_queued, waiting_next, first_shows, Is
 use Rattle.pie_guarantees.proofs.Names.{take-append_seam}
 use Rattle.std.proofs.lemmas.List.{append_cancel_left, length_push}
 use Rattle.std.proofs.lemmas.List.Recursion.{is_sum_by}
-use Rattle.pie_guarantees.specs.{Carries, SetsLimit, bytes_departed, hands_in, packet_queued, packets_departed, packets_handed_in, packets_queued}
+use Rattle.pie_guarantees.specs.{Carries, SetsLimit, bytes_departed, is_packet_arrival, packet_queued, packets_departed, packets_arrived, packets_queued}
 use Rattle.pie_guarantees.specs.{packets_waiting, time_of}
 use Rattle.pie_event.specs.Verdict as Verdicts
 use Rattle.pie_aqm.specs.Steps as Steps
@@ -19,7 +19,7 @@ use Rattle.pie_guarantees.proofs.LawfulFacts.{IsStep, all_along, along, beginnin
 -- ---- counts
 
 abbrev Adds : List Event → Type 0
-Adds history = packets_handed_in history ≡ count_of is_queued history + count_of is_marked history + count_of is_dropped_early history
+Adds history = packets_arrived history ≡ count_of is_queued history + count_of is_marked history + count_of is_dropped_early history
     + count_of is_dropped_bytes history + count_of is_dropped_packets history
 
 count-push : (test : Deed → Bool) (before : List Event) (event : Event)
@@ -38,7 +38,7 @@ ways d = cond (is_queued d) 1 0 + cond (is_marked d) 1 0 + cond (is_dropped_earl
 
 -- one command counts once
 once-more : (h : Held) (waiting : List Waiting) (packets : ℕ) (command : Command)
-    → cond (hands_in command) 1 0 ≡ ways (deed command (answer_by h waiting packets command))
+    → cond (is_packet_arrival command) 1 0 ≡ ways (deed command (answer_by h waiting packets command))
 unfolding Steps.verdict
 once-more h waiting packets command = grind (arith, nat_tests)
 
@@ -46,7 +46,7 @@ adds-next : (opening : Opening) (before : List Event) (event : Event) → IsStep
 adds-next opening before event step old =
     let one = once-more (held_after opening before) (waiting_after opening before) opening.limits.packets event.command in
     rw (
-      sum_by_push (λ (e : Event). cond (hands_in e.command) 1 0) before event,
+      sum_by_push (λ (e : Event). cond (is_packet_arrival e.command) 1 0) before event,
       count-push is_queued before event,
       count-push is_marked before event,
       count-push is_dropped_early before event,

@@ -2,7 +2,7 @@
 -- call does.
 use Rattle.pie_guarantees.proofs.Names.{◌≡◌, ◌≤◌, ◌<◌, ◌+◌, ℕ, List, [], ◌∷◌, ◌++◌, false, sym, subst, ap, ◌∙◌, arith, ⊤, All, None, length, ◌^◌}
 use Rattle.pie_guarantees.proofs.Names.{AtEachEvent}
-use Rattle.pie_guarantees.proofs.Names.{append-nil, append_assoc, All-head, All-tail, first_bad, deed_of, handed_in, IsTaken, after_call, Held}
+use Rattle.pie_guarantees.proofs.Names.{append-nil, append_assoc, All-head, All-tail, first_bad, deed_of, caller_moment, IsTaken, after_call, Held}
 use Rattle.pie_guarantees.proofs.Names.{IsSound, places, place_of, Waiting, Command, Event, Opening, call_of}
 use Rattle.pie_guarantees.proofs.Names.{IsLegalAt, has_bad_size, is_too_soon, refusal_by_rule, due_after, held_after, effective_moment, waiting_after}
 use Rattle.pie_guarantees.proofs.Names.{after_command, call_in, waiting_next, at_place, departed-of-legal, held-is, first_shows, first_core}
@@ -10,7 +10,7 @@ use Rattle.pie_guarantees.proofs.Names.{next-core, next-legal, AllAlong, IsLawfu
 use Rattle.pie_guarantees.proofs.Names.{decision, Answer, answer_by, Sound_call, Sound_opened, cond, is_update, sum_by-cons, updates_in}
 use Rattle.pie_guarantees.proofs.Names.{drop-append_seam, take-append_seam}
 use Rattle.std.proofs.lemmas.List.Elements.{All-drop, All-take}
-use Rattle.pie_book.specs.Core.{CoreView, Shows, closed}
+use Rattle.pie_book.specs.Core.{CoreView, Represents, closed}
 use Rattle.pie_guarantees.proofs.Names.{effective_moment-push, waiting_after-push}
 use Rattle.pie_event.specs.Opening as Opens
 
@@ -18,7 +18,7 @@ use Rattle.pie_event.specs.Opening as Opens
 
 -- an accepted command: its moment is in range, and an update is not too soon
 pub record IsFree (opening : Opening) (before : List Event) (command : Command) : Type 0 where
-  pub moment : handed_in command < 2 ^ 60
+  pub moment : caller_moment command < 2 ^ 60
   pub size : has_bad_size command ≡ false
   pub in_time : is_too_soon (effective_moment opening before) (due_after opening before) command ≡ false
 
@@ -30,12 +30,12 @@ is_free opening before command e =
 -- ---- what a core holds at a place
 
 -- a core represents these events, and its numbers are sound
-pub record Stands (opening : Opening) (history : List Event) : Type 0 where
+pub record IsSteadyAt (opening : Opening) (history : List Event) : Type 0 where
   pub core : CoreView
-  pub shows : Shows opening core history
+  pub shows : Represents opening core history
   pub sound : IsSound core.held
 
-stands-first : (opening : Opening) → Opens.opening_refusal opening.limits opening.moment ≡ None → first_bad opening.params ≡ None → Stands opening []
+stands-first : (opening : Opening) → Opens.opening_refusal opening.limits opening.moment ≡ None → first_bad opening.params ≡ None → IsSteadyAt opening []
 stands-first opening good params = record {
   core = first_core opening;
   shows = first_shows opening;
@@ -45,11 +45,11 @@ stands-first opening good params = record {
 
 -- ---- one more event
 
-call-taken : (core : CoreView) (command : Command) → handed_in command < 2 ^ 60 → SetsInRange command → IsTaken (call_in core command)
+call-taken : (core : CoreView) (command : Command) → caller_moment command < 2 ^ 60 → SetsInRange command → IsTaken (call_in core command)
 call-taken core command handed fit = grind (arith, nat_tests)
 
-stands-next : (opening : Opening) (before : List Event) (event : Event) → Stands opening before → IsLegalAt opening (place_of before event)
-    → SetsInRange event.command → Stands opening (before ++ event ∷ [])
+stands-next : (opening : Opening) (before : List Event) (event : Event) → IsSteadyAt opening before → IsLegalAt opening (place_of before event)
+    → SetsInRange event.command → IsSteadyAt opening (before ++ event ∷ [])
 stands-next opening before event old here fit =
     let core = old.core in
     let handed = (is_free opening before event.command here.taken).moment in
@@ -78,7 +78,7 @@ pub at-step : (opening : Opening) (before : List Event) (event : Event) → IsSt
     → P event.answer (held_after opening (before ++ event ∷ []))
 at-step opening before event step P so = rw (step.held, step.here.answered) so
 
-step-of : (opening : Opening) (before : List Event) (event : Event) → Stands opening before → IsLegalAt opening (place_of before event)
+step-of : (opening : Opening) (before : List Event) (event : Event) → IsSteadyAt opening before → IsLegalAt opening (place_of before event)
     → SetsInRange event.command → IsStep opening before event
 unfolding stands-next
 step-of opening before event old here fit =
@@ -106,9 +106,9 @@ set-after : (before rest : List Event) → All (λ (e : Event). SetsInRange e.co
 set-after before rest all =
     rw (drop-append_seam before rest) at (All-drop (λ (e : Event). SetsInRange e.command) (length before) (before ++ rest) all)
 
-stands-along : (opening : Opening) (before between later : List Event) → Stands opening before
+stands-along : (opening : Opening) (before between later : List Event) → IsSteadyAt opening before
     → All (IsLegalAt opening) (places (before ++ between ++ later)) → All (λ event. SetsInRange event.command) (between ++ later)
-    → Stands opening (before ++ between)
+    → IsSteadyAt opening (before ++ between)
 stands-along opening before [] later old legal fit = rw (append-nil before) old
 stands-along opening before (event ∷ between) later old legal fit =
     let one : (before ++ event ∷ []) ++ between ≡ before ++ (event ∷ between) = append_assoc before (event ∷ []) between in
@@ -118,7 +118,7 @@ stands-along opening before (event ∷ between) later old legal fit =
     (All-tail (λ (e : Event). SetsInRange e.command) event (between ++ later) fit))
 
 -- the events before a place of a lawful history are shown by a core
-pub stands_at : (opening : Opening) (before later : List Event) → IsLawful opening (before ++ later) → Stands opening before
+pub stands_at : (opening : Opening) (before later : List Event) → IsLawful opening (before ++ later) → IsSteadyAt opening before
 stands_at opening before later lawful =
     stands-along opening [] before later (stands-first opening lawful.opens lawful.params) lawful.legal lawful.set
 

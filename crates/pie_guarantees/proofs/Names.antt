@@ -49,7 +49,7 @@ pub use Rattle.pie_early.specs.Decision.{counted, counted_as, joined, picked_cho
 unfoldable pub use Rattle.pie_early.specs.Decision.{is_considered, is_picked}
 pub use Rattle.pie_early.specs.declared.early.Choice.{Choice}
 pub use Rattle.pie_early.specs.declared.early.Choice.TheVariants.{Drop, Enqueue, Mark}
-pub use Rattle.pie_event.specs.Deed.{arrival_deed, deed, departure_deed, fits, handed_in, with_ce}
+pub use Rattle.pie_event.specs.Deed.{arrival_deed, deed, departure_deed, fits, caller_moment, with_ce}
 pub use Rattle.pie_event.specs.Verdict.{answer_of}
 pub use Rattle.pie_fixed.specs.Fixed.{bounded_of}
 unfoldable pub use Rattle.pie_guarantees.specs.{AllAlong, after_updates}

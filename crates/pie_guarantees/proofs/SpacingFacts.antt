@@ -9,7 +9,7 @@ use Rattle.pie_guarantees.proofs.Names.{is_dropped_bytes, is_dropped_packets, is
 use Rattle.pie_params.specs.declared.elements.Picking.TheVariants.{Derandomized}
 use Rattle.pie_params.specs.declared.elements.Size.{Size}
 use Rattle.pie_params.specs.declared.elements.Size.TheVariants.{Unscaled, Scaled}
-use Rattle.pie_guarantees.specs.{arriving_size, CountsAtLeast, CountsAtMost, GoesOn, considered_in, counted_at, counted_in, had_room, picks_in}
+use Rattle.pie_guarantees.specs.{arriving_size, CountsAtLeast, CountsAtMost, IsUnpicked, considered_in, counted_at, counted_in, had_room, picks_in}
 use Rattle.pie_guarantees.specs.{restarts_in, starts_anew, sum_along, was_considered}
 use Rattle.pie_aqm.specs.Steps as Steps
 use Rattle.pie_book.specs.Estimates as Book
@@ -225,7 +225,7 @@ not_in_a_row opening before first between second later lawful spaced picked none
     grind (arith, nat_tests)
 
 goes-on : (least : ℕ) (opening : Opening) (before between : List Event) → 0 < least → AllAlong (CountsAtLeast least opening) before between
-    → AllAlong (GoesOn opening) before between → (picks_in between ≡ 0) × (restarts_in opening before between ≡ 0)
+    → AllAlong (IsUnpicked opening) before between → (picks_in between ≡ 0) × (restarts_in opening before between ≡ 0)
 unfolding sum_along AllAlong
 goes-on least opening before [] some large on = (refl, refl)
 goes-on least opening before (event ∷ between) some large on =
@@ -235,7 +235,7 @@ goes-on least opening before (event ∷ between) some large on =
     let counts = large.0 in (grind (arith, nat_tests), grind (arith, nat_tests))
 
 pub not_too_far : (least : ℕ) → BetweenAny (λ opening before between. opening.choices.elements.picking ≡ Derandomized → 0 < least
-    → AllAlong (CountsAtLeast least opening) before between → AllAlong (GoesOn opening) before between
+    → AllAlong (CountsAtLeast least opening) before between → AllAlong (IsUnpicked opening) before between
     → considered_in opening before between * least < 8_500_000_000_000)
 not_too_far least opening before between later lawful spaced some large on =
     let all = (shared opening before between later lawful spaced).1 in

@@ -12,7 +12,7 @@ use Rattle.pie_record.specs.declared.history_record.Line.TheVariants as line
 use Rattle.pie_record.specs.FirstRecord.{first_fields, first_kind}
 use Rattle.pie_record.specs.HistoryLines.{Coming, after_opening, history_opening, history_version}
 use Rattle.pie_record.specs.FirstRecord.{opening_by, opening_of, opening_read}
-use Rattle.pie_record.specs.ReadBack.{TellsHistory}
+use Rattle.pie_record.specs.ReadBack.{IsHistoryText}
 use Rattle.pie_record.specs.Text.{Row, records_of}
 use Rattle.pie_record.proofs.Laws.{LineFits, lines-fit}
 use Rattle.pie_record.proofs.OpeningBack.{checked}
@@ -38,7 +38,7 @@ row-opens row opening = by (first_kind row)
     by None e = cc
     by (Some kind) e = read kind (first_fields row kind) e
 
-pub opened_well : (text : List ℕ) (opening : Opening) (lines : List Line) → TellsHistory text opening lines → OpensWell opening
+pub opened_well : (text : List ℕ) (opening : Opening) (lines : List Line) → IsHistoryText text opening lines → OpensWell opening
 unfolding history_opening
 opened_well text opening lines told = by (records_of text) told.opens
   where
@@ -62,7 +62,7 @@ sets (line.Unmakeable change ∷ lines) all = sets lines (All-tail LineFits (lin
 sets (line.Note ∷ lines) all = sets lines (All-tail LineFits line.Note lines all)
 sets (line.Clock clock ∷ lines) all = sets lines (All-tail LineFits (line.Clock clock) lines all)
 
-pub sets_told : (text : List ℕ) (opening : Opening) (lines : List Line) → TellsHistory text opening lines
+pub sets_told : (text : List ℕ) (opening : Opening) (lines : List Line) → IsHistoryText text opening lines
     → All (λ event. SetsInRange event.command) (events_of lines)
 sets_told text opening lines told =
     sets lines (subst (λ (ls : List Line). All LineFits ls) (ap (λ (c : Coming). c.lines) told.tells)

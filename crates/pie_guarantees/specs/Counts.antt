@@ -5,13 +5,13 @@ use Rattle.pie_guarantees.specs.Names.{Deed, deed_of, departure, marked, queued,
 use Rattle.pie_guarantees.specs.Names.{effective_moment, waiting_after}
 
 -- the command is an arrival
-abbrev pub hands_in : Command → Bool
-hands_in (Arrive moment packet word) = true
-hands_in _ = false
+abbrev pub is_packet_arrival : Command → Bool
+is_packet_arrival (Arrive moment packet word) = true
+is_packet_arrival _ = false
 
 -- the number of arrivals
-abbrev pub packets_handed_in : List Event → ℕ
-packets_handed_in history = count_by (λ event. hands_in event.command) history
+abbrev pub packets_arrived : List Event → ℕ
+packets_arrived history = count_by (λ event. is_packet_arrival event.command) history
 
 -- the packet that an event put into the queue: as it arrived, and with CE where it was marked
 abbrev pub packet_queued : Deed → Option Packet

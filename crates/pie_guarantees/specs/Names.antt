@@ -1,11 +1,11 @@
 -- Imports of this folder's files from lower crates, in one place.
 pub use Rattle.pie_aqm.specs.History.{considered_where}
-unfoldable pub use Rattle.pie_aqm.specs.History.{departures_shown}
+unfoldable pub use Rattle.pie_aqm.specs.History.{departure_inputs}
 pub use Rattle.pie_book.specs.Estimates.{active_after, delay_after, params_after, parts_after}
 pub use Rattle.pie_book.specs.History.{bytes_after}
 unfoldable pub use Rattle.pie_book.specs.History.{effective_moment, waiting_after}
-pub use Rattle.pie_book.specs.Shown.{arriving_size, opened_of}
-unfoldable pub use Rattle.pie_book.specs.Shown.{shown}
+pub use Rattle.pie_book.specs.ControllerEvents.{arriving_size, opened_of}
+unfoldable pub use Rattle.pie_book.specs.ControllerEvents.{controller_events}
 pub use Rattle.pie_book.specs.Statistics.{count_of, is_dropped_bytes, is_dropped_packets, is_reset}
 pub use Rattle.pie_book.specs.Types.{Answer, Arrive, Bounded, Command, Depart, Done, DroppedEarly, Elements, Enqueued, Event, Left, Marked, One}
 pub use Rattle.pie_book.specs.Types.{Opening, Packet, RawParams, SetParams, Update, Updated, Waiting}

@@ -61,7 +61,7 @@ abbrev pub CountsAtLeast : ℕ → Opening → List Event → Event → Type 0
 CountsAtLeast least opening before event = was_considered opening before event ≡ true → least ≤ counted_at opening before event
 
 -- the event picks no packet, and nothing else starts the accumulated probability anew: no tail drop, no reset, and the controller isn't turned on
-pub record GoesOn (opening : Opening) (before : List Event) (event : Event) : Type 0 where
+pub record IsUnpicked (opening : Opening) (before : List Event) (event : Event) : Type 0 where
   pub unpicked : is_early event.answer ≡ false
   pub no_bytes : is_dropped_bytes (deed_of event) ≡ false
   pub no_packets : is_dropped_packets (deed_of event) ≡ false

@@ -2,7 +2,7 @@
 ghost use Rattle.std.specs.Prelude.{◌≡◌, ◌≤◌, ◌<◌, ◌+◌, ◌++◌, ◌∷◌, [], List, ℕ, Some, true};
 ghost use Rattle.pie_book.specs.Decision.{refusal_by_rule};
 ghost use Rattle.pie_event.specs.declared.refusal.Refusal.TheVariants.{TooSoon};
-ghost use Rattle.pie_event.specs.Deed.{handed_in};
+ghost use Rattle.pie_event.specs.Deed.{caller_moment};
 ghost use Rattle.pie_guarantees.specs.{Event, Opening, Update, deed_of, is_update, params_after, effective_moment, IsLawful, AtEachEvent};
 
 /// After a moment that is `ahead` nanoseconds above the greatest moment before it, an update is refused as too soon
@@ -15,7 +15,7 @@ pub fn a_clock_ahead_delays_updates_by_as_much()
         → refusal_by_rule opening before (Update moment) ≡ Some (TooSoon due)
         → moment < effective_moment opening before + (params_after opening before).t_update }
     ensures ahead { AtEachEvent (λ opening before event. (ahead : ℕ) (moment : ℕ) (due : ℕ)
-        → handed_in event.command ≡ effective_moment opening before + ahead
+        → caller_moment event.command ≡ effective_moment opening before + ahead
         → refusal_by_rule opening (before ++ event ∷ []) (Update moment) ≡ Some (TooSoon due)
         → moment < effective_moment opening before + ahead + (params_after opening (before ++ event ∷ [])).t_update) }
     ensures exactly { AtEachEvent (λ opening before event. is_update (deed_of event) ≡ true → (moment : ℕ) → moment < 1_152_921_504_606_846_976

@@ -2,7 +2,7 @@
 ghost use Rattle.std.specs.Prelude.{◌≡◌, ◌≤◌, ◌+◌, ◌*◌, ◌^◌, ◌++◌, ◌∷◌, [], All, List, ℕ, Some, length};
 ghost use Rattle.pie_guarantees.specs.{deed_of, Event, Opening, Packet, params_after, bytes_after, waiting_after, count_of, is_dropped_bytes};
 ghost use Rattle.pie_guarantees.specs.{AtEachEvent, BetweenAny};
-ghost use Rattle.pie_guarantees.specs.{is_dropped_packets, Carries, SetsLimit, packet_queued, packets_departed, packets_handed_in, packets_queued};
+ghost use Rattle.pie_guarantees.specs.{is_dropped_packets, Carries, SetsLimit, packet_queued, packets_departed, packets_arrived, packets_queued};
 ghost use Rattle.pie_guarantees.specs.{packets_waiting, time_of, IsLawful};
 ghost use Rattle.pie_book.specs.Statistics.{is_dropped_early, is_marked, is_queued};
 
@@ -12,7 +12,7 @@ ghost use Rattle.pie_book.specs.Statistics.{is_dropped_early, is_marked, is_queu
 /// own).
 pub fn every_packet_is_accounted_for()
     ensures once { (opening : Opening) (history : List Event) → IsLawful opening history
-        → packets_handed_in history ≡ count_of is_queued history + count_of is_marked history + count_of is_dropped_early history
+        → packets_arrived history ≡ count_of is_queued history + count_of is_marked history + count_of is_dropped_early history
         + count_of is_dropped_bytes history + count_of is_dropped_packets history }
     ensures order { (opening : Opening) (history : List Event) → IsLawful opening history
         → packets_departed history ++ packets_waiting opening history ≡ packets_queued history }

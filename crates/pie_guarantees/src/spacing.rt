@@ -1,7 +1,7 @@
 //! The distance between picked packets if probabilities accumulate (RFC 8033, section 5.4).
 ghost use Rattle.std.specs.Prelude.{◌≡◌, ◌≤◌, ◌<◌, ◌+◌, ◌*◌, ◌++◌, ◌∷◌, [], List, ℕ};
 ghost use Rattle.pie_params.specs.declared.elements.Picking.TheVariants.{Derandomized};
-ghost use Rattle.pie_guarantees.specs.{Event, Opening, AllAlong, IsLawful, CountsAtLeast, CountsAtMost, GoesOn, considered_in, counted_at, IsEarly};
+ghost use Rattle.pie_guarantees.specs.{Event, Opening, AllAlong, IsLawful, CountsAtLeast, CountsAtMost, IsUnpicked, considered_in, counted_at, IsEarly};
 ghost use Rattle.pie_guarantees.specs.{AtEachEvent, BetweenAny, counted_in, picks_in, restarts_in};
 ghost use Rattle.pie_book.specs.Estimates.{accu_after};
 
@@ -28,7 +28,7 @@ pub fn picks_are_far_apart()
 /// picked, and after a tail drop the count begins again.
 pub fn picks_are_not_too_far_apart()
     ensures { (least : ℕ) → BetweenAny (λ opening before between. opening.choices.elements.picking ≡ Derandomized → 0 < least
-        → AllAlong (CountsAtLeast least opening) before between → AllAlong (GoesOn opening) before between
+        → AllAlong (CountsAtLeast least opening) before between → AllAlong (IsUnpicked opening) before between
         → considered_in opening before between * least < 8_500_000_000_000) }
 {}
 

@@ -68,7 +68,7 @@ fn full(alloc: Global, tail: u32) -> Option<Book> {
 fn has_one_before(book: &mut Book) -> bool {
     let (arrivals, count) = (
         book.checkpoint_stats().arrivals,
-        book.checkpoint_standing().count,
+        book.checkpoint_snapshot().count,
     );
     match book.checkpoint_waiting(0) {
         Some(waiting) => arrivals == 1 && count == 1 && waiting.packet.tag == 0,

@@ -1,7 +1,7 @@
 //! The lock, over the counter that pie_lock has for tests. What its calls answer is proved but for this: that there is memory, that a free lock is
 //! taken and closed (src/links.rt), and that those who sleep at a lock that is held are woken: with a missed wake a test doesn't end.
 ghost use Rattle.std.specs.Prelude.{◌≡◌, Some};
-ghost use Rattle.pie_lock.specs.Tally.{Tells};
+ghost use Rattle.pie_lock.specs.Tally.{Represents};
 
 use crate::places::{Place, jobs_at, toil_all};
 use pie_lock::{Counter, CounterEntry, Held, Pass, RuledLock, no_entries, one_entry};
@@ -28,7 +28,7 @@ pub(crate) struct AtLock<'a> {
 fn add_one(lock: &RuledLock<Counter>, mut held: Held<Counter>, caller: u16) -> Pass<Counter>
     requires own { held.lock ≡ lock.now }
     requires caller { held.first ≡ caller }
-    requires kept { (held.lock.origin ≡ Some tt) × Tells held.state held.front }
+    requires kept { (held.lock.origin ≡ Some tt) × Represents held.state held.front }
     ensures { result.lock ≡ lock.now }
 {
     if held.state().add(1) {

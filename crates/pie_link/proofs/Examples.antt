@@ -1,6 +1,6 @@
 -- The link's definitions at small values, worked out by hand.
 use Rattle.std.specs.Prelude.{ℕ, ◌≡◌, [], ◌∷◌, Some, None}
-use Rattle.pie_link.proofs.Names.{refl, Shown, Spent, Waits, Meets, Opening, Entry, Informed, callers_of}
+use Rattle.pie_link.proofs.Names.{refl, PassKnowledge, Spent, Waits, Meets, Opening, Entry, Informed, callers_of}
 use Rattle.pie_event.specs.declared.opening.Limits.{Limits}
 use Rattle.pie_event.specs.declared.refusal.OpenRefusal.TheVariants as of_book
 use Rattle.pie_link.specs.declared.refusal.LinkRefusal.TheVariants.{Book, NoCallers}
@@ -22,7 +22,7 @@ no_callers = refl
 allowed : link_refusal (limits 4) 0 3 ≡ None
 allowed = refl
 
-abbrev pass : ℕ → Shown Entry Opening
+abbrev pass : ℕ → PassKnowledge Entry Opening
 pass first = record { front = []; first = first; limit = first; numbers = 4; origin = None }
 
 abbrev caller : ℕ → Informed

@@ -6,20 +6,20 @@ use Rattle.pie_params.specs.Profile.{default_profile}
 use Rattle.pie_params.specs.Elements.{usual}
 use Rattle.pie_queue.specs.declared.ecn.Ecn.TheVariants.{NotEct}
 use Rattle.pie_queue.specs.declared.packet.Packet.{Packet}
-use Rattle.pie_aqm.specs.History.{active_of, arrivals_shown, control_of, delay_noted, departures_of, departures_shown, early_of, held_of, is_active}
-use Rattle.pie_aqm.specs.History.{noted, noted_after, now_of, params_of, updates_shown, waited_noted, waited_of}
+use Rattle.pie_aqm.specs.History.{active_of, arrival_inputs, control_of, delay_at_end, departures_of, departure_inputs, early_of, held_of, is_active}
+use Rattle.pie_aqm.specs.History.{activity_events, activity_events_after, now_of, params_of, update_inputs, waited_at_end, waited_of}
 use Rattle.pie_aqm.specs.Places.{places, greatest, last_or}
 use Rattle.pie_aqm.specs.Steps.{verdict}
 use Rattle.pie_event.specs.declared.profile.Profile.TheVariants.{One}
 use Rattle.pie_book.specs.History.{effective_moment, admitted, departed_count}
-use Rattle.pie_book.specs.Shown.{shown}
+use Rattle.pie_book.specs.ControllerEvents.{controller_events}
 use Rattle.pie_event.specs.declared.command.Answer.TheVariants.{DroppedBytes, Enqueued, Left}
 use Rattle.pie_event.specs.declared.refusal.Refusal.TheVariants.{HistoryFull, Size}
 
 -- the definitions that these bursts compute with
 unfoldable worked : Type 0
-unfolding admitted places effective_moment greatest waiting_after departed_count held_after shown held_of now_of params_of active_of
-    departures_shown updates_shown arrivals_shown departures_of waited_of waited_noted delay_noted control_of early_of is_active noted noted_after last_or
+unfolding admitted places effective_moment greatest waiting_after departed_count held_after controller_events held_of now_of params_of active_of
+    departure_inputs update_inputs arrival_inputs departures_of waited_of waited_at_end delay_at_end control_of early_of is_active activity_events activity_events_after last_or
     verdict burst_within
 worked = ⊤
 

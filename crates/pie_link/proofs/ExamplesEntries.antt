@@ -1,6 +1,6 @@
 -- Entries at small values, worked out by hand.
 use Rattle.pie_link.proofs.Names.{refl, Depart, Empty, Event, Bounded, Opening, Entry, Made, Folded, events_in, left_when_rolling, tail_in}
-use Rattle.pie_link.proofs.Names.{handed_out}
+use Rattle.pie_link.proofs.Names.{folded_events}
 use Rattle.std.specs.Prelude.{ℕ, ◌≡◌, List, [], ◌∷◌}
 
 -- a caller's departure from an empty queue
@@ -19,7 +19,7 @@ module _ (opening : Opening) (bounded : opening.choices.mode ≡ Bounded) where
   tail_of_bounded : tail_in opening history ≡ asked 1 ∷ asked 0 ∷ []
   tail_of_bounded = rw bounded refl
 
-  handed_by_bounded : handed_out opening history ≡ asked 0 ∷ asked 1 ∷ asked 2 ∷ []
+  handed_by_bounded : folded_events opening history ≡ asked 0 ∷ asked 1 ∷ asked 2 ∷ []
   handed_by_bounded = rw bounded refl
 
 -- a rolling link with room for two: with event 4, event 2 leaves the log without a fold. The second fold returns events

@@ -1,5 +1,5 @@
 -- The headline, from the rule of the lock.
-use Rattle.pie_link.proofs.Names.{◌≡◌, ℕ, suc, Option, List, [], ◌∷◌, refl, subst, ⊎_elim, arith, Shown, Spent, Waits, Holds, Meets, Opening}
+use Rattle.pie_link.proofs.Names.{◌≡◌, ℕ, suc, Option, List, [], ◌∷◌, refl, subst, ⊎_elim, arith, PassKnowledge, Spent, Waits, Holds, Meets, Opening}
 use Rattle.pie_link.proofs.Names.{Entry, number_of, events_in, KeptView, IsKept, Informed, BeginsWith, HasCallsOf, informed, callers_at, callers_of}
 use Rattle.pie_link.proofs.Names.{LockKey, LockState, LiesIn, IsOneHistory, KeepsOneHistory}
 use Rattle.std.specs.List.{All}
@@ -10,11 +10,11 @@ use Rattle.pie_lock.specs.declared.view.Place.{Place}
 use Rattle.pie_lock.specs.Rule.{EachPass, Follows, Agreed, Ruled, WhileFree}
 use Rattle.pie_event.specs.declared.command.Event.{Event}
 use Rattle.pie_book.specs.Book.{BookView}
-use Rattle.pie_book.specs.Core.{CoreView, Shows, registers_of}
+use Rattle.pie_book.specs.Core.{CoreView, Represents, registers_of}
 use Rattle.pie_book.specs.Registers.{registers_after}
 use Rattle.pie_link.specs.Views.{LinkView}
 
-module _ (P : Shown Entry Opening → Type 0) (Q : Informed → Type 0) (follows : (p : Shown Entry Opening) → P p → Q (informed p)) where
+module _ (P : PassKnowledge Entry Opening → Type 0) (Q : Informed → Type 0) (follows : (p : PassKnowledge Entry Opening) → P p → Q (informed p)) where
   -- a fact about each pass of a seat is one about each of its callers
   at_seat : (seat : Place Entry Opening) → EachPass P seat → All Q (callers_at seat)
   at_seat Spent each = All-nil Q
@@ -31,7 +31,7 @@ module _ (P : Shown Entry Opening → Type 0) (Q : Informed → Type 0) (follows
 
 -- pie_book's law of registers
 abbrev pub LookBack : Type 0
-LookBack = (opening : Opening) (core : CoreView) (history : List Event) → Shows opening core history
+LookBack = (opening : Opening) (core : CoreView) (history : List Event) → Represents opening core history
     → registers_of core ≡ registers_after opening history
 
 -- the rule while the lock is free

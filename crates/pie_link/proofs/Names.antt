@@ -5,7 +5,7 @@ pub use Rattle.std.proofs.Common.{⊎_elim, ◌++◌, ◌+◌, ◌-◌, ◌<◌,
 pub use Rattle.std.proofs.lemmas.Bool.Decides.{nat_tests}
 pub use Rattle.std.proofs.lemmas.List.{append-nil, drop-append-le, drop-drop, drop_more, length-map, length-replicate, take-append-drop}
 pub use Rattle.std.specs.Prelude.{IsOk, OnErr, OnOk, if◌then◌else◌, nat_le, ⊤}
-pub use Rattle.pie_book.specs.Book.{BookView, Tells, first_run, kept_of, tail_with}
+pub use Rattle.pie_book.specs.Book.{BookView, BookRepresents, first_run, kept_of, tail_with}
 pub use Rattle.pie_book.specs.Decision.{answer_to_departure, arrival_of, decision, is_refused_full, or_full, refusal_after, refusal_by_rule}
 unfoldable pub use Rattle.pie_book.specs.Estimates.{held_after}
 unfoldable pub use Rattle.pie_book.specs.History.{waiting_after}
@@ -20,19 +20,19 @@ pub use Rattle.pie_event.specs.declared.opening.Opening.{Opening}
 pub use Rattle.pie_event.specs.declared.refusal.FoldRefusal.{FoldRefusal}
 pub use Rattle.pie_event.specs.declared.refusal.FoldRefusal.TheVariants.{TooMany}
 pub use Rattle.pie_event.specs.declared.refusal.Refusal.{Refusal}
-pub use Rattle.pie_link.specs.Bursts.{Reply, always, answer_bytes, arrive, asked_bytes, behind, departed_bytes, departures, entries_by}
-pub use Rattle.pie_link.specs.Bursts.{entries_within, fits, front_bytes, has_bytes, has_left, less, refusal_in, refused_or_told, remaining_after}
+pub use Rattle.pie_link.specs.Bursts.{Reply, always, answer_bytes, arrive, requested_bytes, behind, departed_bytes, departures, entries_by}
+pub use Rattle.pie_link.specs.Bursts.{entries_within, fits, front_bytes, has_bytes, has_left, less, refusal_in, refused_or_answered, remaining_after}
 pub use Rattle.pie_link.specs.Bursts.{replies_within, reply_in}
 unfoldable pub use Rattle.pie_link.specs.Bursts.{burst_within}
 pub use Rattle.pie_link.specs.CallerBursts.{AnswersAll}
 unfoldable pub use Rattle.pie_link.specs.CallerBursts.{TriesToAnswerAll}
-pub use Rattle.pie_link.specs.Entries.{events_in, folded_in, handed_out, handed_to, left_in, left_of, left_when_rolling, number_of, tail_in}
+pub use Rattle.pie_link.specs.Entries.{events_in, folded_in, folded_events, folded_for, left_in, left_of, left_when_rolling, number_of, tail_in}
 pub use Rattle.pie_link.specs.Excerpts.{IsExcerptOf}
 pub use Rattle.pie_link.specs.Folds.{IsFold, IsFolded, IsFoldedInto}
 pub use Rattle.pie_link.specs.Headline.{BeginsWith, HasCallsOf, Informed, IsOneHistory, LiesIn, LockKey, LockState, callers_at, callers_of, informed}
 unfoldable pub use Rattle.pie_link.specs.Headline.{KeepsOneHistory}
-pub use Rattle.pie_link.specs.Kept.{IsKept, KeptView, TellsEntries}
+pub use Rattle.pie_link.specs.Kept.{IsKept, KeptView, RepresentsEntries}
 pub use Rattle.pie_link.specs.declared.entry.Entry.{Entry}
 pub use Rattle.pie_link.specs.declared.entry.Entry.TheVariants.{Folded, Made}
 pub use Rattle.pie_lock.specs.declared.view.Place.TheVariants.{Holds, Meets, Spent, Waits}
-pub use Rattle.pie_lock.specs.declared.view.Shown.{Shown}
+pub use Rattle.pie_lock.specs.declared.view.PassKnowledge.{PassKnowledge}

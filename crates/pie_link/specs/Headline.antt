@@ -7,14 +7,14 @@ use mathlib.Core.List.{IsPrefix}
 use mathlib.Core.Option.{some}
 use lib.ListN.{get_elem?}
 use Rattle.atomic_table.specs.Table.{State}
-use Rattle.pie_lock.specs.declared.view.Shown.{Shown}
+use Rattle.pie_lock.specs.declared.view.PassKnowledge.{PassKnowledge}
 use Rattle.pie_lock.specs.declared.view.Place.{Place}
 use Rattle.pie_lock.specs.declared.view.Place.TheVariants.{Spent, Waits, Holds, Meets}
 use Rattle.pie_lock.specs.Own.{own}
 use Rattle.pie_lock.specs.declared.view.LockOpening.{LockOpening}
 use Rattle.pie_event.specs.declared.opening.Mode.TheVariants.{Bounded}
-use Rattle.pie_link.specs.Names.{Opening, IsLegal, Entry, number_of, events_in, tail_in, handed_out}
-use Rattle.pie_book.specs.Book.{BookView, Tells, last_events}
+use Rattle.pie_link.specs.Names.{Opening, IsLegal, Entry, number_of, events_in, tail_in, folded_events}
+use Rattle.pie_book.specs.Book.{BookView, BookRepresents, last_events}
 use Rattle.pie_book.specs.Core.{registers_of}
 use Rattle.pie_book.specs.History.{waiting_after}
 use Rattle.pie_book.specs.Registers.{registers_after}
@@ -47,7 +47,7 @@ pub record IsOneHistory (opening : Opening) (book : BookView) (callers : List In
   -- it is one of one thread: the book, opened as the link was, represents its events, and each command was accepted at
   -- its place with the answer that the rules give there
   pub opened : book.opening ≡ opening
-  pub told : Tells book (events_in history)
+  pub told : BookRepresents book (events_in history)
   pub legal : IsLegal opening (events_in history)
   -- it begins with the front of each caller
   pub begins : All (BeginsWith history) callers
@@ -58,7 +58,7 @@ pub record IsOneHistory (opening : Opening) (book : BookView) (callers : List In
   pub ends : last_events (length book.tail) (events_in history) ≡ book.tail
   pub tail : book.tail ≡ tail_in opening history
   -- in a bounded link the folded events, in order, followed by the log are all its events
-  pub nothing_lost : opening.choices.mode ≡ Bounded → handed_out opening history ++ book.tail ≡ events_in history
+  pub nothing_lost : opening.choices.mode ≡ Bounded → folded_events opening history ++ book.tail ≡ events_in history
   -- the look-back over all of it is the book's state
   pub queue : book.running.waiting ≡ waiting_after opening (events_in history)
   pub registers : registers_of book.running ≡ registers_after opening (events_in history)
@@ -69,7 +69,7 @@ pub record IsOneHistory (opening : Opening) (book : BookView) (callers : List In
   pub set : All (λ event. SetsInRange event.command) (events_in history)
 
 -- the callers of a seat at the lock; a seat that was joined to another has none
-abbrev pub informed : Shown Entry Opening → Informed
+abbrev pub informed : PassKnowledge Entry Opening → Informed
 informed p = record { front = p.front; first = p.first; limit = p.limit }
 
 abbrev pub callers_at : Place Entry Opening → List Informed

@@ -1,7 +1,7 @@
 -- The views of a link and of its callers in contracts.
 use Rattle.std.specs.Prelude.{◌≡◌, List, Some, Result, Ok, Err}
 use Rattle.pie_lock.specs.Views.{LockView, PassView, HoldsAll}
-use Rattle.pie_lock.specs.Steps.{GoesOn}
+use Rattle.pie_lock.specs.Steps.{Extends}
 use Rattle.pie_link.specs.Names.{Opening, IsLegal, Entry, number_of, events_in}
 use Rattle.pie_link.specs.declared.told.Tried.{Tried}
 use Rattle.pie_link.specs.declared.told.Tried.TheVariants.{Busy, Refused}
@@ -30,7 +30,7 @@ WasBusy before after = (after ≡ before) × (HoldsAll before → ⊥)
 -- answer that the rules give there; it begins with the caller's front, and has no further entry of the caller
 pub record IsHistoryFor (opening : Opening) (caller : CallerView) (history : List Entry) : Type 0 where
   pub legal : IsLegal opening (events_in history)
-  pub goes_on : GoesOn number_of caller.first caller.limit caller.front history
+  pub goes_on : Extends number_of caller.first caller.limit caller.front history
 
 -- a call had its turn after this history: its claim holds there, and the caller's front is then the history with the
 -- call's entries

@@ -34,11 +34,11 @@ impl Model for Link {
 }
 
 impl Link {
-    ghost use Rattle.pie_book.specs.Book.{Tells};
+    ghost use Rattle.pie_book.specs.Book.{BookRepresents};
     ghost use Rattle.pie_lock.specs.Views.{HoldsAll};
     ghost use Rattle.pie_lock.specs.Promises.{first_pass, without_highest, highest_alone, IsBeside, IsBothOf};
     ghost use Rattle.pie_link.specs.Entries.{number_of};
-    ghost use Rattle.pie_link.specs.Kept.{TellsEntries};
+    ghost use Rattle.pie_link.specs.Kept.{RepresentsEntries};
     ghost use Rattle.pie_link.specs.Views.{IsHistoryFor};
     ghost use Rattle.pie_link.specs.Headline.{KeepsOneHistory};
     ghost use Rattle.pie_link.specs.Opening.{link_refusal, IsRefusedFor};
@@ -110,7 +110,7 @@ impl Link {
         book: Book,
         callers: u16,
     ) -> Option<(RuledLock<KeptBook>, Pass<KeptBook>)>
-        requires new { Tells book [] }
+        requires new { BookRepresents book [] }
         requires tail { book.tail ≡ [] }
         requires room { 1 ≤ book.opening.limits.tail }
         requires accepted { opening_refusal book.opening.limits book.opening.moment ≡ None }
@@ -173,9 +173,9 @@ impl Link {
     pub fn close(self, caller: Caller) -> Result<Book, (Link, Caller)>
         requires own { caller.lock ≡ self }
         ensures opening { IfOk result (λ book. caller.lock.origin ≡ Some book.opening) }
-        ensures told { IfOk result (λ book. (history : List Entry) × IsHistoryFor book.opening caller history × TellsEntries book history) }
+        ensures told { IfOk result (λ book. (history : List Entry) × IsHistoryFor book.opening caller history × RepresentsEntries book history) }
         ensures alone { HoldsAll caller → IsOk result }
-        ensures same { HoldsAll caller → IfOk result (λ book. TellsEntries book caller.front) }
+        ensures same { HoldsAll caller → IfOk result (λ book. RepresentsEntries book caller.front) }
         ensures numbered { HoldsAll caller → IfOk result (λ _. All (λ entry. number_of entry < caller.lock.numbers) caller.front) }
         ensures still_held { IfErr result (λ back. (back.0 ≡ self) × (back.1 ≡ caller)) }
     {

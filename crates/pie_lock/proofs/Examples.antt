@@ -2,7 +2,7 @@
 use Rattle.pie_lock.proofs.Names.{◌≡◌, ℕ, List, [], ◌∷◌, refl, own, longer}
 use Rattle.pie_lock.specs.declared.lock.TheConstants.{WORD, SLOT, FREE, HELD}
 use Rattle.pie_lock.specs.declared.counter.CounterEntry.{CounterEntry}
-use Rattle.pie_lock.specs.Tally.{Tally, Tells}
+use Rattle.pie_lock.specs.Tally.{Tally, Represents}
 
 -- the constants of the code are the numbers of the rule
 constants : (WORD ≡ 0) × (SLOT ≡ 0) × (FREE ≡ 0) × (HELD ≡ 1)
@@ -27,9 +27,9 @@ history = entry 0 5 ∷ entry 1 7 ∷ []
 abbrev tally : Tally
 tally = record { count = 2; total = 12 }
 
-told : Tells tally history
+told : Represents tally history
 told = record { counted = refl; added_up = refl }
 
 -- the same counter represents other lists too
-told_too : Tells tally (entry 2 12 ∷ entry 0 0 ∷ [])
+told_too : Represents tally (entry 2 12 ∷ entry 0 0 ∷ [])
 told_too = record { counted = refl; added_up = refl }

@@ -1,7 +1,7 @@
 -- Entries of a list under the numbers of a range, and lists that go on without such entries.
 use Rattle.pie_lock.proofs.Names.{◌≡◌, ℕ, ◌≤◌, false, List, [], ◌∷◌, ◌++◌, length, refl, subst, arith, append-nil}
 use Rattle.pie_lock.proofs.Names.{nat_tests, append_cancel_left, All-cons, All-drop, All-head, All-nil, All-tail, All-take, filter-append, All, is_within, own}
-use Rattle.pie_lock.proofs.Names.{GoesOn}
+use Rattle.pie_lock.proofs.Names.{Extends}
 use Rattle.std.proofs.Math.Seq.{take-append_seam, drop-append_seam}
 
 -- of two prefixes of one list the shorter is a prefix of the longer, and its rest begins with the part between
@@ -40,19 +40,19 @@ module _ {E : Type 0} (number : E → ℕ) (first limit : ℕ) where
       All-cons (λ x. is_within first limit (number x) ≡ false) e rest (grind (arith, nat_tests)) (none_own rest (grind (arith, nat_tests)))
 
   -- a history goes on from a front if it begins with it and no further entry has one of its numbers
-  pub goes_on : (front rest history : List E) → front ++ rest ≡ history → NoneOwn rest → GoesOn number first limit front history
+  pub goes_on : (front rest history : List E) → front ++ rest ≡ history → NoneOwn rest → Extends number first limit front history
   goes_on front rest history is none = (
     (rest, is),
     let nothing = own_none rest none in
         let cut = filter-append (λ e. is_within first limit (number e)) front rest in grind (arith, append-nil),
   )
 
-  pub gone_on : (front history : List E) → GoesOn number first limit front history → (rest : List E) × (front ++ rest ≡ history) × NoneOwn rest
+  pub gone_on : (front history : List E) → Extends number first limit front history → (rest : List E) × (front ++ rest ≡ history) × NoneOwn rest
   gone_on front history on =
       let shown = on.0.1 in
       let same = on.1 in
       let cut = filter-append (λ e. is_within first limit (number e)) front on.0.0 in
       (on.0.0, on.0.1, none_own on.0.0 (append_cancel_left (mine front) (mine on.0.0) [] (grind (arith, append-nil))))
 
-  pub goes_on_itself : (front : List E) → GoesOn number first limit front front
+  pub goes_on_itself : (front : List E) → Extends number first limit front front
   goes_on_itself front = (([], append-nil front), refl)

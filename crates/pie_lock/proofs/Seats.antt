@@ -1,8 +1,8 @@
 -- The seats against one history: if numbers are split, if the history grows, and if two passes become one.
 use Rattle.pie_lock.proofs.Names.{◌≡◌, ◌≢◌, ℕ, zero, suc, ◌<◌, ◌≤◌, ◌⊎◌, Bool, true, false, cond, Option, List, [], ◌∷◌, ◌++◌, length, get_or, min}
 use Rattle.pie_lock.proofs.Names.{max, set, refl, ap, sym, subst, ◌∙◌, inl, inr, ⊎_elim, arith, append_assoc, nat_tests, append-nil, All-append, All}
-use Rattle.pie_lock.proofs.Names.{at_set, set_else, is_within, Agreed, EachPass, Follows, IsNumberAt, IsNumberOf, IsSeated, AreAdjacent, GoesOn}
-use Rattle.pie_lock.proofs.Names.{HasAll, longer, made_one, with_front, with_numbers, Place, Holds, Meets, Spent, Waits, Shown}
+use Rattle.pie_lock.proofs.Names.{at_set, set_else, is_within, Agreed, EachPass, Follows, IsNumberAt, IsNumberOf, IsSeated, AreAdjacent, Extends}
+use Rattle.pie_lock.proofs.Names.{HasAll, longer, made_one, with_front, with_numbers, Place, Holds, Meets, Spent, Waits, PassKnowledge}
 use Rattle.std.proofs.Math.Dec.{ltb}
 use lib.ListN.{get_elem?}
 use mathlib.Core.Option.{some, some-injective}
@@ -47,14 +47,14 @@ is_other : (first limit k n : ℕ) → n ≡ k → ((first ≤ k) × (k < limit)
 is_other first limit k n is not = grind (arith, nat_tests)
 
 module _ {E O : Type 0} (number : E → ℕ) (origin : O) (numbers : ℕ) where
-  abbrev Fits : List E → Shown E O → Type 0
+  abbrev Fits : List E → PassKnowledge E O → Type 0
   Fits history p = Follows number origin numbers history p
 
   -- ---- one pass
 
   -- a pass with the same knowledge of the lock
-  follows : (history next : List E) (p q : Shown E O) → Fits history p → q.numbers ≡ p.numbers → q.origin ≡ p.origin
-      → GoesOn number q.first q.limit q.front next → q.first < q.limit → q.limit ≤ numbers → Fits next q
+  follows : (history next : List E) (p q : PassKnowledge E O) → Fits history p → q.numbers ≡ p.numbers → q.origin ≡ p.origin
+      → Extends number q.first q.limit q.front next → q.first < q.limit → q.limit ≤ numbers → Fits next q
   follows history next p q f same from on left low = record {
     shown = on.0;
     owned = on.1;
@@ -65,7 +65,7 @@ module _ {E O : Type 0} (number : E → ℕ) (origin : O) (numbers : ℕ) where
   }
 
   -- a pass with some of the numbers
-  pub follows_fewer : (history : List E) (p : Shown E O) (first limit : ℕ) → Fits history p → p.first ≤ first → limit ≤ p.limit → first < limit
+  pub follows_fewer : (history : List E) (p : PassKnowledge E O) (first limit : ℕ) → Fits history p → p.first ≤ first → limit ≤ p.limit → first < limit
       → Fits history (with_numbers p first limit)
   follows_fewer history p first limit f low high some_left =
       let on = gone_on number p.first p.limit p.front history (f.shown, f.owned) in
@@ -75,12 +75,12 @@ module _ {E O : Type 0} (number : E → ℕ) (origin : O) (numbers : ℕ) where
       (let b = f.below in omega arith)
 
   -- a pass whose front is the whole history
-  pub follows_whole : (history : List E) (p : Shown E O) → Fits history p → (next : List E) → Fits next (with_front p next)
+  pub follows_whole : (history : List E) (p : PassKnowledge E O) → Fits history p → (next : List E) → Fits next (with_front p next)
   follows_whole history p f next =
       follows history next p (with_front p next) f refl refl (goes_on_itself number p.first p.limit next) f.nonempty f.below
 
   -- with all numbers its holder has seen the whole history
-  pub all_shown : (history : List E) (p : Shown E O) → Fits history p → All (λ e. number e < numbers) history → HasAll p → history ≡ p.front
+  pub all_shown : (history : List E) (p : PassKnowledge E O) → Fits history p → All (λ e. number e < numbers) history → HasAll p → history ≡ p.front
   all_shown history p f low all =
       let on = gone_on number p.first p.limit p.front history (f.shown, f.owned) in
       let rest_low = all_parts (λ e. number e < numbers) p.front on.0 (subst (All (λ e. number e < numbers)) (sym on.1) low) in
@@ -94,7 +94,7 @@ module _ {E O : Type 0} (number : E → ℕ) (origin : O) (numbers : ℕ) where
           let a = all.0 in let b = all.1 in let c = f.of_all in absurd (grind (arith, nat_tests))
 
   -- the history grows by entries of other passes
-  follows_longer : (history : List E) (k : ℕ) (p : Shown E O) (added : List E) → All (λ e. number e ≡ k) added → Fits history p
+  follows_longer : (history : List E) (k : ℕ) (p : PassKnowledge E O) (added : List E) → All (λ e. number e ≡ k) added → Fits history p
       → (IsNumberOf p k → ⊥) → Fits (history ++ added) p
   follows_longer history k p added is f not =
       let on = gone_on number p.first p.limit p.front history (f.shown, f.owned) in
@@ -122,8 +122,8 @@ module _ {E O : Type 0} (number : E → ℕ) (origin : O) (numbers : ℕ) where
   -- ---- two passes
 
   -- the longer of two fronts goes on from the shorter, and the history from the longer, under the numbers of both
-  longer_facts : (history : List E) (p q : Shown E O) → Fits history p → Fits history q → AreAdjacent p q → length p.front ≤ length q.front
-      → GoesOn number (min p.first q.first) (max p.limit q.limit) q.front history × GoesOn number p.first p.limit p.front q.front
+  longer_facts : (history : List E) (p q : PassKnowledge E O) → Fits history p → Fits history q → AreAdjacent p q → length p.front ≤ length q.front
+      → Extends number (min p.first q.first) (max p.limit q.limit) q.front history × Extends number p.first p.limit p.front q.front
   longer_facts history p q f g adjacent less =
       let a = gone_on number p.first p.limit p.front history (f.shown, f.owned) in
       let b = gone_on number q.first q.limit q.front history (g.shown, g.owned) in
@@ -136,17 +136,17 @@ module _ {E O : Type 0} (number : E → ℕ) (origin : O) (numbers : ℕ) where
       )
 
   -- two passes with adjacent ranges become one, and both fronts go on to the longer one
-  pub follows_both : (history : List E) (p q : Shown E O) → Fits history p → Fits history q → AreAdjacent p q
-      → Fits history (made_one p q) × GoesOn number p.first p.limit p.front (longer p.front q.front)
-      × GoesOn number q.first q.limit q.front (longer p.front q.front)
+  pub follows_both : (history : List E) (p q : PassKnowledge E O) → Fits history p → Fits history q → AreAdjacent p q
+      → Fits history (made_one p q) × Extends number p.first p.limit p.front (longer p.front q.front)
+      × Extends number q.first q.limit q.front (longer p.front q.front)
   follows_both history p q f g adjacent =
       let on = by_length (ltb (length p.front) (length q.front)) refl in
       let low = f.nonempty in let high = g.nonempty in let a = f.below in let b = g.below in
       (follows history history p (made_one p q) f refl refl on.0 (omega arith) (omega arith), on.1, on.2)
     where
       by_length : (b : Bool) → ltb (length p.front) (length q.front) ≡ b
-          → GoesOn number (min p.first q.first) (max p.limit q.limit) (cond b q.front p.front) history
-          × GoesOn number p.first p.limit p.front (cond b q.front p.front) × GoesOn number q.first q.limit q.front (cond b q.front p.front)
+          → Extends number (min p.first q.first) (max p.limit q.limit) (cond b q.front p.front) history
+          × Extends number p.first p.limit p.front (cond b q.front p.front) × Extends number q.first q.limit q.front (cond b q.front p.front)
       by_length true is =
           let l = longer_facts history p q f g adjacent (grind (arith, nat_tests)) in (l.0, l.1, goes_on_itself number q.first q.limit q.front)
       by_length false is =

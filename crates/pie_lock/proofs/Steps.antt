@@ -4,7 +4,7 @@ use Rattle.pie_lock.proofs.Names.{length, get_or, set, refl, ap, sym, subst, ◌
 use Rattle.pie_lock.proofs.Names.{All-nil, All, at_longer, at_set, exchanged, set_again, set_else, Act, Allows, Joins, Me, Splits, State, Valid}
 use Rattle.pie_lock.proofs.Names.{carried_after, gives, keeps, opening, step, stepped, takes, Agreed, EachPass, Follows, IsSeated, Ruled, WhileFree}
 use Rattle.pie_lock.proofs.Names.{WhileHeld, opened, IsIdle, IsLeaving, AreAdjacent, HasAll, Won, all_but_highest, freed, highest, looked, made_one}
-use Rattle.pie_lock.proofs.Names.{meeting, merged, pass_at, taken, with_front, with_numbers, Place, Holds, Meets, Spent, Waits, Shown}
+use Rattle.pie_lock.proofs.Names.{meeting, merged, pass_at, taken, with_front, with_numbers, Place, Holds, Meets, Spent, Waits, PassKnowledge}
 use lib.ListN.{get_elem?}
 use mathlib.Core.Option.{none, some, some-injective}
 use prog.Atomic.{either}
@@ -81,7 +81,7 @@ module _ {S E O : Type 0} (number : E → ℕ) (origin_of : S → O) (tells : S 
 
   -- ---- a look at the word, and the exchange of FREE for HELD, won or lost
 
-  wins : (id : ℕ) (p : Shown E O) (s : Table) → Rule s → get_elem? s.views id ≡ some (Waits p) → get_or s.words 0 0 ≡ 0
+  wins : (id : ℕ) (p : PassKnowledge E O) (s : Table) → Rule s → get_elem? s.views id ≡ some (Waits p) → get_or s.words 0 0 ≡ 0
       → (w : Place E O) × (a : Act (Option S)) × Valid s.homes [] a × Rule (stepped s 0 1 id [] w a)
       × Won number origin_of tells p (w, carried_after [] a)
   wins id p s rule at hit =
@@ -133,14 +133,14 @@ module _ {S E O : Type 0} (number : E → ℕ) (origin_of : S → O) (tells : S 
       )
 
   -- if a seat has all numbers, no other seat has the state
-  not_all : (id : ℕ) (p : Shown E O) (s : Table) → Rule s → get_elem? s.views id ≡ some (Waits p) → get_or s.words 0 0 ≢ 0 → HasAll p → ⊥
+  not_all : (id : ℕ) (p : PassKnowledge E O) (s : Table) → Rule s → get_elem? s.views id ≡ some (Waits p) → get_or s.words 0 0 ≢ 0 → HasAll p → ⊥
   not_all id p s rule at ne all = ⊎_elim (λ free. ne free.0) no_other rule.1.4
     where
       no_other : IsHeld rule.1.1 s → ⊥
       no_other held =
           let agreed : Agreed number origin numbers rule.1.0 rule.1.1 rule.1.2 s.views = rule.1.3 in
           let holder : ℕ = held.1.0 in
-          let q : Shown E O = held.1.1 in
+          let q : PassKnowledge E O = held.1.1 in
           let there : get_elem? s.views holder ≡ some (Holds q) = held.1.3 in
           let mine : Sits rule.1.0 rule.1.1 rule.1.2 id (Waits p) = agreed.seated id (Waits p) at in
           let its : Sits rule.1.0 rule.1.1 rule.1.2 holder (Holds q) = agreed.seated holder (Holds q) there in
@@ -151,7 +151,7 @@ module _ {S E O : Type 0} (number : E → ℕ) (origin_of : S → O) (tells : S 
           let e : Holds q ≡ Waits p = some-injective (Holds q) (Waits p) (sym there ∙ (ap (get_elem? s.views) same ∙ at)) in cc
 
   -- a step that leaves the word leaves the rest
-  stays : (id : ℕ) (p : Shown E O) (s : Table) → Rule s → get_elem? s.views id ≡ some (Waits p)
+  stays : (id : ℕ) (p : PassKnowledge E O) (s : Table) → Rule s → get_elem? s.views id ≡ some (Waits p)
       → Rule (stepped s 0 (get_or s.words 0 0) id [] (Waits p) keeps)
   stays id p s rule at =
       let words = word_again s.words rule.0 in
@@ -162,11 +162,11 @@ module _ {S E O : Type 0} (number : E → ℕ) (origin_of : S → O) (tells : S 
   pub looks_keep : (slots id : ℕ) (me : Me (Option S) (Place E O)) → IsIdle me
       → Allows Rule slots id me 0 (λ n. n) (looked (step slots 0 0 0 none) me)
   looks_keep slots id me idle =
-      let p : Shown E O = pass_at me.0 in
+      let p : PassKnowledge E O = pass_at me.0 in
       subst (λ (m : Me (Option S) (Place E O)). Allows Rule slots id m 0 (λ n. n) (looked (step slots 0 0 0 none) m)) (sym idle)
       (λ s rule sized at wide. (Waits p, keeps, tt, stays id p s rule at, (refl, not_all id p s rule at)))
 
-  won_or_lost : (slots id : ℕ) (p : Shown E O)
+  won_or_lost : (slots id : ℕ) (p : PassKnowledge E O)
       → Allows Rule slots id (Waits p, []) 0 (λ n. either (n == 0) 1 n) (taken number origin_of tells (step slots 0 0 1 none) (Waits p, []))
   won_or_lost slots id p s rule sized at wide =
       let n : ℕ = get_or s.words 0 0 in
@@ -188,7 +188,7 @@ module _ {S E O : Type 0} (number : E → ℕ) (origin_of : S → O) (tells : S 
   abbrev Frees : ℕ → ℕ → List E → Me (Option S) (Place E O) → Type 0
   Frees slots id added me = Allows Rule slots id me 0 (λ _. 0) (λ _. freed added (step slots 0 0 0 none) me 0)
 
-  frees : (slots id : ℕ) (p : Shown E O) (stored : S) (added : List E) → p.origin ≡ Some (origin_of stored)
+  frees : (slots id : ℕ) (p : PassKnowledge E O) (stored : S) (added : List E) → p.origin ≡ Some (origin_of stored)
       → tells stored (p.front ++ added) → All (λ e. number e ≡ p.first) added → Frees slots id added (Holds p, (0, Some stored) ∷ [])
   frees slots id p stored added from told own s rule sized at wide =
       let history : List E = rule.1.0 in
@@ -245,12 +245,12 @@ module _ {S E O : Type 0} (number : E → ℕ) (origin_of : S → O) (tells : S 
   -- ---- seats that are split and joined: the word and the slot stay, and so does who has the state
 
   same_word : (s : Table) (views : List (Place E O)) (history : List E) (holder : Option ℕ) → IsFree history holder s ⊎ IsHeld holder s
-      → ((j : ℕ) (q : Shown E O) → get_elem? s.views j ≡ some (Holds q) → get_elem? views j ≡ some (Holds q))
+      → ((j : ℕ) (q : PassKnowledge E O) → get_elem? s.views j ≡ some (Holds q) → get_elem? views j ≡ some (Holds q))
       → IsFree history holder (record { words = s.words; homes = s.homes; views = views })
       ⊎ IsHeld holder (record { words = s.words; homes = s.homes; views = views })
   same_word s views history holder now keeps_it = grind arith
 
-  splits : (id : ℕ) (p : Shown E O) → p.first + 1 < p.limit → Splits Rule id (Waits p) (all_but_highest (Waits p)) (highest (Waits p))
+  splits : (id : ℕ) (p : PassKnowledge E O) → p.first + 1 < p.limit → Splits Rule id (Waits p) (all_but_highest (Waits p)) (highest (Waits p))
   splits id p two s rule at =
       let history : List E = rule.1.0 in
       let agreed : Agreed number origin numbers history rule.1.1 rule.1.2 s.views = rule.1.3 in
@@ -300,7 +300,7 @@ module _ {S E O : Type 0} (number : E → ℕ) (origin_of : S → O) (tells : S 
   abbrev Merges : ℕ → ℕ → Me (Option S) (Place E O) → Type 0
   Merges slots id me = Allows Rule slots id me 0 (λ n. n) (merged number (step slots 0 0 0 none) me)
 
-  merges : (slots id : ℕ) (p q : Shown E O) → AreAdjacent p q → Merges slots id (Meets p q, [])
+  merges : (slots id : ℕ) (p q : PassKnowledge E O) → AreAdjacent p q → Merges slots id (Meets p q, [])
   merges slots id p q adjacent s rule sized at wide =
       let history : List E = rule.1.0 in
       let agreed : Agreed number origin numbers history rule.1.1 rule.1.2 s.views = rule.1.3 in
@@ -334,11 +334,11 @@ module _ {S E O : Type 0} (number : E → ℕ) (origin_of : S → O) (tells : S 
         (refl, facts.1, facts.2),
       )
 
-  pub merges_keep : (slots id : ℕ) (me : Me (Option S) (Place E O)) (p q : Shown E O) → AreAdjacent p q
+  pub merges_keep : (slots id : ℕ) (me : Me (Option S) (Place E O)) (p q : PassKnowledge E O) → AreAdjacent p q
       → ◌≡◌ {A = Me (Option S) (Place E O)} me (Meets p q, []) → Merges slots id me
   merges_keep slots id me p q adjacent is = subst (Merges slots id) (sym is) (merges slots id p q adjacent)
 
-  joins : (id other : ℕ) (p q : Shown E O) → Joins Rule id (Waits p) other (Waits q) (meeting (Waits p) (Waits q)) Spent
+  joins : (id other : ℕ) (p q : PassKnowledge E O) → Joins Rule id (Waits p) other (Waits q) (meeting (Waits p) (Waits q)) Spent
   joins id other p q s rule at ne there =
       let history : List E = rule.1.0 in
       let agreed : Agreed number origin numbers history rule.1.1 rule.1.2 s.views = rule.1.3 in

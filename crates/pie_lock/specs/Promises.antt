@@ -1,7 +1,7 @@
 -- Promises of the lock's calls, over the views of passes and helds.
 use Rattle.std.specs.Prelude.{◌≡◌, ℕ, ◌-◌, ◌<◌, ◌⊎◌, min, max, List, [], ◌++◌, All, Some}
 use Rattle.pie_lock.specs.Views.{LockView, PassView, HeldView, HoldsAll}
-use Rattle.pie_lock.specs.Steps.{GoesOn}
+use Rattle.pie_lock.specs.Steps.{Extends}
 
 module _ {S E O : Type 0} where
   -- the held has the lock and the numbers of the pass
@@ -17,7 +17,7 @@ module _ {S E O : Type 0} (number_of : E → ℕ) (origin_of : S → O) (tells :
   pub record HasTaken (p : PassView E O) (h : HeldView S E O) : Type 0 where
     pub pass : IsOfPass p h
     -- the new front begins with the front of the pass, and has no further entry under its numbers
-    pub front : GoesOn number_of p.first p.limit p.front h.front
+    pub front : Extends number_of p.first p.limit p.front h.front
     pub origin : h.lock.origin ≡ Some (origin_of h.state)
     pub told : tells h.state h.front
     pub numbered : All (λ e. number_of e < p.lock.numbers) h.front
@@ -43,7 +43,7 @@ module _ {E O : Type 0} where
 
   -- the front of q begins with the front of p, and has no further entry under the numbers of p
   abbrev pub IsBehind : (E → ℕ) → PassView E O → PassView E O → Type 0
-  IsBehind number p q = GoesOn number p.first p.limit p.front q.front
+  IsBehind number p q = Extends number p.first p.limit p.front q.front
 
   -- r is p and q together: both ranges, and the longer front, which begins with the shorter one
   abbrev pub IsBothOf : (E → ℕ) → PassView E O → PassView E O → PassView E O → Type 0

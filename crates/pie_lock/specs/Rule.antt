@@ -5,7 +5,7 @@ use mathlib.Core.List.{IsPrefix}
 use mathlib.Core.Option.{none, some}
 use lib.ListN.{get_elem?}
 use Rattle.atomic_table.specs.Table.{State}
-use Rattle.pie_lock.specs.declared.view.Shown.{Shown}
+use Rattle.pie_lock.specs.declared.view.PassKnowledge.{PassKnowledge}
 use Rattle.pie_lock.specs.declared.view.Place.{Place}
 use Rattle.pie_lock.specs.declared.view.Place.TheVariants.{Spent, Waits, Holds, Meets}
 use Rattle.pie_lock.specs.Own.{own}
@@ -16,7 +16,7 @@ module _ {E O : Type 0} where
   opened origin numbers = Waits (record { front = []; first = 0; limit = numbers; numbers = numbers; origin = Some origin })
 
   -- n is a number of the pass
-  abbrev pub IsNumberOf : Shown E O → ℕ → Type 0
+  abbrev pub IsNumberOf : PassKnowledge E O → ℕ → Type 0
   IsNumberOf p n = (p.first ≤ n) × (n < p.limit)
 
   -- n is a number of a pass of the seat
@@ -27,7 +27,7 @@ module _ {E O : Type 0} where
   IsNumberAt (Meets p q) n = IsNumberOf p n ⊎ IsNumberOf q n
 
   -- P holds of each pass of the seat
-  abbrev pub EachPass : (Shown E O → Type 0) → Place E O → Type 0
+  abbrev pub EachPass : (PassKnowledge E O → Type 0) → Place E O → Type 0
   EachPass P Spent = Unit {0}
   EachPass P (Waits p) = P p
   EachPass P (Holds p) = P p
@@ -35,7 +35,7 @@ module _ {E O : Type 0} where
 
   -- the history begins with the pass's front, and has under its numbers only the entries of its front. The pass knows
   -- the lock's origin and its number of numbers; its own numbers are some of these
-  pub record Follows (number : E → ℕ) (origin : O) (numbers : ℕ) (history : List E) (p : Shown E O) : Type 0 where
+  pub record Follows (number : E → ℕ) (origin : O) (numbers : ℕ) (history : List E) (p : PassKnowledge E O) : Type 0 where
     pub shown : IsPrefix p.front history
     pub owned : own number p.first p.limit history ≡ own number p.first p.limit p.front
     pub nonempty : p.first < p.limit
@@ -50,7 +50,7 @@ module _ {E O : Type 0} where
       (view : Place E O) : Type 0 where
     pub follows : EachPass (Follows number origin numbers history) view
     pub owned : (n : ℕ) → IsNumberAt view n → owner n ≡ seat
-    pub holds : (p : Shown E O) → view ≡ Holds p → (holder ≡ Some seat) × (p.front ≡ history)
+    pub holds : (p : PassKnowledge E O) → view ≡ Holds p → (holder ≡ Some seat) × (p.front ≡ history)
 
   -- the views of all seats agree with one history: each pass follows it, no number belongs to two seats, at most one
   -- seat has the state, and the number of each entry is a number of the lock
@@ -70,7 +70,7 @@ module _ {S E O : Type 0} (number : E → ℕ) (origin_of : S → O) (tells : S 
   -- while the word is HELD: the slot is out, and one seat has the state
   abbrev pub WhileHeld : Option ℕ → State (Option S) (Place E O) → Type 0
   WhileHeld holder s =
-      (slice_index s.words 0 ≡ 1) × ((seat : ℕ) × (p : Shown E O) × (holder ≡ Some seat) × (get_elem? s.views seat ≡ some (Holds p)))
+      (slice_index s.words 0 ≡ 1) × ((seat : ℕ) × (p : PassKnowledge E O) × (holder ≡ Some seat) × (get_elem? s.views seat ≡ some (Holds p)))
       × (get_elem? s.homes 0 ≡ some none)
 
   -- there is one history that agrees with all passes

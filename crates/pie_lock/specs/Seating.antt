@@ -3,18 +3,18 @@ use Rattle.std.specs.Prelude.{◌≡◌, ℕ, ◌<◌, List, [], ◌∷◌, ◌+
 use Rattle.atomic_table.specs.Table.{Me}
 use Rattle.atomic_table.specs.Seated.{TableId}
 use Rattle.atomic_table.specs.declared.shared.Seat.{Seat}
-use Rattle.pie_lock.specs.declared.view.Shown.{Shown}
+use Rattle.pie_lock.specs.declared.view.PassKnowledge.{PassKnowledge}
 use Rattle.pie_lock.specs.declared.view.Place.{Place}
 use Rattle.pie_lock.specs.declared.view.Place.TheVariants.{Waits, Holds}
 use Rattle.pie_lock.specs.Steps.{pass_at}
 use Rattle.pie_lock.specs.Views.{LockView, PassView, HeldView}
 
 module _ {E O : Type 0} where
-  abbrev pub lock_of : TableId → Shown E O → LockView O
+  abbrev pub lock_of : TableId → PassKnowledge E O → LockView O
   lock_of id p = record { id = id; origin = p.origin; numbers = p.numbers }
 
 -- the pass has the numbers first..limit, at least one
-pub record HasNumbers {E O : Type 0} (first limit : ℕ) (p : Shown E O) : Type 0 where
+pub record HasNumbers {E O : Type 0} (first limit : ℕ) (p : PassKnowledge E O) : Type 0 where
   pub first_is : p.first ≡ first
   pub limit_is : p.limit ≡ limit
   pub nonempty : first < limit

@@ -3,7 +3,7 @@ use Rattle.std.specs.Prelude.{◌≡◌, ◌≢◌, ℕ, ◌-◌, ◌<◌, ◌�
 use Rattle.std.proofs.Math.Dec.{ltb}
 use mathlib.Core.List.{IsPrefix}
 use Rattle.atomic_table.specs.Table.{Me, Step}
-use Rattle.pie_lock.specs.declared.view.Shown.{Shown}
+use Rattle.pie_lock.specs.declared.view.PassKnowledge.{PassKnowledge}
 use Rattle.pie_lock.specs.declared.view.Place.{Place}
 use Rattle.pie_lock.specs.declared.view.Place.TheVariants.{Spent, Waits, Holds, Meets}
 use Rattle.pie_lock.specs.Own.{own}
@@ -13,28 +13,28 @@ abbrev pub longer : {E : Type 0} → List E → List E → List E
 longer xs ys = cond (ltb (length xs) (length ys)) ys xs
 
 module _ {E O : Type 0} where
-  abbrev pub with_front : Shown E O → List E → Shown E O
+  abbrev pub with_front : PassKnowledge E O → List E → PassKnowledge E O
   with_front p front = record { front = front; first = p.first; limit = p.limit; numbers = p.numbers; origin = p.origin }
 
-  abbrev pub with_numbers : Shown E O → ℕ → ℕ → Shown E O
+  abbrev pub with_numbers : PassKnowledge E O → ℕ → ℕ → PassKnowledge E O
   with_numbers p first limit = record { front = p.front; first = first; limit = limit; numbers = p.numbers; origin = p.origin }
 
   -- the pass of a seat; a spent seat has the pass of no number
-  abbrev pub pass_at : Place E O → Shown E O
+  abbrev pub pass_at : Place E O → PassKnowledge E O
   pass_at Spent = record { front = []; first = 0; limit = 0; numbers = 0; origin = None }
   pass_at (Waits p) = p
   pass_at (Holds p) = p
   pass_at (Meets p q) = p
 
   -- the second pass of a seat that has two
-  abbrev pub other_at : Place E O → Shown E O
+  abbrev pub other_at : Place E O → PassKnowledge E O
   other_at Spent = pass_at Spent
   other_at (Waits p) = p
   other_at (Holds p) = p
   other_at (Meets p q) = q
 
   -- the pass has all numbers of the lock
-  abbrev pub HasAll : Shown E O → Type 0
+  abbrev pub HasAll : PassKnowledge E O → Type 0
   HasAll p = (p.first ≡ 0) × (p.limit ≡ p.numbers)
 
   -- the seat after a split: it keeps all numbers except its highest one
@@ -56,26 +56,26 @@ module _ {E O : Type 0} where
   meeting v w = Meets (pass_at v) (pass_at w)
 
   -- one pass of two: the longer front, and both ranges
-  abbrev pub made_one : Shown E O → Shown E O → Shown E O
+  abbrev pub made_one : PassKnowledge E O → PassKnowledge E O → PassKnowledge E O
   made_one p q =
       record { front = longer p.front q.front; first = min p.first q.first; limit = max p.limit q.limit; numbers = p.numbers; origin = p.origin }
 
   -- the ranges are adjacent
-  abbrev pub AreAdjacent : Shown E O → Shown E O → Type 0
+  abbrev pub AreAdjacent : PassKnowledge E O → PassKnowledge E O → Type 0
   AreAdjacent p q = (p.limit ≡ q.first) ⊎ (q.limit ≡ p.first)
 
 -- the longer front begins with the front, and has no further entry under these numbers
-abbrev pub GoesOn : {E : Type 0} → (E → ℕ) → ℕ → ℕ → List E → List E → Type 0
-GoesOn number first limit front longer_front =
+abbrev pub Extends : {E : Type 0} → (E → ℕ) → ℕ → ℕ → List E → List E → Type 0
+Extends number first limit front longer_front =
     IsPrefix front longer_front × (own number first limit longer_front ≡ own number first limit front)
 
 module _ {S E O : Type 0} (number : E → ℕ) (origin_of : S → O) (tells : S → List E → Type 0) where
   -- the pass p took the lock: its seat has the slot, and its front is the history that the state represents
-  abbrev pub Won : Shown E O → Me (Option S) (Place E O) → Type 0
+  abbrev pub Won : PassKnowledge E O → Me (Option S) (Place E O) → Type 0
   Won p after =
       (stored : S) × (history : List E)
       × (after ≡ (Holds (with_front p history), (0, Some stored) ∷ []))
-      × GoesOn number p.first p.limit p.front history
+      × Extends number p.first p.limit p.front history
       × (p.origin ≡ Some (origin_of stored))
       × tells stored history
       × All (λ e. number e < p.numbers) history
@@ -98,11 +98,11 @@ module _ {S E O : Type 0} where
       after ≡ (Waits (with_front (pass_at before.0) ((pass_at before.0).front ++ added)), [])
 
   -- the seat has one pass made of p and q, and the longer front goes on from both fronts
-  abbrev pub HasMerged : (E → ℕ) → Shown E O → Shown E O → Me (Option S) (Place E O) → Type 0
+  abbrev pub HasMerged : (E → ℕ) → PassKnowledge E O → PassKnowledge E O → Me (Option S) (Place E O) → Type 0
   HasMerged number p q made =
       (made ≡ (Waits (made_one p q), []))
-      × GoesOn number p.first p.limit p.front (longer p.front q.front)
-      × GoesOn number q.first q.limit q.front (longer p.front q.front)
+      × Extends number p.first p.limit p.front (longer p.front q.front)
+      × Extends number q.first q.limit q.front (longer p.front q.front)
 
   -- the load after a join of two seats
   abbrev pub merged : (E → ℕ) → Step (Option S) → Me (Option S) (Place E O) → ℕ → Me (Option S) (Place E O) → Type 0

@@ -10,9 +10,9 @@ pub record Tally : Type 0 where
   pub total : ℕ
 
 -- the history has as many entries as were counted, and their amounts add up to the total
-pub record Tells (tally : Tally) (history : List CounterEntry) : Type 0 where
+pub record Represents (tally : Tally) (history : List CounterEntry) : Type 0 where
   pub counted : length history ≡ tally.count
   pub added_up : sum_by (λ e. e.amount) history ≡ tally.total
 
-pub Tells-one_length : (tally : Tally) (xs ys : List CounterEntry) → Tells tally xs → Tells tally ys → length xs ≡ length ys
-Tells-one_length tally xs ys a b = a.counted ∙ sym b.counted
+pub Represents-one_length : (tally : Tally) (xs ys : List CounterEntry) → Represents tally xs → Represents tally ys → length xs ≡ length ys
+Represents-one_length tally xs ys a b = a.counted ∙ sym b.counted

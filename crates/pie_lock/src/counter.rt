@@ -74,7 +74,7 @@ impl Counter {
 
 impl Kept for Counter {
     ghost use Rattle.std.specs.Prelude.{ℕ};
-    ghost use Rattle.pie_lock.specs.Tally.{Tells, Tells-one_length};
+    ghost use Rattle.pie_lock.specs.Tally.{Represents, Represents-one_length};
 
     type Entry = CounterEntry;
 
@@ -84,11 +84,11 @@ impl Kept for Counter {
 
     ghost origin_of = { λ _. tt };
 
-    ghost tells = { Tells };
+    ghost tells = { Represents };
 
     fn number(entry: &CounterEntry) -> u16 {
         entry.caller
     }
 
-    ghost one_length = { Tells-one_length };
+    ghost one_length = { Represents-one_length };
 }

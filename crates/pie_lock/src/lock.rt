@@ -77,7 +77,7 @@ impl<S: Kept> Model for RuledLock<S> {
 
 impl<S: Kept> RuledLock<S> {
     ghost use Rattle.pie_lock.specs.Views.{HoldsAll};
-    ghost use Rattle.pie_lock.specs.Steps.{GoesOn, HasMerged, pass_at, with_front, AreAdjacent};
+    ghost use Rattle.pie_lock.specs.Steps.{Extends, HasMerged, pass_at, with_front, AreAdjacent};
     ghost use Rattle.pie_lock.specs.declared.view.Place.TheVariants.{Waits};
     ghost use Rattle.pie_lock.specs.Seating.{IsIdle, IsLeaving};
     ghost use Rattle.pie_lock.specs.Promises.{first_pass, HasTaken, pass_after, without_highest, highest_alone, IsBeside, IsBothOf};
@@ -398,7 +398,7 @@ impl<S: Kept> RuledLock<S> {
     pub fn close(self, pass: Pass<S>) -> Result<S, StillHeld<S>>
         requires own { pass.lock ≡ self }
         ensures origin { IfOk result (λ state. pass.lock.origin ≡ Some (S.origin_of state)) }
-        ensures told { IfOk result (λ state. (history : List S.Entry) × GoesOn S.number_of pass.first pass.limit pass.front history
+        ensures told { IfOk result (λ state. (history : List S.Entry) × Extends S.number_of pass.first pass.limit pass.front history
             × S.tells state history) }
         ensures alone { HoldsAll pass → IsOk result }
         ensures same { HoldsAll pass → IfOk result (λ state. S.tells state pass.front) }

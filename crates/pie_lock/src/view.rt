@@ -4,7 +4,7 @@ use std::snapshot::Snapshot;
 
 /// A seat's knowledge of a pass: its front, its numbers `first..limit`, and the lock's `numbers` and `origin`. No value
 /// of this type exists.
-pub struct Shown<E, O> {
+pub struct PassKnowledge<E, O> {
     pub front: LinkedList<E>,
     pub first: u16,
     pub limit: u16,
@@ -17,11 +17,11 @@ pub enum Place<E, O> {
     /// The seat was joined to another seat, and has no pass.
     Spent,
     /// The seat has a pass.
-    Waits(Shown<E, O>),
+    Waits(PassKnowledge<E, O>),
     /// The seat has the state.
-    Holds(Shown<E, O>),
+    Holds(PassKnowledge<E, O>),
     /// The seat has two passes, which the next load makes one.
-    Meets(Shown<E, O>, Shown<E, O>),
+    Meets(PassKnowledge<E, O>, PassKnowledge<E, O>),
 }
 
 /// The first state of a lock, and its number of callers' numbers.

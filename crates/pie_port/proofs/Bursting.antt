@@ -1,40 +1,40 @@
 -- One more event of a burst is decided.
-use Rattle.pie_port.specs.{Command, Reply, Asked, Took, asks, told_event, told_events}
+use Rattle.pie_port.specs.{Command, Reply, EventCall, Took, asks, event_answered, events_answered}
 use Rattle.pie_port.proofs.Names.{◌≡◌, ◌+◌, ◌<◌, ℕ, List, [], ◌∷◌, ◌++◌, refl, sym, ◌∙◌, length, map, arith, get_or, drop_more, PieEvent}
 use Rattle.std.proofs.Common.{drop, length-append, length-drop}
 use Rattle.std.proofs.Math.ListN.{set}
 use Rattle.std.proofs.lemmas.List.{drop-set-lt, length-map}
 
 -- the command at a place, and those after it
-pub is_at : (asked : Asked) (es : List PieEvent) (i : ℕ) (d : PieEvent) (command : Command) → i < length es → command ≡ asks asked (get_or es i d)
+pub is_at : (asked : EventCall) (es : List PieEvent) (i : ℕ) (d : PieEvent) (command : Command) → i < length es → command ≡ asks asked (get_or es i d)
     → map (asks asked) (drop i es) ≡ command ∷ map (asks asked) (drop (i + 1) es)
 is_at asked es i d command some is = grind (arith, drop_more es i d)
 
 -- a place from which there is a command is one of an event
-pub is_place : (asked : Asked) (es : List PieEvent) (i : ℕ) → 0 < length (map (asks asked) (drop i es)) → i < length es
+pub is_place : (asked : EventCall) (es : List PieEvent) (i : ℕ) → 0 < length (map (asks asked) (drop i es)) → i < length es
 is_place asked es i some = omega (arith, some, length-map (drop i es) (asks asked), length-drop i es)
 
-none_told : (asked : Asked) (caller : ℕ) (es : List PieEvent) → told_events asked caller es [] ≡ es
+none_told : (asked : EventCall) (caller : ℕ) (es : List PieEvent) → events_answered asked caller es [] ≡ es
 none_told asked caller [] = refl
 none_told asked caller (e ∷ es) = refl
 
-told-more : (asked : Asked) (caller : ℕ) (es : List PieEvent) (rs : List Reply) (r : Reply) (d : PieEvent) → length rs < length es
-    → told_events asked caller es (rs ++ r ∷ [])
-    ≡ set (told_events asked caller es rs) (length rs) (told_event asked caller (get_or (told_events asked caller es rs) (length rs) d) r)
+told-more : (asked : EventCall) (caller : ℕ) (es : List PieEvent) (rs : List Reply) (r : Reply) (d : PieEvent) → length rs < length es
+    → events_answered asked caller es (rs ++ r ∷ [])
+    ≡ set (events_answered asked caller es rs) (length rs) (event_answered asked caller (get_or (events_answered asked caller es rs) (length rs) d) r)
 told-more asked caller [] rs r d some = absurd (omega (arith, some))
 told-more asked caller (e ∷ es) [] r d some = grind (arith, none_told asked caller es)
 told-more asked caller (e ∷ es) (q ∷ rs) r d some = grind (arith, told-more asked caller es rs r d)
 
-length-told : (asked : Asked) (caller : ℕ) (es : List PieEvent) (rs : List Reply) → length (told_events asked caller es rs) ≡ length es
+length-told : (asked : EventCall) (caller : ℕ) (es : List PieEvent) (rs : List Reply) → length (events_answered asked caller es rs) ≡ length es
 length-told asked caller [] rs = refl
 length-told asked caller (e ∷ es) [] = refl
 length-told asked caller (e ∷ es) (r ∷ rs) = omega (arith, length-told asked caller es rs)
 
 -- a burst took one more result, which was written to the event at its place
-pub took : (asked : Asked) (caller number : ℕ) (events now next : List PieEvent) (place done : ℕ) (replies : List Reply) (reply : Reply)
+pub took : (asked : EventCall) (caller number : ℕ) (events now next : List PieEvent) (place done : ℕ) (replies : List Reply) (reply : Reply)
     (d : PieEvent)
     → Took asked caller number events now done replies → done ≡ place → place < length now
-    → next ≡ set now place (told_event asked number (get_or now place d) reply)
+    → next ≡ set now place (event_answered asked number (get_or now place d) reply)
     → Took asked caller number events next (place + 1) (replies ++ reply ∷ [])
 took asked caller number events now next place done replies reply d before at some is =
     let here : place ≡ length replies = sym at ∙ before.so_many in
@@ -46,10 +46,10 @@ took asked caller number events now next place done replies reply d before at so
     }
 
 -- the events after a place are unchanged
-pub later_stay : (asked : Asked) (l now : List PieEvent) (i : ℕ) (e : PieEvent) → now ≡ set l i e
+pub later_stay : (asked : EventCall) (l now : List PieEvent) (i : ℕ) (e : PieEvent) → now ≡ set l i e
     → map (asks asked) (drop (i + 1) now) ≡ map (asks asked) (drop (i + 1) l)
 later_stay asked l now i e is = grind (arith, drop-set-lt (i + 1) l i e)
 
 -- a burst begins
-pub begun : (asked : Asked) (caller : ℕ) (events : List PieEvent) (done : ℕ) → done ≡ 0 → Took asked caller caller events events done []
+pub begun : (asked : EventCall) (caller : ℕ) (events : List PieEvent) (done : ℕ) → done ≡ 0 → Took asked caller caller events events done []
 begun asked caller events done none = record { told = sym (none_told asked caller events); so_many = none; same = refl }

@@ -1,6 +1,6 @@
 -- Promises of bursts at a port: several events of its caller, one after another, in one turn.
 use Rattle.std.specs.Prelude.{ℕ, ◌≡◌, ◌==◌, ◌⊎◌, Bool, true, false, List, [], ◌∷◌, map, length, Option, Some, None, Ok, Err, if◌then◌else◌}
-use Rattle.pie_port.specs.Names.{Command, Reply, AnswersWithin, CallerView, StaysOne, WasBusy, PieEvent, Asked, Update}
+use Rattle.pie_port.specs.Names.{Command, Reply, AnswersWithin, CallerView, StaysOne, WasBusy, PieEvent, EventCall, Update}
 use Rattle.pie_event.specs.declared.command.Command.TheVariants as command
 use Rattle.pie_port.specs.Calls.{AtPort}
 use Rattle.pie_port.specs.Events.{refusal_number, answered_event, command_in, has_bad_ecn, numbered_event, packet_in, under}
@@ -8,40 +8,40 @@ use Rattle.pie_port.specs.Events.{refusal_number, answered_event, command_in, ha
 -- ---- an event of a burst
 
 -- the call of an event of a burst; any burst may contain updates
-abbrev pub riding : Asked → PieEvent → Asked
+abbrev pub riding : EventCall → PieEvent → EventCall
 riding asked e = if e.kind == 3 then Update else asked
 
 -- the command of an event. For an invalid ECN field it is an arrival of no bytes, which is always refused and changes
 -- nothing
-abbrev pub asks_unless : Bool → Asked → PieEvent → Command
+abbrev pub asks_unless : Bool → EventCall → PieEvent → Command
 asks_unless true asked e = command.Arrive e.moment (record (packet_in e) { size = 0 }) e.word
 asks_unless false asked e = command_in asked e
 
-abbrev pub asks : Asked → PieEvent → Command
+abbrev pub asks : EventCall → PieEvent → Command
 asks asked e = asks_unless (has_bad_ecn (riding asked e) e) (riding asked e) e
 
 -- the event after a result, with the caller's number
-abbrev pub replied : Asked → ℕ → PieEvent → Reply → PieEvent
+abbrev pub replied : EventCall → ℕ → PieEvent → Reply → PieEvent
 replied asked caller e (Ok told) = under caller (answered_event asked e told.answer)
 replied asked caller e (Err why) = under caller (numbered_event asked e (refusal_number why))
 
 -- the event after a result, unless its ECN field is invalid
-abbrev pub told_unless : Bool → Asked → ℕ → PieEvent → Reply → PieEvent
-told_unless true asked caller e reply = under caller (numbered_event asked e 111)
-told_unless false asked caller e reply = replied asked caller e reply
+abbrev pub event_answered_unless : Bool → EventCall → ℕ → PieEvent → Reply → PieEvent
+event_answered_unless true asked caller e reply = under caller (numbered_event asked e 111)
+event_answered_unless false asked caller e reply = replied asked caller e reply
 
-abbrev pub told_event : Asked → ℕ → PieEvent → Reply → PieEvent
-told_event asked caller e reply = told_unless (has_bad_ecn (riding asked e) e) (riding asked e) caller e reply
+abbrev pub event_answered : EventCall → ℕ → PieEvent → Reply → PieEvent
+event_answered asked caller e reply = event_answered_unless (has_bad_ecn (riding asked e) e) (riding asked e) caller e reply
 
 -- the events after these results: each has its own, and the events after them are unchanged
-abbrev pub told_events : Asked → ℕ → List PieEvent → List Reply → List PieEvent
-told_events asked caller [] replies = []
-told_events asked caller (e ∷ es) [] = e ∷ es
-told_events asked caller (e ∷ es) (reply ∷ replies) = told_event asked caller e reply ∷ told_events asked caller es replies
+abbrev pub events_answered : EventCall → ℕ → List PieEvent → List Reply → List PieEvent
+events_answered asked caller [] replies = []
+events_answered asked caller (e ∷ es) [] = e ∷ es
+events_answered asked caller (e ∷ es) (reply ∷ replies) = event_answered asked caller e reply ∷ events_answered asked caller es replies
 
 -- `done` of the events, with that caller's number, were decided with these results, and are now `now`
-pub record Took (asked : Asked) (caller number : ℕ) (events now : List PieEvent) (done : ℕ) (replies : List Reply) : Type 0 where
-  pub told : now ≡ told_events asked caller events replies
+pub record Took (asked : EventCall) (caller number : ℕ) (events now : List PieEvent) (done : ℕ) (replies : List Reply) : Type 0 where
+  pub told : now ≡ events_answered asked caller events replies
   pub so_many : done ≡ length replies
   pub same : number ≡ caller
 
@@ -49,12 +49,12 @@ pub record Took (asked : Asked) (caller number : ℕ) (events now : List PieEven
 
 -- the burst was decided: each event after those before it, with no event of another caller between; `count` events were
 -- decided
-pub record IsAnswered (asked : Asked) (budget : Option ℕ) (goes_on : Reply → Bool) (before : CallerView) (events : List PieEvent) (count code : ℕ)
+pub record IsAnswered (asked : EventCall) (budget : Option ℕ) (goes_on : Reply → Bool) (before : CallerView) (events : List PieEvent) (count code : ℕ)
     (written : List PieEvent) (after : CallerView) : Type 0 where
   pub replies : List Reply
   pub answered : AnswersWithin budget goes_on before.lock before (map (asks asked) events) [] replies after
   pub stays : StaysOne before after
-  pub told : written ≡ told_events asked before.first events replies
+  pub told : written ≡ events_answered asked before.first events replies
   pub counted : count ≡ length replies
   pub done : code ≡ 0
 
@@ -67,11 +67,11 @@ pub record WasNotTried (before : CallerView) (events : List PieEvent) (count cod
   pub told : code ≡ 121
 
 -- the result of a burst at an open port
-abbrev pub IsTriedAll : Asked → Option ℕ → (Reply → Bool) → CallerView → List PieEvent → ℕ → ℕ → List PieEvent → CallerView → Type 0
+abbrev pub IsTriedAll : EventCall → Option ℕ → (Reply → Bool) → CallerView → List PieEvent → ℕ → ℕ → List PieEvent → CallerView → Type 0
 IsTriedAll asked budget goes_on before events count code written after =
     IsAnswered asked budget goes_on before events count code written after ⊎ WasNotTried before events count code written after
 
-abbrev pub TriesAll : Asked → Option ℕ → (Reply → Bool) → Option CallerView → List PieEvent → ℕ → ℕ → List PieEvent → Option CallerView → Type 0
+abbrev pub TriesAll : EventCall → Option ℕ → (Reply → Bool) → Option CallerView → List PieEvent → ℕ → ℕ → List PieEvent → Option CallerView → Type 0
 TriesAll asked budget goes_on port events count code written after =
     AtPort port code after ((written ≡ events) × (count ≡ 0)) (λ before now. IsTriedAll asked budget goes_on before events count code written now)
 

@@ -2,7 +2,7 @@
 use Rattle.std.specs.Prelude.{ℕ, ◌≡◌, ◌≢◌, ◌==◌, ◌+◌, ◌⊎◌, ◌↔◌, Bool, true, false, Option, Some, None, Result, Ok, Err, if◌then◌else◌}
 use Rattle.pie_port.specs.Names.{first_pass, without_highest, highest_alone, IsBeside, IsBothOf, Answer, Command, SetParams, Refusal, number_of}
 use Rattle.pie_port.specs.Names.{Told, TriesToAnswer, CallerView, LinkView, StaysOne, Tried, Busy, Refused, PieEvent, PieOpening, PieParams}
-use Rattle.pie_port.specs.Names.{bare_event, opening_in, opening_refusal, are_in_range, raw_of, Asked}
+use Rattle.pie_port.specs.Names.{bare_event, opening_in, opening_refusal, are_in_range, raw_of, EventCall}
 use Rattle.pie_port.specs.Events.{answer_number, code_of, refusal_number, command_in, filled, has_bad_ecn, numbered_event, under}
 
 -- ---- opening
@@ -38,12 +38,12 @@ pub record IsTried (command : Command) (fills : Result (Told Answer) (Tried Refu
   pub filled : written ≡ fills reply
 
 -- the event's call; an ECN field above 3 is refused before it
-abbrev pub IsTriedUnless : Bool → Asked → CallerView → PieEvent → ℕ → PieEvent → CallerView → Type 0
+abbrev pub IsTriedUnless : Bool → EventCall → CallerView → PieEvent → ℕ → PieEvent → CallerView → Type 0
 IsTriedUnless true asked before e code written after =
     (code ≡ 111) × (written ≡ under before.first (numbered_event asked e 111)) × (after ≡ before)
 IsTriedUnless false asked before e code written after = IsTried (command_in asked e) (filled asked before.first e) before code written after
 
-abbrev pub Tries : Asked → Option CallerView → PieEvent → ℕ → PieEvent → Option CallerView → Type 0
+abbrev pub Tries : EventCall → Option CallerView → PieEvent → ℕ → PieEvent → Option CallerView → Type 0
 Tries asked port e code written after =
     AtPort port code after (written ≡ e) (λ before now. IsTriedUnless (has_bad_ecn asked e) asked before e code written now)
 

@@ -1,7 +1,7 @@
 -- Codes of the calls at a port, commands of a caller's events, and the fields that a call writes.
 use Rattle.std.specs.Prelude.{ℕ, Bool, false, nat_lt, Result, Ok, Err}
 use Rattle.pie_port.specs.Names.{bits_of, Answer, Enqueued, Marked, DroppedEarly, DroppedBytes, DroppedPackets, Empty, Left, Updated, Done, Command}
-use Rattle.pie_port.specs.Names.{Refusal, Told, Tried, Busy, Refused, PieEvent, arrived_event, bare_event, Asked, Arrive, Depart, Update, Reset}
+use Rattle.pie_port.specs.Names.{Refusal, Told, Tried, Busy, Refused, PieEvent, arrived_event, bare_event, EventCall, Arrive, Depart, Update, Reset}
 use Rattle.pie_queue.specs.declared.packet.Packet.{Packet}
 use Rattle.pie_event.specs.declared.command.Command.TheVariants as command
 use Rattle.pie_abi.specs.Packets.{ecn_at}
@@ -42,14 +42,14 @@ abbrev pub packet_in : PieEvent → Packet
 packet_in e = record { tag = e.tag; size = e.size; ecn = ecn_at e.ecn }
 
 -- the command of a call for an event
-abbrev pub command_in : Asked → PieEvent → Command
+abbrev pub command_in : EventCall → PieEvent → Command
 command_in Arrive e = command.Arrive e.moment (packet_in e) e.word
 command_in Depart e = command.Depart e.moment
 command_in Update e = command.Update e.moment
 command_in Reset e = command.Reset e.moment
 
 -- the call is an arrival and the event's ECN field is invalid
-abbrev pub has_bad_ecn : Asked → PieEvent → Bool
+abbrev pub has_bad_ecn : EventCall → PieEvent → Bool
 has_bad_ecn Arrive e = nat_lt 3 e.ecn
 has_bad_ecn _ e = false
 
@@ -57,14 +57,14 @@ has_bad_ecn _ e = false
 
 -- the event with this number as its result: the packet of an arrival is unchanged, and fields that other calls do not
 -- use are 0
-abbrev pub numbered_event : Asked → PieEvent → ℕ → PieEvent
+abbrev pub numbered_event : EventCall → PieEvent → ℕ → PieEvent
 numbered_event Arrive e number = arrived_event e number
 numbered_event Depart e number = bare_event 2 e number
 numbered_event Update e number = bare_event 3 e number
 numbered_event Reset e number = bare_event 4 e number
 
 -- the event with an answer: a departure's packet, an update's numbers
-abbrev pub answered_event : Asked → PieEvent → Answer → PieEvent
+abbrev pub answered_event : EventCall → PieEvent → Answer → PieEvent
 answered_event asked e (Left packet) = record (numbered_event asked e 0) { tag = packet.tag; size = packet.size; ecn = bits_of packet.ecn }
 answered_event asked e (Updated delay prob burst) = record (numbered_event asked e 0) { delay = delay; prob = prob; burst = burst }
 answered_event asked e answer = numbered_event asked e (answer_number answer)
@@ -74,7 +74,7 @@ abbrev pub under : ℕ → PieEvent → PieEvent
 under caller e = record e { caller = caller }
 
 -- the event after a call with this result; unchanged if the link was busy
-abbrev pub filled : Asked → ℕ → PieEvent → Result (Told Answer) (Tried Refusal) → PieEvent
+abbrev pub filled : EventCall → ℕ → PieEvent → Result (Told Answer) (Tried Refusal) → PieEvent
 filled asked caller e (Ok told) = under caller (answered_event asked e told.answer)
 filled asked caller e (Err Busy) = e
 filled asked caller e (Err (Refused why)) = under caller (numbered_event asked e (refusal_number why))

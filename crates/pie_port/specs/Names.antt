@@ -31,8 +31,8 @@ pub use Rattle.pie_link.specs.Views.{CallerView, LinkView, StaysOne, WasBusy}
 pub use Rattle.pie_link.specs.declared.told.Tried.{Tried}
 pub use Rattle.pie_link.specs.declared.told.Tried.TheVariants.{Busy, Refused}
 pub use Rattle.pie_port.specs.declared.excerpt.ExcerptText.{ExcerptText}
-pub use Rattle.pie_port.specs.declared.filling.Asked.{Asked}
-pub use Rattle.pie_port.specs.declared.filling.Asked.TheVariants.{Arrive, Depart, Reset, Update}
+pub use Rattle.pie_port.specs.declared.filling.EventCall.{EventCall}
+pub use Rattle.pie_port.specs.declared.filling.EventCall.TheVariants.{Arrive, Depart, Reset, Update}
 pub use Rattle.pie_lock.specs.Promises.{IsBeside, IsBothOf, first_pass, highest_alone, without_highest}
 pub use Rattle.pie_queue.specs.Ecn.{bits_of}
 pub use Rattle.pie_record.specs.Text.{text_of}

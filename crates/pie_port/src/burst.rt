@@ -1,10 +1,10 @@
 //! Bursts: several events in one turn, read and written in place in the caller's memory. No call waits or allocates.
 ghost use Rattle.std.specs.Prelude.{◌≡◌, ◌<◌, Bool, drop, length, map, slice_index_or, slice_set, ℕ, None};
-ghost use Rattle.pie_port.specs.{Reply, always, has_left_or_updated, PieEvent, Asked, Arrive, Depart, asks, asks_unless, riding, told_event};
+ghost use Rattle.pie_port.specs.{Reply, always, has_left_or_updated, PieEvent, EventCall, Arrive, Depart, asks, asks_unless, riding, event_answered};
 ghost use Rattle.pie_port.specs.{has_bad_ecn, IsTriedAll, TriesAll, budget_of};
 
 use crate::code::{BUSY, CLOSED, of_refusal};
-use crate::filling::{Asked, fill_answer, fill_number};
+use crate::filling::{EventCall, fill_answer, fill_number};
 use crate::handle::PiePort;
 use crate::port::{Port, has_bad_ecn};
 use pie_abi::PieEvent;
@@ -20,12 +20,12 @@ use std::marker::PhantomData;
 /// A kind of burst: the call of its events, apart from updates, and the results after which it continues. Each kind is
 /// compiled on its own.
 pub(crate) trait Kind {
-    ghost asked: { Asked };
+    ghost asked: { EventCall };
 
     ghost goes_on: { Reply → Bool };
 
     /// Returns the call of its events.
-    fn asks() -> Asked
+    fn asks() -> EventCall
         ensures { result ≡ asked };
 
     /// Returns true if the burst continues after `reply`.
@@ -42,8 +42,8 @@ impl Kind for Arrivals {
     ghost goes_on = { always };
 
     #[inline(always)]
-    fn asks() -> Asked {
-        Asked::Arrive
+    fn asks() -> EventCall {
+        EventCall::Arrive
     }
 
     #[inline(always)]
@@ -61,8 +61,8 @@ impl Kind for Departures {
     ghost goes_on = { has_left_or_updated };
 
     #[inline(always)]
-    fn asks() -> Asked {
-        Asked::Depart
+    fn asks() -> EventCall {
+        EventCall::Depart
     }
 
     // Continue after a departure, after an update, and after an update that is too soon.
@@ -89,11 +89,11 @@ pub(crate) struct Asking<'a, K> {
 
 // Returns the call of an event of a burst.
 #[inline(always)]
-fn riding(asked: Asked, event: &PieEvent) -> Asked
+fn riding(asked: EventCall, event: &PieEvent) -> EventCall
     ensures { result ≡ riding asked event.now }
 {
     if event.kind == UPDATE {
-        Asked::Update
+        EventCall::Update
     } else {
         asked
     }
@@ -121,22 +121,22 @@ fn arrival_of(event: &PieEvent) -> Command
 
 // Returns the command of an event of a burst.
 #[inline(always)]
-fn command_of(asked: Asked, event: &PieEvent) -> Command
+fn command_of(asked: EventCall, event: &PieEvent) -> Command
     ensures { result ≡ asks asked event.now }
 {
     let moment = event.moment;
     match riding(asked, event) {
-        Asked::Arrive => arrival_of(event),
-        Asked::Depart => Command::Depart { moment },
-        Asked::Update => Command::Update { moment },
-        Asked::Reset => Command::Reset { moment },
+        EventCall::Arrive => arrival_of(event),
+        EventCall::Depart => Command::Depart { moment },
+        EventCall::Update => Command::Update { moment },
+        EventCall::Reset => Command::Reset { moment },
     }
 }
 
 // Writes the result of an event of a burst, with the caller's number.
 #[inline(always)]
-fn tell(event: &mut PieEvent, asked: Asked, caller: u16, reply: &Reply)
-    ensures { event.new ≡ told_event asked caller event.old reply.now }
+fn fill_event(event: &mut PieEvent, asked: EventCall, caller: u16, reply: &Reply)
+    ensures { event.new ≡ event_answered asked caller event.old reply.now }
 {
     let asked = riding(asked, event);
     if has_bad_ecn(asked, event) {
@@ -152,12 +152,18 @@ fn tell(event: &mut PieEvent, asked: Asked, caller: u16, reply: &Reply)
 
 // Writes the result of the event at `place`.
 #[inline(always)]
-fn tell_at(events: &mut [PieEvent], place: usize, asked: Asked, caller: u16, reply: &Reply)
+fn fill_event_at(
+    events: &mut [PieEvent],
+    place: usize,
+    asked: EventCall,
+    caller: u16,
+    reply: &Reply,
+)
     requires { place < length events.old }
     ensures { (d : PieEvent) → events.new
-        ≡ slice_set events.old place (told_event asked caller (slice_index_or events.old place d) reply.now) }
+        ≡ slice_set events.old place (event_answered asked caller (slice_index_or events.old place d) reply.now) }
 {
-    tell(&mut events[place], asked, caller, reply);
+    fill_event(&mut events[place], asked, caller, reply);
 }
 
 impl<K: Kind> Burst for Asking<'_, K> {
@@ -187,7 +193,7 @@ impl<K: Kind> Burst for Asking<'_, K> {
 
     #[inline(always)]
     fn take(&mut self, place: usize, reply: Reply) -> bool {
-        tell_at(self.events, place, K::asks(), self.caller, &reply);
+        fill_event_at(self.events, place, K::asks(), self.caller, &reply);
         self.done = place + 1;
         K::is_to_go_on(&reply)
     }

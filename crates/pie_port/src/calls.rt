@@ -2,7 +2,7 @@
 ghost use Rattle.pie_port.specs.{Tries, TriesToSet};
 
 use crate::code::CLOSED;
-use crate::filling::Asked;
+use crate::filling::EventCall;
 use crate::handle::PiePort;
 use pie_abi::{PieEvent, PieParams};
 use std::alloc::Global;
@@ -10,7 +10,7 @@ use std::alloc::Global;
 /// Makes the call `asked` of `event`, if the port is open.
 #[inline(always)]
 #[tactic(auto, unfolding(crate::specs::Calls::AtPort))]
-pub fn try_event(alloc: Global, port: &mut PiePort, asked: Asked, event: &mut PieEvent) -> u32
+pub fn try_event(alloc: Global, port: &mut PiePort, asked: EventCall, event: &mut PieEvent) -> u32
     ensures { Tries asked port.old.port event.old result event.new port.new.port }
 {
     let Some(mut held) = port.take(alloc) else {

@@ -11,7 +11,7 @@ use pie_link::{Told, Tried};
 
 /// A call for one event. New parameters have a call of their own.
 #[derive(Clone, Copy)]
-pub enum Asked {
+pub enum EventCall {
     /// An arrival of the event's packet.
     Arrive,
     /// A departure.
@@ -24,20 +24,20 @@ pub enum Asked {
 
 /// Writes the number `number`, and 0 to the numbers that the call does not use.
 #[inline(always)]
-pub(crate) fn fill_number(event: &mut PieEvent, asked: Asked, number: u32)
+pub(crate) fn fill_number(event: &mut PieEvent, asked: EventCall, number: u32)
     ensures { event.new ≡ numbered_event asked event.old number }
 {
     match asked {
-        Asked::Arrive => event.keep_arrived(number),
-        Asked::Depart => event.keep_bare(DEPART, number),
-        Asked::Update => event.keep_bare(UPDATE, number),
-        Asked::Reset => event.keep_bare(RESET, number),
+        EventCall::Arrive => event.keep_arrived(number),
+        EventCall::Depart => event.keep_bare(DEPART, number),
+        EventCall::Update => event.keep_bare(UPDATE, number),
+        EventCall::Reset => event.keep_bare(RESET, number),
     }
 }
 
 /// Writes an answer.
 #[inline(always)]
-pub(crate) fn fill_answer(event: &mut PieEvent, asked: Asked, answer: &Answer)
+pub(crate) fn fill_answer(event: &mut PieEvent, asked: EventCall, answer: &Answer)
     ensures { event.new ≡ answered_event asked event.old answer.now }
 {
     let number = of_answer(answer);
@@ -62,7 +62,7 @@ pub(crate) fn fill_answer(event: &mut PieEvent, asked: Asked, answer: &Answer)
 #[inline(always)]
 pub(crate) fn fill(
     event: &mut PieEvent,
-    asked: Asked,
+    asked: EventCall,
     caller: u16,
     reply: &Result<Told<Answer>, Tried<Refusal>>,
 ) -> u32

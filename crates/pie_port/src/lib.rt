@@ -27,7 +27,7 @@ mod sharing;
 pub use burst::{try_arrive_all, try_depart_all};
 pub use calls::{try_event, try_set_params};
 pub use excerpt::{close_excerpt, open_excerpt, try_excerpt, write_excerpt};
-pub use filling::Asked;
+pub use filling::EventCall;
 pub use folding::try_fold;
 pub use handle::{PieExcerpt, PiePort};
 pub use opening::open;

@@ -5,7 +5,7 @@ ghost use Rattle.pie_port.specs.{arc_value, has_bad_ecn};
 
 use crate::code::{NO_MEMORY, ONE_NUMBER};
 use crate::excerpt::ExcerptText;
-use crate::filling::{Asked, fill, fill_number, fill_set};
+use crate::filling::{EventCall, fill, fill_number, fill_set};
 use crate::folding::{MOST, room, write_folded};
 use atomic_table::TableRule;
 use pie_abi::code::{BAD_ECN, BAD_PARAMS};
@@ -87,13 +87,13 @@ impl Port {
 
     /// Makes the call `asked` of an event.
     #[inline(always)]
-    fn ask(&mut self, asked: Asked, event: &PieEvent) -> Result<Told<Answer>, Tried<Refusal>>
+    fn ask(&mut self, asked: EventCall, event: &PieEvent) -> Result<Told<Answer>, Tried<Refusal>>
         requires ecn { has_bad_ecn asked event.now ≡ false }
         ensures tried { TriesToAnswer self.old.lock self.old (command_in asked event.now) result self.new }
         ensures stays { StaysOne self.old self.new }
     {
         match asked {
-            Asked::Arrive => {
+            EventCall::Arrive => {
                 let Some(ecn) = ecn(u32::from(event.ecn)) else {
                     unreachable!()
                 };
@@ -105,15 +105,15 @@ impl Port {
                 self.link
                     .try_arrive(&mut self.caller, event.moment, packet, event.word)
             }
-            Asked::Depart => self.link.try_depart(&mut self.caller, event.moment),
-            Asked::Update => self.link.try_update(&mut self.caller, event.moment),
-            Asked::Reset => self.link.try_reset(&mut self.caller, event.moment),
+            EventCall::Depart => self.link.try_depart(&mut self.caller, event.moment),
+            EventCall::Update => self.link.try_update(&mut self.caller, event.moment),
+            EventCall::Reset => self.link.try_reset(&mut self.caller, event.moment),
         }
     }
 
     /// Makes the call `asked` of an event, and writes the result to it.
     #[inline(always)]
-    pub(crate) fn try_event(&mut self, asked: Asked, event: &mut PieEvent) -> u32
+    pub(crate) fn try_event(&mut self, asked: EventCall, event: &mut PieEvent) -> u32
         ensures { IsTriedUnless (has_bad_ecn asked event.old) asked self.old event.old result event.new self.new }
     {
         let caller = self.caller.first();
@@ -230,10 +230,10 @@ impl Port {
 
 /// Returns true if the call is an arrival and the event's ECN field is invalid.
 #[inline(always)]
-pub(crate) fn has_bad_ecn(asked: Asked, event: &PieEvent) -> bool
+pub(crate) fn has_bad_ecn(asked: EventCall, event: &PieEvent) -> bool
     ensures { result ≡ has_bad_ecn asked event.now }
 {
-    matches!(asked, Asked::Arrive) && event.ecn > 3
+    matches!(asked, EventCall::Arrive) && event.ecn > 3
 }
 
 /// Returns a boxed port, or the caller if there is no memory.

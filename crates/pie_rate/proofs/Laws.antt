@@ -12,7 +12,7 @@ use Rattle.std.proofs.lemmas.List.Folds.{find-append}
 use Rattle.std.proofs.Math.Numerals.{add-one}
 use Rattle.pie_rate.specs.{Departure, departure, departure_at, bytes_of, bytes_after, bytes_after_to, sample_of, samples, Cycle, first_position}
 use Rattle.pie_rate.specs.{first_opening, first_closing, first_cycle, cycles_from, cycles, last_closed, begun, averaged, average_of, average}
-use Rattle.pie_rate.specs.{with_sample, IsWithin, Shows, begun_at, after_departure, opened_by, step_from}
+use Rattle.pie_rate.specs.{with_sample, IsWithin, Represents, begun_at, after_departure, opened_by, step_from}
 use Rattle.pie_rate.specs.Estimate.{Begun, Estimate}
 
 -- one more number at the end of a range
@@ -266,7 +266,7 @@ module _ (threshold : ℕ) (ds : List Departure) (t : threshold ≤ 65536) where
 -- ---- The estimate after one more departure, for each path through the code
 
 -- a cleared estimate represents no departures
-pub none_represented : (threshold : ℕ) → Shows threshold [] (record { average = 0; begun = None })
+pub none_represented : (threshold : ℕ) → Represents threshold [] (record { average = 0; begun = None })
 unfolding average samples cycles cycles_from begun first_opening first_position
 none_represented threshold = record { average = refl; begun = refl }
 
@@ -290,7 +290,7 @@ module _ (threshold : ℕ) (ds : List Departure) (d : Departure) where
   sample-new i w = rw (departure_at-push_new threshold ds d, departure_at-push_old threshold ds d i w) refl
 
   -- the step of an estimate represents the list with the departure
-  pub represents_after : (e : Estimate) → threshold ≤ 65536 → Shows threshold ds e → Shows threshold (ds ++ d ∷ []) (after_departure threshold e d)
+  pub represents_after : (e : Estimate) → threshold ≤ 65536 → Represents threshold ds e → Represents threshold (ds ++ d ∷ []) (after_departure threshold e d)
   unfolding average samples
   represents_after e t s =
       by (begun threshold ds) (begun-within threshold ds d) s.begun (begun-push threshold ds d) (samples-push threshold ds d)
@@ -299,7 +299,7 @@ module _ (threshold : ℕ) (ds : List Departure) (d : Departure) where
       counting : (i : ℕ) (less : Bool) → i < length ds → begun threshold (ds ++ d ∷ []) ≡ (if less then Some i else opens threshold ds d)
           → samples threshold (ds ++ d ∷ []) ≡ samples threshold ds
           ++ map (sample_of (ds ++ d ∷ [])) (if less then [] else (record { opened = i; closed = length ds } ∷ []))
-          → Shows threshold (ds ++ d ∷ []) (if less
+          → Represents threshold (ds ++ d ∷ []) (if less
           then record { average = e.average; begun = Some (record { start = (departure_at ds i).moment; count = bytes_after ds i + d.size }) }
           else record { average = with_sample threshold e.average (max 1 (d.moment - (departure_at ds i).moment)); begun = opened_by threshold d })
       counting i true w begun sampled = record {
@@ -315,7 +315,7 @@ module _ (threshold : ℕ) (ds : List Departure) (d : Departure) where
       by : (o : Option ℕ) → IfSome o (λ i. i < length ds) → e.begun ≡ option_map (begun_at ds) o
           → begun threshold (ds ++ d ∷ []) ≡ begins threshold ds d o
           → samples threshold (ds ++ d ∷ []) ≡ samples threshold ds ++ map (sample_of (ds ++ d ∷ [])) (added threshold ds d o)
-          → Shows threshold (ds ++ d ∷ []) (step_from threshold e.average d e.begun)
+          → Represents threshold (ds ++ d ∷ []) (step_from threshold e.average d e.begun)
       by None w is begun sampled = rw is (record {
         average = s.average ∙ ap (average_of threshold) (sym (sampled ∙ append-nil (samples threshold ds)));
         begun = begun-opened begun;

@@ -24,7 +24,7 @@ abbrev pub begun_at : List Departure → ℕ → Begun
 begun_at departures i = record { start = (departure_at departures i).moment; count = bytes_after departures i }
 
 -- the abstraction relation: an estimate that was cleared and then received these departures at this threshold
-pub record Shows (threshold : ℕ) (departures : List Departure) (estimate : Estimate) : Type 0 where
+pub record Represents (threshold : ℕ) (departures : List Departure) (estimate : Estimate) : Type 0 where
   pub average : estimate.average ≡ average threshold departures
   pub begun : estimate.begun ≡ option_map (begun_at departures) (begun threshold departures)
 

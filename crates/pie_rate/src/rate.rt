@@ -1,6 +1,6 @@
 //! The estimate of the departure rate.
 ghost use Rattle.std.specs.Prelude.{◌≡◌, ◌^◌, ◌<◌, ◌≤◌, ◌↔◌, ℕ, List, [], ◌∷◌, ◌++◌, None, IsTrue, IsSome, IfSome};
-ghost use Rattle.pie_rate.specs.{average, cycles, begun, first_closing, Departure, departure, IsWithin, Shows, after_departure};
+ghost use Rattle.pie_rate.specs.{average, cycles, begun, first_closing, Departure, departure, IsWithin, Represents, after_departure};
 ghost use Rattle.std.specs.Option.{ForSome};
 
 use crate::raw::{RawCycle, RawRate};
@@ -33,7 +33,7 @@ impl Rate {
     /// Makes an estimate without departures: no sample, and no open cycle.
     pub fn cleared() -> Rate
         ensures value { result ≡ record { average = 0; begun = None } }
-        ensures shows { (threshold : ℕ) → Shows threshold [] result }
+        ensures represents { (threshold : ℕ) → Represents threshold [] result }
     {
         Rate {
             raw: RawRate::cleared(),
@@ -51,9 +51,9 @@ impl Rate {
     ///   later sample has the weight `threshold / 65536`, the average the rest. The result is rounded down.
     pub fn departed(&mut self, size: u32, bytes_left: u64, moment: Nanos, threshold: u64)
         requires { threshold ≤ 65536 }
-        ensures shows { (departures : List Departure) →
-            Shows threshold departures self.old →
-            Shows threshold (departures ++ departure size bytes_left moment ∷ []) self.new }
+        ensures represents { (departures : List Departure) →
+            Represents threshold departures self.old →
+            Represents threshold (departures ++ departure size bytes_left moment ∷ []) self.new }
 
         // the step from the estimate before, for any list of departures
         ensures step { self.new ≡ after_departure threshold self.old (departure size bytes_left moment) }
@@ -70,12 +70,12 @@ impl Rate {
 
         // the look-back over the departures that the estimate represents
         ensures look_back { (threshold : ℕ) (departures : List Departure) →
-            Shows threshold departures self.now → result ≡ average threshold departures }
+            Represents threshold departures self.now → result ≡ average threshold departures }
 
         // 0 exactly if no cycle gave a sample
         ensures zero { (threshold : ℕ) (departures : List Departure) →
             threshold ≤ 65536 →
-            Shows threshold departures self.now →
+            Represents threshold departures self.now →
             ((result ≡ 0) ↔ (cycles threshold departures ≡ [])) }
     {
         self.raw.average
@@ -86,7 +86,7 @@ impl Rate {
     pub fn is_measuring(&self) -> bool
         ensures value { IsTrue result ↔ IsSome self.now.begun }
         ensures look_back { (threshold : ℕ) (departures : List Departure) →
-            Shows threshold departures self.now →
+            Represents threshold departures self.now →
             (IsTrue result ↔ IsSome (begun threshold departures)) }
 
         // no departure closes an open cycle

@@ -6,12 +6,12 @@ use Rattle.std.proofs.lemmas.Bool.Decides.{nat_tests}
 use Rattle.pie_record.specs.Names.{Answer, Command, Clock, Field}
 use Rattle.pie_record.specs.{One, Two, ◌≡◌, ◌<◌, ◌==◌, ◌^◌, ℕ, List, [], ◌∷◌, ◌++◌, Bool, true, length, decimal, refl, Option, Some, None, Result, Ok}
 use Rattle.pie_record.specs.{codes, ⊤, field_at, Packet, AnswerFits, RegistersFit, StatsFit, Empty, Left, Updated, Done, Arrive, Depart, Update}
-use Rattle.pie_record.specs.{Reset, SetParams, Event, Asked, CommandKind, Flaw, Line, Version, Three, clock_at, clock_in, clock_row, most_moment}
+use Rattle.pie_record.specs.{Reset, SetParams, Event, CommandFields, CommandKind, Flaw, Line, Version, Three, clock_at, clock_in, clock_row, most_moment}
 use Rattle.pie_record.specs.{command_at, command_kind, is_kind, most_u128, most_u64, packet_at, word_at, active_line, answer_at, departure_at}
 use Rattle.pie_record.specs.{event_line, has_length, line_by, line_for, line_of, made, note_line, numbers_at, registers_at, shown_line, update_at}
-use Rattle.pie_record.specs.{verdict_of, number, EventFits, TellEach, Row, request_of, word_said, command_fields, event_row, line_rows, without_notes}
+use Rattle.pie_record.specs.{verdict_of, number, EventFits, AreLinesOf, Row, request_of, word_of_answer, command_fields, event_row, line_rows, without_notes}
 use Rattle.pie_record.specs.{fits, Registers, Stats, answer_fields, counted, flag, folded_row, refused_row, shown_row, tallied_row, All, and_then}
-use Rattle.pie_record.specs.{lines_from, ◌≤◌, drop, map, first_bad, RawParams, CommandFits, ParamsFit, arrival_at, asked_at, change_at, change_to}
+use Rattle.pie_record.specs.{lines_from, ◌≤◌, drop, map, first_bad, RawParams, CommandFits, ParamsFit, arrival_at, command_fields_at, change_at, change_to}
 use Rattle.pie_record.specs.{command_length, most_u16, params_at, NineFit, command_request, fold_request, request_by, nine_of, BadChange}
 use Rattle.pie_record.specs.{command_word}
 use Rattle.pie_record.proofs.FieldFacts.{and_after, back_ecn, back_u32, back_u64, field-read, number-then, one-way, no-flaw, packet-read, tested}
@@ -19,11 +19,11 @@ use Rattle.pie_record.proofs.FieldFacts.{Says, numbers-back, read-as, Has, HasAl
 use Rattle.pie_record.proofs.FieldFacts.{found}
 use Rattle.pie_record.proofs.HistoryFacts.{read-all}
 use Rattle.pie_record.proofs.NumberFacts.{number-back}
-use Rattle.pie_record.specs.declared.command.Asked.TheVariants as asked
+use Rattle.pie_record.specs.declared.command.CommandFields.TheVariants as asked
 use Rattle.pie_record.specs.declared.fault.Flaw.TheVariants as flaw
 use Rattle.pie_record.specs.declared.history_record.Line.TheVariants as line
 use Rattle.pie_record.specs.declared.trace_record.Request.TheVariants as request
-use Rattle.pie_record.specs.declared.words.Said.TheVariants as said
+use Rattle.pie_record.specs.declared.words.AnswerWord.TheVariants as said
 use Rattle.pie_record.specs.declared.command.CommandKind.TheVariants as kind
 
 -- ---- what was asked
@@ -35,12 +35,12 @@ kind_of (Update moment) = kind.Update
 kind_of (Reset moment) = kind.Reset
 kind_of (SetParams moment params) = kind.Params
 
-abbrev pub asked_kind : Asked → CommandKind
+abbrev pub asked_kind : CommandFields → CommandKind
 asked_kind (asked.Command caller command) = kind_of command
 asked_kind (asked.BadParams change) = kind.Params
 
 -- the fields that ask it
-abbrev pub asked_fields : Asked → Row
+abbrev pub asked_fields : CommandFields → Row
 asked_fields (asked.Command caller command) = command_fields caller command
 asked_fields (asked.BadParams change) = command_fields change.caller (SetParams change.moment change.params)
 
@@ -52,7 +52,7 @@ pub record ChangeFits (change : BadChange) : Type 0 where
   pub field : Field
   pub bad : first_bad change.params ≡ Some field
 
-abbrev pub AskedFits : Asked → Type 0
+abbrev pub AskedFits : CommandFields → Type 0
 AskedFits (asked.Command caller command) = (caller ≤ most_u16) × CommandFits command
 AskedFits (asked.BadParams change) = ChangeFits change
 
@@ -65,7 +65,7 @@ fits-of-nine params nine good = search rules
 -- ---- the fields of a command that was read
 
 -- they are those that ask it, after the word of its kind
-pub record Reads (row : Row) (k : CommandKind) (asks : Asked) : Type 0 where
+pub record Reads (row : Row) (k : CommandKind) (asks : CommandFields) : Type 0 where
   pub kind : k ≡ asked_kind asks
   pub has : HasAll row 1 (drop 1 (asked_fields asks))
   pub fits : AskedFits asks
@@ -80,11 +80,11 @@ arrival-read row caller moment command who when few small e =
     read-as (λ (c : Command). Reads row kind.Arrive (asked.Command caller c)) (Arrive moment p.got w.got) command w.rest
     (record { kind = refl; has = search rules; fits = (few, (small, packet.fits, w.small)) })
 
-change-read : (row : Row) (caller moment : ℕ) (asks : Asked) → Has row 1 (decimal caller) → Has row 2 (decimal moment) → caller ≤ most_u16
+change-read : (row : Row) (caller moment : ℕ) (asks : CommandFields) → Has row 1 (decimal caller) → Has row 2 (decimal moment) → caller ≤ most_u16
     → moment < 2 ^ 64 → Says (change_at row caller moment) asks → Reads row kind.Params asks
 unfolding change_at command_fields
 change-read row caller moment asks who when few small e =
-    let p = and_after (params_at row 3) (λ (p : RawParams). let it : Result Asked Flaw = Ok (change_to caller moment p (first_bad p)) in it) asks e in
+    let p = and_after (params_at row 3) (λ (p : RawParams). let it : Result CommandFields Flaw = Ok (change_to caller moment p (first_bad p)) in it) asks e in
     by p.got (params-read row p.got p.is) (first_bad p.got) refl p.rest
   where
     by : (p : RawParams) → ParamsRead row p → (bad : Option Field) → first_bad p ≡ bad → Says (Ok (change_to caller moment p bad)) asks
@@ -98,7 +98,7 @@ change-read row caller moment asks who when few small e =
           fits = record { caller = few; moment = small; nine = read.fits; field = field; bad = bad };
         })
 
-pub command-read : (row : Row) (k : CommandKind) (asks : Asked) → Says (command_at row k) asks → Reads row k asks
+pub command-read : (row : Row) (k : CommandKind) (asks : CommandFields) → Says (command_at row k) asks → Reads row k asks
 unfolding command_at command_fields
 command-read row k asks e =
     let a = number-then row 1 most_u16 _ asks (omega arith) e in
@@ -109,7 +109,7 @@ command-read row k asks e =
     short caller command has fits e = read-as (Reads row (kind_of command)) _ asks e (record { kind = refl; has = has; fits = fits })
 
     by : (k : CommandKind) (caller moment : ℕ) → Has row 1 (decimal caller) → Has row 2 (decimal moment) → caller ≤ most_u16 → moment < 2 ^ 64
-        → Says (asked_at row k caller moment) asks → Reads row k asks
+        → Says (command_fields_at row k caller moment) asks → Reads row k asks
     by kind.Arrive caller moment who when few small e =
         let c = and_after (arrival_at row moment) (λ (command : Command). Ok (asked.Command caller command)) asks e in
         read-as (Reads row kind.Arrive) (asked.Command caller c.got) asks c.rest (arrival-read row caller moment c.got who when few small c.is)
@@ -125,18 +125,18 @@ kind-has row k e =
     word-has row (command_word k) (found (λ kind. is_kind row (command_word kind)) all k e)
 
 -- a record of a command begins with its word, is as long as its kind says, and is of that kind, whatever follows
-pub asked-shape : (asks : Asked) (more : Row) → (asked_fields asks ≡ command_word (asked_kind asks) ∷ drop 1 (asked_fields asks))
+pub asked-shape : (asks : CommandFields) (more : Row) → (asked_fields asks ≡ command_word (asked_kind asks) ∷ drop 1 (asked_fields asks))
     × (command_length (asked_kind asks) ≡ length (asked_fields asks)) × (command_kind (asked_fields asks ++ more) ≡ Some (asked_kind asks))
 unfolding command_kind field_at command_fields
 asked-shape (asked.Command caller (Arrive moment packet word)) more = (refl, refl, refl)
 asked-shape _ more = (refl, refl, refl)
 
 -- the record of a command alone
-pub record WrittenAs (row : Row) (asks : Asked) : Type 0 where
+pub record WrittenAs (row : Row) (asks : CommandFields) : Type 0 where
   pub is : row ≡ asked_fields asks
   pub fits : AskedFits asks
 
-written-as : (row : Row) (k : CommandKind) (asks : Asked) → command_kind row ≡ Some k → length row ≡ command_length k → Says (command_at row k) asks
+written-as : (row : Row) (k : CommandKind) (asks : CommandFields) → command_kind row ≡ Some k → length row ≡ command_length k → Says (command_at row k) asks
     → WrittenAs row asks
 written-as row k asks known long says =
     let read = command-read row k asks says in
@@ -211,7 +211,7 @@ unfolding params_at numbers_at field_at
 params-behind a b c params more fits = params-back params more fits
 
 -- .. whatever fields follow
-pub command-back : (asks : Asked) (more : Row) → AskedFits asks → command_at (asked_fields asks ++ more) (asked_kind asks) ≡ Ok asks
+pub command-back : (asks : CommandFields) (more : Row) → AskedFits asks → command_at (asked_fields asks ++ more) (asked_kind asks) ≡ Ok asks
 unfolding command_at arrival_at change_at packet_at field_at command_fields
 command-back (asked.Command caller (Arrive moment packet word)) more f =
     rw (back_u16 _ f.0, back_u64 _ f.1.0, back_u64 _ f.1.1.tag, back_u32 _ f.1.1.size, back_ecn packet.ecn, back_u64 _ f.1.2) refl
@@ -270,10 +270,10 @@ answer-read row (Arrive moment packet w) answer e =
 answer-read row (Depart moment) answer e = departure-read row moment answer e
 answer-read row (Update moment) answer e = update-read row moment answer e
 answer-read row (Reset moment) answer e =
-    let a = and_after (word_at row 3 (word_said said.Done)) _ answer e in
+    let a = and_after (word_at row 3 (word_of_answer said.Done)) _ answer e in
     read-as (Answered (Reset moment)) Done answer a.rest (record { kind = refl; numbers = tt })
 answer-read row (SetParams moment params) answer e =
-    let a = and_after (word_at row 12 (word_said said.Done)) _ answer e in
+    let a = and_after (word_at row 12 (word_of_answer said.Done)) _ answer e in
     read-as (Answered (SetParams moment params)) Done answer a.rest (record { kind = refl; numbers = tt })
 
 event-fits : (row : Row) (k : CommandKind) (told : Line) → Says (event_line row k) told → LineFits told
@@ -285,7 +285,7 @@ event-fits row k told e =
     read-as LineFits (line_for a.got b.got) told b.rest (by a.got b.got read.fits
     (subst (λ (kind : CommandKind). Says (answer_at row kind) b.got) read.kind b.is))
   where
-    by : (asks : Asked) (answer : Answer) → AskedFits asks → Says (answer_at row (asked_kind asks)) answer → LineFits (line_for asks answer)
+    by : (asks : CommandFields) (answer : Answer) → AskedFits asks → Says (answer_at row (asked_kind asks)) answer → LineFits (line_for asks answer)
     by (asked.Command caller command) answer fits e =
         let said = answer-read row command answer e in
         record { kind = said.kind; caller = fits.0; command = fits.1; answer = said.numbers }
@@ -320,7 +320,7 @@ lines-fit version most number rows = read-all LineFits version most number rows 
 -- ---- an event's record is read as it was written
 
 -- what asks this can have this answer: new parameters that can't be are recorded with the answer of those that can
-abbrev CanHave : Asked → Answer → Type 0
+abbrev CanHave : CommandFields → Answer → Type 0
 CanHave (asked.Command caller command) answer = fits command answer ≡ true
 CanHave (asked.BadParams change) answer = answer ≡ Done
 
@@ -328,7 +328,7 @@ record AnswerBack (row : Row) (kind : CommandKind) (answer : Answer) : Type 0 wh
   long : has_length kind (length row) ≡ true
   reads : answer_at row kind ≡ Ok answer
 
-answer-back : (asks : Asked) (answer : Answer) → CanHave asks answer → AnswerFits answer
+answer-back : (asks : CommandFields) (answer : Answer) → CanHave asks answer → AnswerFits answer
     → AnswerBack (asked_fields asks ++ answer_fields answer) (asked_kind asks) answer
 unfolding answer_at verdict_of departure_at update_at packet_at field_at command_fields answer_fields
 answer-back (asked.Command caller (Depart moment)) (Left packet) can f =
@@ -337,7 +337,7 @@ answer-back (asked.Command caller (Update moment)) (Updated delay prob burst) ca
     record { long = refl; reads = rw (back_u64 delay f.0, back_u64 prob f.1, back_u64 burst f.2) refl }
 answer-back _ answer can f = first_of (search rules, cc)
 
-line-back : (version : Version) (asks : Asked) (answer : Answer) → AskedFits asks → CanHave asks answer → AnswerFits answer
+line-back : (version : Version) (asks : CommandFields) (answer : Answer) → AskedFits asks → CanHave asks answer → AnswerFits answer
     → line_of version (asked_fields asks ++ answer_fields answer) ≡ Ok (line_for asks answer)
 unfolding line_of event_line
 line-back version asks answer fits can numbers =
@@ -376,8 +376,8 @@ clock-back clock fits =
     rw (number-back most_moment clock.moment fits.0 (omega (arith, fits.0)), number-back most_u64 clock.unix fits.1 (omega (arith, fits.1))) refl
 
 -- a line that was read, but for a note, is told by each of its records
-pub line-again : (told : Line) → LineFits told → TellEach Three (line_rows told) (without_notes (told ∷ []))
-unfolding TellEach
+pub line-again : (told : Line) → LineFits told → AreLinesOf Three (line_rows told) (without_notes (told ∷ []))
+unfolding AreLinesOf
 line-again (line.Made event) fits = (event-back Three event fits, tt)
 line-again (line.Unmakeable change) fits = (line-back Three (asked.BadParams change) Done fits refl tt, tt)
 line-again line.Note fits = tt

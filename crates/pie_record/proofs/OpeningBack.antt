@@ -14,7 +14,7 @@ use Rattle.pie_record.specs.{delay_word, mode_word, picking_word, profile_number
 use Rattle.pie_record.specs.{earlier_row, is_earlier, nine_of, opening_row, version_three_row, Decay, Choices, Limits, OpenRefusal, Option, Err}
 use Rattle.pie_record.specs.{Checked, checked_opening, refused_opening, ◌≤◌, length, All, Event, Line, Version, HasField, rows_text, command_kind}
 use Rattle.pie_record.specs.{line_of, kind_word, version_of, Coming, after_opening, coming_after, coming_from, fault_from, history_opening}
-use Rattle.pie_record.specs.{history_version, lines_from, Begins, EventFits, TellEach, TellsHistory, event_row, written_rows, drop, numbers_at, ◌==◌}
+use Rattle.pie_record.specs.{history_version, lines_from, Begins, EventFits, AreLinesOf, IsHistoryText, event_row, written_rows, drop, numbers_at, ◌==◌}
 use Rattle.pie_record.specs.declared.history_record.Line.TheVariants.{Made}
 use Rattle.pie_record.proofs.FieldFacts.{back_u32, back_u64, params-back}
 use Rattle.pie_record.proofs.HistoryFacts.{told_by-line}
@@ -176,9 +176,9 @@ checked kind draft opening e =
 -- ---- rows that tell lines
 
 pub coming-told : (version : Version) (most number : ℕ) (rows : List Row) (lines : List Line) → number + length rows ≤ most + 1
-    → TellEach version rows lines
+    → AreLinesOf version rows lines
     → coming_from version most number rows ≡ record { lines = lines; fault = None }
-unfolding TellEach lines_from fault_from
+unfolding AreLinesOf lines_from fault_from
 coming-told version most number [] [] within tells = refl
 coming-told version most number (row ∷ rows) (line ∷ lines) within tells =
     rw (told_by-line version most number row line (omega arith) tells.0)
@@ -192,8 +192,8 @@ unfolding line_of command_kind field_at
 told-field version [] line e = cc
 told-field version (field ∷ rest) line e = omega arith
 
-pub told-fields : (version : Version) (rows : List Row) (lines : List Line) → TellEach version rows lines → All HasField rows
-unfolding TellEach
+pub told-fields : (version : Version) (rows : List Row) (lines : List Line) → AreLinesOf version rows lines → All HasField rows
+unfolding AreLinesOf
 told-fields version [] lines tells = All-nil HasField
 told-fields version (row ∷ rows) [] tells = absurd tells
 told-fields version (row ∷ rows) (line ∷ lines) tells = All-cons HasField row rows (told-field version row line tells.0)
@@ -204,8 +204,8 @@ told-fields version (row ∷ rows) (line ∷ lines) tells = All-cons HasField ro
 -- a text of a record that opens so, and then of rows that tell these lines
 pub history-told : (kind : FirstKind) (rest : Row) (rows : List Row) (opening : Opening) (lines : List Line)
     → opening_of (kind_word kind ∷ rest) ≡ Ok opening
-    → All HasField rows → TellEach (version_of (kind_word kind ∷ rest)) rows lines → length rows < 2 ^ 32
-    → TellsHistory (rows_text ((kind_word kind ∷ rest) ∷ rows)) opening lines
+    → All HasField rows → AreLinesOf (version_of (kind_word kind ∷ rest)) rows lines → length rows < 2 ^ 32
+    → IsHistoryText (rows_text ((kind_word kind ∷ rest) ∷ rows)) opening lines
 unfolding history_opening history_version after_opening
 history-told kind rest rows opening lines opens some tells few =
     let records = records_of-written kind rest rows some in
@@ -217,8 +217,8 @@ history-told kind rest rows opening lines opens some tells few =
 
 -- ---- what a history is written as
 
-pub events-tell : (version : Version) (events : List Event) → All EventFits events → TellEach version (map event_row events) (map Made events)
-unfolding TellEach
+pub events-tell : (version : Version) (events : List Event) → All EventFits events → AreLinesOf version (map event_row events) (map Made events)
+unfolding AreLinesOf
 events-tell version [] fit = tt
 events-tell version (event ∷ events) fit =
     (event-back version event (All-head EventFits event events fit), events-tell version events (All-tail EventFits event events fit))
@@ -239,11 +239,11 @@ opening_row-begins o = either (is_earlier o) _
 
 pub written-back : (opening : Opening) (events : List Event) → opening_refusal opening.limits opening.moment ≡ None → ParamsFit opening.params
     → All EventFits events → length events < 2 ^ 32
-    → TellsHistory (rows_text (written_rows opening events)) opening (map Made events)
+    → IsHistoryText (rows_text (written_rows opening events)) opening (map Made events)
 written-back opening events accepted set fit few =
     let first = opening_row-begins opening in
     let opens : opening_of (kind_word first.kind ∷ first.rest) ≡ Ok opening = ap opening_of (sym first.is) ∙ opening-back opening accepted set in
     let many = length-map events event_row in
     let tells = events-tell (version_of (kind_word first.kind ∷ first.rest)) events fit in
-    subst (λ (row : Row). TellsHistory (rows_text (row ∷ map event_row events)) opening (map Made events)) (sym first.is)
+    subst (λ (row : Row). IsHistoryText (rows_text (row ∷ map event_row events)) opening (map Made events)) (sym first.is)
     (history-told first.kind first.rest (map event_row events) opening (map Made events) opens (told-fields _ _ _ tells) tells (omega arith))

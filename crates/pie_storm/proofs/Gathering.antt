@@ -1,11 +1,11 @@
 -- The work of all workers of a storm: it is gathered; no caller stopped early, since a history has no more events than
 -- there are commands; so the storm has the result of its plan.
 use Rattle.pie_storm.proofs.Names.{◌≡◌, ℕ, ◌+◌, ◌<◌, List, [], length, length-append, events_in, refl, ap, sym, ◌∙◌, subst, inl, inr, ⊎_elim, arith}
-use Rattle.pie_storm.proofs.Names.{dite, ℕ_discrete, Bool, true, false, ◌||◌, get_or, is_within, nat_tests, GoesOn, Event, number_of, EntriesLookBack}
-use Rattle.pie_storm.proofs.Names.{Entry, CallerView, LinkView, Plan, Work, calls_of, folder, opening_of, updater, CameOf, HasNoMore, IsWell}
-use Rattle.pie_storm.proofs.Names.{IsWorkBelow, WereHanded, zero, suc, ◌≤◌, cond, ◌∷◌, ◌++◌, All, All-nil, All-cons, All-head, All-tail, own}
+use Rattle.pie_storm.proofs.Names.{dite, ℕ_discrete, Bool, true, false, ◌||◌, get_or, is_within, nat_tests, Extends, Event, number_of, EntriesLookBack}
+use Rattle.pie_storm.proofs.Names.{Entry, CallerView, LinkView, Plan, Work, calls_of, folder, opening_of, updater, IsOutcomeOf, HasNoMore, IsWell}
+use Rattle.pie_storm.proofs.Names.{IsWorkBelow, WereFolded, zero, suc, ◌≤◌, cond, ◌∷◌, ◌++◌, All, All-nil, All-cons, All-head, All-tail, own}
 use Rattle.pie_storm.proofs.Names.{own_none, entries_of, Call, IsSound, total, AreMade}
-use Rattle.pie_storm.proofs.Names.{◌⊎◌, AreHandedOut, IsCutShort, None, Some, Ok, Err, Result, Bounded, Opening, IsLegal, handed_out, senders, IsEndOf, IsFor}
+use Rattle.pie_storm.proofs.Names.{◌⊎◌, AreFolded, IsCutShort, None, Some, Ok, Err, Result, Bounded, Opening, IsLegal, folded_events, senders, IsEndOf, IsFor}
 use Rattle.pie_storm.proofs.Names.{drop-append_seam, tail_in, take-append_seam}
 use Rattle.pie_lock.specs.Promises.{IsBothOf}
 use Rattle.pie_lock.proofs.Owns.{goes_on, gone_on}
@@ -16,10 +16,10 @@ use Rattle.std.proofs.lemmas.List.Elements.{All-push}
 use native.Mathlib.Decide.{dec_le}
 use Rattle.std.specs.Result.{IfErr, IfOk}
 use Rattle.pie_lock.specs.Views.{HoldsAll}
-use Rattle.pie_book.specs.Book.{BookView, Tells}
+use Rattle.pie_book.specs.Book.{BookView, BookRepresents}
 use Rattle.pie_book.specs.Registers.{registers_after}
 use Rattle.pie_book.specs.Statistics.{stats_after}
-use Rattle.pie_link.specs.Kept.{TellsEntries}
+use Rattle.pie_link.specs.Kept.{RepresentsEntries}
 use Rattle.pie_storm.specs.declared.ending.StormEnd.{StormEnd}
 use Rattle.pie_storm.specs.declared.ending.StormFault.{StormFault}
 use Rattle.pie_storm.specs.declared.ending.StormFault.TheVariants as fault
@@ -35,9 +35,9 @@ run_fault plan (Err why) sound none (inl is) = subst (HasFault plan) (sym is) (s
 run_fault plan (Err why) sound none (inr is) = subst (HasFault plan) (sym is) (sound, none)
 
 -- the calls of a caller in a history are its calls in one that goes on without further entries of it
-came_on : (law : EntriesLookBack) (plan : Plan) (caller : ℕ) (h k : List Entry) (passed : ℕ) → HasNoMore caller h k → CameOf plan caller h passed
-    → CameOf plan caller k passed
-unfolding CameOf
+came_on : (law : EntriesLookBack) (plan : Plan) (caller : ℕ) (h k : List Entry) (passed : ℕ) → HasNoMore caller h k → IsOutcomeOf plan caller h passed
+    → IsOutcomeOf plan caller k passed
+unfolding IsOutcomeOf
 came_on law plan caller h k passed on (inl made) = inl (made_on (opening_of plan) caller [] (calls_of plan caller) h k passed on made)
 came_on law plan caller h k passed on (inr cut) = inr (record {
   asks = cut.asks;
@@ -55,7 +55,7 @@ other_below : (n caller k : ℕ) → caller < n → is_within 0 n k ≡ false �
 other_below n caller k below out = grind (arith, nat_tests)
 
 -- without further entries of the callers below n, there are none of each of them
-each_below : (caller n : ℕ) (h k : List Entry) → caller < n → GoesOn number_of 0 n h k → HasNoMore caller h k
+each_below : (caller n : ℕ) (h k : List Entry) → caller < n → Extends number_of 0 n h k → HasNoMore caller h k
 each_below caller n h k below on =
     let all = gone_on number_of 0 n h k on in
     goes_on number_of caller (caller + 1) h all.0 k all.1
@@ -68,7 +68,7 @@ fronts plan p q r n p_first p_limit q_first q_limit both =
     let P : List Entry → Type 0 = λ front. ((caller : ℕ) → caller < n → HasNoMore caller p.front front) × HasNoMore n q.front front in
     ⊎_elim
     (λ behind.
-    let on : GoesOn number_of 0 n p.front q.front = rw (p_first, p_limit) at behind.0 in
+    let on : Extends number_of 0 n p.front q.front = rw (p_first, p_limit) at behind.0 in
     subst P (sym behind.1) ((λ caller below. each_below caller n p.front q.front below on), stays n q.front))
     (λ behind.
     let on : HasNoMore n q.front p.front = rw (q_first, q_limit) at behind.0 in
@@ -95,7 +95,7 @@ together law link plan n work last whole both passed soon as_before events well 
       first = omega (arith, both.1, below.first);
       limit = omega (arith, both.2, below.limit, its.at.limit);
       came = λ fine caller less. dite (ℕ_discrete caller n)
-          (λ is. (last.passed, subst (λ (c : ℕ). CameOf plan c r.front last.passed) (sym is) (mine fine), λ updates. sym (soon (sym is ∙ updates))))
+          (λ is. (last.passed, subst (λ (c : ℕ). IsOutcomeOf plan c r.front last.passed) (sym is) (mine fine), λ updates. sym (soon (sym is ∙ updates))))
           (λ other.
           let before : caller < n = omega (arith, less, other) in
           let came = below.came (well fine).0 caller before in (
@@ -106,16 +106,16 @@ together law link plan n work last whole both passed soon as_before events well 
       folds = λ fine all.
           let is : n ≡ folder plan = omega (arith, all) in
           let handed = its.handed (well fine).1 is in (
-            subst (λ (passed : ℕ). CameOf plan (folder plan) r.front passed) (sym passed)
-                (subst (λ (c : ℕ). CameOf plan c r.front last.passed) is (mine fine)),
-            subst (λ (c : ℕ). WereHanded plan c whole.folding.events.items r.front) is
+            subst (λ (passed : ℕ). IsOutcomeOf plan (folder plan) r.front passed) (sym passed)
+                (subst (λ (c : ℕ). IsOutcomeOf plan c r.front last.passed) is (mine fine)),
+            subst (λ (c : ℕ). WereFolded plan c whole.folding.events.items r.front) is
                 (events ∙ (handed ∙ sym (handed_same law (opening_of plan) n q.front r.front on.1))),
           );
     }
 
 -- the starter makes no calls
-nothing_asked : (plan : Plan) → CameOf plan 0 [] 0
-unfolding CameOf calls_of
+nothing_asked : (plan : Plan) → IsOutcomeOf plan 0 [] 0
+unfolding IsOutcomeOf calls_of
 nothing_asked plan = inl (stays 0 [], refl)
 
 -- the starter alone has made no entries
@@ -129,8 +129,8 @@ starter_alone link plan caller rest folding begins first one same =
       limit = ap (λ (p : CallerView). p.limit) same;
       came = λ fine number less.
           let is : 0 ≡ number = omega (arith, one, first, less) in
-          subst (λ (c : ℕ). (passed : ℕ) × CameOf plan c rest.front passed × (c ≡ updater plan → passed ≡ 0)) is
-          (0, subst (λ (h : List Entry). CameOf plan 0 h 0) (sym new) (nothing_asked plan), λ updates. refl);
+          subst (λ (c : ℕ). (passed : ℕ) × IsOutcomeOf plan c rest.front passed × (c ≡ updater plan → passed ≡ 0)) is
+          (0, subst (λ (h : List Entry). IsOutcomeOf plan 0 h 0) (sym new) (nothing_asked plan), λ updates. refl);
       folds = λ fine all. absurd (omega (arith, one, first, all));
     }
 
@@ -239,16 +239,16 @@ IsAsPlanned plan h too_soon too_many =
 
 module _ (plan : Plan) (h : List Entry) (sound : IsSound plan) (below : All (IsBelow (callers_of_plan plan)) h) (too_soon : ℕ)
     (came : (caller : ℕ) → caller < callers_of_plan plan
-    → (passed : ℕ) × CameOf plan caller h passed × (caller ≡ updater plan → passed ≡ too_soon)) where
+    → (passed : ℕ) × IsOutcomeOf plan caller h passed × (caller ≡ updater plan → passed ≡ too_soon)) where
   -- no caller has more entries than calls
-  few_of : (caller passed : ℕ) → CameOf plan caller h passed → length (entries_of caller h) ≤ length (calls_of plan caller)
-  unfolding CameOf
+  few_of : (caller passed : ℕ) → IsOutcomeOf plan caller h passed → length (entries_of caller h) ≤ length (calls_of plan caller)
+  unfolding IsOutcomeOf
   few_of caller passed (inl made) = omega (arith, few_made (opening_of plan) caller [] (calls_of plan caller) h passed made)
   few_of caller passed (inr cut) = omega (arith, cut.fewer)
 
   -- the entries of the folder are folds
-  folds_of : (passed : ℕ) → CameOf plan (folder plan) h passed → All (IsRight (folder plan)) (entries_of (folder plan) h)
-  unfolding CameOf
+  folds_of : (passed : ℕ) → IsOutcomeOf plan (folder plan) h passed → All (IsRight (folder plan)) (entries_of (folder plan) h)
+  unfolding IsOutcomeOf
   folds_of passed (inl made) =
       all_right_by plan (folder plan) [] (calls_of plan (folder plan)) h passed (calls_are plan sound (folder plan)) made
       (All-nil (IsRight (folder plan)))
@@ -270,9 +270,9 @@ module _ (plan : Plan) (h : List Entry) (sound : IsSound plan) (below : All (IsB
         sound.events,
       )
 
-  all_made : (caller passed : ℕ) → caller < callers_of_plan plan → CameOf plan caller h passed
+  all_made : (caller passed : ℕ) → caller < callers_of_plan plan → IsOutcomeOf plan caller h passed
       → AreMade (opening_of plan) caller [] (calls_of plan caller) h passed
-  unfolding CameOf
+  unfolding IsOutcomeOf
   all_made caller passed less (inl made) = made
   all_made caller passed less (inr cut) = absurd (never_cut caller less cut)
 
@@ -304,7 +304,7 @@ module _ (plan : Plan) (h : List Entry) (sound : IsSound plan) (below : All (IsB
       (All-nil (IsRight (folder plan)))) k d within refl
 
   -- the history of a storm is that of its plan
-  pub is_storm : (too_many : ℕ) → CameOf plan (folder plan) h too_many → IsAsPlanned plan h too_soon too_many
+  pub is_storm : (too_many : ℕ) → IsOutcomeOf plan (folder plan) h too_many → IsAsPlanned plan h too_soon too_many
   is_storm too_many folds =
       let updates = each_made (updater plan) in (
         subst (AllMade plan h (updater plan)) (updates.2 refl) updates.1,
@@ -317,7 +317,7 @@ module _ (plan : Plan) (h : List Entry) (sound : IsSound plan) (below : All (IsB
 
 module _ (plan : Plan) (link : LinkView) (work : Work) (book : BookView) (link_for : IsFor plan link)
     (numbers : link.numbers ≡ senders plan + 5) (worked : IsWorkBelow link plan (senders plan + 5) work)
-    (opened : work.caller.lock.origin ≡ Some book.opening) (told : HoldsAll work.caller → TellsEntries book work.caller.front)
+    (opened : work.caller.lock.origin ≡ Some book.opening) (told : HoldsAll work.caller → RepresentsEntries book work.caller.front)
     (numbered : HoldsAll work.caller → All (λ (e : Entry). number_of e < work.caller.lock.numbers) work.caller.front) where
   -- the starter has all numbers of the link again
   holds_all : HoldsAll work.caller
@@ -336,7 +336,7 @@ module _ (plan : Plan) (link : LinkView) (work : Work) (book : BookView) (link_f
       subst (λ (n : ℕ). All (λ (e : Entry). number_of e < n) work.caller.front) all (numbered holds_all)
 
   all_came : IsWell work.folding → (caller : ℕ) → caller < callers_of_plan plan
-      → (passed : ℕ) × CameOf plan caller work.caller.front passed × (caller ≡ updater plan → passed ≡ work.too_soon)
+      → (passed : ℕ) × IsOutcomeOf plan caller work.caller.front passed × (caller ≡ updater plan → passed ≡ work.too_soon)
   all_came fine caller less = worked.came fine caller (omega (arith, less))
 
   -- its front is the history of the plan
@@ -345,7 +345,7 @@ module _ (plan : Plan) (link : LinkView) (work : Work) (book : BookView) (link_f
       is_storm plan work.caller.front link_for.sound all_below work.too_soon (all_came fine) work.passed (worked.folds fine (omega arith)).0
 
   -- the stored events are those of the folds
-  all_handed : IsWell work.folding → work.folding.events.items ≡ handed_out (opening_of plan) work.caller.front
+  all_handed : IsWell work.folding → work.folding.events.items ≡ folded_events (opening_of plan) work.caller.front
   all_handed fine =
       let front = work.caller.front in
       (worked.folds fine (omega arith)).1
@@ -356,13 +356,13 @@ module _ (plan : Plan) (link : LinkView) (work : Work) (book : BookView) (link_f
   whole_history fine =
       let front = work.caller.front in
       let bounded : book.opening.choices.mode ≡ Bounded = ap (λ (o : Opening). o.choices.mode) opened_so in
-      let all : work.folding.events.items ≡ handed_out book.opening front =
-      all_handed fine ∙ ap (λ (o : Opening). handed_out o front) (sym opened_so) in
+      let all : work.folding.events.items ≡ folded_events book.opening front =
+      all_handed fine ∙ ap (λ (o : Opening). folded_events o front) (sym opened_so) in
       ap (λ (es : List Event). es ++ book.tail) all ∙ (told holds_all).nothing_lost bounded
 
   -- the stored events followed by the log, with their number
   all_parted : IsWell work.folding → (events : List Event) (folded : ℕ) → events ≡ work.folding.events.items ++ book.tail
-      → folded ≡ length work.folding.events.items → AreHandedOut (opening_of plan) work.caller.front events folded
+      → folded ≡ length work.folding.events.items → AreFolded (opening_of plan) work.caller.front events folded
   all_parted fine events folded are many =
       let own = work.folding.events.items in record {
         handed = rw (are, many) (sym (all_handed fine) ∙ sym (take-append_seam own book.tail));
@@ -373,8 +373,8 @@ module _ (plan : Plan) (link : LinkView) (work : Work) (book : BookView) (link_f
   -- the result of a storm
   pub ended : (result : Result StormEnd StormFault)
       → IfOk result (λ end. end.events.items ≡ work.folding.events.items ++ book.tail)
-      → ((events : List Event) → Tells book events → IfOk result (λ end. end.registers ≡ registers_after book.opening events))
-      → ((events : List Event) → Tells book events → IfOk result (λ end. end.stats ≡ stats_after book.opening events))
+      → ((events : List Event) → BookRepresents book events → IfOk result (λ end. end.registers ≡ registers_after book.opening events))
+      → ((events : List Event) → BookRepresents book events → IfOk result (λ end. end.stats ≡ stats_after book.opening events))
       → IfOk result (λ end. IsWell work.folding × (end.too_soon ≡ work.too_soon) × (end.too_many ≡ work.passed)
       × (end.folded ≡ length work.folding.events.items)) → IfOk result (IsEndOf plan)
   ended (Ok end) items registers stats counts =

@@ -1,12 +1,12 @@
 -- The entries of a caller's calls in a growing history, one by one or in bursts; and the events of its folds.
 use Rattle.pie_storm.proofs.Names.{◌≡◌, ℕ, ◌+◌, true, false, List, [], ◌∷◌, ◌++◌, take, refl, ap, sym, ◌∙◌, arith, All}
-use Rattle.pie_storm.proofs.Names.{nat_tests, append-nil, All-head, All-tail, is_within, NoneOwn, gone_on, Event, Opening, handed_to, number_of}
+use Rattle.pie_storm.proofs.Names.{nat_tests, append-nil, All-head, All-tail, is_within, NoneOwn, gone_on, Event, Opening, folded_for, number_of}
 use Rattle.pie_storm.proofs.Names.{tail_in, EntriesLookBack, Entry, Made, Folded, HasNoMore, is_number, zero, suc, ◌≤◌, Some, None}
 use Rattle.pie_storm.proofs.Names.{Ok, Err, Option, Result, Vec, drop, min, length, slice_get, subst, inl, inr, length-append, length-drop}
-use Rattle.pie_storm.proofs.Names.{Global, take-add, take-length, length-take, append_assoc, GoesOn, goes_on_itself, Answer, Command}
+use Rattle.pie_storm.proofs.Names.{Global, take-add, take-length, length-take, append_assoc, Extends, goes_on_itself, Answer, Command}
 use Rattle.pie_storm.proofs.Names.{Refusal, refusal_by_rule, refusal_with, event_of}
 use Rattle.pie_storm.proofs.Names.{entries_of, events_in, left_in, Told, CallerView, LinkView, Call, Ask, Fold, Plan, IsFair, calls_of, folder}
-use Rattle.pie_storm.proofs.Names.{opening_of, AreMade, CameBy, CameOf, IsAt, IsCutShort, IsFor, WereHanded, map, IfSome, IsOk, length-map, All-cons}
+use Rattle.pie_storm.proofs.Names.{opening_of, AreMade, IsOutcomeBy, IsOutcomeOf, IsAt, IsCutShort, IsFor, WereFolded, map, IfSome, IsOk, length-map, All-cons}
 use Rattle.pie_storm.proofs.Names.{All-nil, decision, Arrival, Reply, always, arrive, arriving, AddedByAll}
 use Rattle.std.proofs.lemmas.List.Elements.{filter-append, All-drop, All-take}
 use Rattle.pie_event.specs.declared.refusal.FoldRefusal.{FoldRefusal}
@@ -16,20 +16,20 @@ use Rattle.pie_book.specs.Decision.{is_too_soon}
 use Rattle.pie_link.specs.Commands.{Answers}
 use Rattle.pie_link.specs.CallerFolds.{Folds}
 use Rattle.pie_storm.specs.Storms.{IsEntryOf, TakenIn, WasPassedOver, added_by}
-use Rattle.pie_link.specs.Bursts.{burst_within, entries_by, entries_within, refused_or_told, replies_within, reply_in, refusal_in}
+use Rattle.pie_link.specs.Bursts.{burst_within, entries_by, entries_within, refused_or_answered, replies_within, reply_in, refusal_in}
 use Rattle.pie_link.specs.CallerBursts.{AnswersAll, AnswersWithin}
 use Rattle.pie_link.specs.Views.{IsTurn}
 use Rattle.pie_storm.proofs.PlanFacts.{IsCallOf, all_at, calls_are}
 
 -- one more fold of the caller
 pub handed_more : (law : EntriesLookBack) (opening : Opening) (caller : ℕ) (g : List Entry) (n who : ℕ) → who ≡ caller
-    → handed_to (is_number caller) opening [] (g ++ Folded who n ∷ []) ≡ handed_to (is_number caller) opening [] g ++ take n (tail_in opening g)
+    → folded_for (is_number caller) opening [] (g ++ Folded who n ∷ []) ≡ folded_for (is_number caller) opening [] g ++ take n (tail_in opening g)
 handed_more law opening caller g n who is =
     let both = law.handed (is_number caller) opening [] g (Folded who n ∷ []) in grind (arith, nat_tests, append-nil)
 
 -- without further entries of the caller its folds return no more events
 handed_none : (opening : Opening) (caller : ℕ) (before xs : List Entry) → NoneOwn number_of caller (caller + 1) xs
-    → handed_to (is_number caller) opening before xs ≡ []
+    → folded_for (is_number caller) opening before xs ≡ []
 handed_none opening caller before [] none = refl
 handed_none opening caller before (entry ∷ xs) none =
     let first = All-head (λ e. is_within caller (caller + 1) (number_of e) ≡ false) entry xs none in
@@ -38,13 +38,13 @@ handed_none opening caller before (entry ∷ xs) none =
     grind (arith, nat_tests)
 
 pub handed_same : (law : EntriesLookBack) (opening : Opening) (caller : ℕ) (g h : List Entry) → HasNoMore caller g h
-    → handed_to (is_number caller) opening [] h ≡ handed_to (is_number caller) opening [] g
+    → folded_for (is_number caller) opening [] h ≡ folded_for (is_number caller) opening [] g
 handed_same law opening caller g h same =
     let on = gone_on number_of caller (caller + 1) g h same in
-    ap (λ (l : List Entry). handed_to (is_number caller) opening [] l) (sym on.1)
+    ap (λ (l : List Entry). folded_for (is_number caller) opening [] l) (sym on.1)
     ∙ (law.handed (is_number caller) opening [] g on.0
-    ∙ (ap (λ (es : List Event). handed_to (is_number caller) opening [] g ++ es) (handed_none opening caller g on.0 on.2)
-    ∙ append-nil (handed_to (is_number caller) opening [] g)))
+    ∙ (ap (λ (es : List Event). folded_for (is_number caller) opening [] g ++ es) (handed_none opening caller g on.0 on.2)
+    ∙ append-nil (folded_for (is_number caller) opening [] g)))
 
 -- an entry of a history in which this caller alone folds, and makes nothing else
 abbrev pub IsRight : ℕ → Entry → Type 0
@@ -53,7 +53,7 @@ IsRight folder (Folded who n) = who ≡ folder
 
 -- the events of its folds are those of all folds
 pub handed_alone : (opening : Opening) (folder : ℕ) (before h : List Entry) → All (IsRight folder) h
-    → handed_to (is_number folder) opening before h ≡ handed_to (λ caller. true) opening before h
+    → folded_for (is_number folder) opening before h ≡ folded_for (λ caller. true) opening before h
 handed_alone opening folder before [] right = refl
 handed_alone opening folder before (entry ∷ h) right =
     let first = All-head (IsRight folder) entry h right in
@@ -121,13 +121,13 @@ one_at (y ∷ xs) (suc k) x e = one_at xs k x e
 
 -- the new front of a caller with one number goes on from the old one
 pub seen : (link : LinkView) (number : ℕ) (before : CallerView) (history : List Entry) → IsAt link number before
-    → GoesOn number_of before.first before.limit before.front history → HasNoMore number before.front history
+    → Extends number_of before.first before.limit before.front history → HasNoMore number before.front history
 seen link number before history at on = rw (at.first, at.limit) at on
 
 -- ---- refusals of a command
 
 -- the refusal of a command whose result is a refusal
-refused_why : (why : Option Refusal) (told : Told Answer) (w : Refusal) → refused_or_told why told ≡ Err w → why ≡ Some w
+refused_why : (why : Option Refusal) (told : Told Answer) (w : Refusal) → refused_or_answered why told ≡ Err w → why ≡ Some w
 refused_why why told w e = grind (arith, nat_tests)
 
 -- a refusal as too soon is one of the rules
@@ -150,8 +150,8 @@ full_after opening history command why fair is not_soon =
 module _ (plan : Plan) (number : ℕ) where
   -- calls after a history are calls of a caller whose front is a prefix of it
   pub came_from : (front before : List Entry) (calls : List Call) (after : List Entry) (passed : Option ℕ) → HasNoMore number front before
-      → CameBy plan number before calls after passed → CameBy plan number front calls after passed
-  unfolding CameBy
+      → IsOutcomeBy plan number before calls after passed → IsOutcomeBy plan number front calls after passed
+  unfolding IsOutcomeBy
   came_from front before calls after (Some passed) on came = made_from (opening_of plan) number front before calls after passed on came
   came_from front before calls after None on came =
       record { asks = came.asks; full = came.full; fewer = omega (arith, came.fewer, ap (λ (l : List Entry). length l) on.1) }
@@ -178,8 +178,8 @@ module _ (plan : Plan) (number : ℕ) where
         subst (λ (l : List Entry). IsCutShort plan number h (Ask command ∷ []) l) (sym shown)
         (record { asks = its.0; full = full_after (opening_of plan) h command why its.1 because not_soon; fewer = omega arith })
 
-    refused_by : (why : Refusal) → refusal_in (opening_of plan) h command ≡ Some why → CameBy plan number h (Ask command ∷ []) front (added_by (Err why))
-    unfolding CameBy added_by
+    refused_by : (why : Refusal) → refusal_in (opening_of plan) h command ≡ Some why → IsOutcomeBy plan number h (Ask command ∷ []) front (added_by (Err why))
+    unfolding IsOutcomeBy added_by
     refused_by (TooSoon due) because =
         one_passed (Ask command) h front (record { due = due; refused = too_soon_by_rule (opening_of plan) h command due because }) shown
     refused_by Moment because = cut_short Moment because (λ d e. cc e)
@@ -190,17 +190,17 @@ module _ (plan : Plan) (number : ℕ) where
 module _ (plan : Plan) (number k : ℕ) (link : LinkView) (link_for : IsFor plan link) (before after : CallerView) (at : IsAt link number before) where
   -- the call of the caller after its first k
   abbrev Came : Option ℕ → Type 0
-  Came passed = CameBy plan number before.front (take 1 (drop k (calls_of plan number))) after.front passed
+  Came passed = IsOutcomeBy plan number before.front (take 1 (drop k (calls_of plan number))) after.front passed
 
   one_came : (call : Call) (history : List Entry) (passed : Option ℕ) → slice_get (calls_of plan number) k ≡ Some call
-      → GoesOn number_of before.first before.limit before.front history → CameBy plan number history (call ∷ []) after.front passed → Came passed
+      → Extends number_of before.first before.limit before.front history → IsOutcomeBy plan number history (call ∷ []) after.front passed → Came passed
   one_came call history passed there on came =
-      subst (λ (calls : List Call). CameBy plan number before.front calls after.front passed) (sym (one_at (calls_of plan number) k call there))
+      subst (λ (calls : List Call). IsOutcomeBy plan number before.front calls after.front passed) (sym (one_at (calls_of plan number) k call there))
       (came_from plan number before.front history (call ∷ []) after.front passed (seen link number before history at on) came)
 
   pub asked_next : (command : Command) → slice_get (calls_of plan number) k ≡ Some (Ask command) → (answer : Result (Told Answer) Refusal)
       → Answers link before command answer after → Came (added_by answer)
-  unfolding Answers CameBy added_by
+  unfolding Answers IsOutcomeBy added_by
   asked_next command there (Ok told) answers =
       let a = answers (opening_of plan) link_for.opened in
       let taken : IsTurn (opening_of plan) before _ _ after a.0 = a.1 in
@@ -217,13 +217,13 @@ module _ (plan : Plan) (number k : ℕ) (link : LinkView) (link_for : IsFor plan
 
   -- a fold, whose events the caller stores
   module _ (law : EntriesLookBack) (n : ℕ) (there : slice_get (calls_of plan number) k ≡ Some (Fold n)) (old new : List Event) where
-    handed_before : (history : List Entry) → HasNoMore number before.front history → WereHanded plan number old before.front
-        → WereHanded plan number old history
+    handed_before : (history : List Entry) → HasNoMore number before.front history → WereFolded plan number old before.front
+        → WereFolded plan number old history
     handed_before history on had = had ∙ sym (handed_same law (opening_of plan) number before.front history on)
 
     pub folded_next : (passed : Option ℕ) (answer : Result (Told (Vec Event Global)) FoldRefusal) → Folds link before n answer after
-        → TakenIn answer old new passed → Came passed × (WereHanded plan number old before.front → WereHanded plan number new after.front)
-    unfolding Folds TakenIn CameBy
+        → TakenIn answer old new passed → Came passed × (WereFolded plan number old before.front → WereFolded plan number new after.front)
+    unfolding Folds TakenIn IsOutcomeBy
     folded_next passed (Ok told) answers kept =
         let a = answers (opening_of plan) link_for.opened in
         let made : IsTurn (opening_of plan) before _ _ after a.0 = a.1 in
@@ -232,9 +232,9 @@ module _ (plan : Plan) (number k : ℕ) (link : LinkView) (link_for : IsFor plan
           subst Came (sym kept.1) (one_came (Fold n) a.0 (Some 0) there made.from.goes_on
               (one_made plan number (Fold n) a.0 (Folded before.first n) after.front (at.first, refl, made.said.held) shown)),
           λ had. kept.0 ∙ (ap (λ (es : List Event). es ++ told.answer.items) (handed_before a.0 on had)
-              ∙ (ap (λ (es : List Event). handed_to (is_number number) (opening_of plan) [] a.0 ++ es) made.said.oldest
+              ∙ (ap (λ (es : List Event). folded_for (is_number number) (opening_of plan) [] a.0 ++ es) made.said.oldest
               ∙ (sym (handed_more law (opening_of plan) number a.0 n before.first at.first)
-              ∙ ap (λ (h : List Entry). handed_to (is_number number) (opening_of plan) [] h) (sym shown)))),
+              ∙ ap (λ (h : List Entry). folded_for (is_number number) (opening_of plan) [] h) (sym shown)))),
         )
     folded_next passed (Err (TooMany held)) answers kept =
         let a = answers (opening_of plan) link_for.opened in
@@ -244,7 +244,7 @@ module _ (plan : Plan) (number k : ℕ) (link : LinkView) (link_for : IsFor plan
           subst Came (sym kept.1) (one_came (Fold n) a.0 (Some 1) there refused.from.goes_on
               (one_passed plan number (Fold n) a.0 after.front (omega (arith, refused.said.0, refused.said.1)) shown)),
           λ had. kept.0 ∙ (handed_before a.0 on had
-              ∙ ap (λ (h : List Entry). handed_to (is_number number) (opening_of plan) [] h) (sym shown)),
+              ∙ ap (λ (h : List Entry). folded_for (is_number number) (opening_of plan) [] h) (sym shown)),
         )
     folded_next passed (Err Memory) answers kept = absurd kept
 
@@ -253,9 +253,9 @@ module _ (plan : Plan) (number k : ℕ) (link : LinkView) (link_for : IsFor plan
 module _ (plan : Plan) (number k : ℕ) (front : List Entry) (passed : ℕ)
     (made : AreMade (opening_of plan) number [] (take k (calls_of plan number)) front passed) where
   -- after its first k calls a caller made those of one more turn
-  pub made_more : (n : ℕ) (after : List Entry) (more : ℕ) → CameBy plan number front (take n (drop k (calls_of plan number))) after (Some more)
+  pub made_more : (n : ℕ) (after : List Entry) (more : ℕ) → IsOutcomeBy plan number front (take n (drop k (calls_of plan number))) after (Some more)
       → AreMade (opening_of plan) number [] (take (k + n) (calls_of plan number)) after (passed + more)
-  unfolding CameBy
+  unfolding IsOutcomeBy
   made_more n after more came =
       let all = calls_of plan number in
       subst (λ (calls : List Call). AreMade (opening_of plan) number [] calls after (passed + more)) (sym (take-add k n all))
@@ -263,8 +263,8 @@ module _ (plan : Plan) (number k : ℕ) (front : List Entry) (passed : ℕ)
 
   -- after its first k calls a caller stopped early
   pub came_cut : k ≤ length (calls_of plan number) → (n : ℕ) (after : List Entry)
-      → IsCutShort plan number front (take n (drop k (calls_of plan number))) after → CameOf plan number after passed
-  unfolding CameOf
+      → IsCutShort plan number front (take n (drop k (calls_of plan number))) after → IsOutcomeOf plan number after passed
+  unfolding IsOutcomeOf
   came_cut within n after cut =
       let all = calls_of plan number in
       inr (record {
@@ -282,8 +282,8 @@ module _ (plan : Plan) (number k : ℕ) (front : List Entry) (passed : ℕ)
       })
 
   -- a caller made all its calls
-  pub came_of_all : k ≡ length (calls_of plan number) → CameOf plan number front passed
-  unfolding CameOf
+  pub came_of_all : k ≡ length (calls_of plan number) → IsOutcomeOf plan number front passed
+  unfolding IsOutcomeOf
   came_of_all all =
       inl (subst (λ (calls : List Call). AreMade (opening_of plan) number [] calls front passed)
       (ap (λ (n : ℕ). take n (calls_of plan number)) all ∙ take-length (calls_of plan number)) made)
@@ -352,9 +352,9 @@ module _ (law : EntriesLookBack) (plan : Plan) (caller : ℕ) where
   -- an arrival, followed by those after it
   first_came : (g end : List Entry) (a : Arrival) (later : List Call) (replies : List Reply) (passed : Option ℕ) (reply : Reply)
       → reply_to g a ≡ reply → IsCallOf plan caller (arriving a) → Grows (grown g a reply) (length later) end
-      → (AddedByAll replies passed → CameBy plan caller (grown g a reply) later end passed) → AddedByAll (reply ∷ replies) passed
-      → CameBy plan caller g (arriving a ∷ later) end passed
-  unfolding CameBy
+      → (AddedByAll replies passed → IsOutcomeBy plan caller (grown g a reply) later end passed) → AddedByAll (reply ∷ replies) passed
+      → IsOutcomeBy plan caller g (arriving a ∷ later) end passed
+  unfolding IsOutcomeBy
   first_came g end a later replies (Some p) (Ok told) is its more so (inl all) =
       inl (g, Made (event_of caller (arrive a) told.answer), stays caller g, (refl, refl), so (inl (All-tail IsOk (Ok told) replies all.0, all.1)))
   first_came g end a later replies None (Ok told) is its more so (inr not_all) =
@@ -381,8 +381,8 @@ module _ (law : EntriesLookBack) (plan : Plan) (caller : ℕ) where
   first_came g end a later replies (Some p) (Err why) is its more so (inr not_all) = absurd (cc not_all.1)
 
   burst_came : (g : List Entry) (burst : List Arrival) (passed : Option ℕ) → All (IsCallOf plan caller) (map arriving burst)
-      → AddedByAll (replies_to g burst) passed → CameBy plan caller g (map arriving burst) (after_all g burst) passed
-  unfolding CameBy
+      → AddedByAll (replies_to g burst) passed → IsOutcomeBy plan caller g (map arriving burst) (after_all g burst) passed
+  unfolding IsOutcomeBy
   burst_came g [] (Some p) its (inl all) = (stays caller g, cc all.1)
   burst_came g [] None its (inl all) = absurd (cc all.1)
   burst_came g [] passed its (inr not_all) = absurd (not_all.0 (All-nil IsOk))
@@ -399,7 +399,7 @@ pub burst_next : (law : EntriesLookBack) (plan : Plan) (number k n : ℕ) (link 
     → IsAt link number before → (burst : List Arrival) (replies : List Reply) → 1 ≤ n → length burst ≡ n
     → map arriving burst ≡ take n (drop k (calls_of plan number)) → AnswersAll always link before (map arrive burst) [] replies after
     → (passed : Option ℕ) → AddedByAll replies passed
-    → CameBy plan number before.front (take n (drop k (calls_of plan number))) after.front passed
+    → IsOutcomeBy plan number before.front (take n (drop k (calls_of plan number))) after.front passed
 unfolding AnswersWithin
 burst_next law plan number k n link link_for before after at [] replies some long is answers passed added = absurd (omega (arith, some, long))
 burst_next law plan number k n link link_for before after at (a ∷ later) replies some long is answers passed added =
@@ -416,10 +416,10 @@ burst_next law plan number k n link link_for before after at (a ∷ later) repli
     ap (λ (c : CallerView). c.front) told.seen ∙ ap (λ (first : ℕ). b.0 ++ recorded law plan first b.0 [] burst) at.first ∙ same.1 in
     let replies_are : replies ≡ replies_to law plan number h burst =
     told.said ∙ ap (λ (first : ℕ). answered law plan first b.0 [] burst) at.first ∙ same.0 in
-    subst (λ (calls : List Call). CameBy plan number before.front calls after.front passed) is
+    subst (λ (calls : List Call). IsOutcomeBy plan number before.front calls after.front passed) is
     (came_from plan number before.front h (map arriving burst) after.front passed
     (subst (λ (g : List Entry). HasNoMore number before.front g) (sym none) (seen link number before b.0 at told.from.goes_on))
-    (subst (λ (g : List Entry). CameBy plan number h (map arriving burst) g passed) (sym front_is)
+    (subst (λ (g : List Entry). IsOutcomeBy plan number h (map arriving burst) g passed) (sym front_is)
     (burst_came law plan number h burst passed its (subst (λ (l : List Reply). AddedByAll l passed) replies_are added))))
 
 -- no arrival of a burst is skipped

@@ -20,7 +20,7 @@ pub use Rattle.pie_event.specs.declared.opening.Mode.TheVariants.{Bounded, Rolli
 pub use Rattle.pie_event.specs.declared.opening.Opening.{Opening}
 pub use Rattle.pie_event.specs.declared.refusal.Refusal.{Refusal}
 pub use Rattle.pie_link.specs.Bursts.{Reply, always, arrive}
-pub use Rattle.pie_link.specs.Entries.{entries_of, events_in, handed_out, handed_to, left_in, number_of, tail_in}
+pub use Rattle.pie_link.specs.Entries.{entries_of, events_in, folded_events, folded_for, left_in, number_of, tail_in}
 pub use Rattle.pie_link.specs.EntryLaws.{EntriesLookBack}
 pub use Rattle.pie_link.specs.declared.arrival.Arrival.{Arrival}
 pub use Rattle.pie_link.specs.declared.entry.Entry.{Entry}
@@ -29,14 +29,14 @@ pub use Rattle.pie_link.specs.declared.told.Told.{Told}
 pub use Rattle.pie_link.specs.Views.{CallerView, LinkView}
 pub use Rattle.pie_lock.proofs.Owns.{NoneOwn, goes_on_itself, gone_on, own_none}
 pub use Rattle.pie_lock.specs.Own.{is_within, own}
-pub use Rattle.pie_lock.specs.Steps.{GoesOn}
+pub use Rattle.pie_lock.specs.Steps.{Extends}
 pub use Rattle.pie_storm.specs.Plans.{IsFair, IsSound, arriving, changing, departing, folder, opening_of, senders, total, updater, updating}
 unfoldable pub use Rattle.pie_storm.specs.Plans.{calls_of}
 pub use Rattle.pie_storm.specs.StormPlan.{arrivals_of, held_by, planned_arrival, sender_words, words_of}
 unfoldable pub use Rattle.pie_storm.specs.StormPlan.{words_after}
-pub use Rattle.pie_storm.specs.Storms.{AddedByAll, AreHandedOut, AreMade, HasNoMore, IsAt, IsCutShort, IsEndOf, IsFor, IsWell}
-pub use Rattle.pie_storm.specs.Storms.{IsWorkBelow, WereHanded, is_number}
-unfoldable pub use Rattle.pie_storm.specs.Storms.{CameBy, CameOf}
+pub use Rattle.pie_storm.specs.Storms.{AddedByAll, AreFolded, AreMade, HasNoMore, IsAt, IsCutShort, IsEndOf, IsFor, IsWell}
+pub use Rattle.pie_storm.specs.Storms.{IsWorkBelow, WereFolded, is_number}
+unfoldable pub use Rattle.pie_storm.specs.Storms.{IsOutcomeBy, IsOutcomeOf}
 pub use Rattle.pie_storm.specs.declared.plan.Call.{Call}
 pub use Rattle.pie_storm.specs.declared.plan.Call.TheVariants.{Ask, Fold}
 pub use Rattle.pie_storm.specs.declared.plan.Plan.{Plan}

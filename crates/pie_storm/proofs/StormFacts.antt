@@ -7,9 +7,9 @@ use Rattle.pie_aqm.specs.Places.{Place, after, places}
 use Rattle.pie_event.specs.Deed.{fits}
 use Rattle.pie_event.specs.Opening.{opening_refusal}
 use Rattle.pie_event.specs.declared.opening.Limits.{Limits}
-use Rattle.pie_record.specs.ReadBack.{TellsHistory}
+use Rattle.pie_record.specs.ReadBack.{IsHistoryText}
 use Rattle.pie_record.specs.Text.{Row, records_of, rows_text}
-use Rattle.pie_excerpt.specs.Beginning.{resumed_of}
+use Rattle.pie_excerpt.specs.Preamble.{resumed_of}
 use Rattle.pie_record.specs.Write.{written_rows}
 use Rattle.pie_record.specs.declared.history_record.Line.{Line}
 use Rattle.pie_record.specs.declared.history_record.Line.TheVariants.{Made}
@@ -94,11 +94,11 @@ few-events are_lines whole opening auditor events legal audits same =
 
 -- an audit of a text of legal events finds it clean
 abbrev LegalIsClean : Type 0
-LegalIsClean = (text : List ℕ) (opening : Opening) (lines : List Line) → TellsHistory text opening lines → AreLegal opening lines
+LegalIsClean = (text : List ℕ) (opening : Opening) (lines : List Line) → IsHistoryText text opening lines → AreLegal opening lines
     → text_finding (records_of text) ≡ Ok (Clean (length (events_of lines)))
 
 clean-told : EventsAreLines → LegalIsClean → (opening : Opening) (events : List Event) (known : Option (List ℕ)) → IsLegal opening events
-    → IfSome known (λ text. TellsHistory text opening (map Made events))
+    → IfSome known (λ text. IsHistoryText text opening (map Made events))
     → IfSome known (λ text. text_finding (records_of text) ≡ Ok (Clean (length events)))
 clean-told are_lines is_clean opening events None legal told = tt
 clean-told are_lines is_clean opening events (Some text) legal told =
@@ -112,7 +112,7 @@ pub writes-told : {A E : Type 0} → EventsAreLines → LegalIsClean → WholeIs
     → IsLegal (opening_of plan) events → plan.limits.events ≡ plan.limits.tail → Audits opening auditor (map Made events)
     → OnOk given (Appends before now (rows_text (written_rows opening events)))
     → OnOk given (opening_refusal opening.limits opening.moment ≡ None → length events < 2 ^ 32 → before ≡ Some []
-    → IfSome now (λ text. TellsHistory text opening (map Made events)))
+    → IfSome now (λ text. IsHistoryText text opening (map Made events)))
     → OnOk given (WritesHistory plan events before now)
 writes-told are_lines is_clean whole (Ok value) plan events auditor opening before now is legal same audits appends back =
     let legal' = subst (λ (o : Opening). IsLegal o events) (sym is) legal in

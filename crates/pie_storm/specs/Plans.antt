@@ -7,7 +7,7 @@ use Rattle.pie_event.specs.declared.command.Command.TheVariants.{Depart, Update,
 use Rattle.pie_event.specs.declared.opening.Mode.TheVariants.{Bounded}
 use Rattle.pie_event.specs.declared.opening.Opening.{Opening}
 use Rattle.pie_event.specs.Opening.{last_moment}
-use Rattle.pie_event.specs.Deed.{handed_in}
+use Rattle.pie_event.specs.Deed.{caller_moment}
 use Rattle.pie_book.specs.Decision.{has_bad_size}
 use Rattle.pie_link.specs.declared.arrival.Arrival.{Arrival}
 use Rattle.pie_link.specs.Bursts.{arrive}
@@ -99,7 +99,7 @@ IsSoundArrival arrival = IsMoment arrival.moment × (1 ≤ arrival.packet.size) 
 
 -- moment and size of the command are in their ranges
 pub record IsFair (command : Command) : Type 0 where
-  pub moment : handed_in command ≤ last_moment
+  pub moment : caller_moment command ≤ last_moment
   pub size : has_bad_size command ≡ false
 
 -- a storm accepts the plan

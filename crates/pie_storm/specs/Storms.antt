@@ -3,7 +3,7 @@
 use Rattle.std.specs.Prelude.{◌≡◌, ◌==◌, ◌+◌, ◌<◌, ◌≤◌, ◌⊎◌, ℕ, Bool, false, All, List, [], ◌∷◌, ◌++◌, Option, Some, None, Result, Ok, Err}
 use Rattle.std.specs.Prelude.{IfSome, IsOk, Vec, drop, min, length, take}
 use Rattle.std.specs.declared.alloc.Global.{Global}
-use Rattle.pie_lock.specs.Steps.{GoesOn}
+use Rattle.pie_lock.specs.Steps.{Extends}
 use Rattle.pie_event.specs.declared.command.Command.{Command}
 use Rattle.pie_event.specs.declared.command.Event.{Event}
 use Rattle.pie_event.specs.declared.opening.Opening.{Opening}
@@ -18,7 +18,7 @@ use Rattle.pie_book.specs.Registers.{registers_after}
 use Rattle.pie_book.specs.Statistics.{stats_after}
 use Rattle.pie_link.specs.declared.entry.Entry.{Entry}
 use Rattle.pie_link.specs.declared.entry.Entry.TheVariants.{Made, Folded}
-use Rattle.pie_link.specs.Entries.{entries_of, events_in, handed_out, handed_to, number_of, tail_in}
+use Rattle.pie_link.specs.Entries.{entries_of, events_in, folded_events, folded_for, number_of, tail_in}
 use Rattle.pie_link.specs.Opening.{IsRefusedFor, IsWantOfMemory, link_refusal}
 use Rattle.pie_link.specs.Views.{LinkView, CallerView}
 use Rattle.pie_link.specs.declared.refusal.LinkRefusal.{LinkRefusal}
@@ -55,7 +55,7 @@ WasPassedOver opening before (Fold n) = WasTooMany opening before n
 
 -- a history goes on from the caller's front, and has no further entry of the caller
 abbrev pub HasNoMore : ℕ → List Entry → List Entry → Type 0
-HasNoMore caller front longer = GoesOn number_of caller (caller + 1) front longer
+HasNoMore caller front longer = Extends number_of caller (caller + 1) front longer
 
 -- a caller with this front made these calls in this history, and no others, except that `passed` of them were skipped.
 -- Each was made after a prefix of the history that goes on from the caller's front and has no further entry of it; the
@@ -76,13 +76,13 @@ pub record IsCutShort (plan : Plan) (caller : ℕ) (front : List Entry) (calls :
   pub fewer : length (entries_of caller history) < length (entries_of caller front) + length calls
 
 -- a caller with this front made these calls, except the skipped ones; without a number it stopped early
-unfoldable pub CameBy : Plan → ℕ → List Entry → List Call → List Entry → Option ℕ → Type 0
-CameBy plan caller front calls history (Some passed) = AreMade (opening_of plan) caller front calls history passed
-CameBy plan caller front calls history None = IsCutShort plan caller front calls history
+unfoldable pub IsOutcomeBy : Plan → ℕ → List Entry → List Call → List Entry → Option ℕ → Type 0
+IsOutcomeBy plan caller front calls history (Some passed) = AreMade (opening_of plan) caller front calls history passed
+IsOutcomeBy plan caller front calls history None = IsCutShort plan caller front calls history
 
 -- a caller made all its calls in this history, or stopped early
-unfoldable pub CameOf : Plan → ℕ → List Entry → ℕ → Type 0
-CameOf plan caller history passed =
+unfoldable pub IsOutcomeOf : Plan → ℕ → List Entry → ℕ → Type 0
+IsOutcomeOf plan caller history passed =
     AreMade (opening_of plan) caller [] (calls_of plan caller) history passed
     ⊎ IsCutShort plan caller [] (calls_of plan caller) history
 
@@ -91,8 +91,8 @@ abbrev pub is_number : ℕ → ℕ → Bool
 is_number number caller = caller == number
 
 -- these events are those of the caller's folds
-abbrev pub WereHanded : Plan → ℕ → List Event → List Entry → Type 0
-WereHanded plan caller events history = events ≡ handed_to (is_number caller) (opening_of plan) [] history
+abbrev pub WereFolded : Plan → ℕ → List Event → List Entry → Type 0
+WereFolded plan caller events history = events ≡ folded_for (is_number caller) (opening_of plan) [] history
 
 -- the number that a result adds to the skipped calls; None for another refusal
 unfoldable pub added_by : Result (Told Answer) Refusal → Option ℕ
@@ -139,15 +139,15 @@ pub record TakesTurn (link : LinkView) (plan : Plan) (number k count : ℕ) (bef
   pub at : IsAt link number after
   pub few : IfSome passed (λ n. n ≤ 1)
   pub well : IsWell new → IsWell old
-  pub came : IsWell new → CameBy plan number before.front (take count (drop k (calls_of plan number))) after.front passed
-  pub handed : IsWell new → number ≡ folder plan → WereHanded plan number old.events.items before.front
-      → WereHanded plan number new.events.items after.front
+  pub came : IsWell new → IsOutcomeBy plan number before.front (take count (drop k (calls_of plan number))) after.front passed
+  pub handed : IsWell new → number ≡ folder plan → WereFolded plan number old.events.items before.front
+      → WereFolded plan number new.events.items after.front
 
 -- the worker of the caller with this number made all its calls
 pub record IsWorkOf (link : LinkView) (plan : Plan) (number : ℕ) (work : Work) : Type 0 where
   pub at : IsAt link number work.caller
-  pub came : IsWell work.folding → CameOf plan number work.caller.front work.passed
-  pub handed : IsWell work.folding → number ≡ folder plan → WereHanded plan number work.folding.events.items work.caller.front
+  pub came : IsWell work.folding → IsOutcomeOf plan number work.caller.front work.passed
+  pub handed : IsWell work.folding → number ≡ folder plan → WereFolded plan number work.folding.events.items work.caller.front
 
 -- the work of all callers below this number: the skipped calls of the last of them, and the skipped updates
 pub record IsWorkBelow (link : LinkView) (plan : Plan) (n : ℕ) (work : Work) : Type 0 where
@@ -155,9 +155,9 @@ pub record IsWorkBelow (link : LinkView) (plan : Plan) (n : ℕ) (work : Work) :
   pub first : work.caller.first ≡ 0
   pub limit : work.caller.limit ≡ n
   pub came : IsWell work.folding → (caller : ℕ) → caller < n
-      → (passed : ℕ) × CameOf plan caller work.caller.front passed × (caller ≡ updater plan → passed ≡ work.too_soon)
+      → (passed : ℕ) × IsOutcomeOf plan caller work.caller.front passed × (caller ≡ updater plan → passed ≡ work.too_soon)
   pub folds : IsWell work.folding → n ≡ folder plan + 1
-      → CameOf plan (folder plan) work.caller.front work.passed × WereHanded plan (folder plan) work.folding.events.items work.caller.front
+      → IsOutcomeOf plan (folder plan) work.caller.front work.passed × WereFolded plan (folder plan) work.folding.events.items work.caller.front
 
 -- these events are those of the plan, except `too_soon` updates that were too soon; and `too_many` of its folds were of
 -- more events than the log had
@@ -173,8 +173,8 @@ pub record IsStorm (plan : Plan) (events : List Event) (too_soon too_many : ℕ)
       → AreMade (opening_of plan) caller [] (calls_of plan caller) history 0
 
 -- after this history the folds had returned the first `folded` of these events, and the log had the others
-pub record AreHandedOut (opening : Opening) (history : List Entry) (events : List Event) (folded : ℕ) : Type 0 where
-  pub handed : handed_out opening history ≡ take folded events
+pub record AreFolded (opening : Opening) (history : List Entry) (events : List Event) (folded : ℕ) : Type 0 where
+  pub handed : folded_events opening history ≡ take folded events
   pub left : tail_in opening history ≡ drop folded events
 
 -- the refusal of the link of a storm with this plan, out of memory aside
@@ -186,7 +186,7 @@ refusal_of plan = link_refusal plan.limits plan.moment (senders plan + 5)
 pub record IsEndOf (plan : Plan) (end : StormEnd) : Type 0 where
   pub legal : IsLegal (opening_of plan) end.events.items
   pub made : IsStorm plan end.events.items end.too_soon end.too_many
-  pub folded : AreHandedOut (opening_of plan) made.history end.events.items end.folded
+  pub folded : AreFolded (opening_of plan) made.history end.events.items end.folded
   pub registers : end.registers ≡ registers_after (opening_of plan) end.events.items
   pub stats : end.stats ≡ stats_after (opening_of plan) end.events.items
 

@@ -43,12 +43,12 @@ pub(crate) struct Pace<'a, C> {
     is_over: AtomicBool,
 }
 
-/// Returns true if a caller of a plan with the moment `shown` is not behind `least`. A caller without calls is never
+/// Returns true if a caller of a plan with the moment `published` is not behind `least`. A caller without calls is never
 /// behind.
-fn is_level(plan: &Plan, caller: u16, shown: u64, least: u64) -> bool
-    ensures { IsTrue result ↔ ((calls_of plan.now caller ≡ []) ⊎ (least ≤ shown)) }
+fn is_level(plan: &Plan, caller: u16, published: u64, least: u64) -> bool
+    ensures { IsTrue result ↔ ((calls_of plan.now caller ≡ []) ⊎ (least ≤ published)) }
 {
-    least <= shown || plan.calls(caller) == 0
+    least <= published || plan.calls(caller) == 0
 }
 
 impl<'a, C: Clock> Pace<'a, C> {
@@ -86,7 +86,7 @@ impl<'a, C: Clock> Pace<'a, C> {
     }
 
     /// Returns the published moment of a caller.
-    fn shown(&self, caller: u16) -> u64 {
+    fn published(&self, caller: u16) -> u64 {
         match self.next.get(usize::from(caller).wrapping_sub(1)) {
             Some(next) => next.load(Ordering::SeqCst),
             None => GONE,
@@ -94,7 +94,7 @@ impl<'a, C: Clock> Pace<'a, C> {
     }
 
     /// Publishes the moment of a caller's next call.
-    fn show(&self, caller: u16, moment: u64) {
+    fn publish(&self, caller: u16, moment: u64) {
         if let Some(next) = self.next.get(usize::from(caller).wrapping_sub(1)) {
             next.store(moment, Ordering::SeqCst);
         }
@@ -106,7 +106,7 @@ impl<'a, C: Clock> Pace<'a, C> {
         if self.is_over() {
             return true;
         }
-        (1..13).all(|caller| is_level(self.plan, caller, self.shown(caller), moment))
+        (1..13).all(|caller| is_level(self.plan, caller, self.published(caller), moment))
     }
 }
 
@@ -124,7 +124,7 @@ fn has_waited_long<C: Clock>(clock: &C, begun: &io::Result<Instant>) -> bool {
 impl<C: Clock> Gate for Pace<'_, C> {
     fn before(&self, caller: u16, call: u64) {
         let moment = self.moment(caller, call);
-        self.show(caller, moment);
+        self.publish(caller, moment);
         let least = moment.saturating_sub(AHEAD).max(AWAY + 1);
         let begun = Instant::now(self.clock);
         let mut naps = 0;
@@ -146,6 +146,6 @@ impl<C: Clock> Gate for Pace<'_, C> {
 
     fn after(&self, caller: u16, call: u64) {
         let moment = self.moment(caller, call.saturating_add(1));
-        self.show(caller, moment);
+        self.publish(caller, moment);
     }
 }

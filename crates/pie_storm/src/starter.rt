@@ -2,7 +2,7 @@
 ghost use Rattle.std.specs.Prelude.{◌≡◌, ◌+◌, ◌↔◌, ◌++◌, ◌⊎◌, ℕ, List, Some, Err, IfSome, IfOk, IfErr, length};
 ghost use denote.Param.Send.{IsSync};
 ghost use Rattle.pie_event.specs.declared.command.Event.{Event};
-ghost use Rattle.pie_book.specs.Book.{Tells};
+ghost use Rattle.pie_book.specs.Book.{BookRepresents};
 ghost use Rattle.pie_book.specs.Registers.{registers_after};
 ghost use Rattle.pie_book.specs.Statistics.{stats_after};
 ghost use Rattle.pie_storm.specs.declared.plan.Plan.{Plan};
@@ -261,9 +261,9 @@ fn end_of(
 ) -> Result<StormEnd, StormFault>
     ensures fault { IfErr result (λ why. why ≡ StormFault.Memory) }
     ensures events { IfOk result (λ end. end.events.items ≡ folding.old.events.items ++ book.old.tail) }
-    ensures registers { (events : List Event) → Tells book.old events
+    ensures registers { (events : List Event) → BookRepresents book.old events
         → IfOk result (λ end. end.registers ≡ registers_after book.old.opening events) }
-    ensures stats { (events : List Event) → Tells book.old events → IfOk result (λ end. end.stats ≡ stats_after book.old.opening events) }
+    ensures stats { (events : List Event) → BookRepresents book.old events → IfOk result (λ end. end.stats ≡ stats_after book.old.opening events) }
     ensures counts { IfOk result (λ end. IsWell folding.old × (end.too_soon ≡ too_soon) × (end.too_many ≡ too_many)
         × (end.folded ≡ length folding.old.events.items)) }
 {

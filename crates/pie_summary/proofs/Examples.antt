@@ -4,7 +4,7 @@ use Rattle.pie_summary.proofs.Names.{◌^◌, Some, None, ⊤, greatest, last_or
 use Rattle.pie_summary.proofs.Names.{peak_of, total_in, total_of}
 use Rattle.std.specs.Prelude.{ℕ, ◌≡◌, ◌-◌, true, false, [], ◌∷◌, map, refl}
 use Rattle.pie_summary.specs.Ranges.{end_within, range_end}
-use Rattle.pie_summary.specs.Spans.{mean_in, sum_in}
+use Rattle.pie_summary.specs.Aggregates.{mean_in, sum_in}
 use Rattle.pie_summary.specs.Words.{disagree}
 
 -- what a theorem on a worked list computes with

@@ -3,7 +3,7 @@ use Rattle.pie_summary.proofs.Names.{◌≡◌, ℕ, suc, zero, Bool, true, fals
 use Rattle.pie_summary.proofs.Names.{append-nil, length, ◌<◌, ◌+◌, Option, Some, None, if◌then◌else◌, cons_option, filter_map, values_of, eqb-true}
 use Rattle.pie_summary.proofs.Names.{eq-eqb, map_push, filter_map-append, Explained, Flow, FlowSums, added_up, flow_sums, is_of, HasFlows}
 use Rattle.pie_summary.proofs.Names.{distinct, first_of, in_order, placed, sums_beside, digits, greatest, greatest-push, kept}
-use Rattle.pie_summary.proofs.Names.{max, min, noted_of, replicate, sum, sum_by_push, ◌-◌, ◌^◌}
+use Rattle.pie_summary.proofs.Names.{max, min, meter_input_of, replicate, sum, sum_by_push, ◌-◌, ◌^◌}
 use Rattle.std.proofs.Common.{◌||◌, arith, nat_eq, take, true≢false}
 use Rattle.std.specs.Fmt.{char_count, format_spec, padded_integral}
 use Rattle.std.specs.Prelude.{slice_index_or}
@@ -69,10 +69,10 @@ added-push all one = λ i. record {
 
 -- of events with one more
 pub flow_sums_push : (shown : List Explained) (one : Explained)
-    → added_up (flow_sums shown ∷ numbers_of (noted_of one) ∷ []) ≡ flow_sums (shown ++ one ∷ [])
+    → added_up (flow_sums shown ∷ numbers_of (meter_input_of one) ∷ []) ≡ flow_sums (shown ++ one ∷ [])
 flow_sums_push shown one =
-    added-push (map (λ e. numbers_of (noted_of e)) shown) (numbers_of (noted_of one))
-    ∙ ap added_up (sym (map_push (λ (e : Explained). numbers_of (noted_of e)) shown one))
+    added-push (map (λ e. numbers_of (meter_input_of e)) shown) (numbers_of (meter_input_of one))
+    ∙ ap added_up (sym (map_push (λ (e : Explained). numbers_of (meter_input_of e)) shown one))
 
 -- a number in at least eight hexadecimal digits
 pub eight_digits : (n : ℕ) → padded_integral (format_spec 32 0 4 8 18446744073709551615) false [] (digits 16 false n)

@@ -2,11 +2,11 @@
 use Rattle.pie_summary.proofs.Names.{◌≡◌, ◌≤◌, ◌<◌, ◌+◌, ◌*◌, ◌-◌, ◌/◌, ◌==◌, arith, ℕ, Bool, true, false, cond, not, List, [], ◌∷◌, ◌++◌, refl}
 use Rattle.pie_summary.proofs.Names.{sym, ap, ◌∙◌, min, max, count_by, Option, Some, None, if◌then◌else◌, eq-eqb, ne_eqb}
 use Rattle.pie_summary.proofs.Names.{sum_by_push, Place, places, time_of, Explained, LivePeriod, Meter, kept, Holds, clock_of}
-use Rattle.pie_summary.proofs.Names.{length_of, number_in, last_events, last_period, period_at, since, starts, ranges_of, record_of, said_of}
+use Rattle.pie_summary.proofs.Names.{length_of, number_in, last_events, last_period, period_at, since, starts, ranges_of, record_of, summary_text_of}
 use Rattle.pie_summary.proofs.Names.{meter_of, reached, sums_of, waits_of}
 use Rattle.std.proofs.lemmas.Nat.{div-mul-add}
 use Rattle.pie_summary.proofs.Names.{cons_option, timed_by}
-use Rattle.pie_summary.specs.Live.{Awaits, IsSet, Spans, is_first, periods_begun}
+use Rattle.pie_summary.specs.LivePeriod.{Awaits, IsSet, Spans, is_first, periods_begun}
 use Rattle.pie_summary.specs.Period.{at_last}
 use Rattle.std.specs.Prelude.{is_some}
 use Rattle.pie_summary.specs.Sums.{meter_in}
@@ -151,15 +151,15 @@ holds-taken period shown one meter waits awaits meter-is waits-is = record {
 -- ---- its record
 
 -- what is written at the end of no event, and of some
-pub at_last-none : (every : ℕ) (said : List Explained → List ℕ) (all : List Explained) → last_period (Some every) all ≡ None
-    → [] ≡ at_last (Some every) said all
-at_last-none every said all none = sym (ap (λ (last : Option ℕ). if is_some last then said (last_events (Some every) all) else []) none)
+pub at_last-none : (every : ℕ) (summary_text : List Explained → List ℕ) (all : List Explained) → last_period (Some every) all ≡ None
+    → [] ≡ at_last (Some every) summary_text all
+at_last-none every summary_text all none = sym (ap (λ (last : Option ℕ). if is_some last then summary_text (last_events (Some every) all) else []) none)
 
-pub at_last-some : (every number : ℕ) (said : List Explained → List ℕ) (all : List Explained) → last_period (Some every) all ≡ Some number
-    → said (last_events (Some every) all) ≡ at_last (Some every) said all
-at_last-some every number said all some = sym (ap (λ (last : Option ℕ). if is_some last then said (last_events (Some every) all) else []) some)
+pub at_last-some : (every number : ℕ) (summary_text : List Explained → List ℕ) (all : List Explained) → last_period (Some every) all ≡ Some number
+    → summary_text (last_events (Some every) all) ≡ at_last (Some every) summary_text all
+at_last-some every number summary_text all some = sym (ap (λ (last : Option ℕ). if is_some last then summary_text (last_events (Some every) all) else []) some)
 
 pub said_live : (by_wall : Bool) (all : List Explained) (meter : Meter) (waits : List ℕ) (most : ℕ) → meter ≡ meter_in all → waits ≡ waits_of all
-    → most ≡ wait_99 waits meter → record_of by_wall meter most ≡ said_of (record { csv = true; by_wall = by_wall }) all
+    → most ≡ wait_99 waits meter → record_of by_wall meter most ≡ summary_text_of (record { csv = true; by_wall = by_wall }) all
 unfolding sums_of
 said_live by_wall all meter waits most is waits-are most-is = λ i. record_of by_wall (is i) ((most-is ∙ (λ j. wait_99 (waits-are j) (is j))) i)

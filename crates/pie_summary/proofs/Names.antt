@@ -26,22 +26,22 @@ pub use Rattle.pie_summary.specs.FlowSums.{flow_sums, is_of}
 unfoldable pub use Rattle.pie_summary.specs.FlowSums.{added_up}
 pub use Rattle.pie_summary.specs.Flows.{HasFlows, first_of, placed, sums_beside}
 unfoldable pub use Rattle.pie_summary.specs.Flows.{distinct, in_order}
-pub use Rattle.pie_summary.specs.Live.{Holds, clock_of, length_of, number_in}
+pub use Rattle.pie_summary.specs.LivePeriod.{Holds, clock_of, length_of, number_in}
 pub use Rattle.pie_summary.specs.Period.{begins, last_events, last_period, period_at, period_of, since, starts}
 pub use Rattle.pie_summary.specs.Ranges.{first_up_to}
 unfoldable pub use Rattle.pie_summary.specs.Ranges.{range_of, ranges_of}
 unfoldable pub use Rattle.pie_summary.specs.Record.{record_of}
-pub use Rattle.pie_summary.specs.Spans.{bounds_of, moment_at, peak_of, span_of, time_at, total_in, total_of}
-pub use Rattle.pie_summary.specs.Summary.{HoldsSums, said_of}
+pub use Rattle.pie_summary.specs.Aggregates.{bounds_of, moment_at, peak_of, span_of, time_at, total_in, total_of}
+pub use Rattle.pie_summary.specs.Summary.{HoldsSums, summary_text_of}
 unfoldable pub use Rattle.pie_summary.specs.Summary.{header, noted}
-pub use Rattle.pie_summary.specs.Sums.{cause_of, late_at, noted_of, reached, size_in, timed_by, wait_in}
-unfoldable pub use Rattle.pie_summary.specs.Sums.{meter_of, noted_by, sums_of, waits_of}
+pub use Rattle.pie_summary.specs.Sums.{cause_of, late_at, meter_input_of, reached, size_in, timed_by, wait_in}
+unfoldable pub use Rattle.pie_summary.specs.Sums.{meter_of, meter_input_by, sums_of, waits_of}
 unfoldable pub use Rattle.pie_summary.specs.Words.{cause_words}
 pub use Rattle.pie_summary.specs.declared.flow.Flow.{Flow}
 pub use Rattle.pie_summary.specs.declared.flow_sums.FlowSums.{FlowSums}
-pub use Rattle.pie_summary.specs.declared.live.LivePeriod.{LivePeriod}
+pub use Rattle.pie_summary.specs.declared.live_period.LivePeriod.{LivePeriod}
 pub use Rattle.pie_summary.specs.declared.meter.Meter.{Meter}
-pub use Rattle.pie_summary.specs.declared.noted.Noted.{Noted}
-pub use Rattle.pie_summary.specs.declared.spans.Bounds.{Bounds}
+pub use Rattle.pie_summary.specs.declared.meter_input.MeterInput.{MeterInput}
+pub use Rattle.pie_summary.specs.declared.aggregates.Bounds.{Bounds}
 pub use Rattle.pie_summary.specs.declared.sums.Sums.{Sums}
 unfoldable pub use Rattle.pie_units.specs.Utc.{utc_text}

@@ -5,9 +5,9 @@ use Rattle.pie_summary.proofs.Names.{filter_map, sum, eq-eqb, eqb-true, map_push
 use Rattle.pie_summary.proofs.Names.{last_or-push, Bounds, kept, bounds_of, peak_of, total_in, total_of}
 use Rattle.std.proofs.lemmas.Bool.{false≢true}
 use Rattle.std.proofs.lemmas.List.{length_push}
-use Rattle.pie_summary.specs.declared.spans.Peak.{Peak}
-use Rattle.pie_summary.specs.declared.spans.Total.{Total}
-use Rattle.pie_summary.specs.Spans.{carried_over, counted_some, held_or}
+use Rattle.pie_summary.specs.declared.aggregates.Peak.{Peak}
+use Rattle.pie_summary.specs.declared.aggregates.Total.{Total}
+use Rattle.pie_summary.specs.Aggregates.{carried_over, counted_some, held_or}
 use Rattle.pie_summary.proofs.CountFacts.{kept-more}
 
 -- ---- numbers of events, where a list of numbers has its step

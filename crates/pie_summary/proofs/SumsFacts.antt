@@ -2,11 +2,11 @@
 use Rattle.pie_summary.proofs.Names.{◌≡◌, ◌+◌, arith, ℕ, suc, List, [], ◌∷◌, ◌++◌, length, map, refl, sym, ap, ◌∙◌, min, Option, None, cons_option}
 use Rattle.pie_summary.proofs.Names.{filter_map, sum, map_push, filter_map-append, sum_by_push, Explained, last_or, Meter, kept, ranges_of, moment_at}
 use Rattle.pie_summary.proofs.Names.{time_at, meter_of, reached, timed_by, wait_in, waits_of}
-use Rattle.pie_summary.proofs.Names.{Answer, Done, Left, Noted, Some, Updated, answer_of, cause_of, noted_by, size_in}
+use Rattle.pie_summary.proofs.Names.{Answer, Done, Left, MeterInput, Some, Updated, answer_of, cause_of, meter_input_by, size_in}
 use Rattle.pie_event.specs.declared.verdict.Verdict.{Verdict}
 use Rattle.pie_event.specs.declared.verdict.Verdict.TheVariants.{Enqueued}
-use Rattle.pie_summary.specs.declared.noted.Met.{Met}
-use Rattle.pie_summary.specs.Sums.{Meets, answer_place, awaiting, meter_in, met_of, noted_of}
+use Rattle.pie_summary.specs.declared.meter_input.Conditions.{Conditions}
+use Rattle.pie_summary.specs.Sums.{HasConditions, answer_place, awaiting, meter_in, conditions_of_event, meter_input_of}
 pub use Rattle.pie_aqm.proofs.Places.{last_or-push, place_of, places-push}
 use Rattle.pie_summary.proofs.CountFacts.{kept-more}
 use Rattle.pie_summary.proofs.SpanFacts.{some-of-push}
@@ -33,11 +33,11 @@ waits-push shown one step is old-is = some-of-push ranges_of wait_in shown one s
 -- ---- a meter that awaits an event
 
 -- what is noted of an event has its moment
-pub noted-moment : (one : Explained) → (noted_of one).moment ≡ one.told.moment
-unfolding noted_by
+pub noted-moment : (one : Explained) → (meter_input_of one).moment ≡ one.told.moment
+unfolding meter_input_by
 noted-moment one = by one.told.event.answer
   where
-    by : (answer : Answer) → (noted_by (met_of one) answer (cause_of one) (size_in one) one.told.waited).moment ≡ one.told.moment
+    by : (answer : Answer) → (meter_input_by (conditions_of_event one) answer (cause_of one) (size_in one) one.told.waited).moment ≡ one.told.moment
     by (Left packet) = refl
     by (Updated delay prob burst) = refl
     by _ = refl
@@ -51,7 +51,7 @@ reached_later (first ∷ rest) one some = refl
 pub reached_more : (shown : List Explained) (one : Explained) → (kept (length (map moment_at shown)) ≡ 0 → ⊥) → meter_in shown ≡ reached shown one
 reached_more shown one some = reached_later shown one (λ none. some (ap (λ (all : List Explained). kept (length (map moment_at all))) none))
 
-pub reached_none : (shown : List Explained) (one : Explained) (moment : ℕ) → (noted_of one).moment ≡ moment → kept (length (map moment_at shown)) ≡ 0
+pub reached_none : (shown : List Explained) (one : Explained) (moment : ℕ) → (meter_input_of one).moment ≡ moment → kept (length (map moment_at shown)) ≡ 0
     → record (meter_of [] []) { first = moment; since = moment } ≡ reached shown one
 unfolding last_or
 reached_none [] one moment at none = λ i. record (meter_of [] []) { first = sym at i; since = sym at i }
@@ -82,29 +82,29 @@ time_noted meter (first ∷ times) time is none =
     let some : meter.timed ≡ min (suc (length times)) 1 = ap (λ (m : Meter). m.timed) is in absurd (omega (arith, some, none))
 
 -- a meter after one more event has the numbers of all events
-pub taken : (shown : List Explained) (one : Explained) {noted : Noted} {time : Option ℕ} {old timed now : Meter} → noted ≡ noted_of one
+pub taken : (shown : List Explained) (one : Explained) {noted : MeterInput} {time : Option ℕ} {old timed now : Meter} → noted ≡ meter_input_of one
     → time ≡ time_at one → ((times : List ℕ) → old ≡ timed_by old times → timed ≡ timed_by old (times ++ cons_option time []))
-    → ((before : List Noted) (times : List ℕ) → timed ≡ awaiting before noted times → now ≡ meter_of (before ++ noted ∷ []) times)
+    → ((before : List MeterInput) (times : List ℕ) → timed ≡ awaiting before noted times → now ≡ meter_of (before ++ noted ∷ []) times)
     → old ≡ reached shown one → now ≡ meter_in (shown ++ one ∷ [])
 unfolding meter_of
 taken shown one is told notes takes reached-is =
-    let before = map noted_of shown in
+    let before = map meter_input_of shown in
     let times = filter_map time_at (shown ++ one ∷ []) in
     takes before times (notes (filter_map time_at shown) (noted-times shown one reached-is)
     ∙ (λ i. timed_by (reached-is i) (filter_map time_at shown ++ cons_option (told i) []))
     ∙ (λ i. awaiting before (sym is i) (sym (filter_map-append time_at shown (one ∷ [])) i)))
-    ∙ (λ i. meter_of (before ++ is i ∷ []) times) ∙ ap (λ all. meter_of all times) (sym (map_push noted_of shown one))
+    ∙ (λ i. meter_of (before ++ is i ∷ []) times) ∙ ap (λ all. meter_of all times) (sym (map_push meter_input_of shown one))
 
 -- ---- The meter's input for an event, by its numbers and its answer
 
-pub noted-by : (met : Met) (one : Explained) (answer : Answer) (cause : ℕ) (arrived : Option ℕ) → Meets met one → one.told.event.answer ≡ answer
-    → cause_of one ≡ cause → size_in one ≡ arrived → noted_of one ≡ noted_by met answer cause arrived one.told.waited
-noted-by met one answer cause arrived m is cause-is size-is = λ i. noted_by (m i) (is i) (cause-is i) (size-is i) one.told.waited
+pub noted-by : (met : Conditions) (one : Explained) (answer : Answer) (cause : ℕ) (arrived : Option ℕ) → HasConditions met one → one.told.event.answer ≡ answer
+    → cause_of one ≡ cause → size_in one ≡ arrived → meter_input_of one ≡ meter_input_by met answer cause arrived one.told.waited
+noted-by met one answer cause arrived m is cause-is size-is = λ i. meter_input_by (m i) (is i) (cause-is i) (size-is i) one.told.waited
 
 -- the input for an arrival with any verdict
-pub arrival-noted : (met : Met) (verdict : Verdict) (cause size waited : ℕ)
-    → record (noted_by met Done 15 None 0) { answer = answer_place (answer_of verdict); cause = cause; arrived = Some size }
-    ≡ noted_by met (answer_of verdict) cause (Some size) waited
-unfolding noted_by
+pub arrival-noted : (met : Conditions) (verdict : Verdict) (cause size waited : ℕ)
+    → record (meter_input_by met Done 15 None 0) { answer = answer_place (answer_of verdict); cause = cause; arrived = Some size }
+    ≡ meter_input_by met (answer_of verdict) cause (Some size) waited
+unfolding meter_input_by
 arrival-noted met Enqueued cause size waited = refl
 arrival-noted met _ cause size waited = refl

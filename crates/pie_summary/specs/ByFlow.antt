@@ -8,25 +8,25 @@ use Rattle.pie_explain.specs.Output.{header_of}
 use Rattle.pie_summary.specs.declared.by_flow.ByFlow.{ByFlow}
 use Rattle.pie_summary.specs.declared.flow_period.FlowPeriod.{FlowPeriod}
 use Rattle.pie_summary.specs.Flows.{HasFlows, flows_of}
-use Rattle.pie_summary.specs.FlowWords.{flow_names, flows_said}
+use Rattle.pie_summary.specs.FlowWords.{flow_names, flows_text}
 use Rattle.pie_summary.specs.Period.{Keeps, at_end, at_last}
-use Rattle.pie_summary.specs.Spans.{span_of}
+use Rattle.pie_summary.specs.Aggregates.{span_of}
 
 -- the text before the first interval: for CSV the header row
 abbrev pub flow_header : Form → List ℕ
 flow_header form = header_of flow_names form
 
 -- the text of the sums of these events by flow
-abbrev pub said_by_flow : ByFlow → List Explained → List ℕ
-said_by_flow by_flow all = flows_said by_flow.form (span_of all) by_flow.most (flows_of all)
+abbrev pub text_by_flow : ByFlow → List Explained → List ℕ
+text_by_flow by_flow all = flows_text by_flow.form (span_of all) by_flow.most (flows_of all)
 
 -- what is written before the end: the header, and at each event the flows of the last events before it, where they are in another period
 abbrev pub flows_so_far : ByFlow → List Explained → List ℕ
-flows_so_far by_flow all = flow_header by_flow.form ++ flat_map (at_end by_flow.every (said_by_flow by_flow)) (places all)
+flows_so_far by_flow all = flow_header by_flow.form ++ flat_map (at_end by_flow.every (text_by_flow by_flow)) (places all)
 
 -- the whole output: the output before the end, and the flows of the last interval
 abbrev pub flows_whole : ByFlow → List Explained → List ℕ
-flows_whole by_flow all = flows_so_far by_flow all ++ at_last by_flow.every (said_by_flow by_flow) all
+flows_whole by_flow all = flows_so_far by_flow all ++ at_last by_flow.every (text_by_flow by_flow) all
 
 -- what a period has of these events: when they were, and their flows
 pub record HoldsFlows (period : FlowPeriod) (all : List Explained) : Type 0 where

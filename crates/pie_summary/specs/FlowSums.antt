@@ -8,9 +8,9 @@ use Rattle.pie_event.specs.declared.command.Answer.{Answer}
 use Rattle.pie_event.specs.declared.command.Answer.TheVariants.{Left}
 use Rattle.pie_explain.specs.declared.explanation.Explained.{Explained}
 use Rattle.pie_summary.specs.declared.flow_sums.FlowSums.{FlowSums}
-use Rattle.pie_summary.specs.declared.noted.Noted.{Noted}
+use Rattle.pie_summary.specs.declared.meter_input.MeterInput.{MeterInput}
 use Rattle.pie_summary.specs.Counts.{kept}
-use Rattle.pie_summary.specs.Sums.{noted_of}
+use Rattle.pie_summary.specs.Sums.{meter_input_of}
 
 -- ---- of one event
 
@@ -32,12 +32,12 @@ abbrev pub is_of : ℕ → Explained → Bool
 is_of flow one = is_this flow (flow_in one)
 
 -- 1 of an event whose answer has this place, and 0 of any other
-abbrev pub answered : ℕ → Noted → ℕ
+abbrev pub answered : ℕ → MeterInput → ℕ
 answered place one = if one.answer == place then 1 else 0
 
 -- the counts of one event: its packet's arrival and size; the verdict on it; its departure, size and wait; and its
 -- share of the queue, its bytes times its microseconds in the queue
-unfoldable pub numbers_of : Noted → FlowSums
+unfoldable pub numbers_of : MeterInput → FlowSums
 numbers_of one = record {
   arrivals = if is_some one.arrived then 1 else 0;
   bytes = unwrap_or one.arrived 0;
@@ -74,4 +74,4 @@ added_up all = record {
 
 -- the sums of these events
 abbrev pub flow_sums : List Explained → FlowSums
-flow_sums all = added_up (map (λ one. numbers_of (noted_of one)) all)
+flow_sums all = added_up (map (λ one. numbers_of (meter_input_of one)) all)

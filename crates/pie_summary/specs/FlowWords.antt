@@ -8,7 +8,7 @@ use Rattle.pie_summary.specs.declared.flow_sums.FlowSums.{FlowSums}
 use Rattle.pie_summary.specs.declared.flow_words.Heading.{Heading}
 use Rattle.pie_summary.specs.declared.flow_words.Name.{Name}
 use Rattle.pie_summary.specs.declared.flow_words.Name.TheVariants as name
-use Rattle.pie_summary.specs.declared.spans.Span.{Span}
+use Rattle.pie_summary.specs.declared.aggregates.Span.{Span}
 use Rattle.pie_summary.specs.Counts.{kept}
 use Rattle.pie_summary.specs.Flows.{first_of, sums_beside}
 use Rattle.pie_summary.specs.Record.{last_fields, number_fields}
@@ -82,29 +82,29 @@ flow_record by_wall span name sums =
 -- ---- in either form
 
 -- the text before the flows
-abbrev pub head_said : Heading → ℕ → List ℕ
-head_said heading count = if heading.form.csv then [] else total_words heading.form.by_wall heading.span count heading.total
+abbrev pub head_text : Heading → ℕ → List ℕ
+head_text heading count = if heading.form.csv then [] else total_words heading.form.by_wall heading.span count heading.total
 
 -- a flow
-abbrev pub flow_said : Heading → Name → FlowSums → List ℕ
-flow_said heading name sums =
+abbrev pub one_flow_text : Heading → Name → FlowSums → List ℕ
+one_flow_text heading name sums =
     if heading.form.csv then flow_record heading.form.by_wall heading.span name sums else flow_words name heading.total sums
 
 -- the text of several flows, one after another
-abbrev pub each_said : Heading → List Flow → List ℕ
-each_said heading [] = []
-each_said heading (flow ∷ flows) = flow_said heading (name.Of flow.number) flow.sums ++ each_said heading flows
+abbrev pub each_text : Heading → List Flow → List ℕ
+each_text heading [] = []
+each_text heading (flow ∷ flows) = one_flow_text heading (name.Of flow.number) flow.sums ++ each_text heading flows
 
 -- the sums of the flows after the first `most`; nothing if there are none
-abbrev pub others_said : Heading → ℕ → List Flow → List Flow → List ℕ
-others_said heading most first flows =
-    if nat_lt most (length flows) then flow_said heading (name.Others (length flows - most)) (sums_beside first flows) else []
+abbrev pub others_text : Heading → ℕ → List Flow → List Flow → List ℕ
+others_text heading most first flows =
+    if nat_lt most (length flows) then one_flow_text heading (name.Others (length flows - most)) (sums_beside first flows) else []
 
-unfoldable pub parts_said : Heading → ℕ → List Flow → List Flow → List ℕ
-parts_said heading most first flows =
-    joined (head_said heading (length flows) ∷ each_said heading first ∷ others_said heading most first flows ∷ [])
+unfoldable pub parts_text : Heading → ℕ → List Flow → List Flow → List ℕ
+parts_text heading most first flows =
+    joined (head_text heading (length flows) ∷ each_text heading first ∷ others_text heading most first flows ∷ [])
 
 -- the first `most` of these flows, and the sums of the others
-abbrev pub flows_said : Form → Span → ℕ → List Flow → List ℕ
-flows_said form span most flows =
-    parts_said (record { form = form; span = span; total = sums_beside [] flows }) most (first_of most flows) flows
+abbrev pub flows_text : Form → Span → ℕ → List Flow → List ℕ
+flows_text form span most flows =
+    parts_text (record { form = form; span = span; total = sums_beside [] flows }) most (first_of most flows) flows

@@ -1,11 +1,11 @@
 pub mod Counts
 pub mod Ranges
-pub mod Spans
+pub mod Aggregates
 pub mod Sums
 pub mod Period
 pub mod Words
 pub mod Record
-pub mod Live
+pub mod LivePeriod
 pub mod Summary
 pub mod FlowSums
 pub mod Flows

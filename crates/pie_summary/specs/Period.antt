@@ -43,17 +43,17 @@ starts (Some before) period = not (before == period)
 
 -- what is written at an event: what is said of the last events before it, where they are in another period
 abbrev pub at_end : Option ℕ → (List Explained → List ℕ) → Place Explained → List ℕ
-at_end every said place =
-    if begins (last_period every place.before) (period_at every place.event) then said (last_events every place.before) else []
+at_end every summary_text place =
+    if begins (last_period every place.before) (period_at every place.event) then summary_text (last_events every place.before) else []
 
 -- at the end something is said if all events are summed up together, or if there is an event, whose period is then known
-abbrev pub is_said : Option ℕ → Option ℕ → Bool
-is_said None last = true
-is_said (Some every) last = is_some last
+abbrev pub has_summary : Option ℕ → Option ℕ → Bool
+has_summary None last = true
+has_summary (Some every) last = is_some last
 
 -- what is written at the end: what is said of the last events
 abbrev pub at_last : Option ℕ → (List Explained → List ℕ) → List Explained → List ℕ
-at_last every said all = if is_said every (last_period every all) then said (last_events every all) else []
+at_last every summary_text all = if has_summary every (last_period every all) then summary_text (last_events every all) else []
 
 -- where the period with this number, if any, is that of the last of these events, this is so of the last events as far back as they are in it
 pub record Keeps (of : List Explained → Type 0) (every under_way : Option ℕ) (all : List Explained) : Type 0 where

@@ -7,7 +7,7 @@ use Rattle.pie_explain.specs.Words.{joined}
 use Rattle.pie_units.specs.Utc.{utc_text}
 use Rattle.pie_summary.specs.declared.meter.Meter.{Meter}
 use Rattle.pie_summary.specs.Counts.{kept}
-use Rattle.pie_summary.specs.Spans.{mean_in, sum_in}
+use Rattle.pie_summary.specs.Aggregates.{mean_in, sum_in}
 use Rattle.pie_summary.specs.Words.{left_in}
 
 -- the names of the fields, in the middle of them the words of the causes

@@ -21,13 +21,13 @@ unfoldable pub header : Form → List ℕ
 header form = header_of field_names form
 
 -- these numbers in words, or as a CSV record
-abbrev pub said : Form → Sums → List ℕ → List ℕ
-said form sums ranges =
+abbrev pub summary_text : Form → Sums → List ℕ → List ℕ
+summary_text form sums ranges =
     if form.csv then record_of form.by_wall sums.meter (wait_99 ranges sums.meter) else words form.by_wall sums (wait_99 ranges sums.meter)
 
 -- the summary of these events
-abbrev pub said_of : Form → List Explained → List ℕ
-said_of form all = said form (sums_of all) (waits_of all)
+abbrev pub summary_text_of : Form → List Explained → List ℕ
+summary_text_of form all = summary_text form (sums_of all) (waits_of all)
 
 -- ---- lost and marked packets
 
@@ -43,7 +43,7 @@ noted summary one = if summary.packets && is_lost_or_marked one then words_by (c
 
 -- what is written at an event: a summary of the events before it, where it is in another period, and then what is said of it by itself
 abbrev pub written_at : Summary → Place Explained → List ℕ
-written_at summary place = at_end summary.every (said_of summary.form) place ++ noted summary place.event
+written_at summary place = at_end summary.every (summary_text_of summary.form) place ++ noted summary place.event
 
 -- the output before the end: the header, and the output at each of these events
 abbrev pub summaries : Summary → List Explained → List ℕ
@@ -51,7 +51,7 @@ summaries summary all = header summary.form ++ flat_map (written_at summary) (pl
 
 -- the whole output: the output before the end, and a summary of the last interval
 abbrev pub summary_of : Summary → List Explained → List ℕ
-summary_of summary all = summaries summary all ++ at_last summary.every (said_of summary.form) all
+summary_of summary all = summaries summary all ++ at_last summary.every (summary_text_of summary.form) all
 
 -- what a period has of these events: their numbers, and their waits
 pub record HoldsSums (period : Period) (all : List Explained) : Type 0 where

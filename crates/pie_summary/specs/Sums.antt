@@ -13,12 +13,12 @@ use Rattle.pie_event.specs.declared.command.Answer.TheVariants.{Enqueued, Marked
 use Rattle.pie_event.specs.declared.command.Answer.TheVariants.{Done}
 use Rattle.pie_explain.specs.declared.explanation.Explained.{Explained}
 use Rattle.pie_summary.specs.declared.meter.Meter.{Meter}
-use Rattle.pie_summary.specs.declared.noted.Met.{Met}
-use Rattle.pie_summary.specs.declared.noted.Noted.{Noted}
+use Rattle.pie_summary.specs.declared.meter_input.Conditions.{Conditions}
+use Rattle.pie_summary.specs.declared.meter_input.MeterInput.{MeterInput}
 use Rattle.pie_summary.specs.declared.sums.Sums.{Sums}
 use Rattle.pie_summary.specs.Counts.{counts_of, kept}
 use Rattle.pie_summary.specs.Ranges.{ranges_of}
-use Rattle.pie_summary.specs.Spans.{bounds_of, peak_of, span_of, time_at, total_of}
+use Rattle.pie_summary.specs.Aggregates.{bounds_of, peak_of, span_of, time_at, total_of}
 
 -- ---- of one event
 
@@ -60,8 +60,8 @@ turned_at _ _ _ moment = None
 
 -- what is noted of an event that met this and left that, whatever its kind: by the place of its answer, that of its cause, and the size of the
 -- packet that arrived
-abbrev pub noted_plain : Met → ℕ → ℕ → Option ℕ → Noted
-noted_plain met answer cause arrived = record {
+abbrev pub meter_input_plain : Conditions → ℕ → ℕ → Option ℕ → MeterInput
+meter_input_plain met answer cause arrived = record {
   answer = answer;
   cause = cause;
   moment = met.moment;
@@ -81,22 +81,22 @@ noted_plain met answer cause arrived = record {
 
 -- what a meter takes of it: of a packet that left also how long it had waited, and how much longer than the target, when it left, and its bytes;
 -- and of an update, where the controller was active, its delay, and where that is above the target, how long it was since the update before
-unfoldable pub noted_by : Met → Answer → ℕ → Option ℕ → ℕ → Noted
-noted_by met (Left packet) cause arrived waited = record (noted_plain met 5 cause arrived) {
+unfoldable pub meter_input_by : Conditions → Answer → ℕ → Option ℕ → ℕ → MeterInput
+meter_input_by met (Left packet) cause arrived waited = record (meter_input_plain met 5 cause arrived) {
   wait = Some waited;
   left = Some met.moment;
   excess = if nat_lt met.held waited then Some (waited - met.held) else None;
   carried = packet.size;
 }
-noted_by met (Updated delay prob burst) cause arrived waited = record (noted_plain met 7 cause arrived) {
+meter_input_by met (Updated delay prob burst) cause arrived waited = record (meter_input_plain met 7 cause arrived) {
   delay = if met.was then Some delay else None;
   above = if met.was && nat_lt met.held delay then met.moment - met.last else 0;
 }
-noted_by met answer cause arrived waited = noted_plain met (answer_place answer) cause arrived
+meter_input_by met answer cause arrived waited = meter_input_plain met (answer_place answer) cause arrived
 
 -- what an event met and left, as it is explained
-abbrev pub met_of : Explained → Met
-met_of one = record {
+abbrev pub conditions_of_event : Explained → Conditions
+conditions_of_event one = record {
   moment = one.told.moment;
   was = one.told.before.active;
   is = one.after.active;
@@ -107,32 +107,32 @@ met_of one = record {
   target = one.after.params.target;
 }
 
-abbrev pub Meets : Met → Explained → Type 0
-Meets met one = met_of one ≡ met
+abbrev pub HasConditions : Conditions → Explained → Type 0
+HasConditions met one = conditions_of_event one ≡ met
 
-abbrev pub noted_of : Explained → Noted
-noted_of one = noted_by (met_of one) one.told.event.answer (cause_of one) (size_in one) one.told.waited
+abbrev pub meter_input_of : Explained → MeterInput
+meter_input_of one = meter_input_by (conditions_of_event one) one.told.event.answer (cause_of one) (size_in one) one.told.waited
 
 -- how long the packet had waited that left
 abbrev pub wait_in : Explained → Option ℕ
-wait_in one = (noted_of one).wait
+wait_in one = (meter_input_of one).wait
 
 -- the time of day of an event that turned the controller on, or off
 abbrev pub on_time : Explained → Option ℕ
-on_time one = option_and (noted_of one).turned_on (time_at one)
+on_time one = option_and (meter_input_of one).turned_on (time_at one)
 
 abbrev pub off_time : Explained → Option ℕ
-off_time one = option_and (noted_of one).turned_off (time_at one)
+off_time one = option_and (meter_input_of one).turned_off (time_at one)
 
 -- ---- Inputs of a meter in their order
 
 -- the moments of events
-abbrev pub moments_of : List Noted → List ℕ
+abbrev pub moments_of : List MeterInput → List ℕ
 moments_of all = map (λ one. one.moment) all
 
 -- the moment since which a departing packet was the first in the queue, as far as these events show: the moment of
 -- the last departure before it, or of the first event if there was none
-abbrev pub first_since : Place Noted → ℕ
+abbrev pub first_since : Place MeterInput → ℕ
 first_since place = last_or (slice_index (moments_of (up_to place)) 0) (filter_map (λ one. one.left) place.before)
 
 -- the excess, at most `since`; 0 without an excess
@@ -141,13 +141,13 @@ excess_within None since = 0
 excess_within (Some excess) since = min excess since
 
 -- how long the packet that left was the first in the queue and had waited longer than the target
-abbrev pub late_at : Place Noted → ℕ
+abbrev pub late_at : Place MeterInput → ℕ
 late_at place = excess_within place.event.excess (place.event.moment - first_since place)
 
 -- ---- of a list of events
 
 -- the numbers of a record, by the meter's inputs for the events and the wall-clock times that they have
-unfoldable pub meter_of : List Noted → List ℕ → Meter
+unfoldable pub meter_of : List MeterInput → List ℕ → Meter
 meter_of all times = record {
   answers = counts_of (λ one. one.answer) 9 all;
   causes = counts_of (λ one. one.cause) 15 all;
@@ -174,7 +174,7 @@ meter_of all times = record {
 
 -- the numbers before one more event: the record's first moment and the moment since which the first packet waits at
 -- the head already include it
-abbrev pub awaiting : List Noted → Noted → List ℕ → Meter
+abbrev pub awaiting : List MeterInput → MeterInput → List ℕ → Meter
 awaiting shown one times = record (meter_of shown times) {
   first = slice_index (moments_of (shown ++ one ∷ [])) 0;
   since = first_since (record { before = shown; event = one });
@@ -186,10 +186,10 @@ timed_by meter times = record meter { timed = min (length times) 1; time = slice
 
 -- the numbers of these events, as they are explained, and where one more is the next
 abbrev pub meter_in : List Explained → Meter
-meter_in all = meter_of (map noted_of all) (filter_map time_at all)
+meter_in all = meter_of (map meter_input_of all) (filter_map time_at all)
 
 abbrev pub reached : List Explained → Explained → Meter
-reached shown one = awaiting (map noted_of shown) (noted_of one) (filter_map time_at shown)
+reached shown one = awaiting (map meter_input_of shown) (meter_input_of one) (filter_map time_at shown)
 
 -- the numbers of a summary of these events
 unfoldable pub sums_of : List Explained → Sums

@@ -7,10 +7,10 @@ use Rattle.pie_explain.specs.Words.{joined, millis, per_cent, share}
 use Rattle.pie_event.specs.declared.cause_name.CauseName.{CauseName}
 use Rattle.pie_units.specs.Utc.{utc_text}
 use Rattle.pie_summary.specs.declared.meter.Meter.{Meter}
-use Rattle.pie_summary.specs.declared.spans.Bounds.{Bounds}
+use Rattle.pie_summary.specs.declared.aggregates.Bounds.{Bounds}
 use Rattle.pie_summary.specs.declared.sums.Sums.{Sums}
 use Rattle.pie_summary.specs.Ranges.{end_within, first_up_to}
-use Rattle.pie_summary.specs.Spans.{mean_in, sum_in}
+use Rattle.pie_summary.specs.Aggregates.{mean_in, sum_in}
 
 -- ---- counts of arrivals
 

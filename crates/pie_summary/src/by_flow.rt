@@ -1,13 +1,13 @@
 //! Sums of the explained events by flow.
 ghost use Rattle.std.specs.Prelude.{◌≡◌, ◌++◌, [], OnOk, if◌then◌else◌};
 ghost use Rattle.pie_explain.specs.declared.explanation.Explained.{Explained};
-ghost use Rattle.pie_summary.specs.FlowWords.{flows_said};
+ghost use Rattle.pie_summary.specs.FlowWords.{flows_text};
 
+use crate::aggregates::Span;
 use crate::flow::{Flow, flows_of};
 use crate::flow_period::FlowPeriod;
 use crate::flow_words::{NAMES, push_flows};
-use crate::period::{begins, is_said, period_of};
-use crate::spans::Span;
+use crate::period::{begins, has_summary, period_of};
 use crate::words::Written;
 use pie_explain::{Explained, Form, Report, push_header};
 use pie_text::Page;
@@ -33,7 +33,7 @@ pub struct ByFlow {
 
 /// Writes the flows of an interval onto `page` if the interval `ends`.
 fn push_ended(page: &mut Page, by_flow: &ByFlow, ends: bool, span: &Span, flows: &[Flow]) -> Written
-    ensures { OnOk result (page.new ≡ page.old ++ (if ends then flows_said by_flow.now.form span.now by_flow.now.most flows.now else [])) }
+    ensures { OnOk result (page.new ≡ page.old ++ (if ends then flows_text by_flow.now.form span.now by_flow.now.most flows.now else [])) }
 {
     if !ends {
         return Ok(());
@@ -69,7 +69,7 @@ impl Report for ByFlow {
     }
 
     fn end(&self, state: &FlowPeriod, page: &mut Page) -> Written {
-        let ends = is_said(self.every, state.number);
+        let ends = has_summary(self.every, state.number);
         push_ended(page, self, ends, &state.span, flows_of(&state.rows))
     }
 }

@@ -4,11 +4,11 @@ ghost use Rattle.pie_explain.specs.declared.explanation.Explained.{Explained};
 ghost use Rattle.pie_summary.specs.ByFlow.{HoldsFlows};
 ghost use Rattle.pie_summary.specs.Flows.{HasFlows};
 ghost use Rattle.pie_summary.specs.Period.{Keeps, since};
-ghost use Rattle.pie_summary.specs.Spans.{span_of};
+ghost use Rattle.pie_summary.specs.Aggregates.{span_of};
 
+use crate::aggregates::Span;
 use crate::flow::{Flow, take};
 use crate::period::{period_of, starts};
-use crate::spans::Span;
 use indexmap::IndexMap;
 use pie_explain::Explained;
 use std::alloc::{AllocError, Global};

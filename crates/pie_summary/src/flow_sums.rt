@@ -3,7 +3,7 @@ ghost use Rattle.std.specs.Prelude.{◌≡◌, ◌*◌, ◌/◌, ◌++◌, ◌�
 ghost use Rattle.pie_explain.specs.declared.explanation.Explained.{Explained};
 ghost use Rattle.pie_summary.specs.FlowSums.{added_up, flow_by, flow_sums, numbers_of};
 
-use crate::noted::{Noted, noted_of};
+use crate::meter_input::{MeterInput, meter_input_of};
 use pie_book::{Answer, Command};
 use pie_explain::Explained;
 
@@ -51,7 +51,7 @@ pub(crate) fn flow_by(command: Command, answer: Answer) -> Option<u32>
 
 /// Returns the counts of one event, by the meter's input for it.
 #[tactic(auto, unfolding(crate::specs::FlowSums::numbers_of))]
-fn numbers_of(one: &Noted) -> FlowSums
+fn numbers_of(one: &MeterInput) -> FlowSums
     ensures { result ≡ numbers_of one.now }
 {
     let waited = one.wait.unwrap_or(0);
@@ -106,6 +106,6 @@ impl FlowSums {
     pub(crate) fn with(self, all: &Explained) -> FlowSums
         ensures { (shown : List Explained) → self ≡ flow_sums shown → result ≡ flow_sums (shown ++ all.now ∷ []) }
     {
-        self.plus(&numbers_of(&noted_of(all)))
+        self.plus(&numbers_of(&meter_input_of(all)))
     }
 }

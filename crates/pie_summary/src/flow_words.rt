@@ -1,12 +1,12 @@
 //! Sums by flow in words, and as CSV records.
 ghost use Rattle.std.specs.Prelude.{◌≡◌, ◌++◌, OnOk, string_bytes};
 ghost use Rattle.pie_summary.specs.Record.{last_fields, number_fields};
-ghost use Rattle.pie_summary.specs.FlowWords.{amount_words, each_said, flow_record, flow_said, flow_words, flows_said, head_said, mean_wait};
-ghost use Rattle.pie_summary.specs.FlowWords.{name_field, others_said, parts_said, total_words, wait_words};
+ghost use Rattle.pie_summary.specs.FlowWords.{amount_words, each_text, flow_record, one_flow_text, flow_words, flows_text, head_text, mean_wait};
+ghost use Rattle.pie_summary.specs.FlowWords.{name_field, others_text, parts_text, total_words, wait_words};
 
+use crate::aggregates::{Bounds, Span};
 use crate::flow::{Flow, first_of, sums_beside};
 use crate::flow_sums::FlowSums;
-use crate::spans::{Bounds, Span};
 use crate::words::{Written, push_head, push_times};
 use pie_explain::{Form, Millis, Share};
 use pie_units::Utc;
@@ -203,7 +203,7 @@ fn push_record(
 impl Heading {
     /// Writes the text before the flows. `count` is their number.
     fn push_top(&self, page: &mut String, count: u64) -> Written
-        ensures { OnOk result (string_bytes page.new ≡ string_bytes page.old ++ head_said self.now count) }
+        ensures { OnOk result (string_bytes page.new ≡ string_bytes page.old ++ head_text self.now count) }
     {
         if self.form.csv {
             return Ok(());
@@ -213,7 +213,7 @@ impl Heading {
 
     /// Writes a flow.
     fn push_flow(&self, page: &mut String, name: Name, sums: &FlowSums) -> Written
-        ensures { OnOk result (string_bytes page.new ≡ string_bytes page.old ++ flow_said self.now name sums.now) }
+        ensures { OnOk result (string_bytes page.new ≡ string_bytes page.old ++ one_flow_text self.now name sums.now) }
     {
         if self.form.csv {
             return push_record(page, self.form.by_wall, &self.span, name, sums);
@@ -223,7 +223,7 @@ impl Heading {
 
     /// Writes flows, one after another.
     fn push_each(&self, page: &mut String, flows: &[Flow]) -> Written
-        ensures { OnOk result (string_bytes page.new ≡ string_bytes page.old ++ each_said self.now flows.now) }
+        ensures { OnOk result (string_bytes page.new ≡ string_bytes page.old ++ each_text self.now flows.now) }
     {
         match flows {
             [] => Ok(()),
@@ -236,7 +236,7 @@ impl Heading {
 
     /// Writes the sums of the flows after the first `most`, if there are any.
     fn push_others(&self, page: &mut String, most: usize, first: &[Flow], flows: &[Flow]) -> Written
-        ensures { OnOk result (string_bytes page.new ≡ string_bytes page.old ++ others_said self.now most first.now flows.now) }
+        ensures { OnOk result (string_bytes page.new ≡ string_bytes page.old ++ others_text self.now most first.now flows.now) }
     {
         if flows.len() <= most {
             return Ok(());
@@ -246,9 +246,9 @@ impl Heading {
     }
 
     /// Writes the text before the flows, the first `most` flows, and the sums of the others.
-    #[tactic(auto, unfolding(crate::specs::FlowWords::parts_said))]
+    #[tactic(auto, unfolding(crate::specs::FlowWords::parts_text))]
     fn push_parts(&self, page: &mut String, most: usize, first: &[Flow], flows: &[Flow]) -> Written
-        ensures { OnOk result (string_bytes page.new ≡ string_bytes page.old ++ parts_said self.now most first.now flows.now) }
+        ensures { OnOk result (string_bytes page.new ≡ string_bytes page.old ++ parts_text self.now most first.now flows.now) }
     {
         self.push_top(page, flows.len() as u64)?;
         self.push_each(page, first)?;
@@ -269,7 +269,7 @@ pub(crate) fn push_flows(
     most: usize,
     flows: &[Flow],
 ) -> Written
-    ensures { OnOk result (string_bytes page.new ≡ string_bytes page.old ++ flows_said form span.now most flows.now) }
+    ensures { OnOk result (string_bytes page.new ≡ string_bytes page.old ++ flows_text form span.now most flows.now) }
 {
     let (span, total) = (*span, sums_beside(&[], flows));
     let heading = Heading { form, span, total };

@@ -6,23 +6,23 @@
 //! the numbers. With `packets` each packet that was lost or marked is explained between the summaries, so that a history is read once for both.
 #![tactic(auto)]
 
+pub mod aggregates;
 pub mod by_flow;
 pub mod flow;
 pub mod flow_period;
 pub mod flow_sums;
 pub mod flow_words;
-pub mod live;
+pub mod live_period;
 pub mod meter;
-pub mod noted;
+pub mod meter_input;
 pub mod period;
 pub mod ranges;
 mod record;
-pub mod spans;
 pub mod summary;
 pub mod sums;
 mod words;
 
 pub use by_flow::ByFlow;
-pub use live::LivePeriod;
-pub use noted::{Met, Noted};
+pub use live_period::LivePeriod;
+pub use meter_input::{Conditions, MeterInput};
 pub use summary::Summary;

@@ -3,14 +3,14 @@ ghost use Rattle.std.specs.Prelude.{◌≡◌, ◌+◌, ◌-◌, ◌^◌, ◌<�
 ghost use Rattle.std.specs.Prelude.{slice_set, if◌then◌else◌};
 ghost use Rattle.std.specs.List.{cons_option};
 ghost use Rattle.pie_summary.specs.Counts.{kept};
-ghost use Rattle.pie_summary.specs.declared.noted.Noted.{Noted};
-ghost use Rattle.pie_summary.specs.Spans.{counted_some};
+ghost use Rattle.pie_summary.specs.declared.meter_input.MeterInput.{MeterInput};
+ghost use Rattle.pie_summary.specs.Aggregates.{counted_some};
 ghost use Rattle.pie_summary.specs.Sums.{awaiting, excess_within, meter_of, timed_by};
 ghost use Rattle.pie_summary.specs.Words.{wait_99};
 
-use crate::noted::Noted;
+use crate::aggregates::{Bounds, Peak, Total, raise};
+use crate::meter_input::MeterInput;
 use crate::ranges::{RANGES, end_within, first_up_to};
-use crate::spans::{Bounds, Peak, Total, raise};
 
 /// The numbers of a record, each over all events of an interval. `answers` also gives the number of events and of
 /// departures.
@@ -122,7 +122,7 @@ impl Meter {
     /// Notes the time of day of an event, where it is the first that has one.
     #[inline(always)]
     #[tactic(auto, using(crate::proofs::SumsFacts::time_noted, crate::proofs::SumsFacts::times_kept))]
-    pub(crate) fn note_time(&mut self, time: Option<u64>)
+    pub(crate) fn record_time(&mut self, time: Option<u64>)
         ensures { (times : List ℕ) → self.old ≡ timed_by self.old times → self.new ≡ timed_by self.old (times ++ cons_option time []) }
     {
         if self.timed != 0 {
@@ -148,9 +148,9 @@ impl Meter {
 
     /// Takes the event that it awaits. Where it is compiled, what its kind has none of costs nothing.
     #[inline(always)]
-    pub(crate) fn take(&mut self, noted: &Noted)
+    pub(crate) fn take(&mut self, noted: &MeterInput)
         requires { noted.now.answer < 9 }
-        ensures { (shown : List Noted) (times : List ℕ) → self.old ≡ awaiting shown noted.now times
+        ensures { (shown : List MeterInput) (times : List ℕ) → self.old ≡ awaiting shown noted.now times
             → self.new ≡ meter_of (shown ++ noted.now ∷ []) times }
     {
         count(&mut self.answers, noted.answer);

@@ -1,10 +1,10 @@
 //! The period that is being summed up.
 ghost use Rattle.std.specs.Prelude.{◌≡◌, ◌++◌, ◌∷◌, [], ℕ, List, IfOk, Option, None, Some};
 ghost use Rattle.pie_explain.specs.declared.explanation.Explained.{Explained};
-ghost use Rattle.pie_summary.specs.Period.{Keeps, begins, is_said, period_of, since, starts};
+ghost use Rattle.pie_summary.specs.Period.{Keeps, begins, has_summary, period_of, since, starts};
 ghost use Rattle.pie_summary.specs.Summary.{HoldsSums};
 
-use crate::noted::noted_of;
+use crate::meter_input::meter_input_of;
 use crate::ranges::{RANGES, clear_counts, count_some};
 use crate::sums::Sums;
 use pie_explain::Explained;
@@ -43,8 +43,8 @@ pub(crate) fn starts(before: Option<u64>, period: u64) -> bool
 }
 
 /// Returns true if something is said at the end: of all events together, or of the last interval, whose number is `last`, if there is an event.
-pub(crate) fn is_said(every: Option<u64>, last: Option<u64>) -> bool
-    ensures { result ≡ is_said every last }
+pub(crate) fn has_summary(every: Option<u64>, last: Option<u64>) -> bool
+    ensures { result ≡ has_summary every last }
 {
     match every {
         Some(_) => last.is_some(),
@@ -101,7 +101,7 @@ impl Period {
         let number = period_of(every, told.told.moment);
         self.begin(number);
         self.number = Some(number);
-        let noted = noted_of(told);
+        let noted = meter_input_of(told);
         self.sums.take(told, &noted);
         count_some(&mut self.waits, noted.wait);
     }

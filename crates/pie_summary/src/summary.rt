@@ -2,10 +2,10 @@
 ghost use Rattle.std.specs.Prelude.{◌≡◌, ◌++◌, [], OnOk, if◌then◌else◌};
 ghost use Rattle.pie_summary.specs.Record.{record_of};
 ghost use Rattle.pie_summary.specs.Words.{words};
-ghost use Rattle.pie_summary.specs.Summary.{is_lost_or_marked, noted, said};
+ghost use Rattle.pie_summary.specs.Summary.{is_lost_or_marked, noted, summary_text};
 
 use crate::meter::Meter;
-use crate::period::{Period, begins, is_said, period_of};
+use crate::period::{Period, begins, has_summary, period_of};
 use crate::record::{NAMES, push_record};
 use crate::sums::Sums;
 use crate::words::{Written, push_words};
@@ -50,7 +50,7 @@ fn push_as_record(page: &mut Page, by_wall: bool, meter: &Meter, most: u64) -> W
 
 /// Writes the summary of an interval onto `page` if the interval `ends`.
 fn push_ended(page: &mut Page, form: Form, period: &Period, ends: bool) -> Written
-    ensures { OnOk result (page.new ≡ page.old ++ (if ends then said form period.now.sums period.now.waits.value else [])) }
+    ensures { OnOk result (page.new ≡ page.old ++ (if ends then summary_text form period.now.sums period.now.waits.value else [])) }
 {
     if !ends {
         return Ok(());
@@ -73,7 +73,7 @@ fn is_lost_or_marked(told: &Explained) -> bool
 
 /// Writes the words for an event that lost or marked a packet, where packets are explained.
 #[tactic(auto, unfolding(crate::specs::Summary::noted))]
-fn push_noted(page: &mut Page, summary: &Summary, told: &Explained) -> Written
+fn push_event_words(page: &mut Page, summary: &Summary, told: &Explained) -> Written
     ensures { OnOk result (page.new ≡ page.old ++ noted summary.now told.now) }
 {
     if summary.packets && is_lost_or_marked(told) {
@@ -104,12 +104,17 @@ impl Report for Summary {
     fn tell(&self, state: &mut Period, told: &Explained, page: &mut Page) -> Written {
         let ends = begins(state.number, period_of(self.every, told.told.moment));
         push_ended(page, self.form, state, ends)?;
-        push_noted(page, self, told)?;
+        push_event_words(page, self, told)?;
         state.take(self.every, told);
         Ok(())
     }
 
     fn end(&self, state: &Period, page: &mut Page) -> Written {
-        push_ended(page, self.form, state, is_said(self.every, state.number))
+        push_ended(
+            page,
+            self.form,
+            state,
+            has_summary(self.every, state.number),
+        )
     }
 }

@@ -1,11 +1,11 @@
 //! The numbers of a summary.
 ghost use Rattle.std.specs.Prelude.{◌≡◌, ◌<◌, ◌++◌, ◌∷◌, [], List};
 ghost use Rattle.pie_explain.specs.declared.explanation.Explained.{Explained};
-ghost use Rattle.pie_summary.specs.Sums.{noted_of, reached};
+ghost use Rattle.pie_summary.specs.Sums.{meter_input_of, reached};
 
+use crate::aggregates::{Bounds, Span};
 use crate::meter::Meter;
-use crate::noted::Noted;
-use crate::spans::{Bounds, Span};
+use crate::meter_input::MeterInput;
 use pie_explain::{Explained, time_of};
 
 /// The numbers of a summary, each over all events that it was shown.
@@ -35,7 +35,7 @@ impl Sums {
     /// Has the meter begin at this moment, where there was no event.
     #[tactic(auto, using(crate::proofs::SumsFacts::reached_more, crate::proofs::SumsFacts::reached_none), unfolding(crate::specs::Sums::sums_of))]
     fn reach(&mut self, moment: u64)
-        ensures { (shown : List Explained) (one : Explained) → (noted_of one).moment ≡ moment → self.old ≡ sums_of shown
+        ensures { (shown : List Explained) (one : Explained) → (meter_input_of one).moment ≡ moment → self.old ≡ sums_of shown
             → self.new ≡ record (sums_of shown) { meter = reached shown one } }
     {
         if self.span.moments.count == 0 {
@@ -44,13 +44,13 @@ impl Sums {
     }
 
     /// Adds one more event. `noted` is the meter's input for it.
-    pub(crate) fn take(&mut self, all: &Explained, noted: &Noted)
+    pub(crate) fn take(&mut self, all: &Explained, noted: &MeterInput)
         requires { noted.now.answer < 9 }
-        ensures { (shown : List Explained) → noted.now ≡ noted_of all.now → self.old ≡ sums_of shown → self.new ≡ sums_of (shown ++ all.now ∷ []) }
+        ensures { (shown : List Explained) → noted.now ≡ meter_input_of all.now → self.old ≡ sums_of shown → self.new ≡ sums_of (shown ++ all.now ∷ []) }
     {
         let time = time_of(all.told.clock, noted.moment);
         self.reach(noted.moment);
-        self.meter.note_time(time);
+        self.meter.record_time(time);
         self.meter.take(noted);
         self.span.take(all);
         self.on_times.take_some(noted.turned_on.and(time));

@@ -3,8 +3,8 @@ ghost use Rattle.std.specs.Prelude.{◌≡◌, ◌++◌, OnOk, string_bytes};
 ghost use Rattle.pie_summary.specs.Words.{above_words, arrival_words, cause_row, cause_rows, cause_words, disagree_words, head_words, later_words};
 ghost use Rattle.pie_summary.specs.Words.{row_words, time_words, turned_words, turning_words, update_words, verdict_words, words};
 
+use crate::aggregates::Bounds;
 use crate::meter::Meter;
-use crate::spans::Bounds;
 use crate::sums::Sums;
 use pie_aqm::CauseName;
 use pie_explain::{Millis, PerCent, Share};

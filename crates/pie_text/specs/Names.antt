@@ -14,11 +14,11 @@ pub use Rattle.pie_record.specs.Answer.{activity, counted, flag, ten_registers}
 unfoldable pub use Rattle.pie_record.specs.Answer.{answer_fields, folded_row, refused_row, shown_row, tallied_row}
 unfoldable pub use Rattle.pie_record.specs.Clock.{clock_row}
 pub use Rattle.pie_record.specs.HistoryLines.{later_fault}
-unfoldable pub use Rattle.pie_record.specs.HistoryLines.{after_opening, fault_from, history_opening, line_of, told_by}
-pub use Rattle.pie_record.specs.ReadBack.{EventFits, TellsHistory}
+unfoldable pub use Rattle.pie_record.specs.HistoryLines.{after_opening, fault_from, history_opening, line_of, line_in}
+pub use Rattle.pie_record.specs.ReadBack.{EventFits, IsHistoryText}
 pub use Rattle.pie_record.specs.Text.{IsPlainWord, Row, rows_setup, text_of}
 unfoldable pub use Rattle.pie_record.specs.Text.{rows_text}
-pub use Rattle.pie_record.specs.Words.{delay_word, ecn_word, mode_word, picking_word, size_word, step_word, word_of_kind, word_said}
+pub use Rattle.pie_record.specs.Words.{delay_word, ecn_word, mode_word, picking_word, size_word, step_word, word_of_kind, word_of_answer}
 pub use Rattle.pie_record.specs.Write.{are_default, are_usual, choices_row, command_fields, decay_row, earlier_row, event_row, is_earlier, nine_of}
 pub use Rattle.pie_record.specs.Write.{version_three_row, written_rows}
 unfoldable pub use Rattle.pie_record.specs.Write.{opening_row}

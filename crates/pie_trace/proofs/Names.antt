@@ -8,18 +8,18 @@ pub use Rattle.std.proofs.lemmas.List.{append-nil}
 pub use Rattle.std.proofs.lemmas.List.Elements.{All-append, All-cons, All-nil, filter_map-append}
 pub use Rattle.std.specs.Prelude.{All, OnErr, codes, nat_lt, option_map}
 pub use Rattle.pie_trace.specs.{Answer, Appends, Ask, BadParams, Begins, BookView, Bounded, Clean, Clock, Coming, Err, Event, FirstKind, Flaw, Fold}
-pub use Rattle.pie_trace.specs.{FoldRefusal, HasField, IfErr, IfOk, IfSome, IsAt, IsTold, IsWrite, Line, migrates, moves_on, None, Ok, OnOk, One}
-pub use Rattle.pie_trace.specs.{Opening, Option, Progress, Refusal, Registers, Replies, Request, Result, Rolling, Row, Show, Shows, Some, Stats}
-pub use Rattle.pie_trace.specs.{Tally, TellTheSame, Tells, TellsHistory, Three, TraceFault, Two, Version, after, append_known, closed, code_of}
+pub use Rattle.pie_trace.specs.{FoldRefusal, HasField, IfErr, IfOk, IfSome, IsAt, NoDeviceFailed, IsWrite, Line, migrates, moves_on, None, Ok, OnOk, One}
+pub use Rattle.pie_trace.specs.{Opening, Option, Progress, Refusal, Registers, Replies, Request, Result, Rolling, Row, Show, Represents, Some, Stats}
+pub use Rattle.pie_trace.specs.{Tally, HaveSameLines, BookRepresents, IsHistoryText, Three, TraceFault, Two, Version, after, append_known, closed, code_of}
 pub use Rattle.pie_trace.specs.{end_at, end_left, events_in, fault_at, fold_outcome, history_row, is_device, is_kind, later_rows, let_go}
-pub use Rattle.pie_trace.specs.{line_told, lines_left, rows_left, migrated_text, migrated_version, opening_refusal, outcome}
+pub use Rattle.pie_trace.specs.{line_of_reply, lines_left, rows_left, migrated_text, migrated_version, opening_refusal, outcome}
 pub use Rattle.pie_trace.specs.{progress_at_end, queued_row, records_of, refused, refused_count, reply, reply_to_command, reply_to_fold, request_in}
-pub use Rattle.pie_trace.specs.{start, stats_after, text_of, told_by, told_rows}
+pub use Rattle.pie_trace.specs.{start, stats_after, text_of, line_in, rows_without_fault}
 pub use Rattle.pie_trace.specs.Reply.{Reply}
 pub use Rattle.pie_trace.specs.{CoreView, apply_in, core_after, registers_of}
 unfoldable pub use Rattle.pie_trace.specs.{after_opening, answer_fields, before_fault, end_of, fault_of, first_fault, first_in_two, first_kind}
 unfoldable pub use Rattle.pie_trace.specs.{folded_row, history_events, history_fault, history_opening, history_rows, history_text, history_version}
-unfoldable pub use Rattle.pie_trace.specs.{later_in_two, line_of, lines_told, migrated, opening_of, progress_after, record_fault, refused_row}
+unfoldable pub use Rattle.pie_trace.specs.{later_in_two, line_of, lines_of_replies, migrated, opening_of, progress_after, record_fault, refused_row}
 unfoldable pub use Rattle.pie_trace.specs.{registers_after, replies, request_of, requests_of, rows_text, run_lines, shown_line, shown_row, steps_of}
 unfoldable pub use Rattle.pie_trace.specs.{tallied_row, text_left, version_of}
 unfoldable pub use Rattle.pie_record.specs.HistoryLines.{lines_from, fault_from, event_count}
@@ -38,7 +38,7 @@ pub use Rattle.pie_record.specs.Field.{and_then, number_at}
 pub use Rattle.pie_record.specs.FirstRecord.{first_fields, kind_word, opening_read}
 unfoldable pub use Rattle.pie_record.specs.FirstRecord.{draft_at, limits_at, version_one_fields}
 unfoldable pub use Rattle.pie_record.specs.Field.{number}
-unfoldable pub use Rattle.pie_record.specs.ReadBack.{TellEach}
+unfoldable pub use Rattle.pie_record.specs.ReadBack.{AreLinesOf}
 pub use Rattle.pie_record.specs.Text.{TakesRow, Took}
 pub use Rattle.pie_record.specs.declared.first_record.Draft.{Draft}
 pub use Rattle.pie_trace.specs.declared.run.RunEnd.{RunEnd}

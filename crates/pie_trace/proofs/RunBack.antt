@@ -5,11 +5,11 @@ use Rattle.pie_trace.proofs.Names.{All-cons, All-nil, first_bad, Command, Event,
 use Rattle.pie_trace.proofs.Names.{is_refused_full, or_full, refusal_by_rule, opening_refusal, registers_after, Progress, event_of, fold_outcome}
 use Rattle.pie_trace.proofs.Names.{held_with_one, recorded, refused_or, start, Flaw, TraceFault, Request, Ask, BadParams, Clock, Fold, Show, Tally}
 use Rattle.pie_trace.proofs.Names.{Draft, FirstKind, Version, before_fault, history_rows, history_text, record_fault, replies, requests_of, text_left}
-use Rattle.pie_trace.proofs.Names.{opening_of, opening_read, Row, rows_text, text_of, request_of, line_of, Begins, TellEach, TellsHistory, line_told}
-use Rattle.pie_trace.proofs.Names.{lines_left, lines_told, rows_left, run_lines, first_fields, first_kind, kind_word, version_of, Reply, after}
-use Rattle.pie_trace.proofs.Names.{history_row, reply, reply_to_command, reply_to_fold, code_of, drop, records_of, told_rows, told_by-line, Line}
+use Rattle.pie_trace.proofs.Names.{opening_of, opening_read, Row, rows_text, text_of, request_of, line_of, Begins, AreLinesOf, IsHistoryText, line_of_reply}
+use Rattle.pie_trace.proofs.Names.{lines_left, lines_of_replies, rows_left, run_lines, first_fields, first_kind, kind_word, version_of, Reply, after}
+use Rattle.pie_trace.proofs.Names.{history_row, reply, reply_to_command, reply_to_fold, code_of, drop, records_of, rows_without_fault, told_by-line, Line}
 use Rattle.pie_trace.proofs.Names.{append_assoc, append-nil, filter_map-append, progress_after, RunEnd, end_of, fault_of, first_fault}
-use Rattle.pie_trace.proofs.Names.{progress_at_end, steps_of, let_go, refused, Finding, Clean, AreLegal, CanBeMade, map, Shows, Three, end_left, ◌≢◌}
+use Rattle.pie_trace.proofs.Names.{progress_at_end, steps_of, let_go, refused, Finding, Clean, AreLegal, CanBeMade, map, Represents, Three, end_left, ◌≢◌}
 use Rattle.pie_trace.proofs.Names.{field_at, fault_from, kind-first, lines_from, lost-later}
 use Rattle.std.proofs.lemmas.List.Concat.{flat_map-append}
 use Rattle.pie_event.specs.Ranges.{CommandFits, ParamsFit}
@@ -17,12 +17,12 @@ use Rattle.pie_record.specs.FirstRecord.{opening_by}
 use Rattle.pie_record.specs.ReadBack.{TextsAreReadBack}
 use Rattle.pie_trace.specs.History.{Begun, going_on, text_in}
 use Rattle.pie_trace.proofs.RunFacts.{first-one, whole-opened, progress_after-request, part-opened}
-use Rattle.pie_trace.specs.Laws.{Held}
+use Rattle.pie_trace.specs.Laws.{Promises}
 use Rattle.pie_trace.specs.Reply.{answered}
 use Rattle.pie_record.specs.declared.history_record.Line.TheVariants.{Note, Made}
 use Rattle.pie_audit.specs.Finding.{event_in, events_of}
-use Rattle.pie_audit.specs.Text.{text_finding, IsFound, TellsPart, excerpt_lines, whole_finding, excerpt_fault, fault_after}
-use Rattle.pie_excerpt.specs.Beginning.{Beginning, BeginsWell, GoesOn, resumed_of, is_resumed}
+use Rattle.pie_audit.specs.Text.{text_finding, IsFound, IsExcerptText, excerpt_lines, whole_finding, excerpt_fault, fault_after}
+use Rattle.pie_excerpt.specs.Preamble.{Preamble, HasPreamble, Resumes, resumed_of, is_resumed}
 use Rattle.pie_audit.specs.Legal.{EventsAreLines}
 use Rattle.pie_trace.specs.Resumed.{going_by, progress_resumed, resumed_end, resumed_fault, resumed_text, resumed_within, long_by, within_by, within_most}
 use Rattle.pie_excerpt.specs.Reading.{resume_of}
@@ -78,7 +78,7 @@ with-one mode most held = grind (arith, nat_tests)
 after-fold : (held n : ℕ) → (if nat_lt held n then held else held - n) ≤ held
 after-fold held n = grind (arith, nat_tests)
 
-module _ (version : Version) (held : Held) (opening : Opening) where
+module _ (version : Version) (held : Promises) (opening : Opening) where
   -- the state of a run after a record is sound
   after-sound : (progress : Progress) (row : Row) (request : Request) → request_of version row ≡ Ok request → Sound opening progress
       → Sound opening (after opening progress request)
@@ -101,7 +101,7 @@ module _ (version : Version) (held : Held) (opening : Opening) where
       record { legal = sound.legal; fit = sound.fit; held = omega (arith, less) }
   after-sound progress row _ reads sound = sound
 
-module _ (version : Version) (held : Held) (opening : Opening) (opens : Opens opening) where
+module _ (version : Version) (held : Promises) (opening : Opening) (opens : Opens opening) where
   count-small : (progress : Progress) → Sound opening progress → length progress.history < 2 ^ 64
   unfolding registers_after
   count-small progress sound = (held.registers opening progress.history opens.accepted opens.params sound.legal sound.fit).count
@@ -109,9 +109,9 @@ module _ (version : Version) (held : Held) (opening : Opening) (opens : Opens op
   -- the history record of a reply has its line
   record-told : (number : ℕ) (row : Row) (request : Request) (progress : Progress) → number < 2 ^ 64 → Sound opening progress
       → request_of version row ≡ Ok request
-      → line_of version (history_row version number row (reply opening progress request)) ≡ Ok (line_told request (reply opening progress request))
+      → line_of version (history_row version number row (reply opening progress request)) ≡ Ok (line_of_reply request (reply opening progress request))
   record-told number row (Ask caller command) progress small sound reads =
-      asked-by (λ given later. line_of version (history_row version number row given) ≡ Ok (line_told (Ask caller command) given)) opening
+      asked-by (λ given later. line_of version (history_row version number row given) ≡ Ok (line_of_reply (Ask caller command) given)) opening
       progress caller command
       (λ free. held.back.answered version row caller command (decision opening progress.history command) reads
       (held.kinds opening progress.history command)
@@ -121,7 +121,7 @@ module _ (version : Version) (held : Held) (opening : Opening) (opens : Opens op
   record-told number row (Fold n) progress small sound reads = by (fold_outcome progress n) refl
     where
       by : (o : Result (List Event) FoldRefusal) → fold_outcome progress n ≡ o
-          → line_of version (history_row version number row (reply_to_fold n o)) ≡ Ok (line_told (Fold n) (reply_to_fold n o))
+          → line_of version (history_row version number row (reply_to_fold n o)) ≡ Ok (line_of_reply (Fold n) (reply_to_fold n o))
       by (Err why) e = held.back.refused version number 6 small (omega arith)
       by (Ok events) e =
           let enough = fold-enough progress n events e in
@@ -137,8 +137,8 @@ module _ (version : Version) (held : Held) (opening : Opening) (opens : Opens op
 -- ---- all records
 
 abbrev RowsTold : Version → Opening → ℕ → Progress → List Row → List Request → Type 0
-RowsTold version opening number progress rows requests = TellEach version (history_rows version number rows (replies opening progress requests))
-    (lines_told requests (replies opening progress requests))
+RowsTold version opening number progress rows requests = AreLinesOf version (history_rows version number rows (replies opening progress requests))
+    (lines_of_replies requests (replies opening progress requests))
 
 -- induction over the records up to the first that has a fault: a property of no records, and of a record with a
 -- request before others that have the property
@@ -166,10 +166,10 @@ each-good version most opening P none one number progress (row ∷ rows) =
         rw (e, q) (one number progress row rest request (requests_of version rest) (grind (arith, nat_tests, e)) q (later request))
     by None (Err what) e q later = absurd (grind (arith, nat_tests, e, q))
 
-pub rows-told : (version : Version) (held : Held) (most : ℕ) (opening : Opening) (number : ℕ) (progress : Progress) (rows : List Row) → most ≤ 2 ^ 32
+pub rows-told : (version : Version) (held : Promises) (most : ℕ) (opening : Opening) (number : ℕ) (progress : Progress) (rows : List Row) → most ≤ 2 ^ 32
     → Opens opening → Sound opening progress
-    → TellEach version (rows_left version most opening number progress rows) (lines_left version most opening number progress rows)
-unfolding replies history_rows lines_told TellEach
+    → AreLinesOf version (rows_left version most opening number progress rows) (lines_left version most opening number progress rows)
+unfolding replies history_rows lines_of_replies AreLinesOf
 rows-told version held most opening number progress rows few opens =
     each-good version most opening (λ number progress rows requests. Sound opening progress → RowsTold version opening number progress rows requests)
     (λ number progress sound. tt)
@@ -194,13 +194,13 @@ few-left version most opening number progress rows =
 -- the first record opens a history, and each of the others is a line
 pub record Written (kind : FirstKind) (rest : Row) (rows : List Row) (opening : Opening) (lines : List Line) : Type 0 where
   pub opens : opening_of (kind_word kind ∷ rest) ≡ Ok opening
-  pub told : TellEach (version_of (kind_word kind ∷ rest)) rows lines
+  pub told : AreLinesOf (version_of (kind_word kind ∷ rest)) rows lines
   pub few : length rows < 2 ^ 32
 
 -- records that each are a line are all read
 all-told : (version : Version) (most number : ℕ) (rows : List Row) (lines : List Line) → number + length rows ≤ most + 1
-    → TellEach version rows lines → told_rows version most number rows ≡ rows
-unfolding TellEach lines_from
+    → AreLinesOf version rows lines → rows_without_fault version most number rows ≡ rows
+unfolding AreLinesOf lines_from
 all-told version most number [] lines within tells = refl
 all-told version most number (row ∷ rows) [] within tells = absurd tells
 all-told version most number (row ∷ rows) (line ∷ lines) within tells =
@@ -208,13 +208,13 @@ all-told version most number (row ∷ rows) (line ∷ lines) within tells =
     (ap (λ (l : List Row). row ∷ l) (all-told version most (number + 1) rows lines (omega arith) tells.1))
 
 module _ (texts : TextsAreReadBack) (kind : FirstKind) (rest : Row) (rows : List Row) (opening : Opening) (lines : List Line) where
-  pub written-tells : Written kind rest rows opening lines → TellsHistory (rows_text ((kind_word kind ∷ rest) ∷ rows)) opening lines
+  pub written-tells : Written kind rest rows opening lines → IsHistoryText (rows_text ((kind_word kind ∷ rest) ∷ rows)) opening lines
   written-tells w = texts.history kind rest rows opening lines w.opens (texts.fields _ rows lines w.told) w.told w.few
 
   pub written-read : Written kind rest rows opening lines → records_of (rows_text ((kind_word kind ∷ rest) ∷ rows)) ≡ (kind_word kind ∷ rest) ∷ rows
   written-read w = texts.first kind rest rows (texts.fields _ rows lines w.told)
 
-  pub written-kept : Written kind rest rows opening lines → told_rows (version_of (kind_word kind ∷ rest)) (2 ^ 32) 2 rows ≡ rows
+  pub written-kept : Written kind rest rows opening lines → rows_without_fault (version_of (kind_word kind ∷ rest)) (2 ^ 32) 2 rows ≡ rows
   written-kept w = let few = w.few in all-told (version_of (kind_word kind ∷ rest)) (2 ^ 32) 2 rows lines (omega arith) w.told
 
 -- ---- the first record
@@ -229,7 +229,7 @@ pub record Opened (row : Row) (opening : Opening) : Type 0 where
   pub accepted : opening_refusal opening.limits opening.moment ≡ None
   pub in_range : first_bad opening.params ≡ None
 
-pub opened : Held → (row : Row) (opening : Opening) → opening_of row ≡ Ok opening → Opened row opening
+pub opened : Promises → (row : Row) (opening : Opening) → opening_of row ≡ Ok opening → Opened row opening
 unfolding opening_of
 opened held row opening = by (first_kind row) refl
   where
@@ -250,7 +250,7 @@ opened held row opening = by (first_kind row) refl
 
 -- ---- the whole text
 
-pub sound-start : (held : Held) (opening : Opening) → Sound opening start
+pub sound-start : (held : Promises) (opening : Opening) → Sound opening start
 sound-start held opening = record { legal = held.legal_at_first opening; fit = All-nil (λ (e : Event). CommandFits e.command); held = omega arith }
 
 -- the records of its beginning, and those of its answers
@@ -268,7 +268,7 @@ text-whole most row rows opening some opens =
     (text-begun most [] (row ∷ rows) (record { version = version_of row; opening = opening; read = 1; left = rows })
     ∙ ap (λ (first : List Row). rows_text (first ++ rows_left (version_of row) most opening 2 start rows)) (first-one row rows))
 
-pub run-written : (held : Held) (most : ℕ) (kind : FirstKind) (rest : Row) (rows : List Row) (opening : Opening) → most ≤ 2 ^ 32
+pub run-written : (held : Promises) (most : ℕ) (kind : FirstKind) (rest : Row) (rows : List Row) (opening : Opening) → most ≤ 2 ^ 32
     → opening_of (kind_word kind ∷ rest) ≡ Ok opening → 0 < most → let version = version_of (kind_word kind ∷ rest) in
     Written kind rest (rows_left version most opening 2 start rows) opening (lines_left version most opening 2 start rows)
 run-written held most kind rest rows opening few opens some =
@@ -278,12 +278,12 @@ run-written held most kind rest rows opening few opens some =
     let count = few-left version most opening 2 start rows (omega arith) in
     record { opens = opens; told = rows-told version held most opening 2 start rows few fit (sound-start held opening); few = omega (arith, count) }
 
-pub run-told : (held : Held) (most : ℕ) (row : Row) (rows : List Row) (opening : Opening) → 0 < most → most ≤ 2 ^ 32 → opening_of row ≡ Ok opening
-    → TellsHistory (history_text most (row ∷ rows)) opening (run_lines (version_of row) most opening rows)
+pub run-told : (held : Promises) (most : ℕ) (row : Row) (rows : List Row) (opening : Opening) → 0 < most → most ≤ 2 ^ 32 → opening_of row ≡ Ok opening
+    → IsHistoryText (history_text most (row ∷ rows)) opening (run_lines (version_of row) most opening rows)
 unfolding run_lines
 run-told held most row rows opening some few opens =
     let is = (opened held row opening opens).begins in
-    subst (λ (first : Row). TellsHistory (history_text most (first ∷ rows)) opening (run_lines (version_of first) most opening rows)) (sym is.is)
+    subst (λ (first : Row). IsHistoryText (history_text most (first ∷ rows)) opening (run_lines (version_of first) most opening rows)) (sym is.is)
     (let there = ap opening_of (sym is.is) ∙ opens in
     rw (text-whole most (kind_word is.kind ∷ is.rest) rows opening some there)
     (written-tells held.texts is.kind is.rest _ opening _ (run-written held most is.kind is.rest rows opening few there some)))
@@ -297,21 +297,21 @@ unfolding events_of
 events-both first more = filter_map-append event_in first more
 
 -- after a line, the run's history is the history before it with the line's event, and is legal
-pub record Tells (opening : Opening) (progress : Progress) (line : Line) (later : Progress) : Type 0 where
+pub record IsStepOfLine (opening : Opening) (progress : Progress) (line : Line) (later : Progress) : Type 0 where
   pub events : progress.history ++ events_of (line ∷ []) ≡ later.history
   pub legal : IsLegal opening progress.history → IsLegal opening later.history
 
 -- nothing
 tells-none : (opening : Opening) (progress : Progress) (line : Line) (held : ℕ) → event_in line ≡ None
-    → Tells opening progress line (record { history = progress.history; held = held })
+    → IsStepOfLine opening progress line (record { history = progress.history; held = held })
 unfolding events_of
 tells-none opening progress line held none = record { events = rw none (append-nil progress.history); legal = λ legal. legal }
 
-tells-next : Held → (opening : Opening) (progress : Progress) (request : Request)
-    → Tells opening progress (line_told request (reply opening progress request)) (after opening progress request)
+tells-next : Promises → (opening : Opening) (progress : Progress) (request : Request)
+    → IsStepOfLine opening progress (line_of_reply request (reply opening progress request)) (after opening progress request)
 unfolding events_of
 tells-next held opening progress (Ask caller command) =
-    asked-by (λ given later. Tells opening progress (line_told (Ask caller command) given) later) opening progress caller command
+    asked-by (λ given later. IsStepOfLine opening progress (line_of_reply (Ask caller command) given) later) opening progress caller command
     (λ free. record { events = refl; legal = λ legal. held.legal_with_one_more opening progress.history caller command legal free })
     (λ why. tells-none opening progress Note progress.held refl)
 tells-next held opening progress (Fold n) = tells-none opening progress Note (after opening progress (Fold n)).held refl
@@ -329,18 +329,18 @@ no-events = refl
 
 abbrev AllTold : Opening → Progress → List Request → Type 0
 AllTold opening progress requests =
-    (progress.history ++ events_of (lines_told requests (replies opening progress requests))
+    (progress.history ++ events_of (lines_of_replies requests (replies opening progress requests))
     ≡ (progress_after opening progress (steps_of requests)).history)
     × (IsLegal opening progress.history → IsLegal opening (progress_after opening progress (steps_of requests)).history)
 
-tells-all : Held → (opening : Opening) (progress : Progress) (requests : List Request) → AllTold opening progress requests
-unfolding lines_told replies
+tells-all : Promises → (opening : Opening) (progress : Progress) (requests : List Request) → AllTold opening progress requests
+unfolding lines_of_replies replies
 tells-all held opening progress [] = rw (after-none opening progress, no-events) (append-nil progress.history, λ legal. legal)
 tells-all held opening progress (request ∷ requests) =
     let here = tells-next held opening progress request in
     let later = tells-all held opening (after opening progress request) requests in
-    let first : Line = line_told request (reply opening progress request) in
-    let rest = lines_told requests (replies opening (after opening progress request) requests) in
+    let first : Line = line_of_reply request (reply opening progress request) in
+    let rest = lines_of_replies requests (replies opening (after opening progress request) requests) in
     let told : progress.history ++ events_of (first ∷ rest)
     ≡ (progress_after opening (after opening progress request) (steps_of requests)).history =
     ap (λ (events : List Event). progress.history ++ events) (events-both (first ∷ []) rest)
@@ -348,15 +348,15 @@ tells-all held opening progress (request ∷ requests) =
     ∙ ap (λ (history : List Event). history ++ events_of rest) here.events ∙ later.0 in
     rw (progress_after-request opening progress request requests) (told, λ legal. later.1 (here.legal legal))
 
-line-made : (request : Request) (given : Reply) → CanBeMade (line_told request given)
+line-made : (request : Request) (given : Reply) → CanBeMade (line_of_reply request given)
 line-made (Ask caller command) (answered answer) = tt
 line-made _ _ = tt
 
-pub all-made : (requests : List Request) (given : List Reply) → All CanBeMade (lines_told requests given)
-unfolding lines_told
+pub all-made : (requests : List Request) (given : List Reply) → All CanBeMade (lines_of_replies requests given)
+unfolding lines_of_replies
 all-made [] given = All-nil CanBeMade
 all-made (request ∷ requests) [] = All-nil CanBeMade
-all-made (request ∷ requests) (reply ∷ given) = All-cons CanBeMade (line_told request reply) (lines_told requests given) (line-made request reply)
+all-made (request ∷ requests) (reply ∷ given) = All-cons CanBeMade (line_of_reply request reply) (lines_of_replies requests given) (line-made request reply)
     (all-made requests given)
 
 -- after the lines of a legal history, the lines of a continued run are legal, and their events are the run's
@@ -364,12 +364,12 @@ pub record AreRuns (opening : Opening) (lines : List Line) (history : List Event
   pub legal : AreLegal opening lines
   pub events : events_of lines ≡ history
 
-pub lines-legal : Held → (opening : Opening) (progress : Progress) (before : List Line) (requests : List Request) → All CanBeMade before
+pub lines-legal : Promises → (opening : Opening) (progress : Progress) (before : List Line) (requests : List Request) → All CanBeMade before
     → events_of before ≡ progress.history → IsLegal opening progress.history
-    → AreRuns opening (before ++ lines_told requests (replies opening progress requests)) (progress_after opening progress (steps_of requests)).history
+    → AreRuns opening (before ++ lines_of_replies requests (replies opening progress requests)) (progress_after opening progress (steps_of requests)).history
 lines-legal held opening progress before requests made tells legal =
     let told = tells-all held opening progress requests in
-    let lines = lines_told requests (replies opening progress requests) in
+    let lines = lines_of_replies requests (replies opening progress requests) in
     let events : events_of (before ++ lines) ≡ (progress_after opening progress (steps_of requests)).history =
     events-both before lines ∙ ap (λ (history : List Event). history ++ events_of lines) tells ∙ told.0 in
     record {
@@ -385,14 +385,14 @@ lines-legal held opening progress before requests made tells legal =
 -- what a history text is read back as
 abbrev pub ReadBack : Type 0
 ReadBack = (most : ℕ) (row : Row) (rows : List Row) (opening : Opening) → 0 < most → most ≤ 2 ^ 32 → opening_of row ≡ Ok opening
-    → TellsHistory (history_text most (row ∷ rows)) opening (run_lines (version_of row) most opening rows)
+    → IsHistoryText (history_text most (row ∷ rows)) opening (run_lines (version_of row) most opening rows)
 
 -- what is found of legal lines
 abbrev pub LegalIsClean : Type 0
-LegalIsClean = (text : List ℕ) (opening : Opening) (lines : List Line) → TellsHistory text opening lines → AreLegal opening lines
+LegalIsClean = (text : List ℕ) (opening : Opening) (lines : List Line) → IsHistoryText text opening lines → AreLegal opening lines
     → text_finding (records_of text) ≡ Ok (Clean (length (events_of lines)))
 
-pub run-clean : ReadBack → LegalIsClean → Held → (most : ℕ) (row : Row) (rows : List Row)
+pub run-clean : ReadBack → LegalIsClean → Promises → (most : ℕ) (row : Row) (rows : List Row)
     (opening : Opening) → 0 < most → most ≤ 2 ^ 32 → opening_of row ≡ Ok opening
     → text_finding (records_of (history_text most (row ∷ rows)))
     ≡ Ok (Clean (length (progress_at_end opening (requests_of (version_of row) (before_fault (version_of row) most 2 rows))).history))
@@ -417,7 +417,7 @@ before-all version most number (row ∷ rows) e = by (record_fault version most 
     by (Some why) r e later = let wrong : Some why ≡ None = rw r at e in cc
     by None r e later = rw r (ap (λ (l : List Row). row ∷ l) (later (rw r at e)))
 
-pub whole-clean : ReadBack → LegalIsClean → Held → (most : ℕ) (rows : List Row) (end : RunEnd) → most ≤ 2 ^ 32 → fault_of most rows ≡ None
+pub whole-clean : ReadBack → LegalIsClean → Promises → (most : ℕ) (rows : List Row) (end : RunEnd) → most ≤ 2 ^ 32 → fault_of most rows ≡ None
     → end_of most rows ≡ Some end → text_finding (records_of (history_text most rows)) ≡ Ok (Clean end.events)
 unfolding fault_of end_of
 whole-clean told clean held most [] end few sound ended = cc
@@ -441,11 +441,11 @@ whole-clean told clean held most (row ∷ rows) end few sound ended = by (openin
 
 -- what is wanted of the crates below
 pub record Below : Type 0 where
-  pub held : Held
-  pub opens : (rows : List Row) (begun : Beginning) → resumed_of rows ≡ Ok begun → BeginsWell rows begun
-  pub behind : (rows more : List Row) (begun : Beginning) (opening : Opening) (past : List Event) (lines : List Line) → resumed_of rows ≡ Ok begun
-      → GoesOn rows opening past → TellEach Three more lines → begun.read + length more ≤ 2 ^ 32
-      → TellsPart (rows_text (take begun.read rows ++ more)) opening past lines
+  pub held : Promises
+  pub opens : (rows : List Row) (begun : Preamble) → resumed_of rows ≡ Ok begun → HasPreamble rows begun
+  pub behind : (rows more : List Row) (begun : Preamble) (opening : Opening) (past : List Event) (lines : List Line) → resumed_of rows ≡ Ok begun
+      → Resumes rows opening past → AreLinesOf Three more lines → begun.read + length more ≤ 2 ^ 32
+      → IsExcerptText (rows_text (take begun.read rows ++ more)) opening past lines
   pub clean : (rows : List Row) (opening : Opening) (past : List Event) → AreLegal opening (map Made past ++ excerpt_lines rows)
       → whole_finding opening past rows ≡ Clean (length (events_of (map Made past ++ excerpt_lines rows)))
   pub events : EventsAreLines
@@ -453,11 +453,11 @@ pub record Below : Type 0 where
 -- ---- its beginning
 
 -- a beginning of no more records than are read
-record Within (most : ℕ) (rows : List Row) (b : Beginning) : Type 0 where
+record Within (most : ℕ) (rows : List Row) (b : Preamble) : Type 0 where
   begun : resumed_of rows ≡ Ok b
   few : b.read ≤ most
 
-behind : (most : ℕ) (rows : List Row) (b : Beginning) → resumed_within most rows ≡ Ok b → and_then (resumed_of rows) (within_most most) ≡ Ok b
+behind : (most : ℕ) (rows : List Row) (b : Preamble) → resumed_within most rows ≡ Ok b → and_then (resumed_of rows) (within_most most) ≡ Ok b
 behind most [] b e = e
 behind most (row ∷ rows) b e = by (most == 0) (long_by most (resume_of row)) e
   where
@@ -468,14 +468,14 @@ behind most (row ∷ rows) b e = by (most == 0) (long_by most (resume_of row)) e
     by false (Some r) e = cc
     by false None e = e
 
-within : (most : ℕ) (rows : List Row) (b : Beginning) → resumed_within most rows ≡ Ok b → Within most rows b
+within : (most : ℕ) (rows : List Row) (b : Preamble) → resumed_within most rows ≡ Ok b → Within most rows b
 within most rows b e =
     let is = behind most rows b e in
     record { begun = grind (arith, nat_tests, is); few = grind (arith, nat_tests, is) }
 
 -- ---- its text
 
-text-resumed : (most : ℕ) (past : List Event) (rows : List Row) (b : Beginning) → resumed_within most rows ≡ Ok b
+text-resumed : (most : ℕ) (past : List Event) (rows : List Row) (b : Preamble) → resumed_within most rows ≡ Ok b
     → resumed_text most past rows
     ≡ rows_text (take b.read rows ++ rows_left Three most b.opening (b.read + 1) (going_on past) b.left)
 unfolding resumed_text
@@ -483,7 +483,7 @@ text-resumed most past rows b e = rw (part-opened most rows b e) (text-begun mos
 
 -- legal lines are found clean
 told-clean : Below → (text : List ℕ) (opening : Opening) (past : List Event) (lines : List Line) (history : List Event)
-    → TellsPart text opening past lines → AreRuns opening (map Made past ++ lines) history → IsFound text opening past (Clean (length history))
+    → IsExcerptText text opening past lines → AreRuns opening (map Made past ++ lines) history → IsFound text opening past (Clean (length history))
 told-clean law text opening past lines history told runs =
     let same : AreRuns opening (map Made past ++ excerpt_lines (records_of text)) history =
     subst (λ (ls : List Line). AreRuns opening (map Made past ++ ls) history) (sym told.tells) runs in
@@ -494,24 +494,24 @@ told-clean law text opening past lines history told runs =
       finding = law.clean (records_of text) opening past same.legal ∙ ap (λ (events : List Event). Clean (length events)) same.events;
     }
 
-pub resumed-clean : Below → (most : ℕ) (rows : List Row) (opening : Opening) (past : List Event) (b : Beginning) → most ≤ 2 ^ 32
-    → GoesOn rows opening past → All (λ event. CommandFits event.command) past → resumed_within most rows ≡ Ok b
+pub resumed-clean : Below → (most : ℕ) (rows : List Row) (opening : Opening) (past : List Event) (b : Preamble) → most ≤ 2 ^ 32
+    → Resumes rows opening past → All (λ event. CommandFits event.command) past → resumed_within most rows ≡ Ok b
     → IsFound (resumed_text most past rows) opening past (Clean (length (progress_resumed most past b).history))
 resumed-clean law most rows opening past b few goes fit e =
     let at = within most rows b e in
     let same : goes.beginning ≡ b = cc in
-    let opened : b.opening ≡ opening = subst (λ (it : Beginning). it.opening ≡ opening) same goes.opened in
-    let shows : Shows opening b.core past = subst (λ (it : Beginning). Shows opening it.core past) same goes.shown in
+    let opened : b.opening ≡ opening = subst (λ (it : Preamble). it.opening ≡ opening) same goes.opened in
+    let shows : Represents opening b.core past = subst (λ (it : Preamble). Represents opening it.core past) same goes.shown in
     let legal : IsLegal b.opening past = subst (λ (o : Opening). IsLegal o past) (sym opened) shows.legal in
     let well = law.opens rows b at.begun in
     let opens : Opens b.opening = record { accepted = well.accepted; params = law.held.params b.opening.params well.in_range } in
     let sound : Sound b.opening (going_on past) = record { legal = legal; fit = fit; held = omega arith } in
     let more = rows_left Three most b.opening (b.read + 1) (going_on past) b.left in
     let lines = lines_left Three most b.opening (b.read + 1) (going_on past) b.left in
-    let told : TellEach Three more lines = rows-told Three law.held most b.opening (b.read + 1) (going_on past) b.left few opens sound in
+    let told : AreLinesOf Three more lines = rows-told Three law.held most b.opening (b.read + 1) (going_on past) b.left few opens sound in
     let within = at.few in
     let count = few-left Three most b.opening (b.read + 1) (going_on past) b.left (omega (arith, within)) in
-    let tells : TellsPart (rows_text (take b.read rows ++ more)) opening past lines =
+    let tells : IsExcerptText (rows_text (take b.read rows ++ more)) opening past lines =
     law.behind rows more b opening past lines at.begun goes told (omega (arith, count, few)) in
     let runs = lines-legal law.held b.opening (going_on past) (map Made past) (requests_of Three (before_fault Three most (b.read + 1) b.left))
     (law.events.made past) (law.events.events past) legal in
@@ -523,7 +523,7 @@ resumed-clean law most rows opening past b few goes fit e =
 -- ---- one without a fault
 
 pub resumed-whole : Below → (most : ℕ) (rows : List Row) (opening : Opening) (past : List Event) (end : RunEnd) → most ≤ 2 ^ 32
-    → GoesOn rows opening past → All (λ event. CommandFits event.command) past → resumed_fault most rows ≡ None
+    → Resumes rows opening past → All (λ event. CommandFits event.command) past → resumed_fault most rows ≡ None
     → resumed_end most past rows ≡ Some end → IsFound (resumed_text most past rows) opening past (Clean end.events)
 unfolding resumed_fault resumed_end
 resumed-whole law most rows opening past end few goes fit sound ended = by (resumed_within most rows) refl
@@ -531,7 +531,7 @@ resumed-whole law most rows opening past end few goes fit sound ended = by (resu
     found : ℕ → Type 0
     found events = IsFound (resumed_text most past rows) opening past (Clean events)
 
-    by : (read : Result Beginning TraceFault) → resumed_within most rows ≡ read → found end.events
+    by : (read : Result Preamble TraceFault) → resumed_within most rows ≡ read → found end.events
     by (Err why) is = absurd (grind (arith, nat_tests, sound, is))
     by (Ok b) is =
         let none : first_fault Three most (b.read + 1) b.left ≡ None = grind (arith, nat_tests, sound, is) in
@@ -605,20 +605,20 @@ behind-queue count (packet ∷ waiting) (row ∷ before) after left is =
     behind-queue count waiting before after left (let rest : before ++ (lost_row count ∷ after) ≡ map queued_row waiting ++ left = cc in rest)
 
 -- what pie_excerpt promises of all beginnings
-module _ (again : (row : Row) (rows : List Row) (begun : Beginning) → resumed_of (row ∷ rows) ≡ Ok begun
+module _ (again : (row : Row) (rows : List Row) (begun : Preamble) → resumed_of (row ∷ rows) ≡ Ok begun
     → take begun.read (row ∷ rows) ≡ row ∷ map queued_row begun.core.waiting)
-    (alone : (rows more : List Row) (begun : Beginning) → resumed_of rows ≡ Ok begun
+    (alone : (rows more : List Row) (begun : Preamble) → resumed_of rows ≡ Ok begun
     → resumed_of (take begun.read rows ++ more) ≡ Ok (record begun { left = more }))
-    (opens : (rows : List Row) (begun : Beginning) → resumed_of rows ≡ Ok begun → BeginsWell rows begun) where
+    (opens : (rows : List Row) (begun : Preamble) → resumed_of rows ≡ Ok begun → HasPreamble rows begun) where
   -- the records behind a beginning are those that are left
-  left-is : (rows : List Row) (begun : Beginning) → resumed_of rows ≡ Ok begun → drop begun.read rows ≡ begun.left
+  left-is : (rows : List Row) (begun : Preamble) → resumed_of rows ≡ Ok begun → drop begun.read rows ≡ begun.left
   left-is rows begun is = same (resumed_of rows) (record begun { left = drop begun.read rows }) begun
       (ap resumed_of (sym (take-append-drop begun.read rows)) ∙ alone rows (drop begun.read rows) begun is) is
     where
-      same : (read : Result Beginning TraceFault) (a b : Beginning) → read ≡ Ok a → read ≡ Ok b → a.left ≡ b.left
+      same : (read : Result Preamble TraceFault) (a b : Preamble) → read ≡ Ok a → read ≡ Ok b → a.left ≡ b.left
       same read a b e f = cc
 
-  begun-left : (count : ℕ) (before after : List Row) (begun : Beginning) → resumed_of (before ++ (lost_row count ∷ after)) ≡ Ok begun
+  begun-left : (count : ℕ) (before after : List Row) (begun : Preamble) → resumed_of (before ++ (lost_row count ∷ after)) ≡ Ok begun
       → HasLost count begun.left
   unfolding field_at
   begun-left count [] after begun is =
@@ -636,7 +636,7 @@ module _ (again : (row : Row) (rows : List Row) (begun : Beginning) → resumed_
   unfolding excerpt_fault
   lost-part-is-fault count before after = by (resumed_of (before ++ (lost_row count ∷ after))) refl
     where
-      by : (r : Result Beginning TraceFault) → resumed_of (before ++ (lost_row count ∷ after)) ≡ r → fault_after r ≢ None
+      by : (r : Result Preamble TraceFault) → resumed_of (before ++ (lost_row count ∷ after)) ≡ r → fault_after r ≢ None
       by (Err why) is = λ e. cc
       by (Ok begun) is = let has = begun-left count before after begun is in λ e.
           lost-later Three (2 ^ 32) (begun.read + 1) count has.before has.after

@@ -1,7 +1,7 @@
 pub mod Names
 pub mod Reply
 pub mod History
-pub mod Stand
+pub mod RunState
 pub mod Pass
 pub mod Steps
 pub mod Laws
@@ -10,7 +10,7 @@ pub mod Migrate
 unfoldable pub use Names.*
 unfoldable pub use Reply.*
 unfoldable pub use History.*
-unfoldable pub use Stand.*
+unfoldable pub use RunState.*
 unfoldable pub use Pass.*
 unfoldable pub use Steps.*
 unfoldable pub use Laws.*

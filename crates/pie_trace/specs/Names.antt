@@ -3,9 +3,9 @@ pub use Rattle.std.specs.Io.KnownBytes.{Appends, append_known}
 pub use Rattle.std.specs.Prelude.{Bool, Err, IfErr, IfOk, IfSome, List, None, Ok, OnOk, Option, Result, Some, [], drop, false, length, map, true, ℕ}
 pub use Rattle.pie_audit.specs.Text.{text_finding}
 pub use Rattle.pie_audit.specs.declared.auditor.Finding.TheVariants.{Clean}
-pub use Rattle.pie_book.specs.Book.{BookView, Tells, last_events}
-pub use Rattle.pie_book.specs.Core.{CoreView, Shows, core_after, registers_of}
-pub use Rattle.pie_book.specs.Standing.{apply_in}
+pub use Rattle.pie_book.specs.Book.{BookView, BookRepresents, last_events}
+pub use Rattle.pie_book.specs.Core.{CoreView, Represents, core_after, registers_of}
+pub use Rattle.pie_book.specs.Snapshot.{apply_in}
 unfoldable pub use Rattle.pie_book.specs.Registers.{registers_after}
 pub use Rattle.pie_book.specs.Run.{Progress, Step, fold_outcome, outcome, start}
 unfoldable pub use Rattle.pie_book.specs.Run.{progress_after}
@@ -19,16 +19,16 @@ pub use Rattle.pie_event.specs.declared.refusal.FoldRefusal.{FoldRefusal}
 pub use Rattle.pie_event.specs.declared.refusal.Refusal.{Refusal}
 pub use Rattle.pie_event.specs.declared.registers.Registers.{Registers}
 pub use Rattle.pie_event.specs.declared.stats.Stats.{Stats}
-pub use Rattle.pie_excerpt.specs.Beginning.{Beginning, GoesOn, is_resumed, resumed_of}
+pub use Rattle.pie_excerpt.specs.Preamble.{Preamble, Resumes, is_resumed, resumed_of}
 pub use Rattle.pie_excerpt.specs.Rows.{queued_row}
 pub use Rattle.pie_record.specs.Answer.{code_of}
 unfoldable pub use Rattle.pie_record.specs.Answer.{answer_fields, folded_row, refused_row, shown_row, tallied_row}
-pub use Rattle.pie_record.specs.Fault.{IsRead, IsTold, IsWrite, closed, fault_at, is_device}
+pub use Rattle.pie_record.specs.Fault.{IsRead, NoDeviceFailed, IsWrite, closed, fault_at, is_device}
 pub use Rattle.pie_record.specs.Field.{and_then, is_kind}
 unfoldable pub use Rattle.pie_record.specs.FirstRecord.{first_kind, version_of, opening_of}
-pub use Rattle.pie_record.specs.HistoryLines.{Coming, coming_after, event_count, events_in, fault_from, history_lines, lines_from, told_by}
+pub use Rattle.pie_record.specs.HistoryLines.{Coming, coming_after, event_count, events_in, fault_from, history_lines, lines_from, line_in}
 unfoldable pub use Rattle.pie_record.specs.HistoryLines.{after_opening, history_opening, history_version, line_of, shown_line}
-pub use Rattle.pie_record.specs.ReadBack.{Begins, TellsHistory}
+pub use Rattle.pie_record.specs.ReadBack.{Begins, IsHistoryText}
 pub use Rattle.pie_record.specs.Text.{HasField, Row, records_of, text_of}
 unfoldable pub use Rattle.pie_record.specs.Text.{rows_text}
 unfoldable pub use Rattle.pie_record.specs.Command.{request_of}

@@ -1,19 +1,21 @@
 //! The laws of runs and migrations: history texts are read back and are clean, and excerpts continue a history.
 ghost use Rattle.std.specs.Prelude.{◌≡◌, ◌<◌, ◌≤◌, ◌^◌, ◌∷◌, ◌++◌, ◌≢◌, All};
 ghost use Rattle.pie_trace.specs.{ℕ, List, Ok, Opening, progress_after, start, Request, history_text, progress_at_end, replies, steps_of, let_go};
-ghost use Rattle.pie_trace.specs.{going_on, version_of, opening_of, TellsHistory, run_lines, Row, length, None, Some, Event, Beginning, GoesOn};
+ghost use Rattle.pie_trace.specs.{going_on, version_of, opening_of, IsHistoryText, run_lines, Row, length, None, Some, Event, Preamble, Resumes};
 ghost use Rattle.pie_trace.specs.{before_fault, end_of, fault_of, requests_of, progress_resumed, resumed_end, resumed_fault, resumed_text};
-ghost use Rattle.pie_trace.specs.{resumed_within, records_of, Clean, text_finding, history_lines, history_opening, history_version, TellTheSame};
+ghost use Rattle.pie_trace.specs.{resumed_within, records_of, Clean, text_finding, history_lines, history_opening, history_version, HaveSameLines};
 ghost use Rattle.pie_trace.specs.{first_in_two, history_fault, migrated_text, migrated_version};
-ghost use Rattle.pie_trace.specs.Laws.{Held};
+ghost use Rattle.pie_trace.specs.Laws.{Promises};
 ghost use Rattle.pie_event.specs.Ranges.{CommandFits};
 ghost use Rattle.pie_trace.specs.declared.run.RunEnd.{RunEnd};
 ghost use Rattle.pie_text.specs.Lost.{lost_row};
 ghost use Rattle.pie_audit.specs.Text.{IsFound, excerpt_fault};
 
-use pie_audit::{clean_is_legal, clean_parts_are_legal, events_are_lines, written_parts_are_told};
+use pie_audit::{
+    clean_excerpts_are_legal, clean_is_legal, events_are_lines, written_excerpts_are_read,
+};
 use pie_book::{all_numbers_are_held, profile_one_is_always_active};
-use pie_excerpt::beginnings_are_written_again;
+use pie_excerpt::preambles_are_written_again;
 use pie_record::{
     answers_are_read_back, openings_are_checked, requests_are_written_again, texts_are_read_back,
 };
@@ -22,7 +24,7 @@ use pie_record::{
 ///
 /// The function does nothing: its contract is the law.
 pub(crate) fn all_is_held()
-    ensures { Held }
+    ensures { Promises }
 {
     all_numbers_are_held();
     answers_are_read_back();
@@ -39,7 +41,7 @@ pub(crate) fn all_is_held()
 /// The function does nothing: its contract is the law (this project's own).
 pub fn history_texts_are_read_back()
     ensures { (most : ℕ) (row : Row) (rows : List Row) (opening : Opening) → 0 < most → most ≤ 2 ^ 32 → opening_of row ≡ Ok opening
-        → TellsHistory (history_text most (row ∷ rows)) opening (run_lines (version_of row) most opening rows) }
+        → IsHistoryText (history_text most (row ∷ rows)) opening (run_lines (version_of row) most opening rows) }
 {
     all_is_held();
 }
@@ -83,28 +85,28 @@ pub fn runs_are_clean()
 ///
 /// The function does nothing: its contract is the law (this project's own).
 pub fn resumed_runs_are_clean()
-    ensures whole { (most : ℕ) (rows : List Row) (opening : Opening) (past : List Event) (end : RunEnd) → most ≤ 2 ^ 32 → GoesOn rows opening past
+    ensures whole { (most : ℕ) (rows : List Row) (opening : Opening) (past : List Event) (end : RunEnd) → most ≤ 2 ^ 32 → Resumes rows opening past
         → All (λ event. CommandFits event.command) past → resumed_fault most rows ≡ None → resumed_end most past rows ≡ Some end
         → IsFound (resumed_text most past rows) opening past (Clean end.events) }
-    ensures up_to_fault { (most : ℕ) (rows : List Row) (opening : Opening) (past : List Event) (begun : Beginning) → most ≤ 2 ^ 32
-        → GoesOn rows opening past → All (λ event. CommandFits event.command) past → resumed_within most rows ≡ Ok begun
+    ensures up_to_fault { (most : ℕ) (rows : List Row) (opening : Opening) (past : List Event) (begun : Preamble) → most ≤ 2 ^ 32
+        → Resumes rows opening past → All (λ event. CommandFits event.command) past → resumed_within most rows ≡ Ok begun
         → IsFound (resumed_text most past rows) opening past (Clean (length (progress_resumed most past begun).history)) }
 {
     all_is_held();
-    beginnings_are_written_again();
-    clean_parts_are_legal();
+    preambles_are_written_again();
+    clean_excerpts_are_legal();
     events_are_lines();
-    written_parts_are_told();
+    written_excerpts_are_read();
 }
 
 /// The law of lost events in excerpts. If a text has a record of lost events, every reader of the text as an
 /// excerpt finds a fault. So no audit finds it clean.
 ///
 /// The function does nothing: its contract is the law (this project's own).
-pub fn lost_records_are_faults_of_parts()
+pub fn lost_records_are_faults_of_excerpts()
     ensures { (count : ℕ) (before after : List Row) → excerpt_fault (before ++ lost_row count ∷ after) ≢ None }
 {
-    beginnings_are_written_again();
+    preambles_are_written_again();
 }
 
 /// The law of migrated histories. `HistoryLines` reads the output of `migrate`. The migrated text of every history
@@ -115,10 +117,10 @@ pub fn lost_records_are_faults_of_parts()
 /// The function does nothing: its contract is the law (this project's own).
 pub fn migrated_histories_are_read_back()
     ensures tells { (rows : List Row) (opening : Opening) → history_opening rows ≡ Ok opening
-        → TellsHistory (migrated_text (2 ^ 32) rows) opening (history_lines (2 ^ 32) rows) }
+        → IsHistoryText (migrated_text (2 ^ 32) rows) opening (history_lines (2 ^ 32) rows) }
     ensures version { (rows : List Row) (opening : Opening) → history_opening rows ≡ Ok opening
         → history_version (records_of (migrated_text (2 ^ 32) rows)) ≡ migrated_version (history_version rows) }
-    ensures same { (text : List ℕ) → history_fault (2 ^ 32) (records_of text) ≡ None → TellTheSame text (migrated_text (2 ^ 32) (records_of text)) }
+    ensures same { (text : List ℕ) → history_fault (2 ^ 32) (records_of text) ≡ None → HaveSameLines text (migrated_text (2 ^ 32) (records_of text)) }
 {
     texts_are_read_back();
 }

@@ -28,7 +28,7 @@ mod session;
 mod started;
 
 pub use law::{
-    history_texts_are_read_back, lost_records_are_faults_of_parts,
+    history_texts_are_read_back, lost_records_are_faults_of_excerpts,
     migrated_histories_are_read_back, migrated_runs_are_runs_of_version_two,
     migrating_again_changes_nothing, migration_keeps_the_finding, resumed_runs_are_clean,
     resumed_runs_go_on_as_the_whole, runs_are_clean,

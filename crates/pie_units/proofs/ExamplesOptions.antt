@@ -2,10 +2,10 @@
 use Rattle.std.proofs.Common.{◌≡◌, codes, refl}
 use Rattle.std.specs.Prelude.{Ok, Err}
 use Rattle.pie_units.specs.Scale.{is_word, prefix_scale, rate_scale, time_scale}
-use Rattle.pie_units.specs.Written.{digit_count, number_after}
+use Rattle.pie_units.specs.Number.{digit_count, number_after}
 use Rattle.pie_units.specs.declared.option_units.OptionFault.TheVariants.{NoRate, Unread}
 use Rattle.pie_units.specs.declared.unit.Quantity.TheVariants.{Time}
-use Rattle.pie_units.specs.declared.written.UnitFault.TheVariants.{NotANumber, TooPrecise}
+use Rattle.pie_units.specs.declared.number.UnitFault.TheVariants.{NotANumber, TooPrecise}
 use Rattle.pie_units.specs.Opening.{gain_of}
 use Rattle.pie_units.specs.Units.{packets_of, rate_of, time_of}
 

@@ -3,9 +3,9 @@
 use Rattle.std.proofs.Common.{◌≡◌, ◌^◌, codes, refl}
 use Rattle.std.specs.Prelude.{Ok, Err, ⊤}
 use Rattle.pie_units.specs.declared.unit.Quantity.TheVariants.{Rate, Size, Packets}
-use Rattle.pie_units.specs.declared.written.UnitFault.TheVariants.{NotANumber, TooPrecise}
+use Rattle.pie_units.specs.declared.number.UnitFault.TheVariants.{NotANumber, TooPrecise}
 use Rattle.pie_units.specs.Scale.{is_word, prefix_scale, rate_scale, size_scale}
-use Rattle.pie_units.specs.Written.{digit_count, number_after, value_of}
+use Rattle.pie_units.specs.Number.{digit_count, number_after, value_of}
 
 -- the definitions that computing a value unfolds
 unfoldable worked : Type 0

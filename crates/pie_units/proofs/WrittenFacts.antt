@@ -4,7 +4,7 @@ use Rattle.std.specs.Prelude.{min}
 use Rattle.std.proofs.lemmas.Bool.Decides.{nat_tests}
 use Rattle.std.proofs.lemmas.Nat.{mul-le}
 use Rattle.std.proofs.lemmas.List.Sums.{fold-append, fold_more}
-use Rattle.pie_units.specs.Written.{number_after, whole_in}
+use Rattle.pie_units.specs.Number.{number_after, whole_in}
 
 -- ---- The number, limited to a maximum
 

@@ -1,6 +1,6 @@
 pub mod Moment
 pub mod Scale
-pub mod Written
+pub mod Number
 pub mod Date
 pub mod Utc
 pub mod When

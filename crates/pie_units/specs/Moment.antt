@@ -5,9 +5,9 @@ use Rattle.pie_units.specs.declared.moment.Moment.{Moment as Moment}
 use Rattle.pie_units.specs.declared.moment.MomentFault.{MomentFault}
 use Rattle.pie_units.specs.declared.moment.MomentFault.TheVariants.{NotAMoment, TooFine, TooLate}
 use Rattle.pie_units.specs.declared.unit.Quantity.TheVariants.{Moment as AMoment}
-use Rattle.pie_units.specs.declared.written.UnitFault.{UnitFault}
-use Rattle.pie_units.specs.declared.written.UnitFault.TheVariants.{NotANumber, TooPrecise, TooGreat}
-use Rattle.pie_units.specs.Written.{value_of}
+use Rattle.pie_units.specs.declared.number.UnitFault.{UnitFault}
+use Rattle.pie_units.specs.declared.number.UnitFault.TheVariants.{NotANumber, TooPrecise, TooGreat}
+use Rattle.pie_units.specs.Number.{value_of}
 
 -- the reason why a text is not a moment
 abbrev pub moment_fault : UnitFault → MomentFault
@@ -20,6 +20,6 @@ abbrev pub moment_in : List ℕ → Result ℕ MomentFault
 moment_in text = result_map_both (λ number. number) moment_fault (value_of AMoment text)
 
 -- the result of parsing a text as a moment
-abbrev pub WritesMoment : List ℕ → Result Moment MomentFault → Type 0
-WritesMoment text (Ok moment) = moment_in text ≡ Ok moment.0
-WritesMoment text (Err why) = moment_in text ≡ Err why
+abbrev pub ParsesMoment : List ℕ → Result Moment MomentFault → Type 0
+ParsesMoment text (Ok moment) = moment_in text ≡ Ok moment.0
+ParsesMoment text (Err why) = moment_in text ≡ Err why

@@ -3,7 +3,7 @@ use Rattle.std.specs.Prelude.{ℕ, ◌==◌, List, Result, Ok, Err, if◌then◌
 use Rattle.std.specs.Result.{result_map_both}
 use Rattle.pie_units.specs.declared.unit.Quantity.{Quantity}
 use Rattle.pie_units.specs.declared.unit.Quantity.TheVariants.{Time, Rate, Packets}
-use Rattle.pie_units.specs.Written.{value_of}
+use Rattle.pie_units.specs.Number.{value_of}
 use Rattle.pie_units.specs.declared.option_units.OptionFault.{OptionFault}
 use Rattle.pie_units.specs.declared.option_units.OptionFault.TheVariants.{Unread, NoRate}
 

@@ -11,7 +11,7 @@ use Rattle.pie_units.specs.declared.utc.Utc.{Utc as Utc}
 use Rattle.pie_units.specs.declared.utc.UtcFault.{UtcFault}
 use Rattle.pie_units.specs.declared.utc.UtcFault.TheVariants.{NotUtc, OutOfRange}
 use Rattle.pie_units.specs.Date.{date_of, day_number, days_in_month}
-use Rattle.pie_units.specs.Written.{decimals_in, digit_count, number_after, parts_of, unit_in}
+use Rattle.pie_units.specs.Number.{decimals_in, digit_count, number_after, parts_of, unit_in}
 
 -- ---- The text of a time
 
@@ -94,6 +94,6 @@ utc_in text =
     else utc_with text decimals
 
 -- the result of parsing a text as a wall-clock time
-abbrev pub WritesUtc : List ℕ → Result Utc UtcFault → Type 0
-WritesUtc text (Ok time) = utc_in text ≡ Ok time.0
-WritesUtc text (Err why) = utc_in text ≡ Err why
+abbrev pub ParsesUtc : List ℕ → Result Utc UtcFault → Type 0
+ParsesUtc text (Ok time) = utc_in text ≡ Ok time.0
+ParsesUtc text (Err why) = utc_in text ≡ Err why

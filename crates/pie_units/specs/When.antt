@@ -19,5 +19,5 @@ when_in text =
     else result_map_both when.Moment fault.Moment (moment_in text)
 
 -- the result of parsing a text as a bound
-abbrev pub WritesWhen : List ℕ → Result When WhenFault → Type 0
-WritesWhen text read = when_in text ≡ read
+abbrev pub ParsesWhen : List ℕ → Result When WhenFault → Type 0
+ParsesWhen text read = when_in text ≡ read

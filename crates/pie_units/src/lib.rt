@@ -13,20 +13,20 @@
 
 mod date;
 mod moment;
+mod number;
 mod opening;
 mod option_units;
 mod options;
 mod unit;
 mod utc;
 mod when;
-mod written;
 
 pub use date::{Date, date_of};
 pub use moment::{Moment, MomentFault};
+pub use number::{UnitFault, read};
 pub use opening::{opening_for, write_opening};
 pub use option_units::{OptionFault, packets_of, rate_of, time_of};
 pub use options::{TuningOptions, can_stall, elements_for, gain_of, is_short, params_for};
 pub use unit::Quantity;
 pub use utc::{Utc, UtcFault};
 pub use when::{When, WhenFault};
-pub use written::{UnitFault, read};

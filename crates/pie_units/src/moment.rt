@@ -2,8 +2,8 @@
 ghost use Rattle.std.specs.Prelude.{◌≡◌};
 ghost use Rattle.pie_units.specs.Moment.{moment_fault, moment_in};
 
+use crate::number::{UnitFault, read};
 use crate::unit::Quantity;
-use crate::written::{UnitFault, read};
 use std::str::FromStr;
 use thiserror::Error;
 
@@ -46,9 +46,9 @@ pub(crate) fn moment_in(text: &[u8]) -> Result<u64, MomentFault>
 impl FromStr for Moment {
     type Err = MomentFault;
 
-    ghost use Rattle.pie_units.specs.Moment.{WritesMoment};
+    ghost use Rattle.pie_units.specs.Moment.{ParsesMoment};
 
-    ghost from_str_gives = { λ text read. WritesMoment text read };
+    ghost from_str_gives = { λ text read. ParsesMoment text read };
 
     fn from_str(text: &str) -> Result<Moment, MomentFault> {
         let moment = moment_in(text.as_bytes())?;

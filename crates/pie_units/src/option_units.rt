@@ -2,8 +2,8 @@
 ghost use Rattle.std.specs.Prelude.{◌≡◌};
 ghost use Rattle.pie_units.specs.Units.{packets_of, rate_of, time_of, option_number};
 
+use crate::number::{UnitFault, read};
 use crate::unit::Quantity;
-use crate::written::{UnitFault, read};
 use std::fmt;
 use thiserror::Error;
 

@@ -3,7 +3,7 @@ ghost use Rattle.std.specs.Prelude.{◌≡◌, ◌≤◌, ◌-◌, ◌^◌, IfSo
 ghost use Rattle.pie_units.specs.Utc.{date_part, has_marks, nanos_in, number_in, number_within, seconds_part, unix_of, utc_in, utc_with};
 
 use crate::date::{Date, date_of, day_number, days_in_month};
-use crate::written::{decimals_in, digit_count, number_after, parts_of, unit_in};
+use crate::number::{decimals_in, digit_count, number_after, parts_of, unit_in};
 use std::fmt;
 use std::fmt::Display;
 use std::str::FromStr;
@@ -176,9 +176,9 @@ pub(crate) fn utc_in(text: &[u8]) -> Result<u64, UtcFault>
 impl FromStr for Utc {
     type Err = UtcFault;
 
-    ghost use Rattle.pie_units.specs.Utc.{WritesUtc};
+    ghost use Rattle.pie_units.specs.Utc.{ParsesUtc};
 
-    ghost from_str_gives = { λ text read. WritesUtc text read };
+    ghost from_str_gives = { λ text read. ParsesUtc text read };
 
     fn from_str(text: &str) -> Result<Utc, UtcFault> {
         let unix = utc_in(text.as_bytes())?;

@@ -48,9 +48,9 @@ fn when_in(text: &[u8]) -> Result<When, WhenFault>
 impl FromStr for When {
     type Err = WhenFault;
 
-    ghost use Rattle.pie_units.specs.When.{WritesWhen};
+    ghost use Rattle.pie_units.specs.When.{ParsesWhen};
 
-    ghost from_str_gives = { λ text read. WritesWhen text read };
+    ghost from_str_gives = { λ text read. ParsesWhen text read };
 
     fn from_str(text: &str) -> Result<When, WhenFault> {
         when_in(text.as_bytes())

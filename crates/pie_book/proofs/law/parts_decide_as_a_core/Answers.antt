@@ -4,5 +4,5 @@ use Rattle.pie_book.proofs.law.parts_decide_as_a_core.Goals as goal
 pub returns-clause-opens : goal.returns-clause-opens
 returns-clause-opens c = first_shows
 
-pub returns-clause-shows : goal.returns-clause-shows
-returns-clause-shows c = next_shown
+pub returns-clause-represents : goal.returns-clause-represents
+returns-clause-represents c = next_shown

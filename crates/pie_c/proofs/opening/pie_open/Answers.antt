@@ -21,8 +21,8 @@ returns-clause-sound c taken =
     (state-sound _ (c.calls_keep_it_sound.ensures.opens (profile_of o.profile) (elements_of o.choices) (raw_of o.params) o.moment
     (params-from o.params opens.0) opens.1))
 
-pub returns-clause-shows : goal.returns-clause-shows
-returns-clause-shows c taken =
+pub returns-clause-represents : goal.returns-clause-represents
+returns-clause-represents c taken =
     let o = c.args.opening.now in
     rw (returns-clause-after c, taken, held-state (held_by_opening o))
     (c.calls_look_back.ensures.opens (profile_of o.profile) (elements_of o.choices) (raw_of o.params) o.moment)

@@ -1,4 +1,4 @@
-use Rattle.pie_storm.proofs.Names.{◌≡◌, length, arith, calls_of, CameBy}
+use Rattle.pie_storm.proofs.Names.{◌≡◌, length, arith, calls_of, IsOutcomeBy}
 use Rattle.pie_storm.proofs.Making.{came_cut, came_of_all, made_more}
 use Rattle.pie_storm.proofs.worker.make_all.Goals as goal
 
@@ -16,7 +16,7 @@ loop-k-preserved g c =
     }
 
 pub returns-in-None : goal.returns-in-None
-unfolding CameBy
+unfolding IsOutcomeBy
 returns-in-None g c =
     let l = c.loop-k.invariant in
     let turn = c.in-None.ensures in record {

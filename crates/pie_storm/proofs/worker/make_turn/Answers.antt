@@ -1,4 +1,4 @@
-use Rattle.pie_storm.proofs.Names.{◌≡◌, ◌∙◌, ℕ, Option, Some, ap, sym, subst, arith, drop, slice_get, take, CameBy, Ask, Fold, calls_of}
+use Rattle.pie_storm.proofs.Names.{◌≡◌, ◌∙◌, ℕ, Option, Some, ap, sym, subst, arith, drop, slice_get, take, IsOutcomeBy, Ask, Fold, calls_of}
 use Rattle.pie_storm.specs.Storms.{TakesTurn}
 use Rattle.pie_storm.proofs.Making.{asked_next, folded_next}
 use Rattle.pie_storm.proofs.PlanFacts.{all_at, IsCallOf, calls_are}
@@ -21,7 +21,7 @@ returns-in-Some-Ask g c =
       few = c.added_by.ensures.few;
       well = λ well. well;
       came = λ well.
-          subst (λ (passed : Option ℕ). CameBy plan number c.args.caller.now.front (take 1 (drop c.args.k (calls_of plan number)))
+          subst (λ (passed : Option ℕ). IsOutcomeBy plan number c.args.caller.now.front (take 1 (drop c.args.k (calls_of plan number)))
           c.ask.new.caller.front passed) (sym c.added_by.ensures.value)
           (asked_next plan number c.args.k c.args.link.now c.requires.link_for c.args.caller.now c.ask.new.caller at c.in-Some-Ask.command there
           c.ask.result c.ask.ensures.answered);

@@ -5,9 +5,9 @@ pub returns : goal.returns
 returns c =
     let below : Below = record {
       held = c.all_is_held.ensures;
-      opens = c.beginnings_are_written_again.ensures.opens;
-      behind = c.written_parts_are_told.ensures.behind;
-      clean = c.clean_parts_are_legal.ensures.legal_is_clean;
+      opens = c.preambles_are_written_again.ensures.opens;
+      behind = c.written_excerpts_are_read.ensures.behind;
+      clean = c.clean_excerpts_are_legal.ensures.legal_is_clean;
       events = c.events_are_lines.ensures;
     } in
     record { whole = resumed-whole below; up_to_fault = resumed-clean below }

@@ -22,7 +22,7 @@ returns-clause-after c =
 pub returns-clause-threshold : goal.returns-clause-threshold
 returns-clause-threshold c = rw (← c.self.view_is) (threshold-holds c.self.inside.raw.params c.self.invariant.params).1
 
-pub returns-clause-shows : goal.returns-clause-shows
-returns-clause-shows c =
+pub returns-clause-represents : goal.returns-clause-represents
+returns-clause-represents c =
     let a = c.args in
     represents_with a.self.now _ (Depart a.size a.left a.since a.moment) (returns-clause-after c) (returns-clause-threshold c)

@@ -16,8 +16,8 @@ returns-clause-picked c =
     a.offered.word a.self.now c.decide-decision.result.choice
     (rw (← c.raw.ensures.same, ← c.raw-2.ensures, ← c.self.view_is) c.decide-decision.ensures.choice)
 
-pub returns-clause-shows : goal.returns-clause-shows
-returns-clause-shows c events shown =
+pub returns-clause-represents : goal.returns-clause-represents
+returns-clause-represents c events shown =
     let a = c.args in
     let d : Decision = c.decide-decision.result in
     let choice : d.choice ≡ choice_of a.elements a.params.now a.control.now a.offered a.self.now

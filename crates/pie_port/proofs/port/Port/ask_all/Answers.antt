@@ -1,4 +1,4 @@
-use Rattle.pie_port.specs.{AnswersWithin, WasBusy, asks, told_events}
+use Rattle.pie_port.specs.{AnswersWithin, WasBusy, asks, events_answered}
 use Rattle.pie_port.proofs.Names.{◌≡◌, ◌∙◌, ℕ, [], refl, ap, subst, length, map, List, CallerView, LinkView, StaysOne, PieEvent}
 use Rattle.std.proofs.Common.{inl, inr, rules}
 use Rattle.pie_port.proofs.Bursting.{begun}
@@ -23,7 +23,7 @@ returns-clause-tried g c =
             answered = subst (λ (b : CallerView). AnswersWithin c.args.budget goes_on b.lock b (map (asks asked) events) [] said.0 after) same
                 (subst (λ (l : LinkView). AnswersWithin c.args.budget goes_on l inside (map (asks asked) events) [] said.0 after) lock said.2);
             stays = subst (λ (b : CallerView). StaysOne b after) same w.in-Ok.ensures.stays;
-            told = said.1.1.told ∙ ap (λ (n : ℕ). told_events asked n events said.0) c.requires.caller;
+            told = said.1.1.told ∙ ap (λ (n : ℕ). events_answered asked n events said.0) c.requires.caller;
             counted = said.1.1.so_many;
             done = w.code-is;
           })))

@@ -10,8 +10,8 @@ invariant_of-self c =
     subst (λ (e : Estimate). IsWithin e) (sym c.departed.ensures)
     (within_after c.args.threshold (departure c.args.size c.args.bytes_left c.units.result) c.requires within c.self.inside.raw c.self.invariant)
 
-pub returns-clause-shows : goal.returns-clause-shows
-returns-clause-shows c departures shown =
+pub returns-clause-represents : goal.returns-clause-represents
+returns-clause-represents c departures shown =
     let a = c.args in
     rw (c.departed.ensures, c.units.ensures.value)
     (represents_after a.threshold departures (departure a.size a.bytes_left a.moment) c.self.inside.raw c.requires (rw (← c.self.view_is) at shown))

@@ -1,4 +1,4 @@
-use Rattle.pie_summary.proofs.Names.{ℕ, ◌∙◌, ap, subst, sym, period_at, since, HoldsSums, Noted, sums_of, waits_of}
+use Rattle.pie_summary.proofs.Names.{ℕ, ◌∙◌, ap, subst, sym, period_at, since, HoldsSums, MeterInput, sums_of, waits_of}
 use Rattle.std.proofs.Common.{Some}
 use Rattle.pie_summary.proofs.PeriodFacts.{last_events-push, last_period-push}
 use Rattle.pie_summary.proofs.SumsFacts.{waits-push}
@@ -15,9 +15,9 @@ returns c = λ shown keeps.
     record {
       last = ap Some c.period_of-number.ensures ∙ sym (last_period-push every shown one);
       kept = record {
-        sums = c.take.ensures before c.noted_of-noted.ensures.noted begun.sums ∙ ap sums_of last;
+        sums = c.take.ensures before c.meter_input_of-noted.ensures.noted begun.sums ∙ ap sums_of last;
         waits = waits-push before one (λ numbers held. c.count_some.ensures numbers (c.deref_mut.ensures.value ∙ held))
-            (ap (λ (n : Noted). n.wait) c.noted_of-noted.ensures.noted)
+            (ap (λ (n : MeterInput). n.wait) c.meter_input_of-noted.ensures.noted)
             begun.waits ∙ ap waits_of last;
       };
     }

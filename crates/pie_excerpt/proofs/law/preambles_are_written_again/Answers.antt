@@ -1,0 +1,10 @@
+use Rattle.pie_excerpt.proofs.BackFacts.{begun-alone, begun-opens, begun-text, begun_again}
+use Rattle.pie_excerpt.proofs.law.preambles_are_written_again.Goals as goal
+
+pub returns : goal.returns
+returns c = record {
+  again = begun_again;
+  alone = begun-alone;
+  text = begun-text;
+  opens = begun-opens c.openings_are_checked.ensures;
+}

@@ -1,0 +1,67 @@
+-- A period that is summed up as it goes: the numbers of a summary's record, kept in as much memory as they take.
+use Rattle.std.specs.Prelude.{ℕ, ◌≡◌, ◌+◌, ◌-◌, ◌*◌, ◌^◌, ◌==◌, min, max, Bool, true, List, [], ◌∷◌, ◌++◌, Option, Some, None, count_by}
+use Rattle.std.specs.Prelude.{if◌then◌else◌}
+use Rattle.pie_aqm.specs.Places.{Place, places}
+use Rattle.pie_record.specs.declared.clock.Clock.{Clock}
+use Rattle.pie_explain.specs.declared.explanation.Explained.{Explained}
+use Rattle.pie_explain.specs.declared.form.Form.{Form}
+use Rattle.pie_summary.specs.declared.live_period.LivePeriod.{LivePeriod}
+use Rattle.pie_summary.specs.Counts.{kept}
+use Rattle.pie_summary.specs.Period.{last_events, last_period, period_at, since, starts}
+use Rattle.pie_summary.specs.Sums.{meter_in, reached, waits_of}
+pub use Rattle.pie_summary.specs.Sums.{HasConditions, meter_input_of}
+
+-- ---- periods
+
+abbrev pub is_first : Option ℕ → Place Explained → Bool
+is_first every place = starts (last_period every place.before) (period_at every place.event)
+
+-- how many periods these events are in, each counted where it begins
+abbrev pub periods_begun : Option ℕ → List Explained → ℕ
+periods_begun every all = kept (count_by (is_first every) (places all))
+
+-- the length of the periods, and the number of the one that is under way; none before the first event
+abbrev pub length_of : LivePeriod → Option ℕ
+length_of period = Some period.every
+
+abbrev pub number_in : LivePeriod → Option ℕ
+number_in period = if period.begun == 0 then None else Some period.number
+
+-- when the interval under way starts and ends: both are 0 before the first event. After it the start is the interval's number times its length, and
+-- the end one length later, at most 2^64 - 1
+pub record Spans (begun number every start end : ℕ) : Type 0 where
+  pub starts : start ≡ (if begun == 0 then 0 else number * max every 1)
+  pub ends : end ≡ (if begun == 0 then 0 else min (start + max every 1) (2 ^ 64 - 1))
+
+-- what is kept is of these events: the period of the last one, how many periods there were, and the numbers and the waits of the last events as
+-- far back as they are in the same period
+pub record Holds (period : LivePeriod) (all : List Explained) : Type 0 where
+  pub number : number_in period ≡ last_period (length_of period) all
+  pub begun : period.begun ≡ periods_begun (length_of period) all
+  pub meter : period.meter ≡ meter_in (last_events (length_of period) all)
+  pub waits : period.waits ≡ waits_of (last_events (length_of period) all)
+  pub spans : Spans period.begun period.number period.every period.start period.end
+
+-- the state before the last of these events is counted, once its interval is under way
+pub record Awaits (period : LivePeriod) (shown : List Explained) (one : Explained) : Type 0 where
+  pub number : number_in period ≡ last_period (length_of period) (shown ++ one ∷ [])
+  pub begun : period.begun ≡ periods_begun (length_of period) (shown ++ one ∷ [])
+  pub meter : period.meter ≡ reached (since (length_of period) (Some (period_at (length_of period) one)) shown) one
+  pub waits : period.waits ≡ waits_of (since (length_of period) (Some (period_at (length_of period) one)) shown)
+  pub spans : Spans period.begun period.number period.every period.start period.end
+
+-- the last clock record
+abbrev pub clock_of : LivePeriod → Option Clock
+clock_of period = if period.told == 1 then Some (record { moment = period.clock_moment; unix = period.clock_unix }) else None
+
+-- the settings of the opening and the clock record are unchanged
+pub record IsSet (before after : LivePeriod) : Type 0 where
+  pub every : after.every ≡ before.every
+  pub wall : after.wall ≡ before.wall
+  pub told : after.told ≡ before.told
+  pub clock_moment : after.clock_moment ≡ before.clock_moment
+  pub clock_unix : after.clock_unix ≡ before.clock_unix
+
+-- the form of the records: with a time of day, or without
+abbrev pub form_in : LivePeriod → Form
+form_in period = record { csv = true; by_wall = period.wall == 1 }

@@ -1,0 +1,262 @@
+//! The meter's input for an event.
+ghost use Rattle.std.specs.Prelude.{◌≡◌, ◌<◌, ℕ, Some, None};
+ghost use Rattle.pie_explain.specs.declared.explanation.Explained.{Explained};
+ghost use Rattle.pie_queue.specs.declared.packet.Packet.{Packet};
+ghost use Rattle.pie_event.specs.declared.command.Answer.TheVariants.{Done, Empty, Left, Updated};
+ghost use Rattle.pie_event.specs.declared.verdict.Verdict.{Verdict};
+ghost use Rattle.pie_event.specs.Verdict.{answer_of};
+ghost use Rattle.pie_summary.specs.Sums.{HasConditions, answer_place, cause_of, cause_place, meter_input_by, meter_input_of, size_by, size_in, turned_at};
+
+use pie_book::{Answer, Cause, Command};
+use pie_explain::Explained;
+use pie_queue::{Ecn, Packet};
+
+/// The meter's input for an event. A field that its kind does not have is `None` or 0.
+#[derive(Clone, Copy)]
+pub struct MeterInput {
+    /// The place of its answer's count, 0 to 8: queued, marked, dropped early, in bytes, in packets, a packet that left, none that did, an
+    /// update, and a reset or new parameters.
+    pub answer: usize,
+    /// The place of the count of what decided it, 0 to 14 of an arrival, in the order of the decision, and 15 of any other event.
+    pub cause: usize,
+    /// Its effective moment, in nanoseconds.
+    pub moment: u64,
+    /// The size of an arriving packet, in bytes.
+    pub arrived: Option<u64>,
+    /// The time that a departing packet spent in the queue, in nanoseconds.
+    pub wait: Option<u64>,
+    /// The effective moment of a packet's departure.
+    pub left: Option<u64>,
+    /// Of one that had waited longer than the target how much longer, in nanoseconds.
+    pub excess: Option<u64>,
+    /// The delay that an update took while the controller was active, in nanoseconds.
+    pub delay: Option<u64>,
+    /// The probability after it, in units of 10^-12.
+    pub prob: u64,
+    /// Its effective moment, where it turned the controller on.
+    pub turned_on: Option<u64>,
+    /// Its effective moment, where it turned the controller off.
+    pub turned_off: Option<u64>,
+    /// The size of a departing packet, in bytes.
+    pub carried: u64,
+    /// The time since the previous update, for an update that took a delay above the target while the controller
+    /// was active.
+    pub above: u64,
+    /// The target after it, in nanoseconds.
+    pub target: u64,
+    /// The burst allowance after it, in nanoseconds.
+    pub burst: u64,
+}
+
+/// The controller's numbers before and after an event of any kind. Times are in nanoseconds, probabilities in units
+/// of 10^-12.
+#[derive(Clone, Copy)]
+pub struct Conditions {
+    /// Its effective moment.
+    pub moment: u64,
+    /// True if the controller was active before it.
+    pub was: bool,
+    /// True if the controller is active after it.
+    pub is: bool,
+    /// The target before it.
+    pub held: u64,
+    /// The moment of the last update before it.
+    pub last: u64,
+    /// The probability after it.
+    pub prob: u64,
+    /// The burst allowance after it.
+    pub burst: u64,
+    /// The target after it.
+    pub target: u64,
+}
+
+/// The place of an answer's count.
+#[inline(always)]
+fn answer_place(answer: Answer) -> usize
+    ensures place { result ≡ answer_place answer }
+    ensures within { result < 9 }
+{
+    match answer {
+        Answer::Enqueued => 0,
+        Answer::Marked => 1,
+        Answer::DroppedEarly => 2,
+        Answer::DroppedBytes => 3,
+        Answer::DroppedPackets => 4,
+        Answer::Left(_) => 5,
+        Answer::Empty => 6,
+        Answer::Updated { .. } => 7,
+        Answer::Done => 8,
+    }
+}
+
+/// The place of the count of what decided an arrival; 15 of any other event.
+fn cause_place(cause: Option<Cause>) -> usize
+    ensures place { result ≡ cause_place cause }
+    ensures within { result < 16 }
+{
+    match cause {
+        Some(cause) => cause.name().place(),
+        None => 15,
+    }
+}
+
+/// The size of the packet that arrived.
+fn size_by(command: Command) -> Option<u64>
+    ensures { result ≡ size_by command }
+{
+    match command {
+        Command::Arrive { packet, .. } => Some(u64::from(packet.size)),
+        _ => None,
+    }
+}
+
+/// The moment of an event that turned the controller on, or off: before it the controller was active or not, and after it is.
+#[inline(always)]
+fn turned_at(on: bool, was: bool, is: bool, moment: u64) -> Option<u64>
+    ensures { result ≡ turned_at on was is moment }
+{
+    match (on, was, is) {
+        (true, false, true) | (false, true, false) => Some(moment),
+        _ => None,
+    }
+}
+
+impl Conditions {
+    /// Returns the meter's input for an event with this answer. `cause` is the place of its cause, `arrived` the
+    /// size of an arriving packet, and `waited` a departing packet's time in the queue. The function is inlined, so
+    /// a caller for one kind of event computes only the fields of that kind.
+    #[inline(always)]
+    #[tactic(auto, unfolding(crate::specs::Sums::meter_input_by))]
+    pub(crate) fn noted(
+        &self,
+        answer: Answer,
+        cause: usize,
+        arrived: Option<u64>,
+        waited: u64,
+    ) -> MeterInput
+        ensures noted { result ≡ meter_input_by self.now answer cause arrived waited }
+        ensures within { result.answer < 9 }
+    {
+        let plain = MeterInput {
+            answer: answer_place(answer),
+            cause,
+            moment: self.moment,
+            arrived,
+            wait: None,
+            left: None,
+            excess: None,
+            delay: None,
+            prob: self.prob,
+            turned_on: turned_at(true, self.was, self.is, self.moment),
+            turned_off: turned_at(false, self.was, self.is, self.moment),
+            carried: 0,
+            above: 0,
+            target: self.target,
+            burst: self.burst,
+        };
+        match answer {
+            Answer::Left(packet) => MeterInput {
+                wait: Some(waited),
+                left: Some(self.moment),
+                excess: if self.held < waited {
+                    Some(waited - self.held)
+                } else {
+                    None
+                },
+                carried: u64::from(packet.size),
+                ..plain
+            },
+            Answer::Updated { delay, .. } => {
+                let is_above = self.was && self.held < delay;
+                let since = self.moment.saturating_sub(self.last);
+                MeterInput {
+                    delay: if self.was { Some(delay) } else { None },
+                    above: if is_above { since } else { 0 },
+                    ..plain
+                }
+            }
+            _ => plain,
+        }
+    }
+
+    /// An arrival with this answer's place, this cause's place and this size.
+    #[inline(always)]
+    #[tactic(auto, unfolding(crate::specs::Sums::meter_input_by))]
+    pub fn arrived(&self, answer: usize, cause: usize, size: u32) -> MeterInput
+        ensures places { (result.answer ≡ answer) × (result.cause ≡ cause) }
+        ensures noted { (one : Explained) (verdict : Verdict) → HasConditions self.now one → one.told.event.answer ≡ answer_of verdict
+            → answer ≡ answer_place (answer_of verdict) → cause ≡ cause_of one → size_in one ≡ Some size → result ≡ meter_input_of one }
+    {
+        MeterInput {
+            answer,
+            ..self.noted(Answer::Done, cause, Some(u64::from(size)), 0)
+        }
+    }
+
+    /// Returns the input for the departure of a packet of `size` bytes that waited `waited` nanoseconds.
+    #[inline(always)]
+    #[tactic(auto, unfolding(crate::specs::Sums::meter_input_by))]
+    pub fn left(&self, size: u32, waited: u64) -> MeterInput
+        ensures places { (result.answer ≡ 5) × (result.cause ≡ 15) }
+        ensures noted { (one : Explained) (packet : Packet) → HasConditions self.now one → one.told.event.answer ≡ Left packet → packet.size ≡ size
+            → one.told.waited ≡ waited → one.told.cause ≡ None → size_in one ≡ None → result ≡ meter_input_of one }
+    {
+        let (tag, ecn) = (0, Ecn::NotEct);
+        let packet = Packet { tag, size, ecn };
+        self.noted(Answer::Left(packet), 15, None, waited)
+    }
+
+    /// A departure that found no packet.
+    #[inline(always)]
+    #[tactic(auto, unfolding(crate::specs::Sums::meter_input_by))]
+    pub fn empty(&self) -> MeterInput
+        ensures places { (result.answer ≡ 6) × (result.cause ≡ 15) }
+        ensures noted { (one : Explained) → HasConditions self.now one → one.told.event.answer ≡ Empty → one.told.cause ≡ None → size_in one ≡ None
+            → result ≡ meter_input_of one }
+    {
+        self.noted(Answer::Empty, 15, None, 0)
+    }
+
+    /// An update that took this delay.
+    #[inline(always)]
+    #[tactic(auto, unfolding(crate::specs::Sums::meter_input_by))]
+    pub fn updated(&self, delay: u64) -> MeterInput
+        ensures places { (result.answer ≡ 7) × (result.cause ≡ 15) }
+        ensures noted { (one : Explained) (prob burst : ℕ) → HasConditions self.now one → one.told.event.answer ≡ Updated delay prob burst
+            → one.told.cause ≡ None → size_in one ≡ None → result ≡ meter_input_of one }
+    {
+        let (prob, burst) = (0, 0);
+        self.noted(Answer::Updated { delay, prob, burst }, 15, None, 0)
+    }
+
+    /// A reset, or new parameters.
+    #[inline(always)]
+    #[tactic(auto, unfolding(crate::specs::Sums::meter_input_by))]
+    pub fn done(&self) -> MeterInput
+        ensures places { (result.answer ≡ 8) × (result.cause ≡ 15) }
+        ensures noted { (one : Explained) → HasConditions self.now one → one.told.event.answer ≡ Done → one.told.cause ≡ None → size_in one ≡ None
+            → result ≡ meter_input_of one }
+    {
+        self.noted(Answer::Done, 15, None, 0)
+    }
+}
+
+/// Returns the meter's input for an explained event.
+pub(crate) fn meter_input_of(all: &Explained) -> MeterInput
+    ensures noted { result ≡ meter_input_of all.now }
+    ensures within { result.answer < 9 }
+{
+    let (told, after) = (&all.told, &all.after);
+    let met = Conditions {
+        moment: told.moment,
+        was: told.before.active,
+        is: after.active,
+        held: told.before.params.target().units(),
+        last: told.before.last,
+        prob: after.prob,
+        burst: after.burst,
+        target: after.params.target().units(),
+    };
+    let (size, cause) = (size_by(told.event.command), cause_place(told.cause));
+    met.noted(told.event.answer, cause, size, told.waited)
+}

@@ -1,7 +1,0 @@
-use Rattle.std.proofs.Common.{◌≡◌, ◌-◌, ◌^◌, take}
-use Rattle.std.specs.Prelude.{min}
-use Rattle.pie_units.specs.Written.{number_after}
-use Rattle.pie_units.proofs.written.number_after.Given as goal
-
-abbrev pub invariant-more : goal.invariant-more
-invariant-more l = l.number ≡ min (number_after l.before (take l.i l.digits)) (2 ^ 128 - 1)

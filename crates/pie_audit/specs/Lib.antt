@@ -23,4 +23,4 @@ unfoldable pub use Setters.*
 unfoldable pub use Start.*
 unfoldable pub use Following.*
 unfoldable pub use Lines.*
-unfoldable pub use Told.*
+unfoldable pub use Preambles.*

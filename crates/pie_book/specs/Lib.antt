@@ -15,7 +15,7 @@ pub mod Snapshot
 pub mod Excerpt
 unfoldable pub use Types.*
 unfoldable pub use History.*
-unfoldable pub use PassKnowledge.*
+unfoldable pub use ControllerEvents.*
 unfoldable pub use Estimates.*
 unfoldable pub use Registers.*
 unfoldable pub use Statistics.*
@@ -24,7 +24,7 @@ unfoldable pub use Core.*
 unfoldable pub use Book.*
 unfoldable pub use Run.*
 unfoldable pub use Recorded.*
-unfoldable pub use Beside.*
+unfoldable pub use CallerQueue.*
 unfoldable pub use Balanced.*
-unfoldable pub use CoreSnapshot.*
+unfoldable pub use Snapshot.*
 unfoldable pub use Excerpt.*

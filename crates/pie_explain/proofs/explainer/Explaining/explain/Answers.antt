@@ -23,4 +23,4 @@ returns-clause-explains g c = λ start origin lines before out was explanation_t
     c.end.ensures.after c.end.ensures.in_state
     (rw c.core-2.ensures (follows.audits.agrees (none_of c.feed.new.self.auditor.differs agree)).shows) in
     explains-told c.args.line.now out was follows agree (given.is ∙ rw (← after) refl) (given.event c.begin-told.result.told refl)
-    c.saturating_add-kept.ensures (c.in_ok-process_text.ensures _ was.shown)
+    c.saturating_add-kept.ensures (c.in_ok-tell.ensures _ was.shown)

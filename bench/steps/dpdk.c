@@ -13,13 +13,13 @@ enum { STAYS, TENTH, WRAPS, GROWS, LIMIT, ARRIVAL_DIFFERENCES, UNSIGNED = ARRIVA
 
 static struct difference differences[] = {
     [STAYS] = {"accumulated probability stays at its upper bound", 0},
-    [TENTH] = {"A tenth of `tailq_th` packets are never picked from", 0},
-    [WRAPS] = {"burst allowance wraps below 0", 0},
-    [GROWS] = {"accumulates while a burst is allowed", 0},
+    [TENTH] = {"at most a tenth of `tailq_th` packets are queued, no packet is picked", 0},
+    [WRAPS] = {"burst allowance wraps around below 0", 0},
+    [GROWS] = {"also accumulates during a burst allowance", 0},
     [LIMIT] = {"`limit_bytes` | bytes | none", 0},
     [UNSIGNED] = {"Delays are unsigned", 0},
     [CYCLES] = {"gains are per cycle of the clock", 0},
-    [PACKETS] = {"packets times the time of a byte", 0},
+    [PACKETS] = {"packets times the transmission time of a byte", 0},
     [HALF] = {"decays if two delays are below half the target", 0},
 };
 

@@ -66,16 +66,16 @@ enum { BURST, LAST_DELAY, SMALL, AT_TEN, LIMIT, STAYS, ARRIVAL_DIFFERENCES, FAR 
 static struct difference differences[] = {
     [BURST] = {"burst allowance falls by the time between two departures", 0},
     [LAST_DELAY] = {"the packet that departed last had waited less than half the target", 0},
-    [SMALL] = {"Fewer bytes than two MTUs are never picked from", 0},
-    [AT_TEN] = {"It marks at exactly 10 per cent too", 0},
+    [SMALL] = {"fewer bytes than two MTUs are queued, no packet is picked", 0},
+    [AT_TEN] = {"At a probability of exactly 10 per cent it still marks", 0},
     [LIMIT] = {"`limit_bytes` | bytes | none", 0},
-    [STAYS] = {"stays at its upper bound if that packet is marked", 0},
-    [FAR] = {"2 percentage points more if a delay is above 250 ms", 0},
-    [DECAY] = {"decays by a 64th, not by a 50th", 0},
-    [HOLDS] = {"does not decay while packets are queued", 0},
+    [STAYS] = {"the packet is marked, it stays at the bound", 0},
+    [FAR] = {"above 250 ms, the probability grows by 2 percentage points more", 0},
+    [DECAY] = {"decays by a 64th; here it decays by a 50th", 0},
+    [HOLDS] = {"not while packets are queued", 0},
     [BOUND] = {"has no upper bound", 0},
-    [ZERO] = {"decays only at two delays of 0", 0},
-    [CALM] = {"accumulated probability is 0 once all is calm", 0},
+    [ZERO] = {"decays only after two delays of 0", 0},
+    [CALM] = {"accumulated probability is set to 0 when the queue is calm", 0},
 };
 
 static struct pie_sched_data queue;

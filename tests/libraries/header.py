@@ -372,21 +372,18 @@ def compare_names(root):
         yield f"include: {name} is a struct and a function"
 
 
-def compare_rates(header, pages):
-    """Checks the tables of rates, and the rates at which a default is 15 ms."""
+def compare_rates(header, page):
+    """Checks the table of rates in docs/LIBRARY.md, and the rates at which a default is 15 ms."""
     limit, most = (int(it) for it in (default(header.comments["pie_params"]["limit_bytes"]), bound(header.comments["pie_params"]["limit_bytes"])[1]))
     units = {"Mbit/s": 10**6, "Gbit/s": 10**9}
-    for where in ("docs/LIBRARY.md", "docs/PARAMETERS.md"):
-        rows = re.findall(r"\| (\d+) ([MG]bit/s) \| (\d+) \| (\d+)", pages[where])
-        if len(rows) < 6:
-            yield f"{where}: the table of rates was not found"
-        for number, unit, wanted, chosen in rows:
-            rate, chosen = int(number) * units[unit], int(chosen)
-            by_rate = min(rate // 40, most)
-            good = {max(by_rate, limit)} if where == "docs/LIBRARY.md" else {by_rate, 2}
-            if int(wanted) * 8 * 1000 != rate * 15 or chosen not in good:
-                yield f"{where}: the table of rates at {number} {unit}"
-    found = re.findall(r"default of ([\d,]+) bytes(?: is|, which is) 15 ms at ([\d.]+) Mbit/s", one_line(pages["docs/LIBRARY.md"]))
+    rows = re.findall(r"\| (\d+) ([MG]bit/s) \| (\d+) \| (\d+)", page)
+    if len(rows) < 6:
+        yield "docs/LIBRARY.md: the table of rates was not found"
+    for number, unit, wanted, chosen in rows:
+        rate = int(number) * units[unit]
+        if int(wanted) * 8 * 1000 != rate * 15 or int(chosen) != max(min(rate // 40, most), limit):
+            yield f"docs/LIBRARY.md: the table of rates at {number} {unit}"
+    found = re.findall(r"default of ([\d,]+) bytes(?: is|, which is) 15 ms at ([\d.]+) Mbit/s", one_line(page))
     if len(found) != 2:
         yield "docs/LIBRARY.md: the rates at which the defaults are 15 ms were not found"
     for bytes_held, rate in found:
@@ -428,7 +425,7 @@ def differences(root):
     yield from compare_methods(rust_text, source)
     formats = (root / "docs/FORMATS.md").read_text()
     yield from compare_ranges(header, rust, formats)
-    yield from compare_rates(header, {page: (root / page).read_text() for page in ("docs/LIBRARY.md", "docs/PARAMETERS.md")})
+    yield from compare_rates(header, (root / "docs/LIBRARY.md").read_text())
     yield from compare_refusals(header, rust_text, source)
     yield from compare_numbers(header, source)
     yield from compare_limits(header)

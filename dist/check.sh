@@ -37,7 +37,6 @@ check_program() {
     [ "$("$build/pie" --version)" = "pie $(sed -n 's/^#define PIE_VERSION "\(.*\)"$/\1/p' include/pie.h)" ]
     tests/program/rows.sh "$build/pie"
     is_clean bindings/c/example.history
-    echo "pie: $(ls tests/rows/*.in tests/rows/choices/*.in tests/rows/*.history | wc -l) worked rows"
 }
 
 check_examples() {

@@ -1,4 +1,7 @@
 #!/usr/bin/env bash
-# for: a Linux in a process (bench/uml), where TCP goes through the link without root, and through the kernel's own queues
+# for: user-mode Linux (bench/uml), in which TCP goes through the link without root, and through the kernel's own queues
 . "$(dirname "$0")/../../tests/shared/packages.sh"
+PATH=$PATH:/usr/sbin:/sbin
+programs linux.uml modprobe ip tc iperf3 ping sysctl timeout python3
+required 'sch_pie below /usr/lib/uml/modules' sh -c 'find /usr/lib/uml/modules -name sch_pie.ko | grep -q .'
 packages user-mode-linux kmod iproute2 iperf3 iputils-ping procps util-linux python3 flent

@@ -13,7 +13,7 @@ if [ $# = 0 ] || [ "$1" = --help ]; then
     [ "${1:-}" = --help ]
     exit
 fi
-if ! missing=$("$here/missing.sh"); then
+if ! missing=$("$here/install.sh" --check); then
     printf '%s\n' "$missing" "$0: the above is missing, so nothing was run; bench/uml/install.sh installs what Debian has of it" >&2
     exit 125
 fi

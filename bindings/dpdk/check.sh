@@ -9,7 +9,7 @@
 set -u
 here=$(cd "$(dirname "$0")" && pwd)
 cd "$here" || exit 1
-if ! missing=$(./missing.sh); then
+if ! missing=$(./install.sh --check); then
     echo "NOT RUN: bindings/dpdk: no stage, for want of $(tr '\n' ' ' <<<"$missing")(bindings/dpdk/install.sh)"
     exit 0
 fi

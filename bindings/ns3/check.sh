@@ -1,14 +1,15 @@
 #!/usr/bin/env bash
-# Builds the queue discipline and the dumbbell, and runs three simulated seconds with ECN, by RFC 8033's usual elements and by the others all at
-# once: packets are marked and dropped, the history is clean, and the records of periods are those of `pie explain`. Each choice alone opens a
-# history of its own words. Where ns-3 is not installed, a line that begins with NOT RUN says so.
-# usage: bindings/ns3/check.sh [PIE]      PIE: crates/pie/out/pie where none is given
+# Builds the queue discipline and the dumbbell, and runs three simulated seconds with ECN, once with
+# RFC 8033's usual elements and once with all others. Packets must be marked and dropped, the
+# history must be clean, and the records of intervals must be those of `pie explain`. Each choice
+# alone must open a history with its own keywords. Prints a line NOT RUN if ns-3 is not installed.
+# usage: bindings/ns3/check.sh [PIE]      PIE: crates/pie/out/pie by default
 # needs: program, library, an early start
 set -u
 here=$(cd "$(dirname "$0")" && pwd)
 top=$here/../..
 program=$(realpath -m "${1:-$top/crates/pie/out/pie}")
-if ! missing=$("$here/missing.sh"); then
+if ! missing=$("$here/install.sh" --check); then
     echo "NOT RUN: bindings/ns3: no simulation, for want of $(tr '\n' ' ' <<<"$missing")(bindings/ns3/install.sh)"
     exit 0
 fi

@@ -1,5 +1,22 @@
 #!/usr/bin/env bash
 # for: real TCP through the link in user space (tests/program/link.sh, examples/link), and pictures of it and of examples/
-# It takes /dev/net/tun and root too, which are no packages: missing.sh says what is not here.
+# The link also needs root and /dev/net/tun, which no package provides; --check reports them too.
 . "$(dirname "$0")/../../tests/shared/packages.sh"
+
+# Creates a network namespace with a TUN device, and removes it.
+makes_devices() {
+    local name=link-check-$$ status
+    ip netns add "$name" || return
+    ip netns exec "$name" ip tuntap add dev look mode tun
+    status=$?
+    ip netns del "$name"
+    return $status
+}
+
+required 'root (network namespaces and TUN devices are for root)' test "$(id -u)" = 0
+required '/dev/net/tun (modprobe tun, or a container that is given the device)' test -c /dev/net/tun
+programs ip iperf3 ping sysctl timeout cc make awk
+if [ "$lacking" = 0 ]; then
+    required 'permission to create network namespaces and TUN devices' makes_devices
+fi
 packages iproute2 iperf3 iputils-ping procps gcc libc6-dev make gawk gnuplot-nox

@@ -1,14 +1,14 @@
 #!/usr/bin/env bash
-# TCP and ping through the link, by tail drop, by PIE, and by PIE with ECN: audits the histories, explains the first lost packets,
-# prints a table, and draws delay and probability over time. Traffic stays in network namespaces of this script.
-#
+# Sends TCP and ping through the link: by tail drop, by PIE, and by PIE with ECN. Audits the
+# histories, explains the first lost packets, prints a table, and draws delay and probability over
+# time. Traffic stays in network namespaces of this script.
 # usage: examples/link/run.sh PIE FOLDER [SECONDS] [FLOWS] [OPTIONS OF THE LINK..]
-#   PIE      the built program, as crates/pie/out/ has it after `rt run`
-#   FOLDER   gets the histories, what the programs said, and the picture
-#   SECONDS  of each of the three runs, 20 where it isn't given; FLOWS: 4
-# `out/link --help` has the link's options. LINK_FAMILY=6 in the environment makes the traffic IPv6. Without root or /dev/net/tun it runs
-# in a Linux in a process, bench/uml, where Debian's user-mode-linux is installed. Status 1: something is missing, a run failed
-# or a history is not clean.
+#   PIE      the built program, for example crates/pie/out/pie
+#   FOLDER   receives the histories, the output of the programs, and the picture
+#   SECONDS  of each of the three runs, 20 by default; FLOWS: 4 by default
+# `out/link --help` has the link's options. LINK_FAMILY=6 in the environment selects IPv6. Without
+# root or /dev/net/tun the script runs in user-mode Linux (bench/uml), if it is installed. Status 1:
+# a program is missing, a run failed, or a history is not clean.
 set -u
 here=$(cd "$(dirname "$0")" && pwd)
 if [ $# -lt 2 ] || [ "$1" = --help ]; then
@@ -16,7 +16,7 @@ if [ $# -lt 2 ] || [ "$1" = --help ]; then
     [ "${1:-}" = --help ]
     exit
 fi
-if ! missing=$("$here/missing.sh"); then
+if ! missing=$("$here/install.sh" --check); then
     if "$here/../../bench/uml/helps.sh" "$missing"; then
         make -s -C "$here" && exec "$here/../../bench/uml/run.sh" "$here/run.sh" "$@"
         exit 1

@@ -10,7 +10,7 @@ fences is not run.
 The copy contains the built program and library, the files that make builds over them in bindings/dpdk and
 bindings/ns3, and stand-ins for `rt` and the gate, which the gate tries anyway: `rt try` and `rt run` run the built
 program, `rt lib` checks the built library, `.ci/run` does nothing. With --rt the real `rt` is used. A command that
-is not installed, or whose folder's missing.sh reports a missing program, is printed as NOT RUN.
+is not installed, or for whose folder install.sh --check reports a missing program, is printed as NOT RUN.
 
 usage: tests/documents/pages.py [--rt] [PAGE..]
 needs: program, library
@@ -128,13 +128,13 @@ def commands(block):
 
 
 def missing(command, copy, words):
-    """Returns the programs missing for a command: by the missing.sh of a folder that it names, for other commands
-    by `type`."""
+    """Returns the programs missing for a command: by install.sh --check of a folder that it names, for other
+    commands by `type`."""
     for word in re.sub(r"#.*", "", command).split():
         place = copy / word.strip("()")
         for folder in (place, place.parent):
-            if "/" in word and copy in folder.parents and (folder / "missing.sh").exists():
-                done = subprocess.run([folder / "missing.sh"], env=words, capture_output=True, text=True, check=False)
+            if "/" in word and copy in folder.parents and (folder / "install.sh").exists():
+                done = subprocess.run([folder / "install.sh", "--check"], env=words, capture_output=True, text=True, check=False)
                 if done.returncode:
                     return " ".join(done.stdout.replace("missing: ", "").split())
     for word in re.findall(r"(?:^|[;&|(])\s*([\w-]+)(?=\s|$)", re.sub(r"#.*|\\\n", "", command), re.M):
@@ -174,7 +174,7 @@ def main():
     for page in pages(LINKED):
         follow_links(page)
     for name in MADE:
-        if subprocess.run([ROOT / name / "missing.sh"], capture_output=True, check=False).returncode == 0:
+        if subprocess.run([ROOT / name / "install.sh", "--check"], capture_output=True, check=False).returncode == 0:
             made = subprocess.run(["flock", ROOT / name, "make", "-s", "-C", ROOT / name], capture_output=True, text=True, check=False)
             check(made.returncode == 0, f"make -C {name} ends with status {made.returncode}:\n{made.stderr[-2000:]}")
     with tempfile.TemporaryDirectory() as work:

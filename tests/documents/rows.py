@@ -4,7 +4,7 @@ lists where it runs. Every place must exist and be run by the gate. The exit sta
 if a row of tests/rows or a test of pie_library_tests is not listed.
 
 A place is one of these:
-  rows NAME           tests/rows/NAME.in with its history, or NAME.history with its finding, which tests/program/rows.sh runs
+  rows NAME           a trace with its history, or a history with its finding, in tests/rows/worked.txt, which tests/program/rows.sh runs
   library NAME        a test of pie_library_tests, whose output the gate compares
   c FILE FUNCTION     a function of bindings/c/FILE.c, which FILE's main calls and a script there builds and runs
   proof CRATE NAME    a theorem that computes, in a file of crates/CRATE/proofs that its Lib.antt lists
@@ -109,6 +109,8 @@ ROWS = {
 }
 # Tests of pie_library_tests that no row is: want of memory and flushes are tests/libraries/refused_memory.py's.
 OTHERS = {"refusals_in_words", "the_largest_ring", "calls_that_nothing_else_makes", "a_storm_keeps_its_pace"}
+# the names of the files in tests/rows/worked.txt
+WORKED = set(re.findall(r"^== (\S+)", (ROOT / "tests/rows/worked.txt").read_text(), re.M))
 NEEDS = re.compile(r"^(?:# )?needs: ([\w, ]+?)(?:\"\"\")?$", re.M)
 
 
@@ -123,9 +125,8 @@ def is_run(path):
 
 
 def is_row(name):
-    rows = ROOT / "tests/rows"
-    pairs = [(rows / f"{name}.in", rows / f"{name}.out"), (rows / f"{name}.history", rows / f"{name}.finding")]
-    return any(one.exists() and other.exists() for one, other in pairs) and is_run(ROOT / "tests/program/rows.sh")
+    pairs = [(f"{name}.in", f"{name}.out"), (f"{name}.history", f"{name}.finding")]
+    return any(WORKED.issuperset(pair) for pair in pairs) and is_run(ROOT / "tests/program/rows.sh")
 
 
 def is_test(name):
@@ -160,8 +161,8 @@ for row, mine in ROWS.items():
     for place in mine:
         kind, _, words = place.partition(" ")
         check(IS_RUN[kind](words), f"{row}: nothing runs {place!r}")
-for path in (ROOT / "tests/rows").glob("*.*"):
-    check(f"rows {path.stem}" in places, f"tests/rows/{path.name} is in no line of the table")
+for name in sorted(WORKED):
+    check(f"rows {name.rpartition('.')[0]}" in places, f"tests/rows/worked.txt: {name} is in no line of the table")
 for name in re.findall(r"^(\w+): holds$", read(ROOT / "crates/pie_library_tests/stdout"), re.M):
     known = name in OTHERS or name.endswith("_flushes") or f"library {name}" in places
     check(known, f"the test {name} of pie_library_tests is in no line of the table")

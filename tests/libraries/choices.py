@@ -1,9 +1,9 @@
 #!/usr/bin/env python3
-"""Drives traces of the records' version three through the library for C, event by event, beside a queue of this script's own, and compares
-each answer and each look with the stored history: choices of the optional elements, in both profiles. Those whose opening is
-refused are passed over.
+"""Runs traces of version three through the library for C, event by event, beside a queue of this
+script, and compares each answer and each `show` with the stored history: each choice of the
+optional elements, in both profiles. Traces whose opening is refused are skipped.
 
-usage: tests/libraries/choices.py [FOLDER..]      FOLDER: has NAME.trace with NAME.history, or NAME.in with NAME.out; else tests/rows/choices
+usage: tests/libraries/choices.py [FOLDER..]      FOLDER: has NAME.trace with NAME.history, or NAME.in with NAME.out; else those of tests/rows/choices.txt
 needs: library"""
 import ctypes
 import os
@@ -143,9 +143,12 @@ def rows(folder):
 
 
 def main():
-    folders = [Path(it) for it in sys.argv[1:]] or [ROOT / "tests/rows/choices"]
+    folders = [Path(it) for it in sys.argv[1:]] or []
     with tempfile.TemporaryDirectory() as work:
         pie = library(work)
+        if not folders:
+            subprocess.run([ROOT / "tests/shared/rows.sh", work], check=True)
+            folders = [Path(work) / "choices"]
         count = answers = 0
         for folder in folders:
             for trace, asked, told in rows(folder):

@@ -1,9 +1,11 @@
 #!/usr/bin/env bash
-# The records of periods that the library for C writes while it decides, beside those of `pie explain --every --csv` of the same history, byte for
-# byte: of the worked rows, the examples, random events (bindings/c/events.c) and a history without events, by periods of 1 ns to all of time, with
-# times of day and without. A caller that makes a record one event too late has to be found, and one that writes it before a call that is refused.
+# Compares the interval records that the library for C writes while it decides with those of `pie
+# explain --every --csv` for the same history, byte for byte: for the worked rows, the examples,
+# random events (bindings/c/events.c) and a history without events, with intervals of 1 ns up to the
+# greatest time, with and without wall-clock times. The comparison must find a caller that writes a
+# record one event too late, and one that writes it before a refused call.
 #
-# usage: tests/libraries/period.sh [PIE]      PIE: crates/pie/out/pie where none is given
+# usage: tests/libraries/period.sh [PIE]      PIE: crates/pie/out/pie by default
 # needs: library, program
 . "$(dirname "$0")/../shared/script.sh"
 cd "$top"
@@ -16,7 +18,8 @@ fi
 "$cc" -O2 -std=c11 -Wall -Wextra -Werror -Iinclude -o "$work/period" tests/libraries/period.c $lib || exit 1
 "$cc" -O2 -std=c11 -Iinclude -o "$work/events" bindings/c/events.c $lib || exit 1
 histories=()
-for trace in tests/rows/*.out tests/rows/choices/*.out; do
+tests/shared/rows.sh "$work/rows"
+for trace in "$work"/rows/*.out "$work"/rows/choices/*.out; do
     # (what the book itself refuses, or an opening that is refused, is not made anew)
     head -n 1 "$trace" | grep -q -E '^(open|rolling)' && histories+=("$trace")
 done

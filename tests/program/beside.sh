@@ -8,7 +8,7 @@
 # usage: tests/program/beside.sh [PROGRAM]      PROGRAM: crates/pie/out/pie by default
 # needs: program, library, quiet
 . "$(dirname "$0")/../shared/script.sh"
-if ! missing=$("$top/bench/uml/missing.sh"); then
+if ! missing=$("$top/bench/uml/install.sh" --check); then
     echo "NOT RUN: $script: no queue of the kernel's beside this one, for want of $(tr '\n' ' ' <<< "$missing")"
     exit 0
 fi

@@ -1,7 +1,8 @@
 #!/usr/bin/env bash
-# The comments of captures: what tshark prints as the comments of a capture is what `pie explain --lost` prints of its history, to the byte. One capture
-# is replayed (examples/replay), and one is taken by tcpdump while TCP goes through the link in user space (examples/link). If this machine lacks
-# something, a line that begins with NOT RUN says so.
+# Tests the comments of captures: tshark must print, byte for byte, the explanations that `pie
+# explain --lost` prints of the history. One capture is replayed (examples/replay), and one is taken
+# by tcpdump while TCP goes through the link in user space (examples/link). Prints a line NOT RUN if
+# a requirement is missing.
 # usage: tests/program/comments.sh [PROGRAM]      PROGRAM: crates/pie/out/pie by default
 # needs: program, library, root
 . "$(dirname "$0")/../shared/script.sh"
@@ -22,7 +23,7 @@ compare() {
         awk '{ sub(",", "", $5); if ($1 != $5) { print; exit 1 } }' || fail "$1: a comment at another frame"
 }
 
-if missing=$("$replay/missing.sh") && make -s -C "$replay" > "$work/build.log" 2>&1; then
+if missing=$("$replay/install.sh" --check) && make -s -C "$replay" > "$work/build.log" 2>&1; then
     "$replay/made.py" "$work/made.pcap" && "$replay/out/replay" --rate 50mbit --ecn -o "$work/history" "$work/made.pcap" 'ip or ip6' 2> /dev/null || exit 1
     compare replayed "$work/history" "$work/made.pcap"
 else

@@ -8,7 +8,7 @@ which looks back over the whole, with the last clock record before its first eve
 between its events in their places. The same holds for excerpts of excerpts and for segments. Then the script tries
 faults, events that differ, selections without an event, and the file of -o.
 
-usage: tests/program/cut.py [PROGRAM [FIRST_SEED [RUNS]]]      PROGRAM: crates/pie/out/pie where none is given
+usage: tests/program/cut.py [PROGRAM [FIRST_SEED [RUNS]]]      PROGRAM: crates/pie/out/pie by default
 needs: program
 """
 import random
@@ -18,7 +18,7 @@ from pathlib import Path
 
 sys.path.insert(0, str(Path(__file__).resolve().parents[1] / "shared"))
 import reference_resumed  # noqa: E402
-from checks import ROOT, check, finish  # noqa: E402
+from checks import ROOT, check, finish, rows  # noqa: E402
 from excerpts import audited, bad_params, explained, rows_within, segments_of  # noqa: E402
 from running import run  # noqa: E402
 
@@ -83,7 +83,7 @@ class History:
 def histories():
     for path in sorted((ROOT / "examples").glob("*.history")):
         yield History(path.stem, path.read_text())
-    for path in sorted((ROOT / "tests/rows").glob("**/*.out")):
+    for path in sorted(rows().glob("**/*.out")):
         if not path.with_suffix(".fault").exists():
             yield History(path.stem, path.read_bytes().decode())
     for seed in range(FIRST, FIRST + RUNS):

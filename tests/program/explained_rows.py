@@ -1,9 +1,10 @@
 #!/usr/bin/env python3
-"""Holds `pie explain --all --csv` to tests/shared/reference.py, event by event: of each worked trace of tests/rows and of tests/rows/choices every
-field of every event, with verdicts, causes and delays, which the reference computes by looking back over the whole list of events. Exit status 1
-where something differs.
+"""Compares `pie explain --all --csv` with tests/shared/reference.py, event by event: for each
+worked trace of tests/rows every field of every event, with verdicts, causes and delays. The
+reference computes them by looking back over the whole list of events. The exit status is 1 if
+something differs.
 
-usage: tests/program/explained_rows.py [PROGRAM]      PROGRAM: crates/pie/out/pie where none is given
+usage: tests/program/explained_rows.py [PROGRAM]      PROGRAM: crates/pie/out/pie by default
 needs: program
 """
 import csv
@@ -13,7 +14,7 @@ import re
 import sys
 
 sys.path.insert(0, f"{os.path.dirname(os.path.abspath(__file__))}/../shared")
-from checks import NAME, ROOT, check, expect, finish  # noqa: E402
+from checks import NAME, check, expect, finish, rows  # noqa: E402
 from explaining import pie  # noqa: E402
 from reference import ANSWERS, USUAL, Book  # noqa: E402
 
@@ -90,13 +91,13 @@ def hold(trace):
 
 def main():
     # Where a run ends at its first record there is no event to explain.
-    rows = [path for path in sorted((ROOT / "tests/rows").glob("**/*.in")) if not path.with_suffix(".fault").exists()]
+    traces = [path for path in sorted(rows().glob("**/*.in")) if not path.with_suffix(".fault").exists()]
     count, causes = 0, set()
-    for trace in rows:
+    for trace in traces:
         held, of_row = hold(trace)
         count, causes = count + held, causes | of_row
-    expect("rows and causes", (len(rows) >= 50, len(causes) >= 13), (True, True))
-    print(f"{NAME}: {count} events of {len(rows)} rows are explained as the reference has them, by {len(causes - {''})} causes")
+    expect("rows and causes", (len(traces) >= 50, len(causes) >= 13), (True, True))
+    print(f"{NAME}: {count} events of {len(traces)} rows are explained as the reference has them, by {len(causes - {''})} causes")
     finish()
 
 

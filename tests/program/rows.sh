@@ -1,13 +1,13 @@
 #!/usr/bin/env bash
-# Runs each worked trace of tests/rows and compares its history, byte for byte, with the one beside it, which was
-# computed by hand; and each of tests/rows/choices, one for each combination of RFC 8033's optional elements in both
-# profiles, with histories of a reference. If NAME.fault exists, the run must end with that fault and status 1.
-# Otherwise the audit of the history must be clean, with the number of lines that are not notes.
-# tests/rows/NAME.history is a history that no run writes; its audit must give NAME.finding, a finding or a fault.
-# usage: tests/program/rows.sh [PROGRAM]      PROGRAM: crates/pie/out/pie where none is given
+# Runs each trace of tests/rows/worked.txt and tests/rows/choices.txt, and compares its history byte for byte with
+# the stored one. The heads of both files explain their form. If the trace has a fault, the run must end with that
+# fault and status 1. Otherwise the audit of the history must be clean, with the number of lines that are not notes.
+# The audit of a stored history without a trace must print its finding.
+# usage: tests/program/rows.sh [PROGRAM]      PROGRAM: crates/pie/out/pie by default
 # needs: program
 . "$(dirname "$0")/../shared/script.sh"
-rows=$top/tests/rows
+rows=$work/rows
+"$top/tests/shared/rows.sh" "$rows"
 tried=0
 : > "$work/none"
 for trace in "$rows"/*.in "$rows"/choices/*.in; do
@@ -33,7 +33,9 @@ for trace in "$rows"/*.in "$rows"/choices/*.in; do
         failed=1
     fi
 done
+audited=0
 for history in "$rows"/*.history; do
+    audited=$((audited + 1))
     name=$(basename "$history" .history)
     "$program" audit < "$history" > "$work/finding" 2>&1
     if ! cmp -s "$work/finding" "$rows/$name.finding"; then
@@ -43,7 +45,8 @@ for history in "$rows"/*.history; do
     fi
 done
 if [ "$tried" -lt 62 ]; then
-    echo "$script: $tried rows, where 62 or more are wanted"
+    echo "$script: $tried rows were run, and at least 62 are wanted"
     failed=1
 fi
+echo "$script: $tried traces, $audited histories"
 exit "$failed"

@@ -1,10 +1,10 @@
 #!/usr/bin/env python3
 """Compares the words of `pie explain` with the records of `pie explain --csv` for each considered arrival of the
-worked rows of choices/. If sizes scale the probability, the words contain the scaled value: floor(probability x
+traces of tests/rows/choices.txt. If sizes scale the probability, the words contain the scaled value: floor(probability x
 size / mean_pkt) for a packet below mean_pkt. They contain the accumulated probability, with this packet's part,
 only if probabilities accumulate: never with `random`. The exit status is 1 if something differs.
 
-usage: tests/program/scaled_words.py [PROGRAM]      PROGRAM: crates/pie/out/pie where none is given
+usage: tests/program/scaled_words.py [PROGRAM]      PROGRAM: crates/pie/out/pie by default
 needs: program
 """
 import os
@@ -12,7 +12,7 @@ import re
 import sys
 
 sys.path.insert(0, f"{os.path.dirname(os.path.abspath(__file__))}/../shared")
-from checks import NAME, ROOT, expect  # noqa: E402
+from checks import NAME, expect, rows  # noqa: E402
 from explaining import pie, records  # noqa: E402
 
 TOLD = re.compile(r"  the probability, (.*), comes to (.*) for a packet of this size\n")
@@ -59,12 +59,12 @@ def hold(name, history):
 
 
 def main():
-    texts = {path.stem: path.read_text() for path in sorted((ROOT / "tests/rows/choices").glob("*.out"))}
-    rows = {name: text for name, text in texts.items() if text.startswith("open3,") and text.splitlines()[0].count(",") > 12}
-    counts = [hold(name, text) for name, text in rows.items()]
+    texts = {path.stem: path.read_text() for path in sorted((rows() / "choices").glob("*.out"))}
+    histories = {name: text for name, text in texts.items() if text.startswith("open3,") and text.splitlines()[0].count(",") > 12}
+    counts = [hold(name, text) for name, text in histories.items()]
     told, summed = sum(it[0] for it in counts), sum(it[1] for it in counts)
-    expect("histories", told > 0 and summed > 0 and any("random" in name for name in rows), True)
-    print(f"{NAME}: {len(rows)} histories: the words tell what the probability comes to, of {told} packets, and what was accumulated, of {summed}")
+    expect("histories", told > 0 and summed > 0 and any("random" in name for name in histories), True)
+    print(f"{NAME}: {len(histories)} histories: the words tell what the probability comes to, of {told} packets, and what was accumulated, of {summed}")
 
 
 main()

@@ -1,7 +1,7 @@
 #!/usr/bin/env bash
 # Runs the program on many short texts: each fault of a trace and of a history, findings of audits, and the output
 # of migrations and explanations. The expected output was computed by hand from docs/FORMATS.md and the rules.
-# usage: tests/program/texts.sh [PROGRAM]      PROGRAM: crates/pie/out/pie where none is given
+# usage: tests/program/texts.sh [PROGRAM]      PROGRAM: crates/pie/out/pie by default
 # needs: program
 . "$(dirname "$0")/../shared/script.sh"
 tried=0
@@ -216,7 +216,8 @@ found "record 3: $word" "${arrival}depart,2,25,left,7,1500,ec\ndepart,2,30,empty
 
 # marks, drops and a lone enqueue: one record after another changed
 marks=$work/marks
-cp "$top/tests/rows/marks_drops_and_a_lone_enqueue.out" "$marks"
+"$top/tests/shared/rows.sh" "$work/rows"
+cp "$work/rows/marks_drops_and_a_lone_enqueue.out" "$marks"
 # changed FINDING LINE RECORD
 changed() {
     sed "$2s/.*/$3/" "$marks" > "$work/changed"
@@ -236,7 +237,7 @@ changed "record 20: $number" 20 'refused,20,-7'
 sed -i '5s/enqueue/mark/' "$marks"
 changed "record 13: $fields" 13 'arrive,2,1001003'
 # a packet that was marked leaves as one that met congestion, whatever its arrival said
-head -n 11 "$top/tests/rows/marks_drops_and_a_lone_enqueue.out" > "$marks"
+head -n 11 "$work/rows/marks_drops_and_a_lone_enqueue.out" > "$marks"
 leaving='depart,3,1001003,left,3,1024,not\ndepart,3,1001004,left,4,1024,not\ndepart,3,1001005,left,5,500'
 found clean,13 "$(cat "$marks")\n$leaving,ce\n"
 found differs,13 "$(cat "$marks")\n$leaving,ect0\n"

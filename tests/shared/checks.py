@@ -1,9 +1,11 @@
 """Shared by the Python scripts: ROOT is the repository, NAME the script's name. `check` prints each failure, and
 `finish` their number; `expect` ends the script at the first failure."""
+import atexit
 import os
 import shutil
 import subprocess
 import sys
+import tempfile
 from pathlib import Path
 
 sys.dont_write_bytecode = True
@@ -16,6 +18,14 @@ failures = []
 def program():
     """Returns the program under test: the first argument, or the program that the repository built."""
     return str(Path(sys.argv[1] if sys.argv[1:] else ROOT / "crates/pie/out/pie").resolve())
+
+
+def rows():
+    """Writes the files of tests/rows to a folder that is removed when the script ends, and returns the folder."""
+    folder = tempfile.TemporaryDirectory()
+    atexit.register(folder.cleanup)
+    subprocess.run([ROOT / "tests/shared/rows.sh", folder.name], check=True)
+    return Path(folder.name)
 
 
 def refusing(folder, what):

@@ -1,14 +1,38 @@
-# Shared by the install scripts of adapters and measures. Each sources this file and describes the purpose of its
-# packages in its head, on a line `for:`. With --missing as its only argument a script prints the missing packages
-# and installs nothing.
+# Shared by the install scripts of adapters and measures. An install script describes its purpose in its head, on a
+# line `for:`, sources this file, names its requirements by `programs` and `required`, and then calls `packages`.
+#   install.sh              installs the Debian packages that are missing
+#   install.sh --missing    prints the Debian packages that are missing
+#   install.sh --check      prints a line for each requirement that is missing; the exit status is 1 if one is
 set -eu
 script=$(cd "$(dirname "$0")" && pwd)/$(basename "$0")
 mode=${1-}
-case $mode in '' | --missing) ;; *) echo "usage: $0 [--missing]" >&2 && exit 2 ;; esac
+case $mode in '' | --missing | --check) ;; *) echo "usage: $0 [--missing | --check]" >&2 && exit 2 ;; esac
+lacking=0
 
-# packages NAME..: installs those of Debian's packages that are not there
+# required NAME COMMAND..: a requirement that is there if the command succeeds
+required() {
+    local name=$1
+    shift
+    if [ "$mode" = --check ] && ! "$@" > /dev/null 2>&1; then
+        echo "missing: $name"
+        lacking=1
+    fi
+}
+
+# programs NAME..: programs on the path
+programs() {
+    local name
+    for name in "$@"; do
+        required "$name" command -v "$name"
+    done
+}
+
+# packages NAME..: installs the named Debian packages that are missing
 packages() {
     local name missing=()
+    if [ "$mode" = --check ]; then
+        exit "$lacking"
+    fi
     if ! command -v apt-get > /dev/null; then
         echo "$script: no apt-get here; Debian's packages are: $*" >&2
         exit 1
@@ -25,7 +49,7 @@ packages() {
         exit 1
     fi
     export DEBIAN_FRONTEND=noninteractive
-    # (the lists of packages may be too old, or not there yet)
+    # (the lists of packages may be old or absent)
     apt-get install --yes --quiet --no-install-recommends "${missing[@]}" || {
         apt-get update --quiet
         apt-get install --yes --quiet --no-install-recommends "${missing[@]}"

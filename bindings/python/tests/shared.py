@@ -1,7 +1,10 @@
 """Shared by the tests: paths, and worked traces run through a `Queue`."""
+import atexit
 import csv
 import io
 import os
+import subprocess
+import tempfile
 from pathlib import Path
 
 import juniperbowls as jb
@@ -14,9 +17,11 @@ EVENT_KINDS = ("arrive", "depart", "update", "reset", "params")
 
 
 def worked_rows():
-    """Each trace whose history was worked out, but those that end with a fault."""
-    rows = [*(ROOT / "tests/rows").glob("*.in"), *(ROOT / "tests/rows/choices").glob("*.in")]
-    rows = [(it, it.with_suffix(".out")) for it in sorted(rows) if not it.with_suffix(".fault").exists()]
+    """Returns the traces of tests/rows and of examples/ with their histories, except those that end with a fault."""
+    folder = tempfile.TemporaryDirectory()
+    atexit.register(folder.cleanup)
+    subprocess.run([ROOT / "tests/shared/rows.sh", folder.name], check=True)
+    rows = [(it, it.with_suffix(".out")) for it in sorted(Path(folder.name).glob("**/*.in")) if not it.with_suffix(".fault").exists()]
     return rows + [(it.with_suffix(".trace"), it) for it in HISTORIES]
 
 

@@ -1,16 +1,18 @@
-# Builds the libraries and the program from dist/ with a C compiler alone: dist/ contains the assembly of the proved code (dist/README.md).
+# Builds the libraries and the program from dist/, which contains the assembly of the proved code
+# (dist/README.md). Only a C compiler is needed.
 #
 #   make                 the libraries and the program, in build/
-#   make check           runs the worked rows and the examples over them; says what is not here to be run
-#   make install         installs all of it below PREFIX (/usr/local); install-library and install-program install a part
+#   make check           runs the worked rows and the examples with them; reports what cannot run here
+#   make install         installs everything below PREFIX (/usr/local); install-library and install-program install a part
 #   make uninstall       removes the files that `make install` installs
-#   make crate           build/crate: the crate for Rust with the assembly, as `cargo package` takes it
-#   make archive         build/juniperbowls-VERSION.tar.gz: unpacks anywhere, for any Debian 12 or later
+#   make crate           build/crate: the crate for Rust with the assembly, in the form that `cargo package` accepts
+#   make archive         build/juniperbowls-VERSION.tar.gz for any Debian 12 or later; it can be unpacked anywhere
 #   make clean           removes build/
 #   make shared, make program, make libraries     build a part
 #
-# Variables: CC, CPPFLAGS, CFLAGS, LDFLAGS, AR; DESTDIR, PREFIX, BINDIR, LIBDIR, INCLUDEDIR, DATADIR, MANDIR, DOCDIR; BUILD, the folder in which
-# all is built; PIE_C_S, PIE_LINK_C_S and PIE_S, other assembly, for example what bindings/c/library.py writes to crates/pie_c/out/pie_c.S.
+# Variables: CC, CPPFLAGS, CFLAGS, LDFLAGS, AR; DESTDIR, PREFIX, BINDIR, LIBDIR, INCLUDEDIR,
+# DATADIR, MANDIR, DOCDIR; BUILD, the folder of all built files; PIE_C_S, PIE_LINK_C_S and PIE_S,
+# other assembly, for example crates/pie_c/out/pie_c.S, which bindings/c/library.py writes.
 
 VERSION := $(shell sed -n 's/^.define PIE_VERSION "\(.*\)"$$/\1/p' include/pie.h)
 MAJOR := $(firstword $(subst ., ,$(VERSION)))

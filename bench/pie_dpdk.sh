@@ -7,9 +7,10 @@
 # dequeues and sends; in the other all available processors receive and enqueue, and one dequeues and sends. Prints
 # the greatest and the median of the runs, which take turns, as the table of docs/PERFORMANCE.md. It needs libdpdk
 # (bindings/dpdk/install.sh) and the libraries, which bindings/c/library.py builds.
-# usage: bench/pie_dpdk.sh [SECONDS [RUNS [PRIORITY]]]      SECONDS of each run, 1 where none is given; RUNS of each kind, 9: some 150 seconds in
-# all. With a PRIORITY (50, say) each run has its processors for itself, by the system's real-time policy (chrt): take runs of 0.02 seconds then,
-# since nothing else runs meanwhile.
+# usage: bench/pie_dpdk.sh [SECONDS [RUNS [PRIORITY]]]
+#   SECONDS     of each run, 1 by default; RUNS: of each kind, 9 by default. This takes some 150 seconds
+#   PRIORITY    a real-time priority (chrt), for example 50. Each run then has its processors for itself. Take runs of
+#               0.02 seconds, because no other program runs meanwhile
 set -eu
 cd "$(dirname "$0")/.."
 work=$(mktemp -d)

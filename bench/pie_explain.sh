@@ -1,7 +1,8 @@
 #!/usr/bin/env bash
-# Runs `pie run` on a generated trace whose book rolls, and then `pie audit` and `pie explain` with each way to choose events on the
-# history that it wrote, in turn. Prints the least time of each of several runs and the median, their ratios to the audit's, the bytes
-# that each writes, the greatest resident memory of each, and the load.
+# Runs `pie run` with a rolling book on a generated trace. Then runs, in turn, `pie audit` and `pie
+# explain` with each choice of events on the history. Prints the least and the median time of each
+# over several runs, the ratios to the audit, the number of written bytes, the greatest resident
+# memory, and the load.
 # usage: bench/pie_explain.sh PIE [RECORDS] [SEED] [plain|mixed] [RUNS]      PIE: the built program, as crates/pie/out/ has
 # it after `rt run`
 . "$(dirname "$0")/shared.sh"

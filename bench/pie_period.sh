@@ -1,6 +1,8 @@
 #!/usr/bin/env bash
-# Measures what it costs to sum up an event in a period (pie_arrive_summed and so on) beside the call that records it alone (bench/pie_period.c):
-# prints of each the least and the median, and what summing takes more; and where valgrind is there the instructions of each.
+# Measures the cost of adding an event to the sums of an interval (pie_arrive_summed and so on)
+# beside the call that records the event alone (bench/pie_period.c). Prints the least and the median
+# time of each, and their difference. If valgrind is installed, it also prints the instructions of
+# each.
 #
 # usage: bench/pie_period.sh    after `rt lib` in crates/pie_c
 set -eu

@@ -1,6 +1,7 @@
 #!/usr/bin/env bash
-# A page of a history beside its audit: seconds of both, the page's bytes, and, where Chromium is, how long it takes until the page is drawn.
-# usage: bench/pie_report.sh PROGRAM [RECORDS RUNS]     PROGRAM: crates/pie/out/pie; a million records, 5 runs, the least time
+# Measures the report of a history beside its audit: the seconds of both, the bytes of the page,
+# and, if Chromium is installed, the time until the page is displayed.
+# usage: bench/pie_report.sh PROGRAM [RECORDS RUNS]     PROGRAM: crates/pie/out/pie; a million records and 5 runs by default; the least time
 set -eu
 program=$(realpath "$1") records=${2:-1000000} runs=${3:-5}
 here=$(cd "$(dirname "$0")/.." && pwd)

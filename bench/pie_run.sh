@@ -1,7 +1,7 @@
 #!/usr/bin/env bash
-# Runs `pie run` on a generated trace nine times, and prints of its time and its processor time the least and the median, the
-# records a second, and the greatest resident memory. With PEER, a program that writes the same bytes (bench/peer), both run in
-# turn, and their ratio is printed too.
+# Runs `pie run` nine times on a generated trace. Prints the least and the median of its time and
+# its processor time, the records a second, and the greatest resident memory. PEER is a program that
+# writes the same bytes (bench/peer): both run in turn, and their ratio is printed too.
 # usage: bench/pie_run.sh PIE [RECORDS] [SEED] [plain|mixed] [PEER]     PIE: the built program, crates/pie/out/pie
 . "$(dirname "$0")/shared.sh"
 program=$1

@@ -1,14 +1,17 @@
 #!/usr/bin/env bash
-# Counts by valgrind the instructions of a record of the built program, which no load changes, beside the stored ones (bench/counts.txt): of `pie run` on
-# a generated trace of RECORDS records, of `audit`, `explain --all --csv`, `explain --summary` and `cut --every` on its history, and of bench/peer/run.c, a
-# program in C over the library that writes the same bytes as `pie run`. All instructions of a process are counted, its start too.
-# Ends with the status 1 if a number grew, or if the peer writes other bytes.
+# Counts by valgrind the instructions that the built program takes for a record, independent of the
+# load, and compares them with the stored counts (bench/counts.txt). It runs `pie run` on a
+# generated trace of RECORDS records; `audit`, `explain --all --csv`, `explain --summary` and `cut
+# --every` on its history; and bench/peer/run.c, a program in C over the library that writes the
+# same bytes as `pie run`. All instructions of a process count, including its start. The exit status
+# is 1 if a count grew, or if the peer writes other bytes.
 #
 # usage: bench/pie_text_count.sh PROGRAM [--store | --within PERCENT]    after bindings/c/library.py; PROGRAM: crates/pie/out/pie
 #        bench/pie_text_count.sh --table
-#        --store: writes the counts to bench/counts.txt; --within: only a growth of more than PERCENT is a failure; --table: prints the stored counts
-#        as the table of docs/PERFORMANCE.md
-# LIBRARY names another static library for the peer than crates/pie_c/out/libpie_c.a.
+#        --store: writes the counts to bench/counts.txt; --within: only a growth above PERCENT is a failure;
+#        --table: prints the stored counts as the table of docs/PERFORMANCE.md
+# If LIBRARY is set, it names the static library of the peer, in place of
+# crates/pie_c/out/libpie_c.a.
 set -eu
 cd "$(dirname "$0")/.."
 stored=bench/counts.txt

@@ -1,4 +1,4 @@
-"""The timer of the measures over the built program: what one run of it over files takes."""
+"""The timer of the measurements of the built program: time and memory of one run over files."""
 import os
 import subprocess
 import sys

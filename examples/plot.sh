@@ -1,6 +1,7 @@
 #!/usr/bin/env bash
-# Draws a history: queueing delay and target, drop probability, drops and marks, and the bytes that wait, over time.
-# usage: examples/plot.sh HISTORY PNG      with gnuplot; PIE names the program where `pie` is not on the path
+# Draws a history: queueing delay and target, drop probability, drops and marks, and queued bytes
+# over time.
+# usage: examples/plot.sh HISTORY PNG      needs gnuplot; PIE names the program if `pie` is not on the path
 #        TITLE=.. examples/plot.sh ..      a line below the picture
 set -eu
 history=$1

@@ -1,8 +1,9 @@
 #!/usr/bin/env bash
-# Runs each install script of the repository, so that the gate has nothing to leave out for want of a program or a library: it says what each is
-# for, and which of Debian's packages are missing, and installs these. Root installs; `--missing` needs no root.
+# Runs each install script of the repository, so that the gate can run every test. For each script
+# it prints its purpose and the Debian packages that are missing, and installs them. Root is needed,
+# except with --missing.
 #
-# usage: tests/install.sh [--missing] [FOLDER..]      --missing: names what is missing, and installs nothing; FOLDER: as bindings/ns3
+# usage: tests/install.sh [--missing] [FOLDER..]      --missing: prints the missing packages, and installs nothing; FOLDER: for example bindings/ns3
 set -eu
 cd "$(dirname "$0")/.."
 words=()

@@ -14,8 +14,9 @@ Each script lists its needs in its head, on a line `needs: WORD, WORD..`:
 
 usage: tests/run.py [--jobs N] [--unbuilt | --built | NAME..]
        NAME: a script by its path or its name, with or without its ending, or all of a folder: program, libraries, documents, bindings
-       --jobs: so many at once that need the library, and so many that don't (as many as there are processors)
-       --unbuilt: those that need nothing that is built; --built: the others; with none of these all that need no request"""
+       --jobs: the number of scripts that run at once, of those that need the library and of the others each; by default
+       the number of processors
+       --unbuilt: scripts that need nothing built; --built: the others; by default all that need no request"""
 import argparse
 import os
 import re

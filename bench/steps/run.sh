@@ -3,8 +3,9 @@
 # and to rte_pie.h of its libdpdk-dev, with the same random words (linux.c, dpdk.c). Prints the number of steps for
 # each difference named in docs/PARAMETERS.md. The exit status is 1 if a step differs without a named difference.
 # Neither code is kept in this repository: the parts cut out of linux-source-6.1 are in out/.
-# usage: bench/steps/run.sh PIE [HISTORY..]      HISTORY: by time stamps for Linux, by the departure rate for DPDK, with the usual elements else;
-#                                                where none is given those of traces of trace.py. Status 3: a package is missing.
+# usage: bench/steps/run.sh PIE [HISTORY..]      Status 3: a package is missing. HISTORY: with time stamps for Linux, with
+# the departure rate for DPDK, otherwise with the usual elements; by default the histories of traces
+# of trace.py.
 set -eu
 here=$(cd "$(dirname "$0")" && pwd)
 top=$here/../..

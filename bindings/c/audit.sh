@@ -1,8 +1,9 @@
 #!/usr/bin/env bash
-# Audits the history that the example in C prints (check.sh compares it with the stored one): it is clean, and with one answer
-# changed it differs there; its events are told by their times of day. Where a C compiler and the static library are there, the same of random
-# events that the library writes (events.c).
-# usage: bindings/c/audit.sh [PROGRAM]      PROGRAM: crates/pie/out/pie where none is given
+# Audits the history of the example in C, which check.sh compares with the stored one. It must be
+# clean. With one answer changed, the audit must report that event. The explanations of its events
+# must contain their wall-clock times. If a C compiler and the static library are there, the script
+# audits random events that the library writes in the same way (events.c).
+# usage: bindings/c/audit.sh [PROGRAM]      PROGRAM: crates/pie/out/pie by default
 # needs: library, program
 set -u
 here=$(cd "$(dirname "$0")" && pwd)

@@ -5,7 +5,7 @@
 # address sanitizer, which finds memory that a closed port or excerpt keeps. The folded events of the crowd and of
 # the example, and their excerpts, are audited; in the crowd's history each caller's calls must occur once and in
 # order. C and C++ are also compiled with more warnings, and linked together with -flto.
-# usage: bindings/c/threads.sh [--long] [PROGRAM]      PROGRAM: crates/pie/out/pie where none is given
+# usage: bindings/c/threads.sh [--long] [PROGRAM]      PROGRAM: crates/pie/out/pie by default
 # needs: library, program
 set -euo pipefail
 cd "$(dirname "$0")/../.."

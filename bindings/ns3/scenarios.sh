@@ -5,9 +5,11 @@
 # FOLDER/histories; audit.sh audits them, table.py makes tables. A run has 60 simulated seconds, of which the first
 # 10 are the start. Tail drop, whose runs differ little, has three seeds.
 # usage: bindings/ns3/scenarios.sh FOLDER [FIRST_SEED] [LAST_SEED] [PROCESSES] [RATES] [QUEUES] [SCENARIO]
-#   RATES in Mbit/s, '10 50' where none are given; QUEUES: 'recorded-stamp pie-stamp'; recorded and pie also with -random, -uncapped or -all behind
-#   them, the optional elements of RFC 8033, or with nothing, by the departure rate; pie-mark-stamp, which is pie-stamp with its marks changed, and
-#   fifo; SCENARIO: one alone, as '4 40 0 0' below
+#   RATES      in Mbit/s, '10 50' by default
+#   QUEUES     'recorded-stamp pie-stamp' by default. Each of recorded and pie alone has the delay by the departure rate;
+#              the suffixes -random, -uncapped and -all select optional elements of RFC 8033. pie-mark-stamp is
+#              pie-stamp with changed marks; fifo is tail drop
+#   SCENARIO   one scenario alone, such as '4 40 0 0' below
 set -eu
 if [ $# -lt 1 ] || [ "$1" = --help ]; then
     sed -n '2,10s/^# //p' "$0"

@@ -1,13 +1,16 @@
 #!/usr/bin/env python3
-"""Takes each step of recorded histories again by the rules of ns-3's PieQueueDisc 3.37 (pie-queue-disc.cc), in its own floating point: from the
-probability, the delays and the burst allowance that the history has, the delay and the probability that an update gives (CalculateP), and
-whether an arrival is dropped (DropEarly). So it tells whether two runs went apart by a rule or only by their random words.
+"""Computes each step of recorded histories again by the rules of ns-3's PieQueueDisc 3.37
+(pie-queue-disc.cc), in its own floating point. From the probability, the delays and the burst
+allowance of the history it computes the delay and the probability of an update (CalculateP), and
+the decision about an arrival (DropEarly). The result shows if two runs differ by a rule, or only by
+their random words.
 
 usage: bindings/ns3/steps.py HISTORY..      histories without ECN, of limits in bytes and packets of MEAN_PKT bytes, as scenarios.sh makes them
 
-Prints of all together how many steps there were and how many came out otherwise: delays (by time stamps alone) by more than a nanosecond,
-probabilities by more than 10^-9, verdicts. An update in a burst is told apart, since PieQueueDisc holds the probability at 0 there.
-"""
+Prints, for all histories together, the number of steps and the number of different results: delays
+(only by time stamps) that differ by more than a nanosecond, probabilities that differ by more than
+10^-9, and verdicts. Updates during a burst allowance are counted separately, since PieQueueDisc
+holds the probability at 0 there. """
 import sys
 from collections import Counter, deque
 

@@ -1,8 +1,10 @@
 #!/usr/bin/env bash
-# Builds the static libraries and runs the worked rows, the documentation's examples, the events, the flight recorder, the calls at a link and the
-# example queues in Rust over them, with no network; and audits the history that the recorded queue writes, what four threads at a link fold, and the
-# texts of a queue with a flight recorder: while it works, and after it was killed, when the recorder in C writes the same. Where cargo (1.82 or later) or a C compiler to link by isn't there, a line that
-# begins with NOT RUN says so.
+# Builds the static libraries, and runs with them the worked rows, the documentation's examples, the
+# events, the flight recorder, the calls at a link and the example queues in Rust, without a
+# network. It audits the history of the recorded queue, the events that four threads at a link fold,
+# and the texts of a queue with a flight recorder: while the queue runs, and after it was killed,
+# when the recorder in C must write the same text. Prints a line NOT RUN if there is no cargo 1.82
+# or later, or no C compiler to link with.
 # needs: library, program
 set -eu
 cd "$(dirname "$0")/../.."

@@ -1,6 +1,6 @@
-# For run.sh, tests/program/link.sh and flood.sh, which source this file: `measure` runs TCP and ping through the link, between network namespaces
-# that it makes. All that it starts and makes is gone when the script ends, also by a signal.
-# Traffic is IPv6 where LINK_FAMILY is 6, and else IPv4.
+# Sourced by run.sh, tests/program/link.sh and flood.sh. `measure` runs TCP and ping through the
+# link, between network namespaces that it creates. When the script ends, also by a signal,
+# everything that it created is removed. Traffic is IPv6 if LINK_FAMILY is 6, otherwise IPv4.
 
 link_program=$(cd "$(dirname "${BASH_SOURCE[0]}")" && pwd)/out/link
 names=(link-$$-from link-$$-link link-$$-to)

@@ -1,6 +1,7 @@
 #!/usr/bin/env bash
-# run.sh several times; then one table, of each figure the mean over the runs, and in brackets the least and the greatest.
-# usage: examples/link/repeat.sh RUNS PIE FOLDER [SECONDS] [FLOWS] [OPTIONS OF THE LINK..]      RUNS, and then as for run.sh
+# Runs run.sh several times, and prints one table: the mean of each figure over the runs, with the
+# least and the greatest in brackets.
+# usage: examples/link/repeat.sh RUNS PIE FOLDER [SECONDS] [FLOWS] [OPTIONS OF THE LINK..]      RUNS: the number of runs; the others as for run.sh
 set -eu
 here=$(cd "$(dirname "$0")" && pwd)
 if [ $# -lt 3 ]; then

@@ -1,6 +1,7 @@
 #!/usr/bin/env bash
-# Of the arrivals that were considered for early drop (no burst allowed, no exemption of section 4.1, nothing over the limit), by the probability
-# at which they came: how many there were, and what share was picked, to be marked or dropped early. See docs/RESULTS.md.
+# Prints, for each range of the probability, the number of arrivals that were considered for early
+# drop (no burst allowed, no exemption of section 4.1, within the limits), and the share of them
+# that was picked to be marked or dropped. See docs/RESULTS.md.
 # usage: examples/link/shares.sh PIE HISTORY
 set -eu
 "$1" explain --all --csv < "$2" | awk -F, '

@@ -1,12 +1,13 @@
 #!/usr/bin/env python3
-"""Writes a capture as pcapng, with `pie explain --lost`'s explanation as the comment of each packet that was lost or marked. Wireshark shows comments,
-and `tshark -T fields -e frame.comment` prints them.
+"""Writes a capture as pcapng, with the explanation of `pie explain --lost` as the comment of
+each packet that was lost or marked. Wireshark shows the comments, and `tshark -T fields -e
+frame.comment` prints them.
 
 usage: examples/replay/comments.py PIE HISTORY CAPTURE FILE
   PIE      the built program;  FILE: the new capture
-  HISTORY  of replay, whose tags are the frames' numbers; or of examples/link, whose tags are the numbers of the arrivals
-  CAPTURE  pcap: what replay read, or what `tcpdump --direction=out -i DEVICE -w CAPTURE` saw at the link's first device from its start on. Of a pcapng,
-           `editcap -F nsecpcap` makes one"""
+  HISTORY  a history of replay, whose tags are the frames' numbers; or of examples/link, whose tags count the arrivals
+  CAPTURE  pcap: the capture that replay read, or one by `tcpdump --direction=out -i DEVICE -w CAPTURE` at the link's
+           first device from its start on. `editcap -F nsecpcap` converts pcapng"""
 import re
 import struct
 import subprocess

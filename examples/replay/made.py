@@ -1,6 +1,7 @@
 #!/usr/bin/env python3
-"""Makes a capture to try replay with: three seconds of UDP from 198.51.100.1 to 192.0.2.1 at 60 Mbit/s on average, by turns more and less, and
-some answers. Packets have 100 to 1500 bytes, and half of them are ECT(0).
+"""Makes a capture for a first replay: three seconds of UDP from 198.51.100.1 to 192.0.2.1 at 60
+Mbit/s on average, with periods above and below that rate, and some answers. Packets have 100 to
+1500 bytes, and half of them are ECT(0).
 
 usage: examples/replay/made.py FILE"""
 import random

@@ -1,1 +1,2 @@
-"""Audits and sums up the histories of many links on a Dask cluster: one table, a row a link. `python3 -m pie_fleet --help` has the command."""
+"""Audits and summarizes the histories of many links on a Dask cluster, as one table with a row
+for each link. `python3 -m pie_fleet --help` describes the command."""

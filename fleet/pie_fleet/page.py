@@ -1,4 +1,4 @@
-"""The table as an HTML page: a row a link, each with the way to its report."""
+"""The table as an HTML page: a row for each link, with a link to its report."""
 import html
 import os
 import re

@@ -1,6 +1,7 @@
 #!/usr/bin/env python3
-"""The statistics of bench/equivalence.py beside published values: quantiles of Student's t; the power of two one-sided tests as the R package
-PowerTOST has it (2x2 crossover, a true ratio of 0.95, limits of 0.8 and 1.25); Welch's degrees of freedom; and its verdicts.
+"""Compares the statistics of bench/equivalence.py with published values: quantiles of Student's
+t; the power of two one-sided tests, with the values of the R package PowerTOST (2x2 crossover, a
+true ratio of 0.95, limits of 0.8 and 1.25); Welch's degrees of freedom; and the verdicts.
 needs: nothing"""
 import math
 import os

@@ -1,9 +1,10 @@
 #!/usr/bin/env python3
-"""Holds the documents to the code: docs/MODEL.md names each definition that a clause of a public function cites, and each function,
-definition and wrong body of its table of rules exists; map and list of crates in docs/ARCHITECTURE.md are those of crates.txt
-(docs/map.py --check), and the picture of margins what docs/margins.py draws. What PROMISES, ARCHITECTURE and GUARANTEES name is a word of
-the code. And each `==` of a type is derived, so that it compares every field: what a test or an audit finds equal is the same.
-It reads by the layout that `rt fmt` writes. Exit status 1 where something is missing.
+"""Compares the documents with the code, by the layout that `rt fmt` writes. docs/MODEL.md must
+name each definition that a clause of a public function cites, and each function, definition and
+mutation in its table of rules must exist. Map and list of crates in docs/ARCHITECTURE.md must be
+those of crates.txt (docs/map.py --check), and the picture of margins must be the one that
+docs/margins.py draws. Names of code in PROMISES, ARCHITECTURE and GUARANTEES must exist. Each `==`
+of a type must be derived, so that it compares every field. The exit status is 1 if a check fails.
 
 usage: tests/documents/model_and_architecture.py
 needs: nothing

@@ -1,7 +1,8 @@
 #!/usr/bin/env python3
-"""Checks that each `old:` text of crates/NAME/mutations.txt stands exactly once in its file, after the replacements before it, and that each name of a
-mutation is used once in its crate. So no mutation is passed over when the code has changed. tests/mutations.py tries whether the prover rejects them.
-The exit status is 1 if a text is missing or stands more than once.
+"""Checks that each `old:` text of crates/NAME/mutations.txt occurs exactly once in its file,
+after the replacements before it, and that each name of a mutation is used once in its crate. A
+change of the code thus cannot disable a mutation without notice. tests/mutations.py tries if the
+prover rejects the mutations. The exit status is 1 if a text is missing or occurs more than once.
 
 usage: tests/documents/mutations.py
 needs: nothing

@@ -5,7 +5,7 @@ between. A second run must take only the changed files, and list them. A worker 
 Files that vanish, hosts without a worker and a stopped run must be reported, and no file counted twice. Then the
 script tries the commands over SSH of docs/OPERATING.md: three servers on loopback addresses, with GNU parallel.
 
-usage: tests/fleet/fleet.py [PROGRAM [HISTORIES]]      PROGRAM: crates/pie/out/pie where none is named; of HISTORIES (300) a tenth is damaged
+usage: tests/fleet/fleet.py [PROGRAM [HISTORIES]]      PROGRAM: crates/pie/out/pie by default; of HISTORIES (300) a tenth is damaged
 needs: program
 """
 import csv

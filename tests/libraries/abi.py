@@ -1,7 +1,9 @@
 #!/usr/bin/env python3
-"""Compares the binary interface of the shared library with dist/abi.txt: each function with its declaration, each struct with its size, and each field with
-its offset and size, each constant with its value. A line of dist/abi.txt that the headers no longer have breaks programs that were linked before, and needs
-another soname. A line more is a new function, struct or constant: --write adds it.
+"""Compares the binary interface of the shared library with dist/abi.txt: each function with its
+declaration, each struct with its size, each field with its offset and size, and each constant with
+its value. If the headers lack a line of dist/abi.txt, programs that were linked before would break,
+and another soname is needed. An additional line is a new function, struct or constant; --write adds
+it.
 
 dist/abi.txt is also the list of the functions that the shared library exports (Makefile).
 

@@ -1,6 +1,7 @@
 #!/usr/bin/env bash
-# Holds each kind of call of the library for C to the instructions that bench/pie_c_count.txt stores (bench/pie_c_count.sh): none takes more than
-# 2 per cent above. No load changes them.
+# Compares the instructions of each kind of call of the library for C with bench/pie_c_count.txt
+# (bench/pie_c_count.sh). No kind may take over 2 per cent more. The counts do not depend on the
+# load.
 #
 # usage: tests/libraries/counts.sh
 # needs: library

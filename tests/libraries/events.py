@@ -1,9 +1,10 @@
 #!/usr/bin/env python3
-"""Random sequences of the library's calls with events, in each of the sixteen choices and both profiles, beside the reference
-(tests/shared/reference.py): the text that the library writes of each event is the reference's record, and the registers are the reference's;
-`pie audit` finds the whole text clean, and each of many events with one byte of its answer changed.
+"""Makes random sequences of the library's calls with events, in each of the sixteen choices and
+both profiles, and compares them with tests/shared/reference.py: the text of each event must be the
+reference's record, and the registers must be the reference's. `pie audit` must find the whole text
+clean, and must report each of many events with one changed byte in its answer.
 
-usage: tests/libraries/events.py [PIE [SEED [STEPS]]]      PIE: crates/pie/out/pie where none is given
+usage: tests/libraries/events.py [PIE [SEED [STEPS]]]      PIE: crates/pie/out/pie by default
 needs: program, library, an early start"""
 import ctypes
 import random

@@ -4,7 +4,7 @@
 # events through the library's calls, also in bursts, with dumps at random places, each of which is decided again;
 # dumps during writes; killed processes; damaged memory; a copy and a writer that are stopped between two words.
 # Then it builds sixteen wrong recorders, each of which a test must find. Prints a line NOT RUN for a missing tool.
-# usage: tests/libraries/flight.sh [EVENTS]      EVENTS: 50000 where none are given
+# usage: tests/libraries/flight.sh [EVENTS]      EVENTS: 50000 by default
 # needs: library
 set -u
 . "$(dirname "$0")/../shared/header_test.sh"

@@ -4,7 +4,7 @@
 # events, followed at random times and by another thread, and a writer at full speed, whose events must be read
 # whole or reported as missed. Then it builds six wrong followers, each of which the test must find. Prints a line
 # NOT RUN for a missing tool.
-# usage: tests/libraries/follow.sh [EVENTS]      EVENTS: 20000 where none are given
+# usage: tests/libraries/follow.sh [EVENTS]      EVENTS: 20000 by default
 # needs: library
 set -u
 . "$(dirname "$0")/../shared/header_test.sh"

@@ -3,7 +3,7 @@
 call must report out of memory in its own form and keep its promises. The first run without a failure must answer as
 with ample memory. Other calls must answer as usual.
 
-usage: tests/libraries/refused_memory.py [PROGRAM]      PROGRAM: crates/pie_library_tests/out/pie_library_tests where none is given
+usage: tests/libraries/refused_memory.py [PROGRAM]      PROGRAM: crates/pie_library_tests/out/pie_library_tests by default
 needs: pie_library_tests"""
 import os
 import re

@@ -1,7 +1,8 @@
 #!/usr/bin/env python3
-"""Tries wrong headers and wrong bindings: each edit below is made in a copy of include/ and bindings/, and tests/libraries/header.py, the rows
-in C or the rows in Rust have to refuse it. It needs both libraries (bindings/c/library.py), a C compiler and cargo, and takes some
-minutes; .ci/run leaves it out. Exit status 1 where an edit passes everything.
+"""Tries wrong headers and wrong bindings: makes each edit below in a copy of include/ and
+bindings/. tests/libraries/header.py, the rows in C or the rows in Rust must reject it. Needs both
+libraries (bindings/c/library.py), a C compiler and cargo, and takes some minutes; the gate does not
+run it. The exit status is 1 if an edit passes all three.
 
 usage: tests/libraries/wrong_headers.py [NAME..]    NAME: a word of the edits to try
 needs: library, a request

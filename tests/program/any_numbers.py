@@ -1,12 +1,18 @@
 #!/usr/bin/env python3
-"""Excerpts with arbitrary numbers, also those that no history reaches: random preambles of each number's whole range, with random commands behind
-them. What `pie run` writes of one is what tests/shared/reference_resumed.py decides from the numbers alone, and its audit is clean. `pie explain
---all` lists each event once, in order, with the numbers before and after it, the cause of each verdict and the last event that set the probability.
-A cut of it audits clean, is explained as the whole, and a run of its commands writes it again; segments follow each other. Sums are those of the
-events. Where one answer is changed, audit, explanation, cut and segments all end at this event. A preamble that is refused is refused by all of them
-with the same words; one whose statistics agree with the other numbers is never refused.
+"""Tests excerpts with arbitrary numbers, also those that no history reaches: random preambles
+over each number's whole range, with random commands behind them. tests/shared/reference_resumed.py
+decides from the numbers alone.
 
-usage: tests/program/any_numbers.py [PROGRAM [FIRST_SEED [RUNS]]]      PROGRAM: crates/pie/out/pie where none is given
+- `pie run` of an excerpt must write the reference's history, whose audit is clean.
+- `pie explain --all` must list each event once, in order, with the numbers before and after it, the cause of each
+  verdict, and the last event that set the probability.
+- A cut must audit clean and be explained as the whole, and a run of its commands must write it again. Segments must
+  follow each other. Sums must be those of the events.
+- If one answer is changed, audit, explanation, cut and segments must all end at this event.
+- If a preamble is refused, all commands must refuse it with the same words. A preamble whose statistics agree with its
+  other numbers must never be refused for them.
+
+usage: tests/program/any_numbers.py [PROGRAM [FIRST_SEED [RUNS]]]      PROGRAM: crates/pie/out/pie by default
 needs: program
 """
 import random

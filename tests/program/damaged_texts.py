@@ -11,7 +11,7 @@ With `every` each byte is changed to each of the 255 other values, and each hist
 nothing else is tried. With numbers K and N after it, only each N-th place from the K-th is tried: N such runs try
 all.
 
-usage: tests/program/damaged_texts.py [PROGRAM [every [K N]]]      PROGRAM: crates/pie/out/pie where none is given
+usage: tests/program/damaged_texts.py [PROGRAM [every [K N]]]      PROGRAM: crates/pie/out/pie by default
 needs: program, an early start"""
 import os
 import random

@@ -1,8 +1,9 @@
 #!/usr/bin/env bash
-# Runs each trace of examples/: its history is the one beside it, byte for byte, and is audited clean, with as many events as examples/README.md
-# is about; what the page says of drops, marks, turning on and off and the reset holds. The traces are those that examples/traces.py makes,
-# where python3 is there, and each history is drawn where gnuplot is there.
-# usage: tests/program/examples.sh [PROGRAM]      PROGRAM: crates/pie/out/pie where none is given
+# Runs each trace of examples/. Its history must be the stored one, byte for byte, and audit clean
+# with the expected number of events. The numbers of drops, marks, activations and the reset must be
+# those of examples/README.md. If python3 is installed, examples/traces.py must make the same
+# traces; if gnuplot is installed, each history is drawn.
+# usage: tests/program/examples.sh [PROGRAM]      PROGRAM: crates/pie/out/pie by default
 # needs: program
 . "$(dirname "$0")/../shared/script.sh"
 examples=$top/examples

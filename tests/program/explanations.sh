@@ -1,7 +1,8 @@
 #!/usr/bin/env bash
-# Explanations of the built program, in words and as CSV: of the packet that was lost, of one event, of marks, up to a changed verdict; what is
-# not there; what set the probability; and each way to choose events.
-# usage: tests/program/explanations.sh [PROGRAM]      PROGRAM: crates/pie/out/pie where none is given
+# Tests explanations of the built program, in words and as CSV: of a lost packet, of one event, of
+# marks, and up to a changed verdict; requests for a missing event or tag; the event that set the
+# probability; and each choice of events.
+# usage: tests/program/explanations.sh [PROGRAM]      PROGRAM: crates/pie/out/pie by default
 # needs: program
 . "$(dirname "$0")/../shared/expect.sh"
 

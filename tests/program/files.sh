@@ -1,7 +1,7 @@
 #!/usr/bin/env bash
 # Checks files named on the command line: input files, and output files after -o, none of which may be destroyed;
 # and the progress line of a long input.
-# usage: tests/program/files.sh [PROGRAM]      PROGRAM: crates/pie/out/pie where none is given
+# usage: tests/program/files.sh [PROGRAM]      PROGRAM: crates/pie/out/pie by default
 # needs: program
 . "$(dirname "$0")/../shared/expect.sh"
 

@@ -4,7 +4,7 @@
 # file of flows. Each flow that the link reported had the most bytes of its half second according to the history,
 # which is clean and contains no flow without a line in the file. Without root or /dev/net/tun the script runs in
 # user-mode Linux, bench/uml. Prints a line NOT RUN if a program is missing.
-# usage: tests/program/flood.sh [PROGRAM]      PROGRAM: crates/pie/out/pie where none is given
+# usage: tests/program/flood.sh [PROGRAM]      PROGRAM: crates/pie/out/pie by default
 # needs: program, library, root, quiet
 . "$(dirname "$0")/../shared/script.sh"
 . "$top/tests/shared/through_link.sh" python3

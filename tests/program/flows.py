@@ -1,9 +1,11 @@
 #!/usr/bin/env python3
-"""Holds `pie explain --flows` to a count of its own over the records of `pie explain --all --csv`: of each history of examples/, and of random ones by
-tests/shared/reference.py, whose tags are written anew with flows in their upper 32 bits. Of all events, of those within some moments, of lost ones,
-and of each period, in words and as CSV, for one flow, some, and more than there are. Exit status 1 where something differs.
+"""Compares `pie explain --flows` with a separate count over the records of `pie explain --all
+--csv`: for each history of examples/, and for random ones by tests/shared/reference.py whose tags
+receive flows in their upper 32 bits. It tries all events, events within some moments, lost ones,
+and each interval, in words and as CSV, for one flow, for some, and for more than there are. The
+exit status is 1 if something differs.
 
-usage: tests/program/flows.py [PROGRAM [FIRST_SEED [RUNS [STEPS]]]]      PROGRAM: crates/pie/out/pie where none is given
+usage: tests/program/flows.py [PROGRAM [FIRST_SEED [RUNS [STEPS]]]]      PROGRAM: crates/pie/out/pie by default
 needs: program
 """
 import os

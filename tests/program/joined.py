@@ -6,7 +6,7 @@ tests/shared/reference_resumed.py gives the expected finding. Texts with a chang
 ranges, are cut into segments by `pie cut`: each segment must be clean and follow, except the last if the text
 differs. Then whole histories, files with a fault, files that differ, one file, and standard input take part.
 
-usage: tests/program/joined.py [PROGRAM [FIRST_SEED [RUNS]]]      PROGRAM: crates/pie/out/pie where none is given
+usage: tests/program/joined.py [PROGRAM [FIRST_SEED [RUNS]]]      PROGRAM: crates/pie/out/pie by default
 needs: program
 """
 import random

@@ -5,7 +5,7 @@ full log; 65536 packets, and one too many; packets with the tag 0; and ten milli
 command stores one record, its queue and its log, so its memory does not grow with the text: it runs with its
 address space limited to MEMORY bytes.
 
-usage: tests/program/large.py [PROGRAM]      PROGRAM: crates/pie/out/pie where none is given
+usage: tests/program/large.py [PROGRAM]      PROGRAM: crates/pie/out/pie by default
 needs: program"""
 import os
 import resource

@@ -1,7 +1,9 @@
 #!/usr/bin/env bash
-# The link's --overhead, --mpu and --linklayer beside `tc stab`: UDP of every size from 28 to 1500 bytes goes through a device whose qdisc has a stab and
-# through the link behind it (examples/link). The bytes that tc counts are those of the history's arrivals, for each 64 sizes in turn. Without root or
-# /dev/net/tun it runs in a Linux in a process, bench/uml. If this machine lacks something, a line that begins with NOT RUN says so.
+# Compares the link's --overhead, --mpu and --linklayer with `tc stab`: UDP of every size from 28 to
+# 1500 bytes goes through a device whose qdisc has a stab, and through the link behind it
+# (examples/link). For each 64 sizes the bytes that tc counts must be those of the history's
+# arrivals. Without root or /dev/net/tun the script runs in user-mode Linux (bench/uml). Prints a
+# line NOT RUN if a requirement is missing.
 # usage: tests/program/layer.sh [PROGRAM]      PROGRAM: crates/pie/out/pie by default
 # needs: program, library, root
 . "$(dirname "$0")/../shared/script.sh"

@@ -7,7 +7,7 @@
 # event must have a wall-clock time. First comes the test of packets: marks in IPv4 and IPv6 headers, and checksums.
 # Without root or /dev/net/tun the script runs in user-mode Linux, bench/uml. Prints a line NOT RUN if a program is
 # missing.
-# usage: tests/program/link.sh [PROGRAM]      PROGRAM: crates/pie/out/pie where none is given
+# usage: tests/program/link.sh [PROGRAM]      PROGRAM: crates/pie/out/pie by default
 # needs: program, library, root, quiet
 . "$(dirname "$0")/../shared/script.sh"
 seconds=5

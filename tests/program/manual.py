@@ -5,7 +5,7 @@ subcommand, unless it ends in dots. If bash, zsh and fish are installed, the scr
 The options of man/pie-report.1 and man/pie-metrics.1 must be those of `pie-report --help` and `pie-metrics --help`.
 The exit status is 1 if an option is missing or unknown.
 
-usage: tests/program/manual.py [PROGRAM]      PROGRAM: crates/pie/out/pie where none is given
+usage: tests/program/manual.py [PROGRAM]      PROGRAM: crates/pie/out/pie by default
 needs: program
 """
 import os

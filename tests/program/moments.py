@@ -1,9 +1,10 @@
 #!/usr/bin/env python3
-"""Holds `pie explain --from` and `--to` to the effective moments in the records of `pie explain --all --csv`: of each history of examples/,
-and of random ones by tests/shared/reference.py, the chosen events within some moments, with moments in each way of writing them; and which texts
-are no moments. Exit status 1 where something differs.
+"""Compares `pie explain --from` and `--to` with the effective moments in the records of `pie
+explain --all --csv`: for each history of examples/, and for random ones by
+tests/shared/reference.py, the chosen events within some moments, with moments in each notation.
+Texts that are no moments must be refused. The exit status is 1 if something differs.
 
-usage: tests/program/moments.py [PROGRAM [FIRST_SEED [RUNS [STEPS]]]]      PROGRAM: crates/pie/out/pie where none is given
+usage: tests/program/moments.py [PROGRAM [FIRST_SEED [RUNS [STEPS]]]]      PROGRAM: crates/pie/out/pie by default
 needs: program
 """
 import os

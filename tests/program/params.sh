@@ -1,6 +1,6 @@
 #!/usr/bin/env bash
 # `pie params` of the built program: parameters of tc. The record is one that a run accepts, and writes again as it is.
-# usage: tests/program/params.sh [PROGRAM]      PROGRAM: crates/pie/out/pie where none is given
+# usage: tests/program/params.sh [PROGRAM]      PROGRAM: crates/pie/out/pie by default
 # needs: program
 . "$(dirname "$0")/../shared/expect.sh"
 

@@ -2,7 +2,7 @@
 # Runs the built program on random traces, and compares each history with that of tests/shared/reference.py, which looks back over the
 # whole list of events and shares no code with it. Then it audits the history, which is clean, and the history with one verdict
 # changed, which differs at that event.
-# usage: tests/program/random_traces.sh [PROGRAM [FIRST_SEED [RUNS [STEPS]]]]      PROGRAM: crates/pie/out/pie where none is given
+# usage: tests/program/random_traces.sh [PROGRAM [FIRST_SEED [RUNS [STEPS]]]]      PROGRAM: crates/pie/out/pie by default
 # needs: program
 . "$(dirname "$0")/../shared/script.sh"
 first=${2:-1}

@@ -1,14 +1,15 @@
 #!/usr/bin/env python3
-"""Feeds texts to the built program in reads of all sizes, and compares what `run`, `audit`, `explain --all --csv` and `cut --every` end with, status,
-output and error stream, with the reader and the references of tests/shared, which have the whole text at once. The reads return 1, 2, 3 or more bytes
-each, or are two, split at a byte (tests/shared/refuse.c). The texts:
+"""Passes texts to the built program in reads of all sizes. The status, output and error stream
+of `run`, `audit`, `explain --all --csv` and `cut --every` must be those of the reader and the
+references of tests/shared, which have the whole text at once. The reads return 1, 2, 3 or more
+bytes each, or there are two reads, split at a byte (tests/shared/refuse.c). The texts are:
 
 - short ones, each split at every byte: quotes, carriage returns, empty lines, NUL bytes, byte order marks, and ends without a line feed;
 - random traces and histories with random changes of that kind, long fields and odd numbers among them;
 - numbers at the ends of each range, and numbers with another byte among their digits, at each place of a number in short texts;
 - long ones in which each byte of a line with quotes and carriage returns is once the first byte after a full buffer.
 
-usage: tests/program/reads.py [PROGRAM [FIRST_SEED [SEEDS]]]      PROGRAM: crates/pie/out/pie where none is given
+usage: tests/program/reads.py [PROGRAM [FIRST_SEED [SEEDS]]]      PROGRAM: crates/pie/out/pie by default
 needs: program, an early start"""
 import os
 import random

@@ -2,7 +2,7 @@
 # Compares each decision with Linux's sch_pie.c and DPDK's rte_pie.h (bench/steps). Each difference must be one that
 # docs/PARAMETERS.md names. Then the script changes a constant in Linux's code and expects a difference without a
 # name. Prints a line NOT RUN if Debian's packages are not installed.
-# usage: tests/program/real_code.sh [PROGRAM]      PROGRAM: crates/pie/out/pie where none is given
+# usage: tests/program/real_code.sh [PROGRAM]      PROGRAM: crates/pie/out/pie by default
 # needs: program
 . "$(dirname "$0")/../shared/script.sh"
 steps=$top/bench/steps

@@ -6,7 +6,7 @@ that reads or writes: a failed read must end the text after all earlier records.
 writes, renames and removes the file of -o: the old file must remain, or the new one must be complete.
 refused_storms.py does this for storms.
 
-usage: tests/program/refused_requests.py [PROGRAM]      PROGRAM: crates/pie/out/pie where none is given
+usage: tests/program/refused_requests.py [PROGRAM]      PROGRAM: crates/pie/out/pie by default
 needs: program, an early start"""
 import os
 import sys

@@ -3,7 +3,7 @@
 (tests/shared/refuse.c). The threads of a storm wait a third of a second or more for a missing thread before they
 continue.
 
-usage: tests/program/refused_storms.py [PROGRAM]      PROGRAM: crates/pie/out/pie where none is given
+usage: tests/program/refused_storms.py [PROGRAM]      PROGRAM: crates/pie/out/pie by default
 needs: program, an early start"""
 import os
 import sys

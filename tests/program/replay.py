@@ -4,7 +4,7 @@ tags, super-packets. Each history must be clean, its arrivals must be the packet
 with comments must have the same frames. A broken capture must end with one line, after the output of the frames
 before it. Prints a line NOT RUN if libpcap or a C compiler is missing.
 
-usage: tests/program/replay.py [PIE]      PIE: crates/pie/out/pie where none is given
+usage: tests/program/replay.py [PIE]      PIE: crates/pie/out/pie by default
 needs: program, library"""
 import ipaddress
 import os

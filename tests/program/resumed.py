@@ -7,7 +7,7 @@ the numbers of the preamble alone. Each text is also explained, as CSV and in su
 whole history after the preamble, number for number. If the preamble does not contain the setter of the probability,
 the records say so.
 
-usage: tests/program/resumed.py [PROGRAM [FIRST_SEED [RUNS]]]      PROGRAM: crates/pie/out/pie where none is given
+usage: tests/program/resumed.py [PROGRAM [FIRST_SEED [RUNS]]]      PROGRAM: crates/pie/out/pie by default
 needs: program
 """
 import random

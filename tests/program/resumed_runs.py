@@ -8,7 +8,7 @@ look-backs of reference.py over the history and the new commands, with an empty 
 audit clean. The same commands must have the same answers after 2^32 and 2^40 events. Last come changed texts: their
 fault, and the end of the output.
 
-usage: tests/program/resumed_runs.py [PROGRAM [FIRST_SEED [RUNS]]]      PROGRAM: crates/pie/out/pie where none is given
+usage: tests/program/resumed_runs.py [PROGRAM [FIRST_SEED [RUNS]]]      PROGRAM: crates/pie/out/pie by default
 needs: program
 """
 import random

@@ -1,7 +1,8 @@
 #!/usr/bin/env bash
-# Runs the built program, and compares its status, its output and its error stream: what `main` does with the end of `command` is seen only here,
-# and in the other scripts that read expect.sh. This one runs, audits and migrates standard input, counts, and fails to read and write.
-# usage: tests/program/runs.sh [PROGRAM]      PROGRAM: crates/pie/out/pie where none is given
+# Runs the built program, and compares its status, its output and its error stream. Only this script
+# and the others that source expect.sh see what `main` does with the end of `command`. This script
+# runs, audits and migrates standard input, counts, and fails to read and write.
+# usage: tests/program/runs.sh [PROGRAM]      PROGRAM: crates/pie/out/pie by default
 # needs: program
 . "$(dirname "$0")/../shared/expect.sh"
 

@@ -1,7 +1,7 @@
 #!/usr/bin/env bash
-# Storms of the built program: the plan with one packet a sender has five events, and eight senders at once end with a history that is clean,
-# whoever comes first.
-# usage: tests/program/storms.sh [PROGRAM]      PROGRAM: crates/pie/out/pie where none is given
+# Tests storms of the built program: the plan with one packet for each sender has five events, and a
+# storm of eight senders ends with a clean history, in whatever order the threads run.
+# usage: tests/program/storms.sh [PROGRAM]      PROGRAM: crates/pie/out/pie by default
 # needs: program, quiet
 . "$(dirname "$0")/../shared/expect.sh"
 

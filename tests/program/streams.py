@@ -1,8 +1,8 @@
 #!/usr/bin/env python3
-"""Runs the built program with standard streams that are closed, full, broken or read by nobody, at a terminal, interrupted, and with words that are not
-UTF-8.
+"""Runs the built program with standard streams that are closed, full, broken or without a
+reader, at a terminal, with interrupts, and with arguments that are not UTF-8.
 
-usage: tests/program/streams.py [PROGRAM]      PROGRAM: crates/pie/out/pie where none is given
+usage: tests/program/streams.py [PROGRAM]      PROGRAM: crates/pie/out/pie by default
 needs: program"""
 import os
 import pty

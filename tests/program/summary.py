@@ -1,10 +1,11 @@
 #!/usr/bin/env python3
-"""Holds `pie explain --summary` and `--every` to a computation of its own over the records of `pie explain --all --csv`: of each history of
-examples/, and of random ones by tests/shared/reference.py, the summaries in words and as CSV, of all events, of those within some moments, and of
-each period, with lengths in each way of writing them; and `--digest` to these and the words of `--lost` and `--marked`, in their order. Exit status
-1 where something differs.
+"""Compares `pie explain --summary` and `--every` with a separate computation over the records of
+`pie explain --all --csv`: for each history of examples/, and for random ones by
+tests/shared/reference.py, the summaries in words and as CSV, of all events, of those within some
+moments, and of each interval, with its length in each notation. `--digest` must be these summaries
+and the words of `--lost` and `--marked`, in their order. The exit status is 1 if something differs.
 
-usage: tests/program/summary.py [PROGRAM [FIRST_SEED [RUNS [STEPS]]]]      PROGRAM: crates/pie/out/pie where none is given
+usage: tests/program/summary.py [PROGRAM [FIRST_SEED [RUNS [STEPS]]]]      PROGRAM: crates/pie/out/pie by default
 needs: program
 """
 import os

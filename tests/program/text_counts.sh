@@ -1,8 +1,10 @@
 #!/usr/bin/env bash
-# Holds the commands that read a text to the instructions of a record that bench/counts.txt stores (bench/pie_text_count.sh): none takes more than 2 per
-# cent above, and bench/peer/run.c writes the same bytes as `pie run`. No load changes them. The table of docs/PERFORMANCE.md has the stored numbers.
+# Compares the instructions of a record, for the commands that read a text, with bench/counts.txt
+# (bench/pie_text_count.sh). No command may take over 2 per cent more, and bench/peer/run.c must
+# write the same bytes as `pie run`. The counts do not depend on the load. The table of
+# docs/PERFORMANCE.md must have the stored numbers.
 #
-# usage: tests/program/counts.sh [PROGRAM]      PROGRAM: crates/pie/out/pie where none is given
+# usage: tests/program/text_counts.sh [PROGRAM]      PROGRAM: crates/pie/out/pie by default
 # needs: program, library
 set -euo pipefail
 cd "$(dirname "$0")/../.."

@@ -8,7 +8,7 @@ explained and cut, and summaries must have the times of their events. Then the s
 years, months and days, times before 1970 or past 2^64 - 1 ns, invalid times, and invalid combinations. The exit
 status is 1 if something differs.
 
-usage: tests/program/wall.py [PROGRAM [FIRST_SEED [RUNS [STEPS]]]]      PROGRAM: crates/pie/out/pie where none is given
+usage: tests/program/wall.py [PROGRAM [FIRST_SEED [RUNS [STEPS]]]]      PROGRAM: crates/pie/out/pie by default
 needs: program
 """
 import csv

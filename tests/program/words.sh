@@ -1,6 +1,6 @@
 #!/usr/bin/env bash
-# The words of the built program's command line: each help, each mistake, the version.
-# usage: tests/program/words.sh [PROGRAM]      PROGRAM: crates/pie/out/pie where none is given
+# Tests the texts of the built program's command line: each help, each mistake, the version.
+# usage: tests/program/words.sh [PROGRAM]      PROGRAM: crates/pie/out/pie by default
 # needs: program
 . "$(dirname "$0")/../shared/expect.sh"
 

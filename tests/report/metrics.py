@@ -8,7 +8,7 @@ its own: its metrics, its history and its flight recorder must have the same num
 each signal, and its metrics must have the names of pie-metrics. promtool, if it is installed, must accept all of
 them.
 
-usage: tests/report/metrics.py [PROGRAM]      PROGRAM: crates/pie/out/pie where none is named
+usage: tests/report/metrics.py [PROGRAM]      PROGRAM: crates/pie/out/pie by default
 needs: program, library, root
 """
 import contextlib

@@ -9,7 +9,7 @@ the visible numbers must be those of `pie explain --summary`, zoom, click, searc
 be blank, and windows of any width must fit, also with the greatest numbers. The axes must have wall-clock times if
 the history has them, and otherwise moments in a suitable unit, for no time and for 36 years.
 
-usage: tests/report/report.py [PROGRAM [PICTURES]]      PROGRAM: crates/pie/out/pie where none is named; PICTURES: a folder for the pictures
+usage: tests/report/report.py [PROGRAM [PICTURES]]      PROGRAM: crates/pie/out/pie by default; PICTURES: a folder for the pictures
 needs: program
 """
 import base64

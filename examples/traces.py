@@ -13,7 +13,8 @@ from pathlib import Path
 MS = 1_000_000
 SIZE = 1250
 UPDATE = 15 * MS
-# The default parameters, a ring of 1000 packets, and a tail of 1000 events that lets its oldest go. Where parameters follow they are
+# The default parameters, a ring of 1000 packets, and a rolling event log of 1000 events. The order
+# of the parameters is
 # target, t_update, max_burst, alpha, beta, mean_pkt, limit_bytes, mark_ecnth and dq_threshold.
 OPENING = "rolling,0,1000,1000,1000000"
 
@@ -24,7 +25,8 @@ def steady(first, last, gap):
 
 
 def written(opening, arrivals, departs, updates, others=(), ecns=("not",), seed=1):
-    """The records, by moment; at one moment packets leave, then come, and then there is an update."""
+    """Returns the records by moment. At one moment departures come first, then arrivals, then an
+    update."""
     words = random.Random(seed)
     events = [(moment, 0, f"depart,2,{moment}") for moment in departs] + [(moment, 2, f"update,3,{moment}") for moment in updates]
     events += [(moment, 3, record) for moment, record in others]
@@ -35,26 +37,31 @@ def written(opening, arrivals, departs, updates, others=(), ecns=("not",), seed=
 
 
 def burst():
-    """10 Mbit/s, half loaded; at 30 ms forty packets come at once: 50 kilobytes, 40 milliseconds of the link."""
+    """A link of 10 Mbit/s at half load. At 30 ms forty packets arrive at once: 50 kilobytes, 40
+    milliseconds of the link."""
     arrivals = steady(0, 30, 2) + [30 * MS] * 40 + steady(32, 120, 2)
     return written(OPENING, arrivals, steady(1, 120, 1), steady(15, 120, 15))
 
 
 def overload():
-    """5 Mbit/s; 1.5 times as much comes for 0.6 seconds, and then half as much; no packet may be marked."""
+    """A link of 5 Mbit/s. For 0.6 seconds 1.5 times its rate arrives, and then half its rate. No
+    packet is ECN-capable."""
     return written(OPENING, steady(0, 600, 4 / 3) + steady(600, 900, 4), steady(2, 900, 2), steady(15, 900, 15))
 
 
 def marks():
-    """5 Mbit/s; 1.25 times as much comes for 0.48 seconds, and then 0.83 times; every other packet may be marked, below 20 per cent."""
+    """A link of 5 Mbit/s. For 0.48 seconds 1.25 times its rate arrives, and then 0.83 times. Every
+    other packet is ECN-capable; packets are marked below 20 per cent."""
     arrivals = steady(0, 480, 1.6) + steady(480, 750, 2.4)
     opening = OPENING + ",15000000,15000000,150000000,125,1250,1024,262144,200000000000,16384"
     return written(opening, arrivals, steady(2, 750, 2), steady(15, 750, 15), ecns=("ect0", "not"))
 
 
 def ignored_marks():
-    """5 Mbit/s; 1.25 times as much comes for 1.2 seconds, ECN-capable, from a sender that ignores marks. Marks are given up to a probability of 100 per
-    cent; at 0.6 seconds the operator sets the default of 10 per cent. The gains are four times the default, so that a second shows it."""
+    """A link of 5 Mbit/s. For 1.2 seconds 1.25 times its rate arrives, ECN-capable, from a sender
+    that ignores marks. Packets are marked up to a probability of 100 per cent; at 0.6 seconds the
+    operator sets the default of 10 per cent. The gains are four times the default, so that a second
+    shows the effect."""
     nine = "15000000,15000000,50000000,500,5000,1024,75000,{},16384".format
     opening = "open3,1,stamp,derandomized,capped,unscaled,rolling,0,1000,1000,1000000," + nine(10**12)
     change = (600 * MS, f"params,4,{600 * MS}," + nine(10**11))
@@ -62,7 +69,8 @@ def ignored_marks():
 
 
 def off_and_on():
-    """10 Mbit/s, a limit of 60 kilobytes, profile two: 16 packets, 20 kilobytes, turn the controller on, and quiet turns it off."""
+    """A link of 10 Mbit/s, a limit of 60 kilobytes, profile two: 16 packets, 20 kilobytes, activate
+    the controller, and low load deactivates it."""
     nine = "15000000,15000000,150000000,125,1250,1024,60000,100000000000,4096"
     arrivals = [*steady(0, 20, 2), *[20 * MS] * 20, *steady(22, 120, 4)]
     shows = [(moment * MS, "show") for moment in (10, 20, 70)]
@@ -70,7 +78,8 @@ def off_and_on():
 
 
 def reset():
-    """5 Mbit/s, and 1.5 times as much comes for 0.6 seconds; at 0.5 seconds the operator resets the controller."""
+    """A link of 5 Mbit/s. For 0.6 seconds 1.5 times its rate arrives. At 0.5 seconds the operator
+    resets the controller."""
     return written(OPENING, steady(0, 600, 4 / 3), steady(2, 600, 2), steady(15, 600, 15), [(500 * MS, f"reset,4,{500 * MS}")])
 
 

@@ -31,7 +31,7 @@ is_clean() {
     found=${found#clean,}
 }
 
-# crowd THREADS NAME: what the crowd folds is read and audited as it comes
+# crowd THREADS NAME: reads and audits the folded events of the crowd while they are written
 crowd() {
     local found excerpt
     mkfifo "$work/text"
@@ -63,14 +63,16 @@ check() {
     crowd 4 "$name"
     crowd 8 "$name"
     (cd "$work" && ./threads)
-    # (a slow machine may let events go between two folds: up to that line the history is clean)
+    # (on a slow machine the log may drop events between two folds: the history must be clean up to
+    # that line)
     sed '/^lost,/,$d' "$work/history" > "$work/followed"
     is_clean "$work/followed" "the example's history ($name)"
     [ "$found" != 0 ] || { echo "bindings/c/threads.sh: the example's history has no event ($name)"; exit 1; }
     for excerpt in 1 2 3; do
         is_clean "$work/excerpt.$excerpt" "the example's excerpt $excerpt ($name)"
     done
-    # both senders' packets are there, and some that left (in one excerpt alone they need not be: a thread may have had no processor for a while)
+    # both senders' packets must be there, and some departures (a single excerpt may lack them if a
+    # thread had no processor for a while)
     for record in ^arrive,2, ^arrive,3, '^depart,1,.*,left,'; do
         grep -q "$record" "$work"/excerpt.[123] || { echo "bindings/c/threads.sh: the example's excerpts lack $record"; exit 1; }
     done
@@ -85,7 +87,7 @@ if "$cc" -fsanitize=thread -o "$work/empty" "$work/empty.c" > "$work/empty.log" 
 else
     echo "NOT RUN: bindings/c/threads.sh: this compiler has no thread sanitizer that runs here"
 fi
-# memory that is left where a port or an excerpt was closed
+# memory that is left after a port or an excerpt was closed
 printf '%s\n' '#include <stdlib.h>' 'void *volatile kept;' 'int main(void) { kept = malloc(8); kept = 0; return 0; }' > "$work/leaks.c"
 if "$cc" -fsanitize=address -o "$work/leaks" "$work/leaks.c" > "$work/leaks.log" 2>&1 && ! "$work/leaks" > "$work/leaks.log" 2>&1 &&
     grep -q 'detected memory leaks' "$work/leaks.log"; then
@@ -108,7 +110,7 @@ if command -v c++ > /dev/null; then
         c++ -Wall -Wextra -Wconversion -Wshadow -pedantic -Werror -std=c++$version -O2 -Iinclude -o "$work/ports" bindings/c/ports.cc $libs -pthread
         "$work/ports"
     done
-    # with the warnings that a builder may have on; and C and C++ compiled and linked as one
+    # with the additional warnings of a builder; and C and C++ compiled and linked together
     "$cc" -Wall -Wextra -Wcast-qual -Wredundant-decls -Wshadow -Wconversion -Werror -std=gnu11 -Iinclude -include pie_link.h -fsyntax-only -x c /dev/null
     c++ -Wall -Wextra -Wcast-qual -Wredundant-decls -Wold-style-cast -Werror -std=c++11 -Iinclude -include pie_link.h -fsyntax-only -x c++ /dev/null
     printf '%s\n' '#include "pie_link.h"' 'uint32_t opened(struct pie_port *port);' 'uint32_t opened(struct pie_port *port) {' \

@@ -16,11 +16,11 @@ fi
 pie=../../crates/pie/out/pie
 work=$(mktemp -d)
 trap 'rm -rf "$work"' EXIT
-# (--no-shconf: several run at once)
+# (--no-shconf allows several programs at once)
 eal=(--no-huge -m 512 --no-pci --no-shconf --no-telemetry --log-level=lib.eal:error --log-level=lib.ring:critical)
 cpus="(0-$(($(nproc --all) - 1)))"
 
-# Runs a step, and where it fails prints what it printed and ends.
+# Runs a step. If the step fails, prints its output and ends.
 step() {
     local name=$1
     shift
@@ -63,7 +63,7 @@ summed() {
     return 1
 }
 
-# (the lock: tests/documents/pages.py makes it too)
+# (with the lock, because tests/documents/pages.py runs make too)
 step build flock . make -s -j2 all out/stage_measure
 step build-address make -s -j2 SANITIZE=address out/address/stage_test out/address/pie-fwd
 step build-thread make -s SANITIZE=thread out/thread/stage_test

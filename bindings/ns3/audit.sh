@@ -1,5 +1,5 @@
 #!/usr/bin/env bash
-# Audits the histories that scenarios.sh left; ends with status 1 where one is not clean.
+# Audits the histories of scenarios.sh. The exit status is 1 if one is not clean.
 # usage: bindings/ns3/audit.sh PIE FOLDER      PIE: the built program, as crates/pie/out/ has it after `rt run`
 set -u
 program=$1

@@ -19,7 +19,7 @@ if ! (cd "$top/crates/pie_c" && { [ -e out/libpie_c.a ] || rt lib; } && flock "$
     cat "$work/build.log"
     exit 1
 fi
-# a choice is read by its attribute, and no other: what the opening says of the elements
+# a choice is read by its own attribute only: the elements in the opening
 opens() {
     "$here/out/dumbbell" --queue="recorded$1" --seconds=0.001 --warm-up=0 --history="$work/opening" > /dev/null || exit 1
     grep -q "^$2,0,65536," "$work/opening" || { echo "bindings/ns3/check.sh: recorded$1 opens with $(cat "$work/opening")"; exit 1; }
@@ -31,7 +31,7 @@ opens -uncapped open3,1,rate,derandomized,uncapped,unscaled,rolling
 opens -scaled open3,1,rate,derandomized,capped,scaled,rolling
 opens -half open3,1,rate,derandomized,capped,unscaled,half,rolling
 
-# the history of a run is clean, and ns-3 counted the same marks and drops as it has
+# the history of a run is clean, and ns-3 counted the same marks and drops
 runs() {
     local queue=$1 events found marks drops
     "$here/out/dumbbell" --queue="$queue" --ecn=1 --seconds=3 --warm-up=0 --history="$work/history" --records="$work/records" --every=0.05 \
@@ -58,7 +58,7 @@ runs() {
 }
 runs recorded
 runs recorded-all
-# with Flows each flow of the history is in the file, by its addresses, and no other
+# with Flows, the file has exactly the flows of the history, with their addresses
 "$here/out/dumbbell" --queue=recorded --seconds=1 --warm-up=0 --udp=0.5 --history="$work/history" --flows-file="$work/flows" > /dev/null || exit 1
 told=$(sed 1d "$work/flows" | cut -d , -f 1 | sort)
 found=$("$program" explain --flows 1000 --csv "$work/history" | sed 1d | cut -d , -f 3 | sort)

@@ -31,7 +31,8 @@ mkdir -p "$folder/histories"
 results=$folder/results.csv
 [ -s "$results" ] || "$program" --header=1 --seconds=0.001 --warm-up=0 | head -n 1 > "$results"
 
-# at each rate: flows, round trip, ECN, UDP; few, so that each has runs enough to be judged
+# at each rate: flows, round trip, ECN, UDP; there are few, so that each has enough runs for a
+# comparison
 scenarios='4 40 0 0
 30 40 0 0
 4 40 1 0'
@@ -43,7 +44,7 @@ one() {
     [ -e "$folder/histories/$name" ] && return
     "$program" --queue="$queue" --rate="$rate" --flows="$flows" --rtt="$rtt" --ecn="$ecn" --udp="$udp" --seed="$seed" \
         --seconds=60 --warm-up=10 --history="$folder/histories/$name.part" >> "$folder/results.csv"
-    # a queue that records nothing leaves an empty file, which says that the run was made
+    # a queue without a recorder leaves an empty file, which shows that the run was made
     touch "$folder/histories/$name.part"
     mv "$folder/histories/$name.part" "$folder/histories/$name"
 }
@@ -53,7 +54,7 @@ for seed in $(seq "$first" "$last"); do
     for rate in $rates; do
         while read -r flows rtt ecn udp; do
             for queue in $queues; do
-                # ECN means nothing to a FIFO
+                # a FIFO ignores ECN
                 [ "$queue" = fifo ] && { [ "$ecn" = 1 ] || [ "$seed" -gt 3 ]; } && continue
                 echo "$program $folder $queue $rate $flows $rtt $ecn $udp $seed"
             done

@@ -19,7 +19,8 @@ STEPS = ((1e-6, 2048), (1e-5, 512), (1e-4, 128), (1e-3, 32), (1e-2, 8), (1e-1, 2
 
 
 def next_probability(prob, delay, old, is_capped, is_half):
-    """CalculateP outside a burst, with A 0.125 and B 1.25; and where it is chosen, which ns-3 has not, the decay below half the target."""
+    """Returns the probability after an update outside a burst (CalculateP), with A 0.125 and B
+    1.25. The decay below half the target, which ns-3 does not have, is optional."""
     step = 0.125 * (delay - TARGET) + 1.25 * (delay - old)
     step /= next((divisor for bound, divisor in STEPS if prob < bound), 1)
     if is_capped and prob >= 0.1 and step > CAP:
@@ -31,7 +32,7 @@ def next_probability(prob, delay, old, is_capped, is_half):
 
 
 class Queue:
-    """The registers as the history has them, and the packets that wait."""
+    """The registers of the history, and the queued packets."""
 
     def __init__(self, opening):
         words = opening.split(",")
@@ -48,7 +49,7 @@ class Queue:
         self.burst = 0.15
 
     def is_picked(self, size, word):
-        """DropEarly."""
+        """Returns true if the packet is picked (DropEarly)."""
         if self.burst > 0 or self.old < TARGET / 2 and self.prob < 0.2 or self.bytes <= 2 * MEAN_PKT:
             return False
         if self.is_derandomized:

@@ -60,7 +60,7 @@ BEYOND = 0.05
 
 
 def read(path):
-    """Of each scenario and queue the records of its runs, each seed once."""
+    """Returns the records of the runs of each scenario and queue, each seed once."""
     runs = defaultdict(dict)
     with open(path, newline="") as file:
         for record in csv.DictReader(file):
@@ -93,12 +93,13 @@ def name_of(scenario):
 
 
 def ratio(pairs):
-    """The mean, over pairs of lists, of the logarithm of the ratio of their means."""
+    """Returns the mean, over pairs of lists, of the logarithm of the ratio of their means."""
     return mean([math.log(mean(ours) / mean(theirs)) for ours, theirs in pairs])
 
 
 def chance(pairs):
-    """The share of random partings of each pair's runs whose ratio is as far from 1 as that of the pairs themselves, or further."""
+    """Returns the share of random partitions of each pair's runs whose ratio is at least as far
+    from 1 as that of the pairs themselves."""
     dice = random.Random(8033)
     found = abs(ratio(pairs)) - 1e-12
     further = 0
@@ -132,7 +133,7 @@ def print_full(runs, scenarios):
 
 
 def figures(ours, theirs, fifo, figure, is_judged):
-    """The cells of one figure, and the chance where there are runs enough to have one."""
+    """Returns the cells of one figure, with the chance if there are enough runs."""
     found = chance([(values(ours, figure), values(theirs, figure))]) if is_judged else None
     text = "" if found is None else f"{found:.2f}" if found >= 0.01 else f"{found:.4f}"
     tail = f"{mean(values(fifo, figure)):.{1 if figure == 'goodput_mbit' else 0}f}" if fifo else ""
@@ -147,7 +148,8 @@ def print_together(runs, beside, compared, name):
 
 
 def print_beside(runs, scenarios, choice=None):
-    """With fewer than four runs of each no parting is rarer than one of ten, so such a scenario has no chance of its own."""
+    """Prints a line for each scenario. With fewer than four runs of each queue no partition is
+    rarer than one in ten, so such a scenario has no chance of its own."""
     beside = beside_of(choice)
     counts = {it: [len(runs.get((it, queue), [])) for queue in beside] for it in scenarios}
     compared = [it for it in scenarios if min(counts[it]) > 0]
@@ -172,12 +174,14 @@ def print_beside(runs, scenarios, choice=None):
 
 
 def beside_of(choice):
-    """This repository's queue of a choice, and that of ns-3 beside it: PieQueueDisc always scales under a limit in bytes."""
+    """Returns this repository's queue of a choice, and that of ns-3 beside it. With a limit in
+    bytes PieQueueDisc always scales."""
     return (f"recorded-{choice}", "pie" if choice == "scaled" else f"pie-{choice}") if choice else ("recorded", "pie")
 
 
 def chances_of(ours, theirs):
-    """The chance of a difference in each figure that is compared, as a cell; nothing where there are too few runs, or the same ones."""
+    """Returns the chance of a difference in each compared figure, as a cell; it is empty if there
+    are too few runs, or if the runs are the same."""
     if ours is theirs or min(len(ours), len(theirs)) < 4:
         return ""
     found = [chance([(values(ours, figure), values(theirs, figure))]) for figure in COMPARED]
@@ -196,7 +200,8 @@ def print_choice(runs, scenario, choice, name):
 
 
 def together(runs, scenarios, queues):
-    """How one queue's means are to another's over the scenarios that both have, with the chance of it: mean wait, and goodput."""
+    """Returns the ratios of two queues' means over the scenarios that both have, with their chance:
+    mean wait, and goodput."""
     both = [it for it in scenarios if all((it, queue) in runs for queue in queues)]
     cells = []
     for figure in COMPARED if both else ():
@@ -227,7 +232,8 @@ def print_choices(runs, scenarios):
 
 
 def print_same(runs, scenarios, choice=None):
-    """Of each scenario the rate at the link and the mean wait, tested for equivalence: the changed PieQueueDisc too, where it was run."""
+    """Prints, for each scenario, the rate at the link and the mean wait, tested for equivalence,
+    also for the changed PieQueueDisc if it was run."""
     ours, theirs = beside_of(choice)
     behind = f"-{choice}" if choice else ""
     others = {theirs: "PieQueueDisc", f"pie-mark{behind}": "its marks changed", f"pie-mark-burst{behind}": "and its bursts"}
@@ -246,7 +252,8 @@ def print_same(runs, scenarios, choice=None):
 
 
 def print_plot(runs, scenarios):
-    """Of each scenario its rate, its place among those of this rate, its name, and of each queue mean, least and greatest."""
+    """Prints, for each scenario, its rate, its place among those of this rate, its name, and the
+    mean, least and greatest of each queue."""
     for rate in dict.fromkeys(scenario[0] for scenario in scenarios):
         for place, scenario in enumerate(it for it in scenarios if it[0] == rate):
             name = "\\n".join(name_of(scenario).split(", ")[1:])

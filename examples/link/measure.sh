@@ -8,7 +8,7 @@ started=()
 near=10.0.0.1 far=10.0.0.2
 [ "${LINK_FAMILY:-4}" = 6 ] && near=fd00::1 far=fd00::2
 
-# Ends what was started, by its number, and takes the namespaces away.
+# Ends the started processes, by their numbers, and removes the namespaces.
 clean_up() {
     local pid name
     for pid in "${started[@]}"; do
@@ -27,18 +27,19 @@ trap clean_up EXIT
 trap 'exit 130' INT
 trap 'exit 143' TERM HUP
 
-# within NAME COMMAND..: runs a command in a namespace, and gives it at most as long as the whole run
+# within NAME COMMAND..: runs a command in a namespace, for at most the time of the whole run
 within() {
     local name=$1
     shift
     exec ip netns exec "$name" timeout --kill-after=5 "$bound" "$@"
 }
 
-# The link goes before all other work of the machine: one that is woken late sends late and updates late.
+# The link has the highest priority on the machine, because a link that is woken late sends and
+# updates late.
 before_others='nice -n -15'
 chrt --fifo 50 true 2> /dev/null && before_others='chrt --fifo 50'
 
-# wait_for COMMAND..: until it succeeds, at most ten minutes
+# wait_for COMMAND..: repeats the command until it succeeds, for at most ten minutes
 wait_for() {
     local try
     for try in $(seq 6000); do
@@ -49,12 +50,12 @@ wait_for() {
     return 1
 }
 
-# has_device NAME DEVICE
+# has_device NAME DEVICE: succeeds if the namespace has the device
 has_device() {
     ip -n "$1" link show "$2"
 }
 
-# is_listening NAME: whether a server listens at iperf3's port, 5201
+# is_listening NAME: succeeds if a server listens at iperf3's port, 5201
 is_listening() {
     ip netns exec "$1" grep -q ':1451 .* 0A ' /proc/net/tcp /proc/net/tcp6
 }
@@ -71,7 +72,8 @@ set_up_end() {
     ip netns exec "$1" sysctl -q -w net.ipv4.tcp_ecn=1 net.ipv4.tcp_no_metrics_save=1
 }
 
-# counters NAME: what the kernel of a namespace counted of the IP packets that came: marked CE, with a wrong IPv4 checksum, with a bad header
+# counters NAME: prints the kernel's counts of IP packets that a namespace received: marked CE, with
+# a wrong IPv4 checksum, with a bad header
 counters() {
     ip netns exec "$1" cat /proc/net/netstat /proc/net/snmp6 /proc/net/snmp | awk '
         $1 == "IpExt:" || $1 == "Ip:" { if ($1 in names) { for (i = 2; i <= NF; i++) value[$1 named[$1, i]] = $i }
@@ -81,7 +83,8 @@ counters() {
             value["Ip:InHdrErrors"] + value["Ip6InHdrErrors"] }'
 }
 
-# begin FOLDER [OPTIONS OF THE LINK..]: the namespaces, the link between them, $process, with what it says in FOLDER/link, and a server of iperf3
+# begin FOLDER [OPTIONS OF THE LINK..]: creates the namespaces and the link between them ($process;
+# its output is in FOLDER/link), and starts a server of iperf3
 begin() {
     local folder=$1 name
     shift
@@ -101,7 +104,8 @@ begin() {
     wait_for is_listening "${names[2]}"
 }
 
-# send FOLDER SECONDS FLOWS [OPTIONS OF IPERF3..]: sends so many flows of TCP, in the background
+# send FOLDER SECONDS FLOWS [OPTIONS OF IPERF3..]: starts FLOWS flows of TCP in the background, for
+# SECONDS
 send() {
     local folder=$1 seconds=$2 flows=$3
     shift 3
@@ -109,8 +113,9 @@ send() {
     started+=($!)
 }
 
-# kill_in_the_middle FOLDER SECONDS FLOWS [OPTIONS OF THE LINK..]: TCP through a link with a flight recorder, which is asked for its text after
-# half of the time (folder/flight.history), and then the link is killed; folder/flight is what it left
+# kill_in_the_middle FOLDER SECONDS FLOWS [OPTIONS OF THE LINK..]: sends TCP through a link with a
+# flight recorder. After half of the time it requests the recorder's text (FOLDER/flight.history),
+# and then kills the link; FOLDER/flight is the file that the link leaves
 kill_in_the_middle() {
     local folder=$1 seconds=$2 flows=$3 process
     shift 3
@@ -126,8 +131,8 @@ kill_in_the_middle() {
     clean_up
 }
 
-# measure FOLDER SECONDS FLOWS [OPTIONS OF THE LINK..]: leaves history, tcp, ping and link (what each program said), and counters (what the
-# receivers' kernel counted) in FOLDER
+# measure FOLDER SECONDS FLOWS [OPTIONS OF THE LINK..]: writes history, tcp, ping and link (the
+# output of each program), and counters (the counts of the receivers' kernel) to FOLDER
 measure() {
     local folder=$1 seconds=$2 flows=$3 process
     shift 3
@@ -144,8 +149,8 @@ measure() {
     clean_up
 }
 
-# waits HISTORY [SECONDS]: of the packets that left, without those of the first seconds, how many there were, and their wait in ms: mean,
-# median, 99th percentile
+# waits HISTORY [SECONDS]: prints the number of departed packets, without those of the first
+# seconds, and their wait in ms: mean, median, 99th percentile
 waits() {
     awk -F, -v start="${2:-0}" '$1 == "arrive" { since[$4] = $3 }
         $1 == "depart" && $4 == "left" { if ($3 >= start * 1e9) print ($3 - since[$5]) / 1e6; delete since[$5] }' "$1" |

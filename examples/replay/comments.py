@@ -31,7 +31,8 @@ def block(kind, body):
 
 
 def frames(data):
-    """The link type and the frames of a pcap, each as (ns since 1970, bytes, length on the wire)."""
+    """Yields the link type and the frames of a pcap, each as (ns since 1970, bytes, length on the
+    wire)."""
     order = next((order for order in "<>" if struct.unpack(order + "I", data[:4])[0] in MAGIC), None)
     if order is None:
         sys.exit("examples/replay/comments.py: not a pcap")
@@ -45,7 +46,8 @@ def frames(data):
 
 
 def explanations(text):
-    """Of each packet that was lost or marked its explanation, by the lower 32 bits of its tag."""
+    """Returns the explanation of each packet that was lost or marked, by the lower 32 bits of its
+    tag."""
     parts = re.split(r"^(?=event )", text, flags=re.M)
     return {int(re.match(r"event \d+: packet (\d+),", part)[1]) & 0xFFFFFFFF: part.rstrip("\n") for part in parts if part.startswith("event ")}
 

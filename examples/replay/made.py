@@ -13,7 +13,7 @@ HERE, THERE = bytes([198, 51, 100, 1]), bytes([192, 0, 2, 1])
 
 
 def packet(source, target, size, ecn):
-    """An Ethernet frame with a packet of IPv4 and UDP, which has this many bytes."""
+    """Returns an Ethernet frame with an IPv4 packet of UDP that has this number of bytes."""
     ip = struct.pack(">BBHHHBBH", 0x45, ecn, size, 0, 0, 64, 17, 0) + source + target
     return bytes(12) + b"\x08\x00" + (ip + struct.pack(">HHHH", 1000, 2000, size - 20, 0)).ljust(size, b"x")
 

@@ -70,7 +70,8 @@ def listed(path):
 
 
 def known_of(row):
-    """The size and time of change that a row was made of, where it says what was found."""
+    """Returns the size and modification time from which a row was made, if the row has a
+    finding."""
     if row and row.get("finding") in work.FOUND and row.get("size") not in ("", None):
         return int(row["size"]), int(row["changed"])
     return None
@@ -87,7 +88,7 @@ def client_of(scheduler):
 
 
 def gather(asked, rows, add):
-    """Finds the histories and has their rows made; answers the links in order."""
+    """Finds the histories and has their rows made. Returns the links in order."""
     client = workers = None
     if asked.scheduler:
         client = client_of(asked.scheduler)

@@ -61,5 +61,5 @@ def write(path, rows, reports):
 
 
 def quoted(text):
-    """A word for a shell."""
+    """Returns a word quoted for a shell."""
     return text if re.fullmatch(r"[A-Za-z0-9._/=:@%+-]+", text) else "'" + text.replace("'", "'\\''") + "'"

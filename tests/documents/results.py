@@ -1,9 +1,7 @@
 #!/usr/bin/env python3
-"""Checks that docs/RESULTS.md and docs/ellipses.svg are what docs/results.py computes from the
-stored runs, and that docs/RESULTS.in contains no figure of its own. A page with a changed figure
-must fail. The stored A/A runs must hold: tail drop here and pfifo do not differ, and with UDP alone
-they agree within 0.1 ms and 0.1 % of goodput; at most one in twenty comparisons of a queue's odd
-blocks with its even ones differs. The page must show every scenario that was run.
+"""docs/RESULTS.md and docs/ellipses.svg are what docs/results.py makes of the stored runs, and docs/RESULTS.in has no figure of its own. A page with a
+changed figure fails. The stored A/A runs hold: tail drop here and pfifo do not differ, and with UDP alone they agree within 0.1 ms and 0.1 % of goodput;
+and at most one in twenty comparisons of a queue's odd blocks with its even ones differs. The page shows every scenario that was run.
 needs: nothing"""
 import os
 import re

@@ -56,14 +56,14 @@ expect 'a packet that turns the controller on' 0 'event 3: packet 2, 100 bytes, 
   before it: 1 packets, 400 bytes, a delay of 0.000000 ms (0 ns)
   probability 0.0000 %% (0), as at the opening; last update at 0.000001 ms (1 ns); burst allowance 0.000000 ms (0 ns)
 ' '' "$(cat "$work/turned")" explain --event 3
-# a reset sets the probability, and there was no update
+# a reset sets the probability, and there was no update before
 expect 'a reset and no update' 0 'event 2: no packet was there to leave
   at 0.000002 ms (2 ns), by caller 1
   before it: 0 packets, 0 bytes, a delay of 0.000000 ms (0 ns)
   probability 0.0000 %% (0), set by event 1; no update so far; burst allowance 150.000000 ms (150000000 ns)
 ' '' 'open,0,4,16,100\nreset,1,1,done\ndepart,1,2,empty\n' explain --event 2
-# An enqueued packet, and the least time for which packets stay safe: because a burst is allowed, and because little
-# is accumulated.
+# An enqueued packet, and the least time during which packets are safe: because burst allowance is
+# left, and because the accumulated probability is small.
 expect 'a burst that is allowed' 0 'event 1: packet 7, 1000 bytes, Not-ECT: queued
   at 0.000002 ms (2 ns), by caller 1
   a burst is allowed: 150.000000 ms (150000000 ns) are left of it
@@ -71,8 +71,8 @@ expect 'a burst that is allowed' 0 'event 1: packet 7, 1000 bytes, Not-ECT: queu
   before it: 0 packets, 0 bytes, a delay of 0.000000 ms (0 ns)
   probability 0.0000 %% (0), as at the opening; no update so far; burst allowance 150.000000 ms (150000000 ns)
 ' '' 'open,1,4,16,100\narrive,1,2,7,1000,not,0,enqueue\n' explain --event 1
-# The probability is 0.903954174169: not below a threshold of 0.9 for marks; and with nine packets let through by their words it makes
-# a sum above 8.5 with the tenth.
+# The probability is 0.903954174169, which is not below a marking threshold of 0.9. With nine
+# packets that pass because of their random words, the tenth makes a sum above 8.5.
 begun='arrive,1,0,1,1024,not,0\narrive,1,0,2,1024,not,0\narrive,1,0,3,1024,not,0\narrive,1,0,4,1024,not,0\n'
 begun="${begun}depart,3,1000\ndepart,3,1001000\nupdate,4,1001000\nupdate,4,1001001\nupdate,4,1001002\n"
 # Without the last of these updates the probability is 0.053955024169; sixteen times that is 0.85.

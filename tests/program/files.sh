@@ -31,7 +31,7 @@ fi
 rm "$work/long.trace" "$work/long"
 expect 'progress of a short trace' 0 'open,0,4,16,100\ndepart,1,9,empty\n' '' 'open,0,4,16,100\ndepart,1,9\n' run --progress
 
-# Files: what is read for one, and for -, is what is read for no word.
+# Files: the output for one file, and for -, is the output for standard input.
 printf "$trace" > "$work/trace"
 printf "$history" > "$work/history"
 printf "$changed" > "$work/changed"
@@ -77,14 +77,16 @@ done
 made=$work/folder/made
 mkdir "$work/folder"
 
-# holds NAME [TEXT]: the file is there with this text, as printf reads it, or is not there; and beside it is nothing
+# holds NAME [TEXT]: checks that the file has this text, as for printf, or that there is no such
+# file; and that there is no other file beside it
 holds() {
     [ $# = 1 ] && [ -e "$made" ] && fail "$1: the file is there"
     [ $# = 1 ] || { printf -- "$2" | cmp - "$made" || fail "$1: the file has another text"; }
     [ "$(find "$work/folder" -mindepth 1 ! -name made | wc -l)" = 0 ] || fail "$1: something is left: $(ls -A "$work/folder")"
 }
 
-# written NAME STATUS TEXT INPUT WORDS..: the file has this text, and standard output nothing; also in place of another, by --force
+# written NAME STATUS TEXT INPUT WORDS..: checks that the file has this text and standard output is
+# empty; also if it replaces another file with --force
 written() {
     local name=$1 status=$2 text=$3 input=$4
     shift 4
@@ -126,11 +128,12 @@ expect 'a mistake that is found late, to a file' 1 '' 'pie: --from is after --to
 holds 'a mistake that is found late, to a file' older
 rm "$made"
 
-# While a run reads: the new file beside a private one is private from its making on, and a file that appears under the name of -o meanwhile stays as
-# it is, without --force.
+# During a run: a new file beside a private one is private from the start. A file that appears under
+# the name of -o meanwhile stays unchanged without --force.
 mkfifo "$work/slow"
 
-# slowly MODE ACT WORDS..: a run whose trace ends once the file beside the one of -o is there, has this mode, and ACT was done. Sets status.
+# slowly MODE ACT WORDS..: runs a trace that ends only when the file beside the one of -o exists,
+# has this mode, and ACT was done. Sets status.
 slowly() {
     local mode=$1 act=$2
     shift 2
@@ -183,7 +186,8 @@ for name in "$work/trace" "$work/./trace" "$work/other/../trace" "$work/hard" "$
 done
 rm "$work/hard" "$work/symbolic"
 
-# A symbolic link to another file is there too, also where that file is not. By --force it is replaced itself.
+# A symbolic link to another file counts as an existing file, also if that file does not exist.
+# --force replaces the link itself.
 printf older > "$work/else"
 for there in else nowhere; do
     ln -s "../$there" "$made"
@@ -195,7 +199,7 @@ for there in else nowhere; do
 done
 [ "$(cat "$work/else")" = older ] && ! [ -e "$work/nowhere" ] || fail 'what a link leads to was changed'
 
-# Standard output by its names, pipes and devices are written to as they are.
+# Standard output by its names, pipes and devices are opened and written directly.
 for name in /dev/stdout /dev/fd/1 /proc/self/fd/1; do
     expect "a run to $name" 0 "$history" '' "$trace" run -o "$name"
 done

@@ -10,7 +10,8 @@
 . "$top/tests/shared/through_link.sh" iperf3 python3
 bound=600
 
-# send: sends UDP of each size, and prints for each 64 sizes the bytes that the device's qdisc counted of them, and how many they are
+# send: sends UDP of each size, and prints, for each 64 sizes, the bytes and packets that the
+# device's qdisc counted
 send() {
     ip netns exec "${names[0]}" python3 - "$far" <<'END'
 import json, socket, subprocess, sys
@@ -29,7 +30,7 @@ for first in range(28, 1501, 64):
 END
 }
 
-# one OPTIONS..: options as tc has them; the link's are the same behind --
+# one OPTIONS..: options of tc; the link has the same options after --
 one() {
     local word options=() first
     for word in "$@"; do

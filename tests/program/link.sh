@@ -15,7 +15,7 @@ seconds=5
 
 "$link/out/packet_test" || exit 1
 
-# a value of an option, and the link's error message for it: the library parses the numbers
+# a value of an option, and the link's error message for it: the library parses the value
 while IFS='|' read -r option text said; do
     found=$("$link/out/link" "$option" "$text" 2>&1)
     if [ "$found" != "link: $said; see link --help" ]; then
@@ -51,7 +51,8 @@ done <<'END'
 --grant|5us|--grant: out of its range
 --queue|red|--queue red: not a value of this option
 END
-# what is opened where these options are given is what pie params asks for with the same words; the link's log of events alone is its own
+# the opening with these options must be the one of pie params with the same words, except for the
+# number of events in the log
 opened() {
     ip netns add "${names[1]}" && (within "${names[1]}" "$link/out/link" --from senders --to receivers --for 1ms --history "$work/opened" "$@") \
         > /dev/null 2> "$work/warned"
@@ -86,7 +87,8 @@ has_times() {
     return 1
 }
 since=$(date -u +%Y-%m-%dT%H:%M:%S.%NZ)
-# is_full QUEUE: whether enough packets left, and by tail drop the queue was long; else it is tried again, for twice as long
+# is_full QUEUE: succeeds if enough packets departed, and if the queue was long with tail drop;
+# otherwise the run is repeated for twice as long
 is_full() {
     local packets mean _
     measure "$work/$1" "$seconds" 4 --rate 10mbit --rtt 20ms --queue "$1" --records "$work/$1.records" --every 100ms || exit 1
@@ -138,7 +140,7 @@ for seconds in 4 8 16 32 64 128; do
     [ "${asked#clean,}" -lt 200 ] || break
 done
 has_times "$work/killed/flight.history" "$since" && has_times "$work/killed/text" "$since" || exit 1
-# after the first second the link had 2 Mbit/s, and sent at its grants alone, each 5 ms
+# after the first second the link had 2 Mbit/s, and sent only at its grants, each 5 ms
 awk -F, '$1 == "depart" && $4 == "left" && $3 > 1.1e9 { bits += 8 * $6; if ($3 != last) moments++; last = $3; if (!first) first = $3 }
     END { time = (last - first) / 1e9; print bits, moments, time
         exit !(time > 0.5 && bits > 1e5 && bits < 2.1e6 * time + 5e4 && moments < time * 200 + 5) }' \

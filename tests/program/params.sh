@@ -1,10 +1,10 @@
 #!/usr/bin/env bash
-# `pie params` of the built program: parameters of tc. The record is one that a run accepts, and writes again as it is.
+# Tests `pie params` with parameters of tc. A run must accept the record, and copy it.
 # usage: tests/program/params.sh [PROGRAM]      PROGRAM: crates/pie/out/pie by default
 # needs: program
 . "$(dirname "$0")/../shared/expect.sh"
 
-# The usual elements, and as many events as there may be.
+# The usual elements, and the greatest number of events.
 usual=open3,1,rate,derandomized,capped,unscaled,rolling
 events=140737488355328
 nine=15000000,15000000,150000000,125,1250,1024,262144,0,16384
@@ -21,7 +21,7 @@ params 'what tc shows' "$usual,0,1000,1000,$events,20000000,15000000,150000000,1
 stalls="pie: dq_threshold, 16384, is above half of rate x target: the departure rate's estimate can stand still, as time stamps do not\n"
 params 'other units' "$usual,0,65536,65536,$events,500000,1000,150000000,0,2000,1024,262144,0,16384" "$stalls" \
     --rate 9000kbit --target 500us --limit 65536 --alpha 0 --beta 32 --tupdate 1000ns
-# (the bytes are those of the table of include/pie.h, by pie_params_for)
+# (the limits in bytes are those of the table of docs/LIBRARY.md, by pie_params_for)
 for row in 10mbit:262144:stalls 100mbit:2500000 1gbit:25000000 10gbit:250000000 40gbit:1000000000 100gbit:1073741824 41bit:262144:stalls \
     2.5GBIT:62500000 0.1tbit:1073741824 12.5Mbps:2500000 100Mibit:2621440 1gibps:214748365 1000kbit:262144:stalls 125000kbps:25000000; do
     IFS=: read -r rate limit warns <<< "$row"
@@ -43,7 +43,7 @@ params 'odd gains' "$usual,0,1000,1000,$events,15000000,15000000,150000000,187,1
 params 'the defaults of RFC 8033' "$usual,0,1000,1000,$events" '' --ecn
 params 'as many packets as there may be' "$usual,0,1048576,1048576,$events,15000000,15000000,150000000,125,1250,1024,262144,0,16384" '' \
     --limit 1048576
-# Each choice alone, and all of them.
+# Each choice alone, and all together.
 chosen() {
     local words=$1 mean=$2
     shift 2

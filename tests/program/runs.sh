@@ -14,7 +14,7 @@ expect '119 refused records are none either' 0 "open,0,4,1,100\ndepart,1,1,empty
     "open,0,4,1,100\n$many" run
 expect 'a run of version two' 0 'open2,2,rolling,0,4,16,100\nshown,0,0,0,0,0,0,0,150000000,0,0,0,0\n' '' \
     'open2,2,rolling,0,4,16,100\nshow\n' run
-# Its help's example.
+# The example of its help.
 expect 'a mark and an early drop' 0 "$history" '' "$trace" run
 expect 'no record' 1 '' 'pie: the first record is not an open record\n' '' run
 expect 'a fault' 1 'open,0,4,16,100\ndepart,1,9,empty\n' 'pie: record 3: unknown kind\n' \
@@ -32,7 +32,7 @@ expect 'a history with a fault' 1 '' 'pie: record 3: unknown kind\n' 'open,0,4,1
 expect 'a fault after a changed verdict' 1 '' 'pie: record 15: wrong number of fields\n' "${changed}shown\n" audit
 expect 'limits of a history out of range' 1 '' 'pie: record 1: limits out of range\n' 'open,0,0,16,100\n' audit
 expect 'an empty history' 1 '' 'pie: the first record is not an open record\n' '' audit
-# Migration: the same history in version two, which is found the same.
+# Migration: the same history in version two, with the same finding.
 expect 'a migration' 0 "$two" '' "$one" migrate
 expect 'a migration of a migration' 0 "$two" '' "$two" migrate
 expect 'an audit of a migration' 0 'clean,3\n' '' "$two" audit
@@ -40,7 +40,7 @@ expect 'a migrated opening with its parameters' 0 'open2,1,rolling,5,8,32,100,2,
     'rolling,5,8,32,100,2,1,5,850000,0,1,9000,1000000000000,1024\n' migrate
 expect 'a fault of a migrated history' 1 'open2,1,rolling,0,4,16,100\ndepart,1,9,empty\n' 'pie: record 3: unknown kind\n' \
     'rolling,0,4,16,100\ndepart,1,9,empty\ndep,1,10\n' migrate
-# Counts, on standard error and nowhere else; not of a run that ends at a fault.
+# Counts are written to standard error only, and not after a fault.
 expect 'a counted run' 0 'open,0,4,1,100\ndepart,1,1,empty\nrefused,3,5\nrefused,4,3\n' 'pie: 1 events, 2 refused records\n' \
     'open,0,4,1,100\ndepart,1,1\ndepart,1,1\nupdate,1,1\n' run --count
 expect 'a counted run with a fault' 1 'open,0,4,16,100\ndepart,1,9,empty\n' 'pie: record 3: unknown kind\n' \
@@ -60,7 +60,7 @@ if [ "$("$program" run < "$top/crates/pie/stdin" | "$program" migrate | "$progra
     echo "$script: the migrated history of the stored trace is not clean"
     failed=1
 fi
-# The two commands as a pipe, over the program's stored trace, and as the help has them.
+# The two commands as a pipe, over the program's stored trace, and in the form of the help.
 if [ "$("$program" run < "$top/crates/pie/stdin" | "$program" audit)" != clean,3 ]; then
     echo "$script: the history of the stored trace is not clean"
     failed=1

@@ -33,7 +33,7 @@ for _ in 1 2; do
             ;;
     esac
 done
-# Each option alone, and all.
+# Each option alone, and all together.
 for words in '--senders 2' '--packets 7' '--burst 3' '--seed 0' '--senders=2 --packets=7 --seed=18446744073709551615'; do
     "$program" storm $words > "$work/output" 2> "$work/errors"
     got=$?

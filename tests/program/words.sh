@@ -7,7 +7,8 @@
 expect 'a version' 0 'pie 0.1.0\n' '' '' --version
 expect 'a version, in short' 0 'pie 0.1.0\n' '' '' -V
 
-# Help is the text that is stored for it (help/NAME.txt is what `pie NAME --help` writes, and pie.txt what `pie --help` does).
+# Each help must be the stored text: help/NAME.txt for `pie NAME --help`, and pie.txt for `pie
+# --help`.
 # help NAME WORDS..
 help() {
     local want=$here/help/$1.txt
@@ -30,8 +31,8 @@ for name in run audit explain cut migrate storm params; do
     help "$name" help "$name"
 done
 
-# A mistake ends with 1, writes nothing to the output, and the first line on the error stream says what was wrong with which word, also
-# of the ninth and any later one.
+# After a mistake the status is 1, the output is empty, and the first line on the error stream names
+# the mistake and the word, also for the ninth and any later word.
 # mistake LINE WORDS..
 mistake() {
     local line=$1
@@ -67,7 +68,7 @@ mistake "error: unexpected argument 'more' found" explain one more
 mistake "error: invalid value '0' for '--event <N>': 0 is not in 1..18446744073709551615" cut --event 0
 mistake "error: a value is required for '--from <MOMENT>' but none was supplied" cut --from
 mistake "error: unexpected argument 'more' found" cut one more
-# Words that choose no events, or choose in two ways.
+# Words that choose no events, or choose events twice.
 unchosen='pie: cut takes --from, --to or both, or --event N, which may have --around M, or --last N, or --every N; see pie cut --help'
 for words in '' '--around 3' '--event 3 --from 2' '--event 3 --to 2' '--around 3 --from 2' '--event 3 --around 1 --from 1 --to 2' \
     '--last 3 --event 3' '--last 3 --every 3' '--every 3 --to 1s' '--last 3 --around 1' '--every 3 --around 1' '--last 3 --from 0'; do
@@ -112,7 +113,7 @@ if [ "$got" != 1 ] || [ -s "$work/output" ] || ! [ -s "$work/errors" ]; then
     echo "$script: without a subcommand: status $got"
     failed=1
 fi
-# Words that are no command line: a text on the error stream alone.
+# Words that are no command line: a text only on the error stream.
 for words in walk 'run fast' 'audit twice' 'explain --csv --fast' 'cut --from' 'migrate now'; do
     "$program" $words > "$work/output" 2> "$work/errors" < /dev/null
     got=$?
@@ -121,7 +122,7 @@ for words in walk 'run fast' 'audit twice' 'explain --csv --fast' 'cut --from' '
         failed=1
     fi
 done
-# Help is answered on the output, with an example.
+# Help is written to the output, with an example.
 for words in --help 'run --help' 'audit --help' 'explain --help' 'cut --help' 'migrate --help' 'storm --help' help; do
     "$program" $words > "$work/output" 2> "$work/errors" < /dev/null
     got=$?

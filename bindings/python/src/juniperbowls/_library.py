@@ -48,7 +48,7 @@ ALL, REFUSED, GROW, EVENTS, KIND, OUT = range(6)  # why a loop over an array end
 
 _STATE, _EVENT, _PARAMS, _OPENING = POINTER(RawState), POINTER(RawEvent), POINTER(RawParams), POINTER(RawOpening)
 _QUEUE, _NUMBER, _LENGTH = POINTER(RawQueue), POINTER(c_uint64), POINTER(c_size_t)
-_TEXT = (c_void_p, c_size_t)  # where a record is written, and how much room there is
+_TEXT = (c_void_p, c_size_t)  # the destination of a record, and its room in bytes
 # the result and the arguments of each call
 CALLS: dict[str, tuple[object, tuple[object, ...]]] = {
     "pie_default_params": (None, (_PARAMS,)),
@@ -81,7 +81,7 @@ CALLS: dict[str, tuple[object, tuple[object, ...]]] = {
 
 
 def _load() -> ctypes.CDLL:
-    """The library that the wheel brought, and where it was taken out the one that the system has."""
+    """Loads the library in the wheel, or the system's library if the wheel has none."""
     beside = Path(__file__).with_name("libpie.so.0")
     library = ctypes.CDLL(str(beside) if beside.exists() else "libpie.so.0")
     for name, (result, takes) in CALLS.items():
@@ -95,7 +95,7 @@ VERSION: str = LIBRARY.pie_array_version().decode()
 
 
 def number(name: str, value: object, bits: int = 64) -> int:
-    """A whole number that fits its type of C, which ctypes would cut."""
+    """Returns a whole number after a check that it fits its type of C; ctypes would truncate it."""
     try:
         whole = value.__index__()  # type: ignore[attr-defined]
     except AttributeError:

@@ -55,7 +55,7 @@ class Updated(NamedTuple):
 
 @dataclass(frozen=True)
 class State:
-    """A controller's registers, as include/pie.h has them."""
+    """The registers of a controller, with the fields of include/pie.h."""
     params: Params
     moment: int
     prob: int
@@ -74,14 +74,14 @@ class State:
 
     @classmethod
     def of(cls, raw: RawState) -> State:
-        """Those of a struct."""
+        """Returns the registers of a struct."""
         numbers = {name: getattr(raw, name) for name, *_ in RawState._fields_[1:]}
         numbers |= {"profile": Profile(raw.profile), "choices": Choices(raw.choices)}
         return cls(Params.of(raw.params), **numbers)
 
 
 def opened(opening: Opening) -> RawState:
-    """The state of a controller that is opened by this."""
+    """Returns the state of a controller with this opening."""
     state = RawState()
     code = LIBRARY.pie_open(byref(state), byref(opening.raw()))
     if code:
@@ -90,14 +90,14 @@ def opened(opening: Opening) -> RawState:
 
 
 def event(kind: Kind, moment: int | str, caller: int, **rest: int) -> RawEvent:
-    """An event that is to be decided."""
+    """Returns an event that can be decided."""
     bits = {"size": 32, "ecn": 8}
     numbers = {name: number(name, value, bits.get(name, 64)) for name, value in rest.items()}
     return RawEvent(kind=kind, moment=whole("moment", moment), caller=number("caller", caller, 16), **numbers)
 
 
 def set_params(state: RawState, params: Params, asked: RawEvent) -> None:
-    """Puts new parameters in force."""
+    """Sets new parameters."""
     code = LIBRARY.pie_set_params_event(byref(state), byref(params.raw()), byref(asked))
     if code:
         raise Refused(code, params.check() or "" if code == Refusal.BAD_PARAMS else "")
@@ -131,14 +131,15 @@ class Held:
 
     @property
     def due(self) -> int:
-        """The moment from which the next update is not too soon."""
+        """The earliest moment at which the next update is not too soon."""
         return int(LIBRARY.pie_due(byref(self._state)))
 
 
 class Controller(Held):
-    """PIE for a queue of the caller's, who has the packets, the clock and the random words. Each call is one of include/pie.h, which says what its
-    caller owes; what is refused raises `Refused` and changes nothing. With a `Recorder` each call leaves its record, refused ones too. It is for one
-    thread at a time.
+    """A PIE controller for a queue of the caller. The caller has the packets, the clock and the
+    random words. Each method is a call of include/pie.h, which states the caller's duties. A
+    refused call raises `Refused` and changes nothing. With a `Recorder` each call writes its
+    record, also if it is refused. One thread at a time may use a controller.
 
     >>> pie = Controller(Opening.for_rate("100mbit"))
     >>> pie.arrive(queued=3000, size=1500, room=7, ecn=Ecn.ECT0, word=0x9e3779b97f4a7c15, moment=10)
@@ -165,23 +166,24 @@ class Controller(Held):
         self._told(LIBRARY.pie_depart_event(byref(self._state), number("left", left), number("arrived", arrived), byref(asked)), asked)
 
     def empty(self, moment: int | str, *, caller: int = 2) -> None:
-        """Takes in that a departure found the queue empty."""
+        """Records a departure that found the queue empty."""
         asked = event(Kind.DEPART, moment, caller)
         self._told(LIBRARY.pie_empty_event(byref(self._state), byref(asked)), asked)
 
     def update(self, queued: int, moment: int | str, *, caller: int = 3) -> Updated:
-        """Makes an update, from `due` on, with `queued` bytes in the queue."""
+        """Makes an update with `queued` bytes in the queue. It is refused before `due`."""
         asked = event(Kind.UPDATE, moment, caller)
         self._told(LIBRARY.pie_update_event(byref(self._state), number("queued", queued), byref(asked)), asked)
         return Updated(self.due, asked.delay, asked.prob, asked.burst)
 
     def reset(self, moment: int | str, *, caller: int = 3) -> None:
-        """Starts anew: probability, delays and rate estimate are 0, and the burst allowance is whole."""
+        """Resets the controller: probability, delays and rate estimate are 0, and the burst
+        allowance is whole."""
         asked = event(Kind.RESET, moment, caller)
         self._told(LIBRARY.pie_reset_event(byref(self._state), byref(asked)), asked)
 
     def set_params(self, params: Params, moment: int | str, *, caller: int = 3) -> None:
-        """Puts new parameters in force, and clears the rate estimate."""
+        """Sets new parameters, and clears the rate estimate."""
         asked = event(Kind.PARAMS, moment, caller)
         try:
             set_params(self._state, params, asked)

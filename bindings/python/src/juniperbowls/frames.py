@@ -28,7 +28,8 @@ _WORDS = ("kind", "verdict", "cause", "ecn", "flow")
 
 
 class Fault(RuntimeError):
-    """What `pie` says of a history that it can't read to its end, or of an event in it that is not what the rules give."""
+    """A history that `pie` cannot read to its end, or an event in it that differs. The text is the
+    message of `pie`."""
 
     def __init__(self, text: str, status: int):
         super().__init__(text)
@@ -47,17 +48,18 @@ class Finding(NamedTuple):
 
     @property
     def is_clean(self) -> bool:
-        """True if every event is what the rules give."""
+        """True if no event differs from what the rules give."""
         return self.word == "clean"
 
 
 def _program(pie: str | None) -> str:
-    """The program: that which is named, else $PIE, else `pie` on the path."""
+    """Returns the program: the argument, otherwise $PIE, otherwise `pie` on the path."""
     return pie or os.environ.get("PIE") or "pie"
 
 
 def audit(history: Place, pie: str | None = None) -> Finding:
-    """Decides all of a history again, by `pie audit` (`pie`: the program, else $PIE, else the one on the path)."""
+    """Audits a history by `pie audit`. `pie` names the program; the default is $PIE, or else `pie`
+    on the path."""
     with open(history, "rb") as text:
         done = subprocess.run([_program(pie), "audit"], stdin=text, capture_output=True, text=True, check=False)
     if done.returncode not in (0, 2):
@@ -67,9 +69,10 @@ def audit(history: Place, pie: str | None = None) -> Finding:
 
 
 def explain(history: Place, *options: str, pie: str | None = None) -> pd.DataFrame:
-    """What `pie explain` says of a history with these options, `--all` where there are none: `explain(place, "--every", "100ms")`. The columns are
-    those of docs/FORMATS.md, "Explanations"; of `wall` with `--wall` texts if one is later than 2262-04-11, which is pandas's last. A `Fault` where
-    the history has one, or an event differs."""
+    """Returns the output of `pie explain` for a history with these options (`--all` by default),
+    for example `explain(place, "--every", "100ms")`. The columns are those of docs/FORMATS.md,
+    "Explanations". With `--wall` the column `wall` has texts if a time is later than 2262-04-11,
+    the last day of pandas. Raises `Fault` if the history has a fault or an event that differs."""
     import pandas as pd
 
     parts = list(_explained(history, options, 500_000, pie))
@@ -117,7 +120,7 @@ def _explained(history: Place, options: tuple[str, ...], rows: int, pie: str | N
 def _parts(stream: IO[bytes], rows: int) -> Iterator[pd.DataFrame]:
     names, most, count, rest = stream.readline().decode().rstrip("\n").split(","), 0, 0, b""
     while names != [""]:
-        # (the first part is of few rows, which say how long one is)
+        # (the first part has few rows; they give the length of a row)
         block = stream.read(most or 1 << 16)
         if not block and count and not rest:
             return
@@ -131,8 +134,9 @@ def _parts(stream: IO[bytes], rows: int) -> Iterator[pd.DataFrame]:
 
 
 def _table(names: list[str], body: bytes, first: int) -> pd.DataFrame:
-    """Rows of comma-separated fields, whole numbers and words without commas, some of them empty. pandas by itself takes a column with empty fields
-    for one of floating point, which has no room for a random word."""
+    """Returns rows of comma-separated fields as a frame. The fields are whole numbers and words
+    without commas, and may be empty. By default pandas reads a column with empty fields as floating
+    point, which cannot represent a random word."""
     import pandas as pd
 
     text = np.frombuffer(body, np.uint8)
@@ -161,8 +165,9 @@ def _numbers(values: npt.NDArray[Any], missing: npt.NDArray[np.bool_]) -> Any:
 
 
 def frame(events: Events, first: int = 1) -> pd.DataFrame:
-    """Events, as `Queue.decide` and `Queue.offer` give them and `read_events` reads them, a row each, in the words of a history. `first` is the
-    number of the first; one that was refused has none."""
+    """Returns events as a frame with a row for each event, in the words of a history. The events
+    are those of `Queue.decide`, `Queue.offer` or `read_events`. `first` is the number of the first
+    event; a refused event has no number."""
     import pandas as pd
 
     kind, is_refused = events["kind"], events["answer"] > 100
@@ -187,7 +192,8 @@ def frame(events: Events, first: int = 1) -> pd.DataFrame:
 
 
 def read_history(history: Place) -> pd.DataFrame:
-    """A history's events as a frame, as `frame` makes it. It is not audited: `audit` does that. A `ValueError` if the file is no history."""
+    """Returns the events of a history as a frame, in the form of `frame`. The history is not
+    audited; use `audit`. Raises `ValueError` if the file is no history."""
     events = read_events(history)
     with open(history, "rb") as text:
         beginning = text.readline().removeprefix(b"\xef\xbb\xbf").split(b",")
@@ -223,7 +229,7 @@ _MODES = {"open": Mode.BOUNDED, "bounded": Mode.BOUNDED, "rolling": Mode.ROLLING
 _CHOSEN = (("rate", "stamp"), ("derandomized", "random"), ("capped", "uncapped"), ("unscaled", "scaled"), ("zero", "half"))
 
 
-# of each kind of record, by how many fields it has: the fields behind caller and moment
+# for each kind of record and number of fields: the fields after caller and moment
 _FIELDS: dict[tuple[bytes, int], tuple[str, ...]] = {
     (b"arrive", 8): ("tag", "size", "ecn", "word", "answer"),
     (b"depart", 7): ("answer", "tag", "size", "ecn"),
@@ -237,8 +243,9 @@ _NOTES = frozenset((b"", b"refused", b"folded", b"shown", b"tallied", b"clock", 
 
 
 def read_events(history: Place) -> Events:
-    """A history's events, as `pie` and the library write them, in a numpy array, without its notes. So they can be decided again, by a `Queue` that
-    was opened otherwise. New parameters are events of the kind 5 without the parameters. A `ValueError` if the file is no history."""
+    """Returns the events of a history as a numpy array, without notes. The file was written by
+    `pie` or the library. A `Queue` with another opening can decide the events again. New parameters
+    are events of kind 5 without the parameters. Raises `ValueError` if the file is no history."""
     read_opening(history)
     with open(history, "rb") as text:
         lines = text.read().replace(b"\r\n", b"\n").split(b"\n")
@@ -262,7 +269,7 @@ def read_events(history: Place) -> Events:
 
 
 def _events_of(kind: bytes, names: tuple[str, ...], lines: list[bytes]) -> Events:
-    """The events of records of one kind."""
+    """Returns the events of the records of one kind."""
     import pandas as pd
 
     made = np.zeros(len(lines), EVENT)

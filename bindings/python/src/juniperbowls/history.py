@@ -1,4 +1,4 @@
-"""Histories: their events in numpy arrays, written by the library's writers, and read again."""
+"""Histories: events in numpy arrays, written by the library's writers, and read again."""
 from __future__ import annotations
 
 import ctypes
@@ -24,9 +24,10 @@ _AT_ONCE = 4096
 
 
 class Recorder:
-    """Writes a history into a file, which it names or which is open for bytes: the opening, and then each event in its order. `pie audit` decides all
-    of it again. Close it, or use it by `with`: until then the end may not be in the file. If a file of this name exists, it is left unchanged and
-    `FileExistsError` is raised; `force` replaces it.
+    """Writes a history to a file, given by its name or open for bytes: the opening, and then each
+    event in order. `pie audit` can audit the result. Close the recorder, or use it in a `with`
+    statement; before that, the end may be missing in the file. If a file of this name exists, it is
+    left unchanged and `FileExistsError` is raised; `force` replaces it.
 
     >>> with Recorder("link.history", opening) as history:
     ...     pie = Controller(opening, history)
@@ -50,8 +51,9 @@ class Recorder:
         return f"Recorder({self._name}, records={self.records}, untold={self.untold})"
 
     def record(self, events: RawEvent | Events) -> None:
-        """Writes the records of events; of one that was refused that it was. A `ValueError` where one is none that a history has, behind those
-        before it."""
+        """Writes the records of events. For a refused event it writes the record of the refusal.
+        Raises `ValueError` at an event that no history can contain; the events before it have been
+        written."""
         if isinstance(events, RawEvent):
             self._record(ctypes.addressof(events), 1, 0)
             return
@@ -70,7 +72,7 @@ class Recorder:
             raise ValueError(f"event {at + passed} is none that a history has, or has new parameters")
 
     def record_params(self, event: RawEvent, params: Params) -> None:
-        """Writes the record of new parameters, or that they were refused."""
+        """Writes the record of new parameters, or of their refusal."""
         if event.answer > 100:
             text = _text(lambda to, room: LIBRARY.pie_write_refused(self.records + 1, event.answer, to, room))
             self.untold += not text
@@ -79,8 +81,9 @@ class Recorder:
         self._put(text)
 
     def clock(self, moment: int | str, unix_time: int) -> None:
-        """Writes the time of day: it was `unix_time` (ns since 1970, as `time.time_ns()`) at this moment. A history has it where its opening has
-        `events` above 2^40, as the default opening does."""
+        """Writes a `clock` record: the wall-clock time at this moment was `unix_time` (ns since
+        1970, as from `time.time_ns()`). The history must be of version three; it is if the
+        opening's `events` is above 2^40, as by default."""
         at, time = whole("moment", moment), number("unix_time", unix_time)
         text = _text(lambda to, room: LIBRARY.pie_write_clock(at, time, to, room)) if self._has_clock else b""
         if not text:
@@ -88,7 +91,8 @@ class Recorder:
         self._put(text)
 
     def lost(self, count: int) -> None:
-        """Writes that this many events are missing. An audit of the text then ends with a fault."""
+        """Writes the record of this number of missing events. An audit of the text ends there with
+        a fault."""
         missing = number("count", count)
         text = _text(lambda to, room: LIBRARY.pie_write_lost(missing, to, room))
         if not text:
@@ -100,11 +104,11 @@ class Recorder:
         self._out.write(text)
 
     def flush(self) -> None:
-        """Hands what was written to the file."""
+        """Writes all pending records to the file."""
         self._out.flush()
 
     def close(self) -> None:
-        """Ends the history, and closes a file that it opened."""
+        """Ends the history. Closes the file if the recorder opened it."""
         if self._is_own:
             self._out.close()
         else:
@@ -125,7 +129,7 @@ def _text(write: Callable[[ctypes.Array[ctypes.c_char], int], Any]) -> bytes:
 
 
 def text_of(opening: Opening, events: Events) -> bytes:
-    """The history's text of these events, which follow the opening."""
+    """Returns the history text of these events, which come after the opening."""
     out = io.BytesIO()
     Recorder(out, opening).record(events)
     return out.getvalue()

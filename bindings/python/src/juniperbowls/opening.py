@@ -10,13 +10,15 @@ from .refusal import Refused
 
 
 class Profile(IntEnum):
-    """Profile: whether the controller turns itself on and off (RFC 8033, section 5.3)."""
+    """The profile: one is always active, two activates and deactivates the controller (RFC 8033,
+    section 5.3)."""
     ALWAYS_ON = 1
     ON_AND_OFF = 2
 
 
 class Choices(IntFlag):
-    """RFC 8033's optional elements, as flags: `Opening.for_rate` chooses DELAY_STAMP alone, as Linux does; USUAL is none."""
+    """RFC 8033's optional elements, as flags. `Opening.for_rate` sets only DELAY_STAMP, as Linux
+    does. USUAL sets no flag."""
     USUAL = 0
     DELAY_STAMP = 1
     PICK_RANDOM = 2
@@ -40,22 +42,23 @@ def _read(kind: str, text: str) -> int:
 
 
 def read_time(text: str) -> int:
-    """Nanoseconds: "1.5ms" is 1500000. A unit has to be there."""
+    """Returns nanoseconds: 1500000 for "1.5ms". A unit is required."""
     return _read("time", text)
 
 
 def read_rate(text: str) -> int:
-    """Bits a second: "100mbit" is 100000000, "1kbps" (bytes) 8000. A unit has to be there."""
+    """Returns bits per second: 100000000 for "100mbit", 8000 for "1kbps" (bytes). A unit is
+    required."""
     return _read("rate", text)
 
 
 def read_size(text: str) -> int:
-    """Bytes: "256kb" is 262144, "1500" is 1500."""
+    """Returns bytes: 262144 for "256kb", 1500 for "1500"."""
     return _read("size", text)
 
 
 def read_packets(text: str) -> int:
-    """Packets: "1000p", or "1000"."""
+    """Returns packets: 1000 for "1000p" and for "1000"."""
     return _read("packets", text)
 
 
@@ -64,13 +67,14 @@ READ = {**dict.fromkeys(("target", "t_update", "max_burst", "moment", "until"), 
 
 
 def whole(name: str, value: int | str) -> int:
-    """A number, or a text with a unit where this name has one."""
+    """Returns a number; a text with a unit is accepted if the field `name` has one."""
     return READ[name](value) if isinstance(value, str) and name in READ else number(name, value)
 
 
 @dataclass(frozen=True)
 class Params:
-    """The nine parameters, in ns, bytes, thousandths per second (alpha, beta) and 10^-12 (mark_ecnth); docs/PARAMETERS.md says how to choose them."""
+    """The nine parameters, in ns, bytes, thousandths per second (alpha, beta) and 10^-12
+    (mark_ecnth). docs/PARAMETERS.md helps to choose them."""
     target: int
     t_update: int
     max_burst: int
@@ -83,25 +87,26 @@ class Params:
 
     @classmethod
     def default(cls) -> Params:
-        """Those of RFC 8033, where it has them."""
+        """Returns the default parameters, which are RFC 8033's for each that it has."""
         raw = RawParams()
         LIBRARY.pie_default_params(byref(raw))
         return cls.of(raw)
 
     @classmethod
     def for_rate(cls, rate: int | str, **changes: int | str) -> Params:
-        """The defaults for a link of this rate, with some changed: `Params.for_rate("100mbit", target="20ms")`."""
+        """Returns the defaults for a link of this rate, with some changed:
+        `Params.for_rate("100mbit", target="20ms")`."""
         raw = RawParams()
         LIBRARY.pie_params_for(whole("rate", rate), byref(raw))
         return cls.of(raw).replace(**changes)
 
     @classmethod
     def of(cls, raw: RawParams) -> Params:
-        """Those of a struct."""
+        """Returns the parameters of a struct."""
         return cls(*(getattr(raw, name) for name in NINE))
 
     def raw(self) -> RawParams:
-        """As a struct."""
+        """Returns the struct of these parameters."""
         return RawParams(*(number(name, getattr(self, name)) for name in NINE))
 
     def replace(self, **changes: int | str) -> Params:
@@ -109,7 +114,7 @@ class Params:
         return replace(self, **{name: whole(name, value) for name, value in changes.items()})
 
     def check(self) -> str | None:
-        """The name of the first parameter that is out of its range, or nothing."""
+        """Returns the name of the first parameter that is out of its range, or None."""
         first = LIBRARY.pie_check_params(byref(self.raw()))
         return NINE[first - 1] if first else None
 
@@ -133,8 +138,9 @@ class Opening:
 
     @classmethod
     def for_rate(cls, rate: int | str = 0, **changes: int | str) -> Opening:
-        """The default opening for a link of this rate (0: RFC 8033's defaults), with some of its numbers or parameters changed:
-        `Opening.for_rate("100mbit", target="20ms", mode=Mode.BOUNDED)`."""
+        """Returns the default opening for a link of this rate (0: RFC 8033's defaults), with some
+        fields or parameters changed: `Opening.for_rate("100mbit", target="20ms",
+        mode=Mode.BOUNDED)`."""
         raw = RawOpening()
         LIBRARY.pie_default_opening(byref(raw), whole("rate", rate))
         params = Params.of(raw.params)
@@ -148,5 +154,5 @@ class Opening:
         return replace(self, params=params, **numbers)
 
     def raw(self) -> RawOpening:
-        """As a struct."""
+        """Returns the struct of this opening."""
         return RawOpening(self.params.raw(), *(number(it.name, getattr(self, it.name)) for it in fields(self)[1:]))

@@ -1,4 +1,5 @@
-"""A queue of packets with the controller in front, for simulations: one event at a time, or a numpy array of them at the speed of C."""
+"""A queue of packets behind a controller, for simulations: one event at a time, or numpy arrays of
+events at the speed of C."""
 from __future__ import annotations
 
 import copy
@@ -17,27 +18,28 @@ from .opening import Opening, Params, whole
 from .refusal import Refused
 
 PACKET = np.dtype([("tag", "<u8"), ("since", "<u8"), ("size", "<u4"), ("ecn", "<u4")])
-_SPARE = 1 << 16  # events, for updates and for packets that wait
-_MOST_UPDATES = 1 << 26  # that one call makes in the pauses between arrivals: 4 GB of events
+_SPARE = 1 << 16  # events, for updates and for queued packets
+_MOST_UPDATES = 1 << 26  # the most updates of one call in the pauses between arrivals: 4 GB of events
 
 
 class Packet(NamedTuple):
-    """A packet that left, with its ECN field as it leaves: CE where it was marked."""
+    """A departed packet. `ecn` is its ECN field on departure: CE if it was marked."""
     tag: int
     size: int
     ecn: Ecn
 
 
 class Exhausted(RuntimeError):
-    """There were as many events as the opening allows."""
+    """The queue has as many events as the opening allows."""
 
     #: of a call over an array: the events that it decided before
     events: Events | None = None
 
 
 def _whole(name: str, values: npt.NDArray[Any]) -> npt.NDArray[Any]:
-    """Returns objects as an array of 64-bit numbers: integers of Python, which numpy takes for floating point if some are above 2^63 - 1, and columns of
-    pandas that may lack numbers."""
+    """Returns objects as an array of 64-bit numbers. The objects are Python integers, which numpy
+    would convert to floating point if some are above 2^63 - 1, or columns of pandas that may lack
+    numbers."""
     try:
         numbers = [operator.index(it) for it in values.flat]
     except TypeError:
@@ -65,7 +67,8 @@ def column(name: str, values: npt.ArrayLike, kind: str, count: int | None = None
 
 
 def events(kinds: npt.ArrayLike, moments: npt.ArrayLike, **columns: npt.ArrayLike) -> Events:
-    """Events that are to be decided: of each its kind and its moment; of arrivals `size`, `ecn`, `word` and `tag`; `caller`."""
+    """Returns events that can be decided: each has a kind and a moment; arrivals also have `size`,
+    `ecn`, `word` and `tag`; all have `caller`."""
     at = column("moment", moments, "u8")
     made = np.zeros(len(at), EVENT)
     for name, values in {"kind": kinds, "moment": at, **columns}.items():
@@ -95,7 +98,7 @@ class Queue(Held):
         self._queue = RawQueue(self._ring.ctypes.data, len(self._ring), 0, 0, opening.packets, 0, 0, opening.events)
         self._history = history if isinstance(history, Recorder) or history is None else Recorder(history, opening, force)
         self._random = np.random.default_rng(seed)
-        self._words = np.zeros(0, np.uint64)  # that were drawn, and not used
+        self._words = np.zeros(0, np.uint64)  # random words that were drawn but not used
         self._arrivals = 0
 
     def __getstate__(self) -> dict[str, Any]:
@@ -121,7 +124,8 @@ class Queue(Held):
 
     @property
     def waiting(self) -> npt.NDArray[np.void]:
-        """The packets that wait, oldest first: `tag`, `size`, `ecn` as they will leave, and `since`, the moment of their arrival."""
+        """The queued packets, oldest first: `tag`, `size`, `ecn` on departure, and `since`, the
+        moment of arrival."""
         return np.roll(self._ring, -self._queue.first)[:self.packets]
 
     def arrive(self, moment: int | str, size: int, ecn: int = Ecn.NOT, *, word: int | None = None, tag: int | None = None,
@@ -147,27 +151,27 @@ class Queue(Held):
         return np.concatenate([kept, more]) if len(kept) else more
 
     def _keep(self, words: npt.NDArray[np.uint64]) -> None:
-        """Keeps words that were drawn and not used for the next arrivals."""
+        """Keeps unused random words for the next arrivals."""
         self._words = np.concatenate([words, self._words])
 
     def depart(self, moment: int | str, *, caller: int = 2) -> Packet | None:
-        """The oldest packet leaves; nothing where none waits."""
+        """Removes and returns the oldest packet, or returns None if the queue is empty."""
         asked = event(Kind.DEPART, moment, caller)
         self._decide_one(asked)
         return Packet(asked.tag, asked.size, Ecn(asked.ecn)) if asked.answer == 0 else None
 
     def update(self, moment: int | str | None = None, *, caller: int = 3) -> Updated:
-        """Makes an update; without a moment at `due`."""
+        """Makes an update, by default at `due`."""
         asked = event(Kind.UPDATE, self.due if moment is None else moment, caller)
         self._decide_one(asked)
         return Updated(self.due, asked.delay, asked.prob, asked.burst)
 
     def reset(self, moment: int | str, *, caller: int = 3) -> None:
-        """The controller starts anew; the packets stay."""
+        """Resets the controller. The packets stay in the queue."""
         self._decide_one(event(Kind.RESET, moment, caller))
 
     def set_params(self, params: Params, moment: int | str, *, caller: int = 3) -> None:
-        """Puts new parameters in force."""
+        """Sets new parameters."""
         asked = event(Kind.PARAMS, moment, caller)
         state = RawState.from_buffer_copy(self._state)
         try:
@@ -244,7 +248,7 @@ class Queue(Held):
     def _offer(self, arrivals: Events, end: int) -> Events:
         taken, made = 0, 0
         parts: list[Events] = []
-        # (memory that nothing is written to costs nothing)
+        # (the system allocates memory only when it is written)
         out = np.empty(2 * len(arrivals) + _SPARE, EVENT)
         while True:
             more = LIBRARY.pie_array_offer(byref(self._state), byref(self._queue), arrivals[taken:].ctypes.data, len(arrivals) - taken, end,
@@ -283,7 +287,8 @@ class Queue(Held):
                       caller=number("caller", caller, 16))
 
     def _go_on(self, decided: Events | None = None) -> None:
-        """Gives the ring more memory if the last loop ended for want of it. These events were decided before."""
+        """Enlarges the ring if the last loop ended for lack of memory. The events before were
+        decided."""
         if self._queue.why == GROW:
             packets = self.waiting
             self._ring = np.zeros(2 * len(self._ring), PACKET)
@@ -297,7 +302,7 @@ class Queue(Held):
             self._history.record(made)
 
     def clock(self, moment: int | str, unix_time: int) -> None:
-        """Records the time of day: it was `unix_time` (ns since 1970) at this moment."""
+        """Records the wall-clock time at this moment: `unix_time`, in ns since 1970."""
         if self._history:
             self._history.clock(moment, unix_time)
 
@@ -314,5 +319,5 @@ class Queue(Held):
 
 
 def _power(least: int) -> int:
-    """The least power of two that is at least this."""
+    """Returns the least power of two that is at least this number."""
     return 1 << (max(least, 1) - 1).bit_length()

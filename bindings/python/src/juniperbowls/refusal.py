@@ -1,4 +1,4 @@
-"""Why a call was refused."""
+"""The reason why a call was refused."""
 from __future__ import annotations
 
 from enum import IntEnum
@@ -31,13 +31,13 @@ class Refusal(IntEnum):
 
 
 def text_of(code: int) -> str:
-    """The library's words for a code."""
+    """Returns the library's description of a code."""
     words: bytes = LIBRARY.pie_array_text(code)
     return words.decode()
 
 
 class Refused(ValueError):
-    """A call that was refused: nothing changed by it. Its text is the library's."""
+    """A refused call. It changed nothing. The text is the library's description."""
 
     def __init__(self, code: int, about: str = "", index: int | None = None, events: Events | None = None):
         super().__init__(text_of(code) + (f" ({about})" if about else ""))

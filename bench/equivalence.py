@@ -50,8 +50,8 @@ def student_quantile(share, freedom):
 
 
 def power(margin, error, freedom, difference=0.0, level=LEVEL):
-    """The chance that two one-sided tests say `same` where the difference is this one: over the estimated error, which is scattered as the root of
-    chi-square over its degrees of freedom."""
+    """Returns the probability that two one-sided tests say `same` at this difference. The estimated
+    error is distributed as the root of chi-square over its degrees of freedom."""
     if error == 0:
         return float(abs(difference) < margin)
     quantile = student_quantile(1 - level, freedom)
@@ -66,8 +66,9 @@ def power(margin, error, freedom, difference=0.0, level=LEVEL):
 
 
 def judge(difference, error, freedom, margin):
-    """The difference, its 90 per cent interval, the verdict and the power at no difference. `same`: the interval lies within the margin;
-    `different`: it lies outside; else `open`."""
+    """Returns the difference, its 90 per cent interval, the verdict, and the power at no
+    difference. The verdict is `same` if the interval lies within the margin, `different` if it lies
+    outside, otherwise `open`."""
     reach = student_quantile(1 - LEVEL, freedom) * error
     least, most = difference - reach, difference + reach
     verdict = "same" if -margin < least and most < margin else "different" if least > margin or most < -margin else "open"

@@ -75,7 +75,7 @@ class Follower:
         self.seen, self.times = {}, {}
 
     def look(self):
-        """Looks at each process below the gate, and says whether the gate still runs."""
+        """Measures each process of the gate. Returns true while the gate runs."""
         known = processes()
         if self.gate not in known:
             return False
@@ -124,7 +124,8 @@ class Follower:
 
 
 def reckoned():
-    """The memory that rt ci reckons with for a task of each crate, and each crate's edits, where the toolchain is arranged as it was."""
+    """Returns the memory that rt ci estimates for a task of each crate and for its mutations, if
+    the toolchain still has the expected layout."""
     try:
         loader = importlib.machinery.SourceFileLoader("rt", os.path.realpath(shutil.which("rt")))
         rt = importlib.util.module_from_spec(importlib.util.spec_from_loader("rt", loader))

@@ -21,7 +21,8 @@ def took(words, source, target):
 
 
 def resident(words, source, target):
-    """The greatest resident memory of one run in KiB, as the system's record of the process has it until shortly before its end."""
+    """Returns the greatest resident memory of one run in KiB, by the system's record of the process
+    shortly before its end."""
     with open(source, "rb") as reader, open(target, "wb") as writer:
         child, most = subprocess.Popen(words, stdin=reader, stdout=writer), 0
     while child.poll() is None:

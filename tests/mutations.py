@@ -109,7 +109,8 @@ class Mutation:
                 yield file, old, text
 
     def goals(self):
-        """The functions that are to be refused; none where the whole crate has to be checked."""
+        """Returns the functions that must be rejected, or nothing if the whole crate has to be
+        checked."""
         known = self.checked or self.functions
         return [] if None in known else sorted(set(known))
 
@@ -270,7 +271,7 @@ def verdicts(done):
 
 
 def tried(kit, kept, batch, is_share):
-    """Of each mutation of a batch whether the prover refuses it, and what to say of it."""
+    """Returns, for each mutation of a batch, if the prover rejects it, and a message."""
     told = {}
     if len(batch) > 1:
         found = verdicts(checked(kit, kept, batch, goals_of(batch)))
@@ -346,7 +347,8 @@ def cost(groups):
 
 
 def by_crate(groups, limit=None):
-    """The batches of each crate, and with a limit in parts that cost no more, where a batch alone doesn't."""
+    """Returns the batches of each crate. With a limit, batches are split such that no part costs
+    more, unless a single mutation does."""
     found = []
     for batch in sorted(groups, key=lambda it: it[0].crate):
         if found and found[-1][0][0].crate == batch[0].crate and (limit is None or cost([*found[-1], batch]) <= limit):

@@ -31,7 +31,8 @@ ME = "tests/run.py"
 NEEDS = re.compile(r"^(?:# )?needs: ([\w, ]+?)(?:\"\"\")?$", re.M)
 LIBRARY = ROOT / "bindings/c/library.py"
 MARKS = {"nothing", "library", "root", "quiet", "an early start", "a request"}
-# The library is waited for, so scripts that do without it make room for it, and for those that need it, which begin as soon as it is there.
+# Other scripts wait for the library. Scripts that do not need it run at lower priority, so that it
+# is built sooner.
 ASIDE = ["nice", "-n", "5"]
 
 
@@ -42,7 +43,7 @@ class Script:
         self.needs = set(found[1].split(", ")) if found else set()
 
     def programs(self):
-        """The programs that it needs, as they are built."""
+        """Returns the built programs that the script needs."""
         crates = ["pie" if need == "program" else need for need in sorted(self.needs - MARKS)]
         return [ROOT / "crates" / crate / "out" / crate for crate in crates]
 
@@ -53,8 +54,9 @@ class Script:
 
 
 def scripts():
-    """Every script, those first that start early: of each folder of tests/ but what they share, and of bindings/. One of tests' folders, or a
-    check.sh, that does not say what it needs is a mistake, and so is one that cannot be run."""
+    """Returns every script of the folders of tests/, except tests/shared, and of bindings/; those
+    with an early start come first. It is a mistake if a script of tests/ or a check.sh has no line
+    `needs:`, or cannot be executed."""
     tests = [path for path in (ROOT / "tests").glob("*/*") if path.parent.name != "shared" and path.suffix in (".sh", ".py")]
     found = [Script(path) for path in sorted(tests)]
     bindings = [Script(path) for path in sorted((ROOT / "bindings").glob("*/*.sh"))]

@@ -3,14 +3,12 @@
 # The link also needs root and /dev/net/tun, which no package provides; --check reports them too.
 . "$(dirname "$0")/../../tests/shared/packages.sh"
 
-# Creates a network namespace with a TUN device, and removes it.
+# Creates a network namespace with a TUN device, which is removed when the script ends.
 makes_devices() {
-    local name=link-check-$$ status
-    ip netns add "$name" || return
-    ip netns exec "$name" ip tuntap add dev look mode tun
-    status=$?
-    ip netns del "$name"
-    return $status
+    namespace=link-check-$$
+    trap 'ip netns del "$namespace" 2> /dev/null' EXIT
+    trap 'exit 130' INT TERM HUP
+    ip netns add "$namespace" && ip netns exec "$namespace" ip tuntap add dev look mode tun
 }
 
 required 'root (network namespaces and TUN devices are for root)' test "$(id -u)" = 0

@@ -96,7 +96,8 @@ def missing_words():
 
 
 def written_equalities():
-    """Each `==` that is written by hand, and not derived. One that skips a field would meet every contract."""
+    """Yields each `==` that is written by hand instead of derived. An equality that ignores a field
+    would satisfy every contract."""
     for path in sorted((ROOT / "crates").glob("*/src/**/*.rt")):
         for found in EQUALITY.findall(path.read_text()):
             yield f"{path.relative_to(ROOT)}: `==` is not derived: {' '.join(found.split())}"

@@ -155,7 +155,7 @@ def run_page(page, copy, words):
             lacks = missing(command, copy, words)
             done = lacks or subprocess.run(["bash", "-eo", "pipefail", "-c", command], cwd=copy, env=words, stdin=subprocess.DEVNULL,
                                            capture_output=True, text=True, check=False)
-            # a script that lacks a command ends so
+            # the status of a shell at a missing command
             if not lacks and done.returncode == 127:
                 lacks = " ".join(re.findall(r"([\w-]+): command not found", done.stderr))
             if lacks:

@@ -107,7 +107,8 @@ ROWS = {
     # the program
     "the program runs and audits": [f"script {RUNS} expect 'an audit' 0 'clean,11\\n'", f"script {RUNS} expect 'an empty history' 1"],
 }
-# Tests of pie_library_tests that no row is: want of memory and flushes are tests/libraries/refused_memory.py's.
+# Tests of pie_library_tests that are no worked rows. tests/libraries/refused_memory.py runs those
+# of memory and flushes.
 OTHERS = {"refusals_in_words", "the_largest_ring", "calls_that_nothing_else_makes", "a_storm_keeps_its_pace"}
 # the names of the files in tests/rows/worked.txt
 WORKED = set(re.findall(r"^== (\S+)", (ROOT / "tests/rows/worked.txt").read_text(), re.M))

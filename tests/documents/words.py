@@ -15,7 +15,7 @@ from checks import ROOT, check, finish  # noqa: E402
 
 MOST_WORDS = 50000
 LONGEST = 100
-# a sentence of fewer words may stand on two pages, as "`--help` lists all options."
+# a sentence of fewer words may occur on two pages, for example "`--help` lists all options."
 REPEATED = 9
 
 

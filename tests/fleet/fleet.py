@@ -153,8 +153,10 @@ def made_script(path, *lines):
 
 
 class Cluster:
-    """A scheduler and workers on this machine, with the settings of fleet/dask.yaml; each worker has one thread and a folder of its own on its path.
-    There `pie` waits at a history whose name, and `.hold` behind it, is a file, and says so in the folder's file `held`."""
+    """A scheduler and workers on this machine, with the settings of fleet/dask.yaml. Each worker
+    has one thread and its own folder on its path. `pie` in that folder waits at a history if a file
+    with the history's name and the suffix `.hold` exists, and reports it in the folder's file
+    `held`."""
 
     def __init__(self, folder):
         self.folder, self.processes, self.workers = folder, [], {}
@@ -316,8 +318,8 @@ def run_cluster(cluster, work, names):
 
 
 def change_ten(clean, quiet):
-    """Ten files change: the first of these that were clean differs at the event that is answered, `quiet` becomes one that lost far more, seven
-    become others, and the last goes."""
+    """Changes ten files: the first clean one differs at an event, `quiet` loses far more packets,
+    seven others change, and the last is removed."""
     with open(clean[0]) as text:
         lines = text.readlines()
     arrival = next(place for place, line in enumerate(lines) if line.endswith(",enqueue\n"))
@@ -358,7 +360,8 @@ def rises(before, names):
 
 
 def run_changed(work, names, where):
-    """Ten files change: one that was clean differs, one becomes worse, one goes, one comes; the others are not read again."""
+    """Tests a run after ten files changed: a clean one differs, one becomes worse, one is removed,
+    one is new. The others are not read again."""
     clean = [name for number, name in enumerate(names) if number % 10 != 4 and number % 7 != 0]
     # (what storms lose is not known beforehand: this is an example, a burst that lost nothing)
     quiet = names[0]
@@ -480,13 +483,15 @@ def run_ssh(work, names):
     ssh, hosts = f"{work}/ssh", [f"127.0.0.{number}" for number in (2, 3, 4)]
     os.makedirs(ssh, mode=0o700)
     os.mkdir(f"{work}/there")
-    # (--cleanup takes empty folders away, and one that a file is on its way to: a host's home is not empty)
+    # (--cleanup removes empty folders, also one to which a file is being sent, so a host's home is
+    # not empty)
     open(f"{work}/there/home", "w").close()
     servers = start_servers(ssh, hosts)
     words = ["parallel", "--ssh", f"ssh -F {ssh}/config", "--sshlogin", ",".join(f"2/{host}" for host in hosts), "--joblog", f"{work}/joblog"]
     try:
         by_parallel("over SSH", work, work, hosts, [*words, "-X", "pie", "audit", "{}"], sorted(names))
-        # (files are sent to a folder of their own there, since all hosts are this machine, and are removed from it behind the audit)
+        # (all hosts are this machine, so files are sent to a separate folder, and removed from it
+        # after the audit)
         sent = [*words, "--workdir", f"{work}/there", "--transferfile", "{}", "--cleanup", "pie", "audit", "{}"]
         by_parallel("sent over SSH", work, os.path.dirname(names[0]), hosts, sent, [os.path.basename(name) for name in sorted(names)[:15]])
         check("sent over SSH: removed there", os.listdir(f"{work}/there") == ["home"])

@@ -53,10 +53,10 @@ def library(folder):
 
 
 class Queue:
-    """The caller's queue, with the library in front of it."""
+    """A queue of this script behind the library."""
 
     def __init__(self, pie, opening):
-        at = 7 if opening[6] in ("zero", "half") else 6  # the place of the mode: the decay stands in front of it where it is told
+        at = 7 if opening[6] in ("zero", "half") else 6  # the position of the mode, which follows the decay if the record has it
         profile, choices, (mode, moment, packets, tail, events) = opening[1], opening[2:at], opening[at : at + 5]
         self.pie, self.state, self.packets, self.bytes = pie, State(), int(packets), 0
         self.waiting = deque()
@@ -101,7 +101,8 @@ class Queue:
 
 
 def differs(pie, asked, told):
-    """The first record whose answer is another one, None with none; and how many answers were compared."""
+    """Returns the number of the first record with another answer, or None, and the number of
+    compared answers."""
     queue, compared = Queue(pie, asked[0]), 0
     for number, (command, answer) in enumerate(zip(asked, told), 1):
         if command[0] == "show":

@@ -90,7 +90,8 @@ def functions(text):
 
 
 def stack(name, found, known, above=()):
-    """The bytes of stack that a call of the function uses, its return address included; None if a call in it is not known, or goes round."""
+    """Returns the bytes of stack that a call of the function uses, including its return address;
+    None if it calls an unknown function or is recursive."""
     if name in OUTSIDE:
         return 8
     if name not in known:

@@ -56,7 +56,8 @@ class Queue:
         return code
 
     def step(self, caller, command):
-        """Makes the call, with bytes in the event that it has to write over, and answers the event and its parameters."""
+        """Makes the call with an event whose result fields contain other bytes. Returns the event
+        and its parameters."""
         kind, moment = command[:2]
         rubbish = {name: 0xAA for name in ("delay", "prob", "burst", "answer", "kind", "reserved")}
         event, params = Event(moment=moment, caller=caller, **rubbish), None
@@ -83,7 +84,7 @@ class Queue:
         self.events.append((event, params))
 
     def record(self, number, event, params):
-        """The text of an event, whose record would be the one with this number."""
+        """Returns the text of an event. `number` is the number that its record would have."""
         if event.answer > 100:
             return self.text("refused", U64(number), U32(event.answer))
         if event.kind == PARAMS:

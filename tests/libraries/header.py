@@ -204,7 +204,7 @@ def compare_methods(rust, source):
         method = re.search(rf"pub fn {name[4:]}\(\s*&mut self,(.*?)\)", rust, re.S)
         if method:
             found = ["state", *re.findall(r"(\w+):", method[1])]
-            if not name.endswith("_event"):  # (these are handed a packet, a caller and a moment, and make the event)
+            if not name.endswith("_event"):  # (these receive a packet, a caller and a moment, and make the event)
                 yield from same(f"bindings/rust: State::{name[4:]}", found, wanted)
         for handed in re.findall(rf"unsafe \{{ {name}\((?:self|&mut \w+), ([^)]*)\)", rust):
             found = [*wanted[:1], *(it.replace(" as u32", "").replace("&mut event.0", "event").lstrip("&") for it in handed.split(", "))]
@@ -267,7 +267,7 @@ def compare_refusals(header, rust, source):
     told = {}
     for listed, name in re.findall(r"/// # Errors\s*/// (?:In this order: )?([`\w, ]+)\.\s*pub fn (\w+)", rust):
         told["pie_" + name] = [REFUSALS.get(it) for it in re.findall(r"`(\w+)`", listed)]
-    # an ECN field or a profile out of its range can't be said in Rust
+    # Rust cannot express an ECN field or a profile out of its range
     wanted = {name: [it for it in codes if it not in ("PIE_BAD_ECN", "PIE_BAD_PROFILE", "PIE_BAD_CHOICES")] for name, codes in orders.items() if name in rust}
     yield from same("bindings/rust: the order of refusals", told, {**wanted, "pie_check": ["PIE_BAD_STATE"]})
 
@@ -295,7 +295,7 @@ def compare_link(root):
     for handle in ("PiePort", "PieExcerpt"):
         if not re.search(rf"pub struct {handle} \{{\s*at: \*mut u8,\s*alloc: Global,\s*///.*?\s*pub ghost", source.text):
             yield f"crates/pie_port/src: a {names[handle]} is not a pointer alone"
-    # (behind the library's pointer a port has the header's own)
+    # (after the library's pointer, a port contains the header's pointer)
     yield from same("include/pie_link.h: a pie_port", header.structs.get("pie_port"), [("&mut void", "at"), ("&mut pie_link_shared", "shared")], "here")
     yield from same("include/pie_link.h: a pie_excerpt", header.structs.get("pie_excerpt"), [("&mut void", "at")], "here")
     for name in ("pie_registers", "pie_totals"):
@@ -341,7 +341,7 @@ def compare_rust_link(root, header):
     orders = {}
     for comment, name in re.findall(r"/\*((?:(?!\*/).)*?)\*/\n(?:static inline )?uint32_t pie_link_(\w+)\(", header.text, re.S):
         listed = re.search(r"Errors(?:, in this order)?: ([^.]*)\.", one_line(comment.replace("\n *", "\n")))
-        # (a closed port, and an ECN field out of its range, can't be said in Rust)
+        # (Rust cannot express a closed port, or an ECN field out of its range)
         if listed:
             orders[name] = [it for it in re.findall(r"PIE_\w+", listed[1]) if it not in ("PIE_CLOSED", "PIE_OPEN", "PIE_APART", "PIE_BAD_ECN")]
     told = {name: [{**REFUSALS, **LINK_REFUSALS}.get(it) for it in re.findall(r"`(\w+)`", listed) if it != "Refused"]
@@ -406,7 +406,7 @@ def compare_versions(header, root):
 
 
 def read_source(folder, pattern, but="tests"):
-    """The files of these names, but those that begin with `but`."""
+    """Returns the text of the files with these names, except those that begin with `but`."""
     return "\n".join(path.read_text() for path in sorted(folder.rglob(pattern)) if not path.stem.startswith(but))
 
 

@@ -40,7 +40,7 @@ def calls_of(text):
 
 
 def is_want(name, told):
-    """Returns true if this is the answer of the call whose request failed."""
+    """Returns true if this is the answer of a call whose request for memory failed."""
     return re.fullmatch(f"{name}: {REFUSED[name]}\n", told) is not None
 
 
@@ -60,7 +60,8 @@ class Program:
         check(set(self.ample) == set(REFUSED), "other calls than here:", set(self.ample) ^ set(REFUSED))
 
     def refuse(self, library, met, name, is_on):
-        """Refuses the first request of this call, its second, and so on, and says how many it makes."""
+        """Refuses the first request of this call, its second, and so on. Returns the number of
+        requests."""
         ample = self.ample
         on = {"REFUSE_ON": "1"} if is_on else {}
         for place in range(1, MOST):

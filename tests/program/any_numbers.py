@@ -61,7 +61,8 @@ def packets_of(chance, moment):
 
 
 def agreeing(chance, waiting, moment, old, dropped_most):
-    """Returns fifteen statistics for a history with this number of events at whose end these packets are queued."""
+    """Returns fifteen statistics for a history with this number of events that ends with these
+    packets in its queue."""
     left = some(chance, 0, 2**30)
     queued = left + len(waiting)
     marked = some(chance, 0, queued)
@@ -217,7 +218,7 @@ class Excerpt:
         return "".join(map(text_of, rows))
 
 
-# ----- What is held
+# ----- The checks
 
 def pie(words, text):
     status, output, errors = run(words, text.encode())
@@ -235,7 +236,8 @@ def hold_refused(name, rows, fault, agrees):
 
 
 def hold_explanation(name, excerpt, text):
-    """Each event is listed once, in order, as the reference has it. Answers the records."""
+    """Checks that each event is listed once, in order, and explained as by the reference. Returns
+    the records."""
     status, rows = explained(text, "--all")
     header, *records = rows
     verdict = header.index("verdict")

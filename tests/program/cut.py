@@ -50,7 +50,8 @@ def times_after(text):
 
 
 def timed(text, chance):
-    """A history of version three with records of the time of day behind its first record: none, some or many."""
+    """Returns a history of version three with no, some or many clock records after its first
+    record."""
     often, (first, *records) = chance.choice((0, 0.1, 0.5)), text.splitlines(keepends=True)
     out = [first]
     for line in [*records, ""]:
@@ -71,7 +72,8 @@ class History:
         self.count = len(self.moments)
 
     def part(self, first, last):
-        """The excerpt of these events by the reference: with the last time of day before them, and the times behind each of them."""
+        """Returns the excerpt of these events by the reference, with the last clock record before
+        them, and those between them."""
         lines = reference_resumed.excerpt(self.book, first - 1).splitlines(keepends=True)
         begun = len(lines) - (self.count - first + 1)
         out = lines[:begun] + [time for times in self.times[:first] for time in times][-1:]
@@ -161,8 +163,8 @@ def hold(history, chance):
 
 
 def hold_again(history, chance, parts):
-    """Checks that an excerpt of an excerpt is that of the whole; the setter of the probability is known in it as
-    far as the first excerpt has it."""
+    """Checks that an excerpt of an excerpt is the excerpt of the whole. The last event that set the
+    probability is known only if it is in the first excerpt."""
     for (part, words, last), first in parts:
         event = chance.randrange(first, last + 1)
         words = ["--event", str(event), "--around", str(chance.choice((0, 1, 5)))]
@@ -186,7 +188,7 @@ def named(text, *words):
 
 
 def hold_last(history, chance):
-    """The last events of a file, also where there are fewer; also of an excerpt."""
+    """Checks cuts of the last events of a file, also if there are fewer, and also of an excerpt."""
     for many in (1, chance.randrange(1, history.count + 1), history.count, history.count + 5, 2**64 - 1):
         first = max(1, history.count - many + 1)
         wanted = cut(history.text, "--event", str(history.count), "--around", str(history.count - first))
@@ -198,7 +200,8 @@ def hold_last(history, chance):
 
 
 def hold_segments(history, chance):
-    """Segments are the excerpts of their events, one after another, and an audit says that they follow each other."""
+    """Checks that segments are the excerpts of their events, one after another, and that an audit
+    finds that they follow each other."""
     for every in sorted({1, chance.randrange(1, history.count + 1), history.count, history.count + 1} - ({1} if history.count > SMALL else set())):
         status, text, errors = cut(history.text, "--every", str(every))
         what = f"{history.name}: --every {every}"
@@ -220,7 +223,8 @@ def hold_segments(history, chance):
 
 
 def check_differing(history, chance):
-    """A verdict is changed: an excerpt that ends before is the same, any other ends with that event, and has none where it begins after it."""
+    """Changes a verdict. An excerpt that ends before it must be unchanged; any other must end with
+    that event, or have no event if it would begin after it."""
     verdicts = [place for place, row in enumerate(history.rows) if row[1] == "arrive"]
     if not verdicts:
         return
@@ -256,7 +260,8 @@ def out_of_range(history, number, chance):
 
 
 def check_unmakeable(history, chance):
-    """Parameters out of their ranges are an event that differs: it has a number and a moment, and is the last of an excerpt, as it was read."""
+    """Tries parameters out of their ranges. They are an event that differs: it has a number and a
+    moment, and is the last event of an excerpt, copied as it was read."""
     number = chance.randrange(0 if history.book else 1, history.count + 1)
     text, record, moment = out_of_range(history, number, chance)
     what, differs = f"{history.name}: {record[:-1]} behind event {number}", DIFFERS.format(number + 1)

@@ -42,7 +42,7 @@ TELLING = b'0,\n"'
 
 
 def wanted(name, text):
-    """The status, the output and the error stream that this command has to end with."""
+    """Returns the expected status, output and error stream of this command."""
     status, output, errors = COMMANDS[name](text.decode("latin-1"))
     return status, output.encode("latin-1"), errors.encode("latin-1")
 
@@ -88,7 +88,8 @@ def differing(program, texts):
 
 
 def damaged(text, bytes_at, places):
-    """The beginnings of a text, and the text with the byte at a place made another of those that `bytes_at` gives, for each place of these."""
+    """Yields damaged texts for each of these places: the text up to the place, and the text with
+    each other byte of `bytes_at` at the place."""
     for place in places:
         yield f"cut at {place}", text[:place]
     for place in places[: -1 if len(text) in places else None]:

@@ -24,10 +24,10 @@ STATE = ("bytes", "packets", "delay", "probability", "accumulated_probability", 
 
 
 def opened(fields):
-    """The book that a first record opens."""
+    """Returns the book that a first record opens."""
     kind, *rest = fields
     profile = int(rest.pop(0)) if kind in ("open2", "open3") else 1
-    words = USUAL if len(fields) in (12, 21) else USUAL[:-1]  # the decay may be told or not
+    words = USUAL if len(fields) in (12, 21) else USUAL[:-1]  # the record may have the decay or not
     elements = (*(rest.pop(0) for _ in words), *USUAL[len(words) :]) if kind == "open3" else USUAL
     mode = rest.pop(0) if kind in ("open2", "open3") else kind
     moment, packets, tail, most, *params = map(int, rest)
@@ -74,7 +74,7 @@ def hold(trace):
     history = trace.with_suffix(".out").read_text()
     book = opened(lines[0])
     for fields, answer in zip(lines[1:], history.splitlines()[1:], strict=True):
-        # (which parameters are out of their ranges the reference doesn't say)
+        # (the reference does not name the parameters that are out of their ranges)
         step = None if re.fullmatch(r"refused,\d+,7", answer) else step_of(fields)
         if step:
             book.step(*step)
@@ -90,7 +90,7 @@ def hold(trace):
 
 
 def main():
-    # Where a run ends at its first record there is no event to explain.
+    # A run that ends with a fault at its first record has no event to explain.
     traces = [path for path in sorted(rows().glob("**/*.in")) if not path.with_suffix(".fault").exists()]
     count, causes = 0, set()
     for trace in traces:

@@ -144,7 +144,8 @@ def by_wall():
 
 
 def many():
-    """More than 2^16 flows in one period: none is left out, and there is memory for each."""
+    """Tests more than 2^16 flows in one interval: each must have a record, and memory must
+    suffice."""
     count = (1 << 16) + 1000
     arrivals = "".join(f"arrive,1,5,{flow << 32},{1 + flow % 9},not,0,{'packets' if flow else 'enqueue'}\n" for flow in range(count))
     status, text, errors = pie(f"open,0,1,16,1000000\n{arrivals}", "--csv", "--flows", "1", "--every", "1s")
@@ -157,7 +158,7 @@ def many():
 
 
 def long_waits():
-    """Waits whose sum is above 2^64 ns: the mean is that of the summary."""
+    """Tests waits whose sum is above 2^64 ns: the mean must be that of the summary."""
     last = (1 << 60) - 1
     history = "open,0,64,1024,1000\n" + "".join(f"arrive,1,0,{7 << 32 | tag},1000,not,0,enqueue\n" for tag in range(40))
     history += "".join(f"depart,2,{last},left,{7 << 32 | tag},1000,not\n" for tag in range(40))

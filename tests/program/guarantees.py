@@ -97,7 +97,7 @@ def missing_clauses():
 
 
 def hold(law, slack, within, *what):
-    """Checks that `slack` is at least 0. Some history has to come as near as `within`."""
+    """Checks that `slack` is at least 0. Some history must come at least as near as `within`."""
     seen[law] += 1
     if slack <= within:
         reached.add(law)
@@ -262,7 +262,7 @@ class Laws:
             hold("picks not too far apart", ALWAYS - 1 - self.considered * self.low, 20, row, self.considered, self.low)
 
     def restart(self):
-        """Something other than a pick starts the accumulated probability anew."""
+        """Returns true if the event restarts the accumulated probability without a pick."""
         self.high, self.low, self.considered, self.sum = 0, ONE, 0, 0
         self.most_sum -= ALWAYS
 
@@ -272,7 +272,8 @@ class Laws:
             return
         tag, size, ecn, since, behind, limit = self.queue.pop(0)
         must("order", row[4:] == [tag, str(size), ecn], row, tag)
-        # from its arrival to its own departure exactly the bytes that waited behind its arrival departed, at the rate of that time
+        # between its arrival and its departure exactly the bytes depart that are queued after its
+        # arrival
         hold("wait", limit - behind, 0, row, behind, limit)
         if was["active"]:
             self.samples.depart(size, now["bytes"], now["moment"], self.params["dq_threshold"])
@@ -462,7 +463,8 @@ def worked():
 
 
 def sudden_burst():
-    """With the defaults, at a link of 10 Mbit/s whose rate is known and that is idle: a burst of 100 packets a nanosecond before an update."""
+    """Makes a burst of 100 packets a nanosecond before an update, with the defaults, at an idle
+    link of 10 Mbit/s whose rate is known."""
     lines = [["open3", 1, "rate", "random", "capped", "unscaled", "zero", "bounded", 0, 65536, 65536, 2**40,
               15_000_000, 15_000_000, 150_000_000, 125, 1250, 1024, 262144, 10**11, 16384]]
     lines += [["arrive", 1, 0, tag, 1000, "not", 0] for tag in range(40)]

@@ -24,7 +24,7 @@ from running import PROGRAM, run  # noqa: E402
 FIRST, RUNS = ([int(word) for word in sys.argv[2:4]] + [1, 16][len(sys.argv[2:4]) :])[:2]
 EVENTS = 40
 # The places of a record that resumes: how many events there were, what set the probability, and the first statistic.
-COUNT, SET_BY, STATISTICS = -31, -30, -15  # counted from the end, since the decay is told or not
+COUNT, SET_BY, STATISTICS = -31, -30, -15  # counted from the end, because the record may have the decay or not
 tried = {"follow": 0, "gaps": 0, "unlike": 0, "faults": 0, "differ": 0, "statistics": 0, "packets": 0, "cut": 0, "cut to a difference": 0}
 
 
@@ -99,7 +99,8 @@ def found_of(text):
 
 
 def hold_changed(what, before, text, wanted):
-    """A text that was changed, behind a part: it has a fault, or else the joint that is wanted."""
+    """Checks an excerpt after which a changed text follows: the result is a fault, or the expected
+    joint."""
     status, finding, error = found_of(text)
     tried["faults"] += status == 1
     tried["differ"] += status == 2

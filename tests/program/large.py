@@ -108,7 +108,8 @@ def full_queue():
 
 
 def ten_million(work):
-    """As many events as no tail holds: departures of an empty queue in a rolling book whose tail keeps sixteen, and the registers after them."""
+    """Runs more events than any log contains: departures of an empty queue in a rolling book with a
+    log of sixteen, and then the registers."""
     opening = "open2,1,rolling,0,1,16,1099511627776\n"
     history = [opening, "depart,7,1,empty\n" * MANY, f"shown,{MANY},1,0,0,0,0,0,150000000,0,0,0,1\n"]
     compare(work, "ten million records:", ["run"], [opening, "depart,7,1\n" * MANY, "show\n"], history)

@@ -26,7 +26,7 @@ from running import PROGRAM, TRACE, run  # noqa: E402
 
 FIRST, SEEDS = ([int(word) for word in sys.argv[2:4]] + [1, 240][len(sys.argv[2:4]) :])[:2]
 EVERY, EVENTS = 3, 12
-# What a command has to end with of a text.
+# The expected result of a command for a text.
 COMMANDS = {
     "run": plain.run,
     "audit": plain.audit,
@@ -34,7 +34,7 @@ COMMANDS = {
     f"cut --every {EVERY}": lambda text: reference_resumed.cut_every(text, EVERY),
 }
 OF_A_HISTORY = [name for name in COMMANDS if name != "run"]
-# The buffers of a reader: of crate csv, and of one that reads in place.
+# The buffers of both readers: of crate csv, and of the one that reads in place.
 BUFFERS = (8192, 2**18)
 BOM = b"\xef\xbb\xbf"
 
@@ -112,7 +112,7 @@ def wrong_digit(digits, at, chance):
 
 
 def number(chance):
-    """A number at an end of a range, or one that is none."""
+    """Returns a number at an end of a range, or a text that is no number."""
     digits = "".join(chance.choice("0123456789") for _ in range(chance.choice((1, 7, 8, 9, 16, 19, 20, 21))))
     wrong = wrong_digit(digits, chance.randrange(len(digits)), chance)
     return chance.choice([chance.choice(ENDS), chance.choice(TENS), chance.choice(ABOVE), digits, digits, wrong, wrong, wrong]).encode("latin-1")
@@ -164,7 +164,7 @@ def odd_texts(seed):
 
 
 def fed(library, name, text, **reads):
-    """What a command ends with, where reads move so many bytes."""
+    """Returns the result of a command whose reads return this number of bytes each."""
     return run(name.split(), text, PROGRAM, LD_PRELOAD=library, **{f"REFUSE_{key}": str(most) for key, most in reads.items()})
 
 
@@ -231,7 +231,8 @@ def compare_numbers(library, text, name):
 
 
 def compare_buffer(library, text, name, buffer):
-    """The text with lines behind the first that make each later byte the first one after a full buffer. Of what they say the history has the same."""
+    """Compares texts with additional lines after the first, such that each later byte is once the
+    first one after a full buffer. The additional lines have the same history."""
     found, count = [], 0
     head = text.index(b"\n") + 1
     line = b"clock,1,1234567\n" if name == "run" else b"refused,1,23456\n"

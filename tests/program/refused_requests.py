@@ -68,8 +68,8 @@ def refused(library, met, name, words, given, variables=tuple(FAULTS), **more):
 
 
 def long_text(library, met):
-    """A text that is long enough for several reads and writes: what is written goes out in pages of some 32 KB, and not byte by byte, nor all at the
-    end."""
+    """Returns a text that is long enough for several reads and writes. The output is written in
+    pages of some 32 KB, neither byte by byte nor all at the end."""
     long = TRACE.replace(b"8,32,100", b"8,3200,9999", 1) + b"depart,1,1001006\nshow\n" * 1500
     text = run(["run"], long)[1]
     commands = {"run": (["run"], long), **{name: (words, text) for name, words in READERS.items()}}
@@ -125,8 +125,9 @@ def faults_before(library, met, history):
 
 
 def outputs_refused(library, met, name, words, given):
-    """Each request for the file of -o refused, where a private file has its name and where none has. Beside a private one no file is left that others
-    may read, not even at a refusal right after it was made."""
+    """Refuses each request for the file of -o, for the name of a private file and for a new name.
+    No file that others may read may remain beside a private one, even if a request is refused right
+    after it was created."""
     want = run(words, given)[1]
     for older in (None, b"older\n"):
         forced = ["--force"] if older else []

@@ -135,7 +135,8 @@ def is_clean(lines, found):
 
 
 def traffic(count, seed=5):
-    """Packets of 48 to 1500 bytes at some 16.5 Mbit/s, by turns more and less, as moments, bytes, sizes and ECN fields."""
+    """Returns packets of 48 to 1500 bytes at some 16.5 Mbit/s, with periods above and below that
+    rate, as moments, bytes, sizes and ECN fields."""
     random_of, moment = random.Random(seed), 0
     for number in range(count):
         size, ecn = random_of.randrange(48, 1501), random_of.randrange(4)
@@ -239,7 +240,7 @@ def flows(tool):
     wanted = list(dict.fromkeys(it[2] for it in made))
     expect(len(wanted) == len(made) - 4 and told.read_text().splitlines() == ["flow,protocol,source,source_port,destination,destination_port", *wanted],
            f"flows: the file has {told.read_text()}")
-    # cut before the ports: by addresses and protocol; and by one line whose packets they were
+    # cut before the ports: flows by addresses and protocol only, with one line for each
     _, lines, _, _, _ = tool.run(pcap(ETHERNET, frames[:1], snap=35), "--flows", told)
     expect(int(arrivals(lines)[0][3]) >> 32 == flow_number(17, made[0][0][12:16], made[0][0][16:20]), "flows: of a packet that is cut before its ports")
     flood = [(i * 10**5, frame(ETHERNET, made[0 if i % 4 else 2][0])) for i in range(400)]

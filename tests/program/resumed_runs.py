@@ -71,8 +71,9 @@ def check_far(seed, whole, n, chance):
     last = len(whole.events)
     more = chance.choice((2**32 - last, 2**32 - n - 1, 2**32, 2**40 - n - 1, 2**40, 2**47 - last))
     (first, *packets) = resumed_at(whole, n, False)
-    k = len(first) - 60  # (one field more where the decay is told)
-    # (the events that came before are departures that found no packet: the statistics have to agree with their number)
+    k = len(first) - 60  # (one more field if the record has the decay)
+    # (the earlier events are departures that found no packet, because the statistics must agree
+    # with their number)
     empty = int(first[53 + k]) + more
     beginning = [[*first[: 10 + k], 2**47, *first[11 + k : 29 + k], n + more, *first[30 + k : 53 + k], empty, *first[54 + k :]], *packets]
     rows = [*beginning, *(record_of(caller, command) for caller, command, _ in whole.events[n:])]

@@ -26,8 +26,8 @@ def per_cent(part):
 
 
 def hold(name, history):
-    """The number of packets whose words contained the scaled probability, and of those with the accumulated
-    probability."""
+    """Compares the words with the records. Returns the number of packets whose words contained the
+    scaled probability, and of those with the accumulated probability."""
     _, rows, _ = records(name, history)
     _, words, _ = pie(history, "--all")
     events = re.split(r"(?m)^event ", words)[1:]

@@ -19,7 +19,8 @@ from running import PATIENCE, PROGRAM, READ, READERS, TRACE, WRITE, hold_readers
 
 
 def streams():
-    """Standard streams that are closed, full or broken. A run that has nothing to say on the error stream does not need it."""
+    """Tests standard streams that are closed, full or broken. A run without a message does not need
+    the error stream."""
     for words in [["run"], *READERS.values()]:
         name = " ".join(words)
         good = "printf 'open,0,4,16,100\\n%s' | " % ("" if name == "run" else "depart,1,1,empty\\n")
@@ -58,7 +59,8 @@ def closed():
 
 
 def unread(words, given):
-    """The status and the error stream of the program, whose standard output is a pipe that nobody reads."""
+    """Returns the status and the error stream of the program with a pipe without a reader as its
+    standard output."""
     reader, writer = os.pipe()
     os.close(reader)
     done = subprocess.run([PROGRAM, *words], input=given, stdout=writer, stderr=subprocess.PIPE, timeout=PATIENCE, check=False)

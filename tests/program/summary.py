@@ -39,8 +39,9 @@ def turned(rows, was, now):
 
 
 def percentile_99(waits):
-    """The wait that all but a hundredth of these, rounded down, did not exceed, raised to the last number with its first two digits, or to the
-    greatest of them where that is less; 0 of none."""
+    """Returns a wait that at most a hundredth of these waits, rounded down, exceed: raised to the
+    greatest number with its first two digits, or to the greatest wait if that is less; 0 if there
+    are none."""
     if not waits:
         return 0
     wait = str(sorted(waits)[len(waits) - len(waits) // 100 - 1])

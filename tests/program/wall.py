@@ -100,8 +100,9 @@ def hold_within(name, history, lines, times, words):
 
 
 def hold_cut(name, history, lines, times, words):
-    """pie cut by times of day, also beside moments: its events are those from the first one within up to the first behind it that is not before the
-    end, and they are explained as the whole's."""
+    """Compares pie cut by wall-clock times, also together with moments, with the expected events:
+    from the first one within the bounds up to the next one that is not before the end. They must be
+    explained as in the whole."""
     moments = [int(line.split(",")[4]) for line in lines[1:]]
     known = [time for time in times if time is not None] or [1_795_550_400 * SECOND]
     for _ in range(4):
@@ -132,7 +133,8 @@ def told(times, spaces):
 
 
 def summed(plain, rows, times):
-    """A summary in words with the times of day of these records: behind its first line, and behind each time that the controller turned."""
+    """Returns the words of a summary with the wall-clock times of these records: after its first
+    line, and after each activation and deactivation."""
     first, *others = plain.splitlines(keepends=True)
     out, ways = [first, *told(times, "  ")], {"  turned on ": ("0", "1"), "  turned off ": ("1", "0")}
     turning = None

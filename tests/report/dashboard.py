@@ -20,7 +20,7 @@ from pathlib import Path
 sys.path.insert(0, f"{os.path.dirname(os.path.abspath(__file__))}/../shared")
 from checks import NAME, ROOT, check, finish  # noqa: E402
 
-# Each says why it is not shown, or not of both.
+# The reason why each is not shown, or only for one of the two.
 TROUBLE = {"pie_oversized_drops_total", "pie_refused_drops_total", "pie_late_updates_total", "pie_lost_events_total"}
 UNSEEN = {"pie_unseen_events_total"}
 PERIOD = {f"pie_period_{name}" for name in ("wait_99_seconds", "greatest_wait_seconds", "greatest_delay_seconds", "greatest_probability_ratio")}

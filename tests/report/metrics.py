@@ -65,7 +65,8 @@ def metrics(path, *words):
 
 
 def read(text):
-    """The samples, by their names behind pie_ and without link and queue; of a bucket with its bound."""
+    """Returns the samples by their names after pie_, without link and queue; a bucket has its
+    bound."""
     if text not in linted:
         linted.append(text)
     samples = {}
@@ -173,13 +174,13 @@ def goes_on(folder):
         hold_counters(f"{count} events, written again", again.look("".join([head, *rows])), summary(part))
     head, rows = periods_of(overload, "10ms")
     hold_counters("shorter periods: another file", again.look("".join([head, *rows])), sums(whole, whole))
-    gap = Watched(folder, "gap")  # a writer that was late: a line tells how many records are missing
+    gap = Watched(folder, "gap")  # a writer that was late: a line has the number of missing records
     lines = [head, "lost,2\n", rows[0], rows[1], "lost,3\n", "lost,1\n", rows[2]]
     for end, lost in ((3, 2), (4, 2), (6, 6), (7, 6)):
         samples = gap.look("".join(lines[:end]))
         hold_counters(f"{end} lines, with gaps", samples, sums(*table("".join([head, *rows[: min(end - 2, 2) + (end > 6)]]))))
         check(samples["lost_periods_total"] == lost, f"{end} lines, with gaps: {samples['lost_periods_total']} lost periods")
-    again.look("".join([head, *rows[:5]]))  # (one that lost its end: what is right nobody knows, but nothing falls)
+    again.look("".join([head, *rows[:5]]))  # (one that lost its end: the right values are unknown, but no counter may fall)
 
 
 def is_gone(what, watched, status, said, *words):
@@ -189,7 +190,8 @@ def is_gone(what, watched, status, said, *words):
 
 
 def ends(folder):
-    """Where the writer ended or fell silent, or its records have a fault, the file goes."""
+    """Checks that the file is removed if the writer ended or stopped writing, or if its records
+    have a fault."""
     watched = Watched(folder, "ends")
     head, rows = periods_of(ROOT / "examples/overload.history")
     watched.look("".join([head, *rows]))
@@ -246,7 +248,8 @@ def ends(folder):
 
 
 def without(name):
-    """Returns a filter that removes a column from records, whose header it receives first."""
+    """Returns a filter that removes a column from records; the first record that it receives is the
+    header."""
     at = []
 
     def line_without(line):
@@ -343,9 +346,9 @@ def recorded(folder, name, opening, packets, last, size=500):
 
 
 def of_opened_anew(folder):
-    """Tries a recorder that was reopened and ran longer than the old one, whose last event is overwritten: it is
-    distinguished from the old one by its opening, its moment or a statistic that is less. The text must have each
-    bound of a histogram from the beginning."""
+    """Tries a recorder that was reopened and ran longer than the old one, so that the last event of
+    the old one is overwritten. Its opening, its moment or a lower statistic must distinguish it
+    from the old one. The text must have each bound of a histogram from the beginning."""
     fields = [name for name in COUNTERS if name != "arrived_bytes"]
     for name, old, new in (("another moment", (0, 100, 40, 500), (5, 300, 40, 500)), ("fewer bytes", (0, 100, 40, 1000), (0, 150, 40, 500)),
                            ("a smaller queue", (0, 100, 40, 501), (0, 300, 40, 500)), ("other events", (0, 100, 40, 500), (0, 101, 202, 501))):
@@ -432,7 +435,8 @@ def of_link(folder):
 
 
 def of_signals(folder):
-    """The link's file goes at each signal that ends it, and where it ended by a fault: a device that is taken away, a history that can't be written."""
+    """Checks that the link's file is removed at each signal that ends the link, and after a fault:
+    a removed device, a history that cannot be written."""
     for number in (signal.SIGINT, signal.SIGHUP):
         prom = Path(folder, "signal.prom")
         words = [LINK / "out/link", "--from", "north", "--to", "south", "--metrics", prom]
@@ -455,7 +459,7 @@ def of_signals(folder):
     words = [LINK / "out/link", "--from", "north", "--to", "south", "--for", "3600s", "--metrics", "/nowhere/link.prom"]
     with ended(subprocess.Popen(words, stdout=subprocess.DEVNULL, stderr=subprocess.PIPE, text=True)) as process:
         errors = process.stderr.readline()
-        time.sleep(1.2)  # (it would say so again after each second)
+        time.sleep(1.2)  # (it would repeat the message each second)
         process.send_signal(signal.SIGTERM)
         errors += process.communicate(timeout=PATIENCE)[1]
     check(process.returncode == 0 and errors.count("--metrics /nowhere/link.prom: No such file") == 1, f"a file that can't be: {errors}")

@@ -144,7 +144,8 @@ def cut_out(folder):
 
 
 def lying_program(folder):
-    """A page from a program that says hostile things: they stay text, and are refused where numbers belong."""
+    """Tests a page from a program with hostile output: texts must stay text, and must be refused in
+    place of numbers."""
     path = Path(folder, "pie-that-lies")
     text = "".join(explain(ROOT / "examples/overload.history", which)[1] for which in ("--lost", "--marked"))
     Path(folder, "words").write_text(text.replace("Not-ECT", HOSTILE.replace(":", "")).replace("picked", HOSTILE))
@@ -163,8 +164,8 @@ case "$*" in *--digest*) {PROGRAM} "$@" | grep -v '^event \\|^  '; cat {folder}/
 
 
 def flows(folder):
-    """A page of a history whose tags have twelve flows: those with the most bytes by their names, the others in one, and what came of each in each
-    period; and files that name no flows."""
+    """Tests a page of a history whose tags have twelve flows: the page names those with the most
+    bytes, sums the others, and shows each in each interval; and files that name no flows."""
     lines = (ROOT / "examples/overload.history").read_text().splitlines(keepends=True)
     for at, line in enumerate(lines):
         fields = line.split(",")
@@ -317,7 +318,8 @@ class Page:
         self.says(not told, f"on its console: {told}")
 
     def picture(self, kind):
-        """Takes a picture, and holds it not to be blank: many rows differ from the one above."""
+        """Takes a picture, and checks that it is not blank: many rows must differ from the row
+        above."""
         shot = self.driver.get_screenshot_as_png()
         if PICTURES:
             Path(PICTURES, f"{self.name}-{kind}.png").write_bytes(shot)
@@ -413,7 +415,7 @@ def hold_use(driver, place, path):
     row = page.run("return [...document.querySelectorAll('#list tbody tr')].map((it) => it.cells[2].textContent)")
     page.says(row and row[0] == wanted and all(it.startswith(wanted) for it in row), f"a search for {wanted}: {row}")
     page.says(f"packet {wanted}," in page.text("#words"), "a search: not its words")
-    # a list that was cut says so, with the command that shows the rest
+    # a shortened list has a note with the command that prints the rest
     status, text, _ = report(path, "--list", "5")
     short = place.with_name("short.html")
     short.write_text(text)

@@ -41,7 +41,7 @@ def rows_within(whole, before, last, is_known=True):
 
 
 def segments_of(text):
-    """The texts that csplit makes of segments: each begins with a record that resumes."""
+    """Returns the texts that csplit makes of segments: each begins with a `resume` record."""
     parts = []
     for line in text.splitlines(keepends=True):
         if line.startswith("resume,"):

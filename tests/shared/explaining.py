@@ -63,7 +63,7 @@ def within(moments, words):
 
 
 def hold_each(hold, says):
-    """Holds each history to something, by random words of the first seed, and says in the end what held."""
+    """Calls `hold` for each history, with random words of the first seed, and prints `says`."""
     words = random.Random(FIRST)
     for name, history in histories():
         hold(name, history, words)

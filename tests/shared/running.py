@@ -44,7 +44,8 @@ params,5,1001004,1,1,50,850000,0,1,100000,1000000000000,1024
 
 
 def hold_readers():
-    """Holds READERS to the program's help, which says of each command in a line what it reads; and each command has a help of its own."""
+    """Compares READERS with the program's help, which states in one line what each command reads.
+    Each command must have its own help."""
     told = run(["--help"], b"")[1].decode().partition("Commands:")[2].partition("Options:")[0]
     commands = dict(re.findall(r"^  (\w+) +(.+)$", told, re.M))
     readers = {name for name, does in commands.items() if re.search(r"[Rr]eads? (a )?histor|from (a )?histor", does)}

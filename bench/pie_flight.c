@@ -1,10 +1,11 @@
-/* What it costs to keep an event in a flight recorder (include/pie_flight.h) beside the event alone, where so many packets wait; what a snapshot
- * takes, and what a dump does. Events are arrivals that are considered (one in twenty is dropped early) and departures, by turns, so that the queue
- * stays as long as it is; packets have 1000 bytes. Each line is `name value unit`, once a run, for bench/ratios.py. With the word `count` it makes
- * events of a kind in a function of its own, for bench/pie_flight.sh to count their instructions, and prints how many; with `text` it writes a
- * dump, for an audit.
+/* Measures the cost of keeping an event in a flight recorder (include/pie_flight.h) beside the
+ * event alone, while PACKETS packets are queued; of a snapshot; and of a dump. Considered arrivals
+ * (one in twenty is dropped early) and departures alternate, so that the queue keeps its length.
+ * Packets have 1000 bytes. Prints lines `name value unit`, one for each run, for bench/ratios.py.
+ * With `count` it makes events of one kind in a separate function, whose instructions
+ * bench/pie_flight.sh counts, and prints their number. With `text` it writes a dump for an audit.
  *
- * usage: pie_flight EVENTS PACKETS                 EVENTS: that the recorder keeps at the least
+ * usage: pie_flight EVENTS PACKETS                 EVENTS: the least number that the recorder keeps
  *        pie_flight EVENTS PACKETS count alone|kept|snapshot
  *        pie_flight EVENTS PACKETS text */
 #define _GNU_SOURCE

@@ -1,10 +1,17 @@
-/* Events a second of one to four threads at one controller, in bursts: at a link (include/pie_link.h); at a spin lock around the recorded calls of
- * pie.h, each of whose events a flight recorder keeps; at the same lock around the plain calls, whose events are put into the recorder in bulk,
- * as a data plane does; and at that lock, and at a mutex, around recorded calls whose events, of 64 bytes, go into a ring with statistics, as a builder
- * would keep them without this repository's recorders. Each thread lets a burst of packets arrive, and as many depart, and between two bursts spends on each packet the time of
- * making it; none is more than a burst ahead of another, so that they meet. A burst of one is the call for one event. An event is a packet that
- * arrived or departed. Each line is `kind threads burst events/s changes`, once a run, for bench/pie_link_c.sh: the last is how often a burst
- * follows on another thread's, of all bursts; at the link of those whose events its log still holds.
+/* Measures events per second of one to four threads at one controller, in bursts:
+ *
+ *   - at a link (include/pie_link.h);
+ *   - at a spin lock around recording calls of pie.h, with a flight recorder;
+ *   - at the same lock around plain calls, whose events go to the recorder in bulk, as in a data plane;
+ *   - at that lock, and at a mutex, around recording calls whose events of 64 bytes go into a ring with
+ *     statistics, as a builder would write it without this repository's recorders.
+ *
+ * Each thread enqueues a burst of packets, dequeues as many, and between two bursts spends on each
+ * packet the time of making one. No thread is more than a burst ahead of another, so that they
+ * meet. A burst of one uses the call for one event. An event is an arrival or a departure. Prints
+ * lines `kind threads burst events/s changes`, one for each run, for bench/pie_link_c.sh. `changes`
+ * is the share of bursts that follow a burst of another thread; at the link only bursts in the
+ * event log count.
  *
  * usage: pie_link_c RUNS MILLISECONDS */
 #define _GNU_SOURCE

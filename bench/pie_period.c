@@ -1,6 +1,8 @@
-/* What it costs to sum up an event in a period (pie_*_summed) beside the call that records it alone: arrivals that are considered, departures with a
- * wait, and a stream of both with an update each 256 of them. Each line is `name value unit`, once a run, for bench/ratios.py. With the words
- * `count KIND` it makes 1024 calls of a kind in a function of its own, for bench/pie_period.sh to count their instructions.
+/* Measures the cost of adding an event to the sums of an interval (pie_*_summed) beside the call
+ * that only records the event: considered arrivals, departures with a wait, and a stream of both
+ * with an update each 256 events. Prints lines `name value unit`, one for each run, for
+ * bench/ratios.py. With `count KIND` it makes 1024 calls of a kind in a separate function, whose
+ * instructions bench/pie_period.sh counts.
  *
  * usage: pie_period [count arrive|arrive_summed|depart|depart_summed|stream|stream_summed] */
 #define _GNU_SOURCE

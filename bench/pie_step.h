@@ -1,8 +1,7 @@
-/* PIE in plain C, by the steps of pie_rate, pie_control and pie_early in the same whole numbers: all that is measured in C
- * beside this repository's code is made of these. A function whose name ends in `_by` or `_after` is a part of its caller,
- * and a STEP is a call. And what those measurements share: the default parameters, the words that stand for random ones,
- * and the clock.
- */
+/* PIE in plain C, with the steps of pie_rate, pie_control and pie_early in the same integers. All
+ * measurements compare this repository's code with these functions. A function whose name ends in
+ * `_by` or `_after` is inlined into its caller, and a STEP is a call. The file also has the common
+ * parts of the measurements: the default parameters, words in place of random ones, and the clock. */
 #ifndef PIE_STEP_H
 #define PIE_STEP_H
 

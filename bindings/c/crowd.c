@@ -1,7 +1,10 @@
-/* A crowd at one link: so many threads make calls of all kinds for some seconds, one of them is cancelled between two calls halfway, and one more
- * folds, and writes the text of all that it is handed, and takes excerpts meanwhile, SUMS.1 and so on. Each thread sums up what it was answered, in
- * its order; `read` sums up the same from the text, so that each caller's calls stand there once and in its order, and the events of each excerpt
- * in their place. bindings/c/threads.sh builds and runs it, and has the texts audited.
+/* A crowd at one link. Several threads make calls of all kinds for some seconds; one of them is
+ * cancelled between two calls after half of the time. Another thread folds, writes the text of all
+ * folded events, and takes excerpts meanwhile (SUMS.1 and so on). Each thread adds up its answers
+ * in order. `read` computes the same sums from the text, so that each caller's calls must occur
+ * once and in order, and the events of each excerpt at their place. bindings/c/threads.sh builds
+ * and runs it, and audits the texts.
+ *
  *     crowd run THREADS SECONDS SUMS > text
  *     crowd read THREADS SUMS < text */
 #include "pie_link.h"

@@ -1,9 +1,10 @@
-/* A drop-tail ring of a small link, with PIE in front of it, under overload: 24 Mbit/s of packets into 16 Mbit/s for a
- * tenth of a second, after a burst that overruns the ring. Prints the history in the format of docs/FORMATS.md, which the library
- * writes: caller 1 is the sender, 2 the link, 3 the timer.
+/* A drop-tail ring of a small link with PIE in front of it, under overload: for a tenth of a
+ * second, 24 Mbit/s of packets arrive at a link of 16 Mbit/s, after a burst that overruns the ring.
+ * Prints the history in the format of docs/FORMATS.md, which the library writes. Caller 1 is the
+ * sender, 2 the link, 3 the timer.
  *
- * There is no clock and no entropy in it, so each run prints the same. A scheduler hands in its own clock, its time of day, and
- * random words of a good generator. */
+ * The example uses no clock and no random words, so each run prints the same. A scheduler passes
+ * its own clock, its wall-clock time, and words of a good random generator. */
 #include "pie.h"
 
 #include <inttypes.h>

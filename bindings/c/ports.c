@@ -1,5 +1,6 @@
-/* Calls at the ports of a link, as C11 and C++11: what each answers and leaves, by one thread; bursts, by one and by five; excerpts; then sixteen
- * threads that count what they asked, four of which are cancelled between two calls; then each request for memory refused in turn.
+/* Tests the calls at the ports of a link, as C11 and C++11: results and states by one thread;
+ * bursts, by one thread and by five; excerpts; sixteen threads that count their calls, four of
+ * which are cancelled between two calls; and each request for memory refused in turn.
  * bindings/c/threads.sh builds and runs it. */
 #include "pie_link.h"
 

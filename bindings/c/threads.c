@@ -1,5 +1,7 @@
-/* Two senders, the link that sends what waits, and a reader: each 10 ms it writes the events since the last time to the file `history`, and each
- * second it takes an excerpt of the last events, excerpt.1 to excerpt.3, for `pie audit` and `pie explain`.
+/* Two senders, the link that sends queued packets, and a reader. Each 10 ms the reader writes the
+ * new events to the file `history`, and each second it takes an excerpt of the last events,
+ * excerpt.1 to excerpt.3, for `pie audit` and `pie explain`.
+ *
  *     bindings/c/library.py
  *     cc -Iinclude -o threads bindings/c/threads.c crates/pie_link_c/out/libpie_link_c.a crates/pie_c/out/libpie_c.a -pthread
  *     ./threads && pie audit history excerpt.1 excerpt.2 excerpt.3 */

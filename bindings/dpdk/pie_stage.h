@@ -1,50 +1,59 @@
-/* A queue with PIE (RFC 8033) in front of it, for a data plane on DPDK: receiving lcores enqueue bursts of mbufs, one lcore dequeues
- * and sends. The controller is that of pie.h, whose parameters, choices and profiles these are.
+/* A queue with PIE (RFC 8033) for a data plane on DPDK. Receiving lcores enqueue bursts of mbufs,
+ * and one lcore dequeues and sends. The controller, its parameters, choices and profiles are those
+ * of pie.h.
  *
  *   struct pie_stage_params params;
  *   pie_stage_default_params(&params, 1000000000);                               // for a link of 1 Gbit/s
- *   struct pie_stage *stage = pie_stage_create("north", &params, SOCKET_ID_ANY); // NULL: rte_errno says why
+ *   struct pie_stage *stage = pie_stage_create("north", &params, SOCKET_ID_ANY); // NULL: rte_errno has the reason
  *   pie_stage_enqueue(stage, mbufs, count, rte_rdtsc());                         // on a receiving lcore
  *   count = pie_stage_dequeue(stage, mbufs, 32, rte_rdtsc());                    // on the sending lcore
  *   pie_stage_update(stage, rte_rdtsc());                                        // on a timer
  *   pie_stage_free(stage);
  *
- * DPDK's telemetry (dpdk-telemetry.py) shows the stages of a process, and sets their parameters (stage_telemetry.h).
+ * DPDK's telemetry (dpdk-telemetry.py) shows the stages of a process, and sets their parameters
+ * (stage_telemetry.h).
  *
- * `now` is rte_rdtsc() or rte_get_tsc_cycles(), in cycles of the TSC (rte_get_tsc_hz() a second). It need not be the same on all lcores
- * to the cycle: one that is earlier than the latest so far counts as the latest so far, which statistics count as `earlier`. So after one `now`
- * far ahead all later ones count as that one, until the clock gets there.
+ * `now` is rte_rdtsc() or rte_get_tsc_cycles(), in cycles of the TSC (rte_get_tsc_hz() per second).
+ * It may differ between lcores: a `now` before the latest one counts as the latest one, and the
+ * statistic `earlier` counts such calls. After one `now` far ahead, all later ones therefore count
+ * as that one until the clock reaches it.
  *
- * PIE acts on what waits in the stage. What waits behind it, in a card's descriptor ring, it does not see: dequeue no faster than the
- * link sends, by pie_stage_dequeue_bytes, or keep that ring short.
+ * PIE controls only the packets in the stage, not those in a card's descriptor ring. Dequeue no
+ * faster than the link sends, by pie_stage_dequeue_bytes, or keep that ring short.
  *
- * Packets are Ethernet frames, and a packet's size is its pkt_len, without the frame check sequence. One whose size is outside 1 to 65535
- * bytes, as segmentation offload makes them, is dropped (`oversized`). Marks are set in the outermost IP header, behind up to four VLAN tags.
+ * Packets are Ethernet frames, and a packet's size is its pkt_len, without the frame check
+ * sequence. A packet with a size outside 1 to 65535 bytes, as after segmentation offload, is
+ * dropped (`oversized`). Marks are set in the outermost IP header, which may follow up to four VLAN
+ * tags.
  *
- * All calls but create, free and those for history and records may be made by any number of threads at once; they take one spin lock, and nothing
- * that waits or takes memory stands under it. An enqueue gives it up after each 32 packets; a dequeue holds it for all that it takes. A dequeue with
- * nothing to take, and an update that is not due, take no lock.
+ * Any number of threads may make calls at once, except create, free, and the calls for history and
+ * records. The calls take one spin lock; while it is held, nothing waits or allocates memory. An
+ * enqueue releases the lock after each 32 packets, a dequeue only at its end. A dequeue of an empty
+ * stage, and an update that is not due, take no lock.
  *
- * A flight recorder (pie_flight.h) keeps the last `flight` arrivals, departures and updates. pie_stage_flight writes them, from any lcore while the
- * others go on, as a text that resumes (docs/FORMATS.md), which `pie audit` decides again:
+ * A flight recorder (pie_flight.h) keeps the last `flight` arrivals, departures and updates. Any
+ * lcore can write them with pie_stage_flight while the others continue. The result is an excerpt
+ * (docs/FORMATS.md), which `pie audit` accepts:
  *
  *   if (pie_stage_flight_is_asked(stage))                                        // a packet waited longer than flight_wait
  *       pie_stage_flight(stage, write, file);
  *
- * With `events` above 0 one more thread follows the flight recorder (pie_follow.h) and writes the whole history:
+ * With `events` above 0, one more thread follows the flight recorder (pie_follow.h) and writes the
+ * whole history:
  *
  *   while ((size = pie_stage_history(stage, text, sizeof text)) != 0)            // on one lcore, again and again
  *       fwrite(text, 1, size, file);
  *
- * A packet's tag is its number, in the order of arrivals, and the caller is the lcore (65535 of a thread that is none). With `flow` the tag has the
- * lower 32 bits of that number, and above them the number of the packet's flow (docs/FORMATS.md). Each text begins with the time of day
- * (CLOCK_REALTIME) beside the stage's clock, by which `pie explain --wall` tells when its events were.
+ * The tag of a packet is its number in the order of arrivals, and the caller is the lcore (65535
+ * for a thread that is no lcore). With `flow`, the lower 32 bits of the tag are the lower bits of
+ * that number, and the upper 32 bits are the number of the packet's flow (docs/FORMATS.md). Each
+ * text begins with a clock record (CLOCK_REALTIME), for `pie explain --wall`.
  *
- * With `every` above 0 it sums up its events, also where none of them is kept, in the records of periods:
+ * With `every` above 0 the stage adds its events up, also if it keeps none, and writes the records
+ * of intervals:
  *
  *   while ((size = pie_stage_record(stage, false, text, sizeof text)) != 0)      // on one lcore, again and again
- *       fwrite(text, 1, size, file);
- */
+ *       fwrite(text, 1, size, file); */
 #ifndef PIE_STAGE_H
 #define PIE_STAGE_H
 
@@ -66,12 +75,12 @@ struct pie_stage;
 typedef uint32_t (*pie_stage_flow)(void *user, const struct rte_mbuf *mbuf);
 
 #define PIE_STAGE_MAX_EVENTS (1u << 24) /* the most events of the flight recorder */
-#define PIE_STAGE_FLIGHT (1u << 14)     /* those of the flight recorder by default */
+#define PIE_STAGE_FLIGHT (1u << 14)     /* the default number */
 
 struct pie_stage_params {
-    struct pie_opening opening; /* of the controller, by the stage's clock, which begins at 0; its `packets` are what the queue has room for */
-    bool ecn;                   /* mark packets whose ECN field allows it; else they are dropped, as others */
-    bool hands_back;            /* dropped mbufs are handed back to whoever enqueued them; else the stage frees them */
+    struct pie_opening opening; /* of the controller; the stage's clock begins at 0, and `packets` is the queue's room */
+    bool ecn;                   /* mark ECN-capable packets; otherwise they are dropped like others */
+    bool hands_back;            /* return dropped mbufs to the caller that enqueues them; otherwise the stage frees them */
     uint32_t flight;            /* the least number of events that the flight recorder keeps, up to 2^24, each of
                                    about 100 bytes with the memory for a copy; 0: its text is never requested */
     uint64_t flight_wait;       /* a packet that waited longer than this many nanoseconds requests the flight
@@ -82,60 +91,62 @@ struct pie_stage_params {
     pie_stage_flow flow;        /* called by the lcore that enqueues, before it takes the lock, for each packet of a
                                    stage that keeps events; NULL: tags contain no flows */
     void *flow_user;
-    uint64_t every;             /* how long a period lasts whose events are summed up, 1 to 2^60 - 1 ns; 0: none are */
+    uint64_t every;             /* the length of the intervals of pie_stage_record, 1 to 2^60 - 1 ns; 0: no records */
 };
 
 /* The statistics of a stage since it was created, and its present state. Each enqueued packet is counted once, as
  * queued (some of these are marked), early, bytes, full, oversized or refused. */
 struct pie_stage_stats {
-    uint64_t queued;         /* packets taken in */
+    uint64_t queued;         /* queued packets */
     uint64_t marked;         /* of these, packets marked */
     uint64_t early;          /* dropped by early drop */
-    uint64_t bytes;          /* dropped since the queue would exceed limit_bytes */
-    uint64_t full;           /* dropped since the queue has no room for another packet */
-    uint64_t dropped_bytes;  /* bytes of the packets that were dropped so, by these three */
-    uint64_t oversized;      /* dropped for a size outside 1 to 65535 bytes */
-    uint64_t refused;        /* dropped since the controller refused the arrival: 0 in a sound program */
-    uint64_t no_ip;          /* packets without an IP header where the stage looked for it: they are never marked. It looks at headers while the
-                                probability is above 0, and of a recorded stage always */
+    uint64_t bytes;          /* dropped because the queue would exceed limit_bytes */
+    uint64_t full;           /* dropped because the queue has no room for another packet */
+    uint64_t dropped_bytes;  /* bytes of the packets of these three kinds of drops */
+    uint64_t oversized;      /* dropped because of a size outside 1 to 65535 bytes */
+    uint64_t refused;        /* dropped because the controller refused the arrival: 0 in a correct program */
+    uint64_t no_ip;          /* packets without an IP header, if the stage looked for one; they are never marked. It
+                                reads headers while the probability is above 0, and a recording stage always */
     uint64_t shared;         /* packets that could be marked but share their header with others (reference count
                                 above 1, a clone) and are never marked; only packets whose header was read are
                                 counted */
-    uint64_t departed;       /* packets handed to the sender */
+    uint64_t departed;       /* dequeued packets */
     uint64_t departed_bytes; /* their bytes */
-    uint64_t waited;         /* nanoseconds that they waited, all together: the low 64 bits */
+    uint64_t waited;         /* the sum of their waits in nanoseconds: the low 64 bits */
     uint64_t waited_high;    /* the upper 64 bits of that sum */
-    uint64_t longest;        /* nanoseconds that the longest of these waits took */
+    uint64_t longest;        /* the longest of these waits, in nanoseconds */
     uint64_t waits[PIE_WAIT_SORTS]; /* packets by the sorts of their waits (pie_sorts.h) */
     uint64_t updates;        /* updates made */
     uint64_t late;           /* of these, updates made more than t_update after they were due */
     uint64_t probs[PIE_PROB_SORTS]; /* updates by the sorts of the probability after them */
-    uint64_t probs_sum;      /* these probabilities, all together: the low 64 bits */
+    uint64_t probs_sum;      /* the sum of these probabilities: the low 64 bits */
     uint64_t probs_high;     /* the upper 64 bits of that sum */
     uint64_t changes;        /* changes of the parameters */
-    uint64_t earlier;        /* calls with packets whose `now` was earlier than one before it */
-    uint64_t most;           /* packets, the most that the queue held */
-    uint64_t lost;           /* events that the history lacks, since it was not written as fast as they came */
-    uint64_t lost_periods;   /* periods whose records are missing, since they were not written as fast as they ended */
+    uint64_t earlier;        /* calls with packets whose `now` was before an earlier call's */
+    uint64_t most;           /* the greatest number of packets in the queue */
+    uint64_t lost;           /* events missing in the history, because it was written too slowly */
+    uint64_t lost_periods;   /* intervals without a record, because they were written too slowly */
 
     uint64_t waiting;        /* packets in the queue */
     uint64_t waiting_bytes;  /* their bytes */
     uint64_t prob;           /* the probability, 0 to 10^12 */
-    uint64_t delay;          /* the delay that the last update took, in ns */
+    uint64_t delay;          /* the delay of the last update, in ns */
     uint64_t burst;          /* the burst allowance, in ns */
     uint64_t target;         /* the target in force, in ns */
 };
 
-/* Default parameters for a link of this rate, in bits a second: pie_default_opening, but a queue with room for limit_bytes of packets of
- * 64 bytes up to 65536 packets; marks, dropped mbufs freed, and a flight recorder of PIE_STAGE_FLIGHT events. */
+/* Sets the default parameters for a link of `rate` bits per second: those of pie_default_opening,
+ * except that the queue has room for limit_bytes of packets of 64 bytes, at most 65536 packets;
+ * marks are on, dropped mbufs are freed, and the flight recorder keeps PIE_STAGE_FLIGHT events. */
 void pie_stage_default_params(struct pie_stage_params *params, uint64_t rate);
 
-/* Makes a stage. Its memory is DPDK's, on this socket or SOCKET_ID_ANY; the name is that of its rte_ring, and no other ring has it.
- * NULL, and rte_errno: EINVAL parameters out of their ranges, ENOMEM no memory, EEXIST the name is taken, ENAMETOOLONG, EIO the system has
- * no random bits. */
+/* Creates a stage in DPDK's memory on `socket`, which may be SOCKET_ID_ANY. `name` is the name of
+ * its rte_ring, which no other ring may have. On an error returns NULL and sets rte_errno: EINVAL
+ * if a parameter is out of its range, ENOMEM if there is no memory, EEXIST if the name is in use,
+ * ENAMETOOLONG, EIO if the system has no random bits. */
 struct pie_stage *pie_stage_create(const char *name, const struct pie_stage_params *params, int socket);
 
-/* Frees a stage and the mbufs that wait in it. NULL is fine. */
+/* Frees a stage and its queued mbufs. NULL is accepted. */
 void pie_stage_free(struct pie_stage *stage);
 
 /* Enqueues a burst in order, after an update if one is due. Returns the number of queued packets. `mbufs` is
@@ -143,17 +154,20 @@ void pie_stage_free(struct pie_stage *stage);
  * hands_back and which are freed otherwise. */
 uint32_t pie_stage_enqueue(struct pie_stage *stage, struct rte_mbuf **mbufs, uint32_t count, uint64_t now);
 
-/* Hands out up to `count` of the packets that have waited longest, and answers how many. */
+/* Dequeues up to `count` packets, oldest first. Returns their number. */
 uint32_t pie_stage_dequeue(struct pie_stage *stage, struct rte_mbuf **mbufs, uint32_t count, uint64_t now);
 
-/* Dequeues as pie_stage_dequeue, while fewer than `bytes` were dequeued in this call: the last packet may exceed it. */
+/* Dequeues as pie_stage_dequeue does, while this call has dequeued fewer than `bytes` bytes. The
+ * last packet may exceed the limit. */
 uint32_t pie_stage_dequeue_bytes(struct pie_stage *stage, struct rte_mbuf **mbufs, uint32_t count, uint64_t bytes, uint64_t now);
 
-/* Makes an update where one is due, and answers whether it did. Enqueuing and dequeuing packets does so too; a timer is for the times without. */
+/* Makes an update if one is due. Returns true if it made one. Enqueuing and dequeuing packets also
+ * make due updates; a timer is needed while there are no packets. */
 bool pie_stage_update(struct pie_stage *stage, uint64_t now);
 
-/* Puts new parameters in force while the stage runs, as pie_set_params of pie.h, and makes an update first where one is due. The history and the
- * flight recorder have it as an event. The queue's room for packets stays. PIE_DONE, or PIE_BAD_PARAMS where one is out of its range. */
+/* Sets new parameters while the stage runs, as pie_set_params of pie.h does, after an update if one
+ * is due. History and flight recorder contain the change as an event. The queue's room for packets
+ * is unchanged. Returns PIE_DONE, or PIE_BAD_PARAMS if a parameter is out of its range. */
 uint32_t pie_stage_set_params(struct pie_stage *stage, const struct pie_params *params, uint64_t now);
 
 /* Reads the parameters in force. */

@@ -1,17 +1,19 @@
-/* The stage beside DPDK's rte_pie, behind the same lock and ring.
+/* Compares the stage with DPDK's rte_pie, behind the same lock and ring.
  *
  * usage: stage_measure [EAL options] -- slow FOLDER
- *   A link of 20 Mbit/s with 1.2 times its load, for 80 simulated seconds: the mean wait of the last 60, in ms, and the packets dropped. The stage is
- *   recorded, with its whole history in FOLDER, in a segment slow-N.history for each 10 seconds. Status 1 where the stage's mean wait is not within
- *   10 per cent of the target, 15 ms, where the history is not whole, or an mbuf is lost.
+ *   A link of 20 Mbit/s at 1.2 times its load, for 80 simulated seconds: the mean wait of the last 60
+ *   seconds in ms, and the dropped packets. The stage writes its whole history to FOLDER, in a segment
+ *   slow-N.history for each 10 seconds. The status is 1 if the stage's mean wait is not within 10 per
+ *   cent of the target, 15 ms, if the history is not complete, or if an mbuf is lost.
  * usage: stage_measure [EAL options] --vdev=net_null0 --vdev=net_null1 -- rate [SECONDS [RUNS [FILE]]]
- *   Packets a second from one null port to another in bursts of 32: forwarding alone, by rte_pie, by the stage without marks, by the stage, by the
- *   stage with the flight recorder, by a link in place of that stage (linked.h), by the stage with the records of its periods, each of 10 ms, and by
- *   the stage with its whole history, in turn. What the flight recorder holds after its last run goes to FILE.
- *   The last lcore writes the history, or the records, to /dev/null. Where one more is left it receives, enqueues, dequeues and sends; of several the
- *   main lcore dequeues and sends, and the others receive and enqueue. 512 packets wait all the time where one lcore does it all. Each line is `name
- *   value unit`, for bench/pie_dpdk.sh; with `lost`, the share of the recorded stage's events that its history lacks.
- */
+ *   Packets per second from one null port to another in bursts of 32, in turn: forwarding alone, by
+ *   rte_pie, by the stage without marks, by the stage, by the stage with the flight recorder, by a link
+ *   in place of that stage (linked.h), by the stage with records of intervals of 10 ms, and by the stage
+ *   with its whole history. FILE receives the events of the flight recorder after its last run. The last
+ *   lcore writes the history, or the records, to /dev/null. If one other lcore is available, it receives,
+ *   enqueues, dequeues and sends, and 512 packets are always queued. If there are several, the main lcore
+ *   dequeues and sends, and the others receive and enqueue. Prints lines `name value unit` for
+ *   bench/pie_dpdk.sh; `lost` is the share of the recorded stage's events that its history lacks. */
 #include "linked.h"
 #include "peer.h"
 #include "pie_stage.h"

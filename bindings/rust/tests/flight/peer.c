@@ -1,9 +1,10 @@
-/* Compares the C recorder (include/pie_flight.h) with the Rust recorder: its memory after the same events, and its
- * text of a memory.
- * usage: peer keep EVENTS UNIX_TIME    reads a struct pie_opening and a struct pie_state, and then of each event the state that it left and the
- *                                      event; writes the memory of a recorder that keeps at least so many, and that is told the time of day at
- *                                      the moment 0
- *        peer text                     reads memory, and writes its text; the status is what pie_flight_dump answers */
+/* Compares the C recorder (include/pie_flight.h) with the Rust recorder: its memory after the same
+ * events, and its text of a memory.
+ *
+ * usage: peer keep EVENTS UNIX_TIME    reads a struct pie_opening and a struct pie_state, and then, for each event,
+ *                                      the state after it and the event; writes the memory of a recorder that keeps
+ *                                      at least EVENTS events, with the wall-clock time UNIX_TIME at moment 0
+ *        peer text                     reads memory, and writes its text; the status is that of pie_flight_dump */
 #include "pie_flight.h"
 
 #include <stdio.h>

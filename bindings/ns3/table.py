@@ -1,23 +1,30 @@
 #!/usr/bin/env python3
-"""Makes tables of the records that scenarios.sh left. Goodput in Mbit/s, waits in ms.
+"""Prints tables of the records of scenarios.sh. Goodput is in Mbit/s, waits are in ms.
 
 usage: bindings/ns3/table.py RESULTS.csv [full | same | beside | plot | choices] [stamp | random | uncapped | all | scaled]
 
-full    for each scenario a table with a line for each queue: of each figure the mean over the runs, and in brackets the least and the greatest
-same    whether this repository's PIE and PieQueueDisc come to the same: two one-sided tests of the bytes that left the link, within 5 per cent, and
-        of the mean wait, within 2 ms, with their power (bench/equivalence.py)
-beside  a line for each scenario: this repository's PIE beside PieQueueDisc with de-randomization; then all scenarios together; both with another
-        of RFC 8033's optional elements where one is named, or with all three
+full    for each scenario a table with a line for each queue: the mean of each figure over the runs,
+        with the least and the greatest in brackets
+same    two one-sided tests that this repository's PIE and PieQueueDisc are equivalent: in the bytes
+        that left the link, within 5 per cent, and in the mean wait, within 2 ms; with their power
+        (bench/equivalence.py)
+beside  a line for each scenario: this repository's PIE beside PieQueueDisc with de-randomization;
+        then all scenarios together. With a name, both have another optional element of RFC 8033, or
+        all three
 plot    the mean waits, for draw.sh
-choices for each rate a table of RFC 8033's optional elements: for each scenario that was run with others a line for each choice. It has this
-        repository's PIE, with the chances of its differences from the usual elements, and PieQueueDisc, with those from this PIE: of the mean
-        wait, then of goodput. Then a table of all scenarios together
+choices for each rate a table of RFC 8033's optional elements, with a line for each choice of each
+        scenario that was run with others. It has this repository's PIE, with the chances of its
+        differences from the usual elements, and PieQueueDisc, with the chances of its differences
+        from this PIE: of the mean wait, then of goodput. Then a table of all scenarios together
 
-How the two are compared was fixed before the runs were made. The runs of the two are mixed, and parted again at random, 5,000 times; `chance`
-is the share of those in which the means lie at least as far apart as they do in truth. Below 0.05 they differ beyond the spread of the runs.
-Of a hundred comparisons of the same thing with itself some five come out so. For all scenarios together the means of each scenario are divided
-by one another, and the mean of the logarithms of these ratios is compared, parting the runs of each scenario anew. A scenario with fewer than four
-runs of each has no chance of its own, since no parting of six is rarer than one of ten, but counts in what is said of all.
+The comparison was fixed before the runs were made. The runs of the two queues are mixed and divided
+again at random, 5,000 times. `chance` is the share of these partitions in which the means differ at
+least as much as in the real runs. Below 0.05 they differ beyond the spread of the runs. Of a hundred
+comparisons of a queue with itself, some five have such a chance. For all scenarios together, the
+means of each scenario are divided by one another, and the mean of the logarithms of these ratios is
+compared, with new partitions of the runs of each scenario. A scenario with fewer than four runs of
+each queue has no chance of its own, since no partition of six runs is rarer than one in ten, but it
+counts in the comparison of all scenarios.
 """
 import csv
 import math

@@ -68,7 +68,7 @@ mistake "error: unexpected argument 'more' found" explain one more
 mistake "error: invalid value '0' for '--event <N>': 0 is not in 1..18446744073709551615" cut --event 0
 mistake "error: a value is required for '--from <MOMENT>' but none was supplied" cut --from
 mistake "error: unexpected argument 'more' found" cut one more
-# Words that choose no events, or choose events twice.
+# Words that choose no events, or choose in two ways.
 unchosen='pie: cut takes --from, --to or both, or --event N, which may have --around M, or --last N, or --every N; see pie cut --help'
 for words in '' '--around 3' '--event 3 --from 2' '--event 3 --to 2' '--around 3 --from 2' '--event 3 --around 1 --from 1 --to 2' \
     '--last 3 --event 3' '--last 3 --every 3' '--every 3 --to 1s' '--last 3 --around 1' '--every 3 --around 1' '--last 3 --from 0'; do

@@ -20,14 +20,15 @@
 #define RUNS 7
 #define ROUNDS 3                  /* over the inputs of a call, each run */
 #define INPUTS 65536
-#define TURN 2048                 /* calls in a turn: library and plain C in turn, so that other work on the machine meets both */
+#define TURN 2048                 /* calls in a turn: library and plain C alternate, so that other work on the machine
+                                     affects both */
 #define LINK 80                   /* nanoseconds a byte: 100 Mbit/s */
 #define PACKETS 1500000           /* of the stream: about two minutes */
 #define WARM 20000000000ull       /* waits are counted after 20 seconds */
 #define RING 4096
 #define LIMIT (1u << 20)
 
-/* The controllers: each decides on an arrival and takes in a departure. */
+/* The controllers: each decides an arrival and processes a departure. */
 enum which { NONE, LIBRARY, PLAIN, DPDK };
 static const char *const names[] = {"none", "library", "c", "dpdk"};
 
@@ -234,7 +235,7 @@ static double keep_nanos(const char *name, double begin, int calls) {
     return now;
 }
 
-/* The time of an arrival that is considered; the numbers that come out are the decisions. */
+/* The time of a considered arrival; the sum of the results is the decisions. */
 static void arrive(struct pie_state *state, struct plain *plain, struct checked *copy) {
     uint64_t library = 0, c = 0, checked = 0;
     for (int from = 0; from < INPUTS; from += TURN) {

@@ -16,7 +16,8 @@ static unsigned char text[PIE_RECORD_ROOM];
 static struct pie_port port = PIE_PORT_CLOSED;
 static struct pie_event burst[32];
 
-/* So many packets arrive at the link, each as an event of its own or all in one burst, and leave it likewise. */
+/* This number of packets arrives at the link, each as one event or all in one burst, and departs in
+ * the same way. */
 static uint64_t pass(uint64_t i, size_t count, int together) {
     size_t k, left;
     for (k = 0; k < count; k++) {
@@ -43,7 +44,7 @@ static uint64_t call(const char *kind, uint64_t i) {
     uint64_t word = i * 6364136223846793005u;
     if (strcmp(kind, "arrive_considered") == 0)
         return pie_arrive(&state, 100000, 1000, 1, PIE_ECT0, word, i) <= PIE_EARLY ? PIE_DONE : PIE_BYTES;
-    if (strcmp(kind, "arrive_passed") == 0) /* too few bytes wait for early drop */
+    if (strcmp(kind, "arrive_passed") == 0) /* too few bytes are queued for early drop */
         return pie_arrive(&state, 2048, 1000, 1, PIE_ECT0, word, i);
     if (strcmp(kind, "arrive_dropped") == 0) /* the queue is full */
         return pie_arrive(&state, 262144, 1000, 1, PIE_ECT0, word, i) == PIE_BYTES ? PIE_DONE : PIE_BYTES;
@@ -65,7 +66,7 @@ static uint64_t call(const char *kind, uint64_t i) {
     }
     if (strcmp(kind, "depart_measured") == 0) /* cycles of the departure rate are open all the time */
         return pie_depart(&state, 1000, 100000, i);
-    if (strcmp(kind, "depart_unmeasured") == 0) /* too few bytes wait for one */
+    if (strcmp(kind, "depart_unmeasured") == 0) /* too few bytes are queued for one */
         return pie_depart(&state, 1000, 1000, i);
     if (strcmp(kind, "update") == 0)
         return pie_update(&state, 100000, i * 15000000).code;

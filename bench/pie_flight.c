@@ -19,7 +19,7 @@
 
 #define RUNS 15
 #define CALLS 200000 /* pairs in a run: an arrival and a departure */
-#define TURN 2000    /* pairs in a turn: the kinds take turns, so that other work on the machine meets all */
+#define TURN 2000    /* pairs in a turn: the kinds alternate, so that other work on the machine affects all */
 #define SIZE 1000    /* bytes of a packet */
 
 /* A queue of packets that have numbers only. */

@@ -26,7 +26,7 @@
 
 #define MOST_THREADS 4
 #define MOST_BURST 32
-#define STANDING 256    /* packets that wait throughout, so that each departure finds one */
+#define STANDING 256    /* packets that are always queued, so that each departure finds one */
 #define EVENTS 16384    /* that are kept: the recorder's, and the link's log */
 #define PACKETS 4096    /* that the queue has room for */
 #define SIZE 1000       /* bytes of a packet */
@@ -91,8 +91,8 @@ static inline void pause_a_little(void) {
 #endif
 }
 
-/* Takes the lock: a spin lock's caller looks until it is free, and after a while gives the processor up, as a caller that waits for a turn at a
- * link. */
+/* Takes the lock. A thread at a spin lock spins until it is free, and after a while yields, as a
+ * thread that waits for a turn at a link. */
 static inline void take(struct worker *worker) {
     uint32_t rounds = 0;
     for (;;) {
@@ -286,7 +286,7 @@ static void two_turns(struct worker *worker, int threads) {
     moment = now();
     if (worker->kind == LINK) {
         for (uint32_t i = 0; i < worker->burst; i++)
-            worker->burst_of[i].moment = moment; /* (of a departure the library reads nothing else, except that its
+            worker->burst_of[i].moment = moment; /* (for a departure the library reads nothing else, except that its
                                                     kind is not an update) */
         if (worker->burst == 1)
             made = pie_link_depart(&worker->port, worker->burst_of) == PIE_DONE;
@@ -310,7 +310,7 @@ static void *work(void *of) {
         sched_yield();
     while (now() < ends_at)
         two_turns(worker, at_work);
-    atomic_store(&is_over, 1); /* (who waits for this one need not any more) */
+    atomic_store(&is_over, 1); /* (threads that wait for this one continue) */
     return NULL;
 }
 

@@ -15,7 +15,7 @@
 
 #define RUNS 15
 #define CALLS 200000 /* in a run */
-#define TURN 2000    /* calls in a turn: the kinds take turns, so that other work on the machine meets all */
+#define TURN 2000    /* calls in a turn: the kinds alternate, so that other work on the machine affects all */
 
 static struct pie_state state;
 static struct pie_period period;
@@ -28,7 +28,7 @@ static double now(void) {
     return (double)it.tv_sec * 1e9 + (double)it.tv_nsec;
 }
 
-/* The next event: one each 1000 ns, and waits of 14 to 18 ms. */
+/* The next event: one each 1000 ns, with waits of 14 to 18 ms. */
 static inline void next(uint64_t i) {
     event.moment = i * 1000;
     event.tag = i;

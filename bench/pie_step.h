@@ -63,7 +63,7 @@ STEP enum choice consider(uint64_t *accu, const struct params *params, const str
     return consider_by(accu, params, control, bytes, ecn, word);
 }
 
-/* Tail drop by bytes, then by packets (appendix A); ENQUEUE where there is room for the packet. */
+/* Tail drop by bytes, then by packets (appendix A); ENQUEUE if there is room for the packet. */
 static inline enum choice tail_drop_by(uint64_t *accu, const struct params *params, uint64_t bytes, uint32_t size,
                                        int is_full) {
     if (bytes + size <= params->limit_bytes && !is_full)

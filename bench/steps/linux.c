@@ -81,7 +81,7 @@ static struct difference differences[] = {
 static struct pie_sched_data queue;
 static struct Qdisc discipline = {.data = &queue};
 
-/* A probability as Linux has it. */
+/* A probability in Linux's representation. */
 static u64 share(uint64_t probability) {
     return (u64)((unsigned __int128)probability * MAX_PROB / ONE);
 }

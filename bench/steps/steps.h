@@ -34,7 +34,7 @@ struct registers {
     bool by_stamps, decays_below_half;
 };
 
-/* One step: what the history says of it. */
+/* One step, as recorded in the history. */
 struct step {
     uint64_t moment, word, delay, prob;
     uint32_t size;
@@ -106,7 +106,8 @@ static enum choice verdict_of(const char *word) {
     return ENQUEUE;
 }
 
-/* This rule's own step; false where the history says otherwise, so that it is no history of this rule. */
+/* Makes this rule's own step. Returns false if the history has another result, so that it is no
+ * history of this rule. */
 static bool take_arrival(struct registers *registers, const struct step *step) {
     enum choice verdict = arrived_by(&registers->accu, &registers->params, &registers->control, registers->bytes, step->size,
                                      registers->packets >= registers->most_packets, step->ecn, step->word);
@@ -145,7 +146,7 @@ static bool take_update(struct registers *registers, const struct step *step) {
     return delay == step->delay && registers->control.prob == step->prob;
 }
 
-/* Of these differences, the fewest with which `same` is true of the set of them; -1 where there are none. */
+/* Returns the fewest of these differences with which `same` is true; -1 if there are none. */
 static int fewest(int count, bool (*same)(unsigned set, const void *of), const void *of) {
     int found = -1;
     for (unsigned set = 0; set < 1u << count; set++)

@@ -124,7 +124,7 @@ static void *work(void *of) {
         }
         if (code == PIE_FULL)
             sched_yield();
-        pthread_testcancel(); /* (no call has a place where a thread is cancelled: this is the only one) */
+        pthread_testcancel(); /* (no call contains a cancellation point: this is the only one) */
     }
     at_work--;
     return NULL;
@@ -182,7 +182,7 @@ static void run(int threads, double seconds, const char *sums) {
     struct pie_excerpt excerpt = PIE_EXCERPT_CLOSED;
     FILE *file = fopen(sums, "w");
     pie_default_opening(&opening, 1000000000);
-    opening.mode = PIE_BOUNDED; /* no event goes but by a fold */
+    opening.mode = PIE_BOUNDED; /* only a fold removes events */
     opening.tail = 1 << 14;
     opening.packets = 1000;
     opening.params.max_burst = 0;

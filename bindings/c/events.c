@@ -118,7 +118,8 @@ static void try_events(void) {
     CHECK(memcmp(text, "refused,5,3\n", 12) == 0);
 }
 
-/* The record of the time of day into each room, where no other byte changes; "" where it cannot be. */
+/* The clock record, written into rooms of all sizes: no other byte may change; "" if the room is
+ * too small. */
 static void try_clock(uint64_t moment, uint64_t unix_time, const char *wanted) {
     unsigned char text[PIE_RECORD_ROOM], before[PIE_RECORD_ROOM];
     size_t length = strlen(wanted), room;

@@ -328,7 +328,7 @@ static void hints(void) {
     CHECK(pie_link_waiting(&told) == 1 && pie_link_due(&told) == UINT64_MAX);
 }
 
-/* A link that lets its oldest event go: its folds' numbers show how many are missing. */
+/* A rolling link: the numbers of its folds show how many events are missing. */
 static void gaps(void) {
     struct pie_port port = PIE_PORT_CLOSED;
     struct pie_opening opening;
@@ -488,7 +488,7 @@ static void excerpts(void) {
     count = pie_write_resume(&opening, &state, &stats, 0, PIE_UNKNOWN, 0, 0, text, sizeof text);
     CHECK(count > 0 && pie_link_write_excerpt(&excerpt, record, count - 1) == 0 && record[0] == 7 && record[count - 1] == 7);
     CHECK(is_next(&excerpt, text, count) && pie_link_write_excerpt(&excerpt, record, sizeof record) == 0);
-    /* what an empty link has is the same, and its text begins anew each time */
+    /* an empty link has the same content, and its text begins again each time */
     for (i = 0; i < 3; i++)
         CHECK(pie_link_excerpt(&port, &excerpt) == PIE_DONE && is_next(&excerpt, text, count));
     /* events: from some event on all are there, at least those of the log, whatever was left unread of the last text */
@@ -551,7 +551,7 @@ static void threads(void) {
         CHECK(pie_link_share(&ports[0], &ports[i]) == PIE_DONE);
     for (i = 0; i < THREADS; i++)
         CHECK(pthread_create(&ids[i], NULL, ask, &ports[i]) == 0);
-    for (i = 0; i < 4; i++) /* (the highest numbers went to the first that shared) */
+    for (i = 0; i < 4; i++) /* (the first sharing received the highest numbers) */
         pthread_cancel(ids[1 + i]);
     for (i = 0; i < THREADS; i++)
         CHECK(pthread_join(ids[i], NULL) == 0);
@@ -595,7 +595,8 @@ void *__wrap_realloc(void *at, size_t bytes) {
 }
 #endif
 
-/* The code of a call whose request number `number` is refused; `refused` is 0 or more after it where there was none. */
+/* Returns the code of a call whose request number `number` is refused. `refused` is at least 0
+ * afterwards if there was no such request. */
 #define REFUSING(number, call) (refused = (number), code = (call), was_refused = refused < 0, refused = -1, code)
 
 static void memory(void) {

@@ -342,7 +342,7 @@ static int on_and_off(void) {
     return 0;
 }
 
-/* A tail drop turns it on as well, and new parameters leave it as it is. */
+/* A tail drop activates it too, and new parameters do not change it. */
 static int on_by_a_tail_drop(void) {
     struct pie_state state;
     CHECK(open_with(&state, &small, 0, PIE_ON_AND_OFF, PIE_USUAL) == PIE_DONE && two_more(&state, 0, 0) == 0 && state.active == 0);
@@ -403,7 +403,7 @@ static int refusals(void) {
         CHECK(pie_update(&state, UINT64_MAX, UINT64_MAX).code == PIE_BAD_STATE);
         CHECK(pie_reset(&state, UINT64_MAX) == PIE_BAD_STATE);
         CHECK(pie_set_params(&state, &params, UINT64_MAX) == PIE_BAD_STATE && same(&state, &before));
-        /* the calls for each packet refuse what they are handed, and no state */
+        /* the calls for each packet check their arguments, and not the state */
         CHECK(pie_arrive(&state, UINT64_MAX, 0, 0, 4, 0, UINT64_MAX) == PIE_BAD_MOMENT);
         CHECK(pie_depart(&state, 0, UINT64_MAX, UINT64_MAX) == PIE_BAD_MOMENT);
         CHECK(pie_empty(&state, UINT64_MAX) == PIE_BAD_MOMENT && same(&state, &before));
@@ -494,7 +494,8 @@ static int large_numbers(void) {
     return 0;
 }
 
-/* A departure that finds the queue empty changes nothing but the moment, and a reset and new parameters what each says. */
+/* A departure from an empty queue changes only the moment; a reset and new parameters change only
+ * their fields. */
 static int what_stays(void) {
     struct pie_state state = at(TENTH, 15000000);
     pie_depart(&state, 1500, 40000, 1);
@@ -543,7 +544,8 @@ static int choices(void) {
     CHECK(pie_depart_waited(&state, 1500, 3000, 1, 9) == PIE_BAD_ARRIVED && same(&state, &before));
     CHECK(pie_depart_waited(&state, 0, 3000, 1, LATEST + 1) == PIE_BAD_MOMENT && pie_depart_waited(&state, 0, 3000, 1, 9) == PIE_BAD_SIZE);
     CHECK(pie_depart_waited(&state, 1500, (1u << 30) + 1, 1, 9) == PIE_BAD_QUEUE && same(&state, &before));
-    /* of two packets the second waits longer: what counts is the one that departed last, since its own arrival */
+    /* the second of two packets waits longer: the wait of the last departed packet counts, since
+     * its own arrival */
     CHECK(pie_arrive(&state, 0, 1500, 9, PIE_NOT_ECT, 0, 5) == PIE_ENQUEUE && state.moment == 5);
     CHECK(pie_arrive(&state, 1500, 1500, 8, PIE_NOT_ECT, 0, 3) == PIE_ENQUEUE && state.moment == 5);
     CHECK(pie_arrive(&state, 3000, 1500, 7, PIE_NOT_ECT, 0, 1000000) == PIE_ENQUEUE && state.moment == 1000000);
@@ -551,7 +553,8 @@ static int choices(void) {
     CHECK(pie_depart_waited(&state, 1500, 1500, 5, 20000005) == PIE_DONE && state.waited == 20000000 && state.measuring == 0);
     struct pie_updated made = pie_update(&state, 1500, 20000005);
     CHECK(made.code == PIE_DONE && made.delay == 20000000 && state.old_delay == 20000000);
-    /* what leaves the queue empty waited 0; the greatest wait is 2^40; at a moment that falls the effective one counts */
+    /* a packet that leaves the queue empty waited 0; the greatest wait is 2^40; an earlier moment
+     * counts as the effective one */
     CHECK(pie_depart_waited(&state, 1500, 0, 1000000, 21000000) == PIE_DONE && state.waited == 0);
     CHECK(pie_depart_waited(&state, 1500, 1, 20999999, 0) == PIE_DONE && state.waited == 1 && state.moment == 21000000);
     CHECK(pie_depart_waited(&state, 1500, 1, 0, LATEST) == PIE_DONE && state.waited == (uint64_t)1 << 40);
@@ -560,7 +563,7 @@ static int choices(void) {
     CHECK(pie_check_state(&state) == PIE_BAD_STATE);
     state.waited = 7, state.choices = 32;
     CHECK(pie_check_state(&state) == PIE_BAD_STATE);
-    /* a reset forgets the wait, new parameters keep it */
+    /* a reset clears the wait, new parameters keep it */
     state.choices = PIE_DELAY_STAMP;
     CHECK(pie_set_params(&state, &params, LATEST) == PIE_DONE && state.waited == 7 && state.choices == 1);
     CHECK(pie_reset(&state, LATEST) == PIE_DONE && state.waited == 0 && state.choices == 1);
@@ -582,7 +585,8 @@ static int choices(void) {
     state = at(TENTH, 15000000);
     state.choices = PIE_SIZE_SCALED;
     CHECK(pie_arrive(&state, 3000, 512, 1, PIE_NOT_ECT, UINT64_MAX, 0) == PIE_ENQUEUE && state.accu == TENTH / 2);
-    /* half: after the step it decays where the delays are below half the target, and not at half of it */
+    /* half: after the step the probability decays if the delays are below half the target, and not
+     * at half of it */
     state = at(TENTH, 7000000);
     state.choices = PIE_DECAY_HALF;
     CHECK(pie_update(&state, 0, 15000000).prob == 87587500000 && next(TENTH, 7000000, 0) == 89375000000);

@@ -28,7 +28,7 @@ static void rest(long nanoseconds) {
 static void *send(void *of) {
     for (uint64_t tag = 1, word = now(); !over; tag++, rest(200000)) {
         struct pie_event event = {.moment = now(), .tag = tag, .size = 1000, .ecn = tag % 2 ? PIE_ECT0 : PIE_NOT_ECT, .word = word};
-        pie_link_arrive(of, &event);                               /* PIE_ENQUEUE and PIE_MARK: it waits now */
+        pie_link_arrive(of, &event);                               /* PIE_ENQUEUE and PIE_MARK: the packet is queued now */
         word ^= word << 13, word ^= word >> 7, word ^= word << 17; /* (use a better one) */
     }
     return NULL;
@@ -43,7 +43,8 @@ static void *transmit(void *of) {
     return NULL;
 }
 
-/* Writes the events that the log holds. If it let events go since the last time, a line `lost,<count>` says how many: an audit ends there. */
+/* Writes the events in the log. If the log dropped events since the last time, a line
+ * `lost,<count>` has their number; an audit ends there. */
 static void follow(struct pie_port *port, FILE *file) {
     static uint64_t written; /* the number of the last event in the file */
     struct pie_event events[PIE_LINK_MOST];

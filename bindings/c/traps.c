@@ -202,7 +202,8 @@ static int limits_under_overload(void) {
     CHECK(overload(defaults, 8000, 1000000, &by_default) == 0 && overload(params, 8000, 1000000, &by_rate) == 0);
     CHECK(by_default.early == 0 && by_default.tail > 150000);
     CHECK(by_rate.early > 100000 && by_rate.tail == 0);
-    /* a megabit a second: a smaller dq_threshold is measured sooner, so less waits before PIE first acts */
+    /* 1 Mbit/s: with a smaller dq_threshold the rate is measured sooner, so fewer packets are
+     * queued before PIE acts */
     params = defaults;
     params.dq_threshold = 1024;
     CHECK(overload(defaults, 8000000, 10000, &by_default) == 0 && overload(params, 8000000, 10000, &by_rate) == 0);

@@ -4,7 +4,8 @@
 
 #include "pie_stage.h"
 
-/* Writes that of a queue to its file (fwd_queue_name), and says so on stderr, or why that failed; what the file held goes to FILE.before. */
+/* Writes the flight recorder of a queue to its file (fwd_queue_name), and reports it or the error
+ * on stderr. The previous content is renamed to FILE.before. */
 void fwd_flight_write(const char *name, uint32_t queue, struct pie_stage *stage);
 
 #endif

@@ -12,7 +12,7 @@ struct fwd_flows {
     struct flows flows;
 };
 
-/* Opens the file, NULL for none; false where that fails, with errno. */
+/* Opens the file; NULL: no file. Returns false with errno if that fails. */
 bool fwd_flows_open(struct fwd_flows *flows, const char *path);
 
 /* Returns the number of a packet's flow for a stage, which the file lists from then on; 0 without an IP header.

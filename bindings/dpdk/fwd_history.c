@@ -9,7 +9,7 @@
 
 #define ROOM 65536 /* bytes written at once */
 
-/* The name of a segment; false where it is too long. */
+/* Writes the name of a segment. Returns false if it is too long. */
 static bool name_segment(const struct fwd_history *history, uint64_t segment, char name[PATH_MAX]) {
     int length = history->rotate == 0 ? snprintf(name, PATH_MAX, "%s", history->path)
                                       : snprintf(name, PATH_MAX, "%s.%" PRIu64, history->path, segment);

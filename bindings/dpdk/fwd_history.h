@@ -8,7 +8,7 @@
 #include <stdio.h>
 
 struct fwd_history {
-    FILE *file;            /* NULL where none is written, or no more */
+    FILE *file;            /* NULL if no history is written, or no longer */
     char path[PATH_MAX];
     char name[PATH_MAX];   /* of the file: the path, or PATH.<segment> */
     uint64_t rotate;       /* bytes after which a segment ends; 0: one text */
@@ -19,7 +19,8 @@ struct fwd_history {
     unsigned char *text;
 };
 
-/* Opens the file of a queue (fwd_queue_name), NULL for none; false where that fails, with errno. */
+/* Opens the file of a queue (fwd_queue_name); NULL: no file. Returns false with errno if that
+ * fails. */
 bool fwd_history_open(struct fwd_history *history, const char *path, uint32_t queue, uint64_t rotate, uint64_t segments);
 
 /* Writes a part of the pending text. Returns true if there was any. A segment that is long enough, or that reports

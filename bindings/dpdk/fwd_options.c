@@ -5,7 +5,7 @@
 #include <stdio.h>
 #include <string.h>
 
-#define EVENTS (1u << 17) /* that may wait for the history: 8 megabytes */
+#define EVENTS (1u << 17) /* the most that may be pending for the history: 8 megabytes */
 #define LEAST_SEGMENT 65536 /* bytes of a segment */
 #define MOST_RATE UINT64_C(1000000000000)
 #define MOST_QUEUED (1u << 20) /* packets that a queue has room for */
@@ -52,7 +52,7 @@ static bool is_rate(uint64_t rate) {
     return rate >= 1000 && rate <= MOST_RATE;
 }
 
-/* The first option that is out of its range; NULL where none is. */
+/* Returns the first option that is out of its range, or NULL. */
 static const char *fault_of(const struct fwd_options *options, uint64_t flight) {
     if (!is_rate(options->rate))
         return "--rate";

@@ -18,14 +18,14 @@ struct fwd_options {
     const char *history;
     uint64_t rotate;       /* bytes of a segment of the history, 0: it is one text */
     uint64_t segments;     /* that are kept, 0: all */
-    const char *flight;    /* where the flight recorder's text goes, never NULL */
+    const char *flight;    /* the file of the flight recorder's text, never NULL */
     const char *flows;     /* the file that lists flows, or NULL */
     const char *records;   /* of the records of periods, or NULL */
 };
 
 enum { FWD_READ, FWD_HELP, FWD_WRONG };
 
-/* Reads the words behind the EAL's; says on stderr what is wrong with them. */
+/* Parses the words after the EAL's options. Reports an error on stderr. */
 int fwd_read_options(int count, char **words, struct fwd_options *options);
 
 #endif

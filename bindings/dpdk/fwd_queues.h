@@ -22,7 +22,8 @@ bool fwd_queues_create(struct fwd_queues *queues, uint32_t count, const char *na
 
 void fwd_queues_free(struct fwd_queues *queues);
 
-/* A file's name for a queue: that of the first as it is, and of the others with -1, -2 and so on behind it; false where it is too long, with errno. */
+/* Writes the name of a queue's file: unchanged for the first queue, with the suffix -1, -2 and so
+ * on for the others. Returns false with errno if it is too long. */
 bool fwd_queue_name(char name[PATH_MAX], const char *path, uint32_t queue);
 
 /* Returns the queue of a packet among `count`: by the three highest bits of its DS field (the class selector of RFC

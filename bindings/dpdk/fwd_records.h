@@ -8,16 +8,17 @@
 #include <stdio.h>
 
 struct fwd_records {
-    FILE *file; /* NULL where none is written, or no more */
+    FILE *file; /* NULL if no records are written, or no longer */
     char name[PATH_MAX];
     bool is_broken; /* not all could be written */
 };
 
-/* Opens the file of a queue (fwd_queue_name), NULL for none; false where that fails, with errno. */
+/* Opens the file of a queue (fwd_queue_name); NULL: no file. Returns false with errno if that
+ * fails. */
 bool fwd_records_open(struct fwd_records *records, const char *path, uint32_t queue);
 
-/* Writes the records of the periods that are over (pie_stage_record). Where the file takes no more, it says so once on stderr and writes nothing from
- * then on. */
+/* Writes the records of complete intervals (pie_stage_record). If the file cannot be written,
+ * reports it once on stderr and writes no more. */
 void fwd_records_write(struct fwd_records *records, struct pie_stage *stage, bool is_over);
 
 /* Writes the last record when no lcore calls the stage any more, and closes the file; false where not all could be written. */

@@ -8,7 +8,8 @@
  * end. */
 void fwd_print_lines(uint32_t queues, const struct pie_stage_stats *before, const struct pie_stage_stats *after, double seconds);
 
-/* Replaces the files that the options name, each as a whole, by the statistics of each queue; false where that fails, with errno. */
+/* Replaces each file that the options name by the statistics of each queue, as a whole. Returns
+ * false with errno if that fails. */
 bool fwd_write_files(const struct fwd_options *options, const char *port, const struct pie_stage_stats *stats);
 
 /* Prints the sums over all queues for the last line. */

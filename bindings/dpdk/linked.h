@@ -48,7 +48,7 @@ static inline uint64_t linked_moment(const struct linked *linked, uint64_t now) 
     return (uint64_t)((double)(now - linked->start) * linked->nanoseconds);
 }
 
-/* Puts an update in front of a burst where one may be due; answers the burst's first place. */
+/* Puts an update before a burst if one may be due. Returns the first place of the burst. */
 static inline uint32_t linked_begin(const struct linked *linked, struct pie_event *events, uint64_t moment) {
     bool is_due = moment >= __atomic_load_n(&linked->due, __ATOMIC_RELAXED);
     if (is_due)
@@ -110,7 +110,7 @@ static inline uint32_t linked_dequeue(struct linked *linked, struct rte_mbuf **m
     return taken;
 }
 
-/* Frees what waits, when no other lcore calls any more. */
+/* Frees the queued packets, when no other lcore makes calls any more. */
 static inline void linked_close(struct linked *linked) {
     struct rte_mbuf *mbufs[LINKED_BURST];
     uint32_t count;

@@ -201,7 +201,8 @@ static void launch(void) {
     }
 }
 
-/* Writes a flight recorder's text where a signal asked for it, or where a wait did and the last text of that queue is a second old. */
+/* Writes the text of a flight recorder if a signal requested it, or if a wait did and the last text
+ * of that queue is at least a second old. */
 static void write_flights(uint64_t *written) {
     bool is_asked = __atomic_exchange_n(&forward.is_asked, 0, __ATOMIC_RELAXED) != 0;
     for (uint32_t i = 0; i < forward.queues.count; i++) {

@@ -8,12 +8,12 @@
 #define PIE_WAIT_SORTS 13
 #define PIE_PROB_SORTS 13
 
-/* The longest wait of a sort: 250 us, 500 us and so on to 512 ms, in nanoseconds. */
+/* The longest wait of a class: 250 us, 500 us and so on to 512 ms, in nanoseconds. */
 static inline uint64_t pie_wait_bound(uint32_t sort) {
     return UINT64_C(250000) << sort;
 }
 
-/* The sort of a wait. Each bound is twice the one before. */
+/* Returns the class of a wait. Each bound is twice the one before. */
 static inline uint32_t pie_wait_sort(uint64_t wait) {
     uint64_t bounds = (wait - (wait != 0)) / pie_wait_bound(0);
     uint32_t sort = bounds == 0 ? 0 : 64 - (uint32_t)__builtin_clzll(bounds);

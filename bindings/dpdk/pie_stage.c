@@ -15,7 +15,7 @@
 
 #define BURST 32u    /* packets looked at before the lock is taken, and moved at once */
 #define SMALLEST 64u /* bytes of an Ethernet frame */
-#define AHEAD 12u /* events ahead whose places are fetched */
+#define AHEAD 12u /* the distance in events at which memory is prefetched */
 
 /* The properties of an arriving packet. */
 struct seen {
@@ -175,12 +175,13 @@ static __rte_noinline void take_snapshot(struct pie_stage *stage) {
     pie_flight_snapshot(&stage->flight, &stage->pie);
 }
 
-/* Whether events are kept. */
+/* Returns true if the stage keeps events. */
 static __rte_always_inline bool keeps_events(const struct pie_stage *stage, const enum record record) {
     return record == FLIGHT || (record == MORE && stage->memory != NULL);
 }
 
-/* Under the lock, before an event: whether it is summed up. A period that it ends is handed to who writes the records. */
+/* Under the lock, before an event: returns true if it is added to the sums of its interval. A
+ * complete interval goes to the thread that writes the records. */
 static __rte_always_inline bool is_summed(struct pie_stage *stage, const struct turn *turn, const enum record record) {
     if (record != MORE || stage->periods == NULL)
         return false;
@@ -189,19 +190,20 @@ static __rte_always_inline bool is_summed(struct pie_stage *stage, const struct 
     return true;
 }
 
-/* Under the lock, a burst of events for the flight recorder, of none where there is no recorder. */
+/* Under the lock: begins a burst of events for the flight recorder, or an empty one if there is no
+ * recorder. */
 static __rte_always_inline struct pie_flight_burst begin_burst(const struct pie_stage *stage, const enum record record) {
     return keeps_events(stage, record) ? pie_flight_begin(&stage->flight) : (struct pie_flight_burst){0};
 }
 
-/* Under the lock, keeps the events of a burst, whose packets are counted already. */
+/* Under the lock: keeps the events of a burst, whose packets are already counted. */
 static inline void keep(struct pie_stage *stage, const struct pie_flight_burst *burst) {
     pie_flight_end(&stage->flight, burst);
     if (unlikely(pie_flight_is_due(&stage->flight)))
         take_snapshot(stage);
 }
 
-/* Under the lock, takes in from the controller what packets are looked at by. */
+/* Under the lock: copies the controller's numbers that determine if headers are read. */
 static inline void show_controller(struct pie_stage *stage) {
     __atomic_store_n(&stage->due, pie_due(&stage->pie), __ATOMIC_RELAXED);
     __atomic_store_n(&stage->picks, stage->pie.prob != 0, __ATOMIC_RELAXED);
@@ -236,7 +238,7 @@ static __rte_noinline bool update(struct pie_stage *stage, const struct turn *tu
     return true;
 }
 
-/* Under the lock, begins a turn with packets: an update first, where one is due. */
+/* Under the lock: begins a turn with packets, with an update if one is due. */
 static inline struct turn begin(struct pie_stage *stage, uint64_t moment) {
     struct turn turn = {.moment = moment, .reached = RTE_MAX(stage->pie.moment, moment)};
     if (stage->record != NOTHING)
@@ -284,8 +286,9 @@ void pie_stage_read_params(struct pie_stage *stage, struct pie_params *params) {
     rte_spinlock_unlock(&stage->lock);
 }
 
-/* Whether headers are looked at before the lock is taken. While the probability is 0 no packet is picked, so there is nothing to mark, and its
- * header would be read for nothing; but a history has the ECN field of each packet. */
+/* Returns true if headers are read before the lock is taken. While the probability is 0 no packet
+ * is picked, so there is nothing to mark and no header is read, except for a history, which has the
+ * ECN field of each packet. */
 static inline bool looks_early(const struct pie_stage *stage) {
     return stage->ecn && (keeps_events(stage, stage->record) || __atomic_load_n(&stage->picks, __ATOMIC_RELAXED));
 }
@@ -351,7 +354,8 @@ static __rte_noinline void count_drop(struct pie_stage_stats *stats, uint32_t ve
     stats->refused += verdict > PIE_PACKETS && verdict != PIE_BAD_SIZE;
 }
 
-/* Under the lock, decides on up to BURST packets from the place `from` on. Those that are queued come to `mbufs + queued`; answers how many. */
+/* Under the lock: decides up to BURST packets from the place `from` on, and moves the queued ones
+ * to `mbufs + queued`. Returns their number. */
 static __rte_always_inline uint32_t arrive_burst(struct pie_stage *stage, struct rte_mbuf **mbufs, uint32_t queued, uint32_t from, uint32_t count,
                                                  const struct seen *seen, const uint32_t *flows, const struct turn *turn,
                                                  const enum record record) {
@@ -455,8 +459,8 @@ static __rte_always_inline void depart(struct pie_stage *stage, const struct wai
     pie_flight_depart(burst, turn->moment, tag, oldest->arrived, oldest->size, oldest->ecn, turn->caller);
 }
 
-/* Under the lock, the `count` oldest packets leave, BURST of them at the most, and no more than bring the sum of their sizes to `bytes`, which is
- * less by that sum then; answers how many. */
+/* Under the lock: dequeues the `count` oldest packets, at most BURST, while the sum of their sizes
+ * is below `bytes`, which is reduced by that sum. Returns their number. */
 static __rte_always_inline uint32_t depart_burst(struct pie_stage *stage, struct rte_mbuf **mbufs, uint32_t count, uint64_t *bytes,
                                                  const struct turn *turn, const enum record record) {
     struct rte_ring_zc_data places = {0};
@@ -520,7 +524,8 @@ uint32_t pie_stage_dequeue(struct pie_stage *stage, struct rte_mbuf **mbufs, uin
     return pie_stage_dequeue_bytes(stage, mbufs, count, UINT64_MAX, now);
 }
 
-/* Under the lock, the events that the history lacks: those that were missed, and those that will be, since they are written over already. */
+/* Under the lock: returns the number of events that the history lacks: those that were missed, and
+ * those that will be, because they are already overwritten. */
 static uint64_t lost_so_far(const struct pie_stage *stage) {
     uint64_t room = stage->follower.layout.events, waiting;
     if (!stage->is_followed)

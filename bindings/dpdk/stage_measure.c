@@ -33,7 +33,7 @@
 
 #define MBUFS 16383u
 #define BURST 32
-#define EVENTS (1u << 17) /* that wait for the history */
+#define EVENTS (1u << 17) /* pending for the history */
 #define EVERY 10000000    /* ns of a period */
 #define STANDING 512
 #define ROOM 1024u
@@ -117,7 +117,7 @@ static FILE *next_segment(FILE *history, const char *folder, int segment) {
     return open_segment(folder, segment);
 }
 
-/* The mean wait in milliseconds. `folder` is where the stage's history goes. */
+/* Returns the mean wait in milliseconds. `folder` receives the stage's history. */
 static double run_slow(enum which which, const char *folder) {
     uint64_t hz = rte_get_tsc_hz(), start = rte_rdtsc(), seed = 88172645463325252u, dropped = 0, departed = 0, waited = 0;
     double arrival = 0, is_free = 0;
@@ -288,7 +288,7 @@ static uint64_t forward_by_all(uint64_t end) {
     return after.opackets - before.opackets;
 }
 
-/* How much of the history is lost, in per cent. */
+/* Returns the lost share of the history in per cent. */
 static void tell_lost(void) {
     struct pie_stage_stats stats;
     pie_stage_read(stage, &stats);

@@ -10,7 +10,7 @@
 #include <string.h>
 
 struct stage_packet {
-    uint16_t header; /* where the outermost IP header begins, in bytes from the frame's first */
+    uint16_t header; /* the offset of the outermost IP header in the frame, in bytes */
     uint8_t version; /* 4 or 6, 0 without such a header */
     uint8_t ecn;     /* the field, PIE_NOT_ECT without a header */
 };
@@ -22,7 +22,7 @@ struct stage_packet {
 struct stage_packet stage_packet_look_anywhere(const struct rte_mbuf *mbuf);
 bool stage_packet_is_shared_anywhere(const struct rte_mbuf *mbuf, const struct stage_packet *packet);
 
-/* Looks for the IP header of an Ethernet frame behind up to four VLAN tags, also where it lies across segments. */
+/* Finds the IP header of an Ethernet frame after up to four VLAN tags, also if it crosses segments. */
 static inline struct stage_packet stage_packet_look(const struct rte_mbuf *mbuf) {
     const uint8_t *bytes = rte_pktmbuf_mtod(mbuf, const uint8_t *);
     uint32_t word;
@@ -36,14 +36,15 @@ static inline struct stage_packet stage_packet_look(const struct rte_mbuf *mbuf)
     return (struct stage_packet){STAGE_ETHERNET, 4, word & 3};
 }
 
-/* Whether others hold the bytes that a mark changes. */
+/* Returns true if others share the bytes that a mark changes. */
 static inline bool stage_packet_is_shared(const struct rte_mbuf *mbuf, const struct stage_packet *packet) {
     if (likely(mbuf->nb_segs == 1 && rte_mbuf_refcnt_read(mbuf) == 1 && RTE_MBUF_DIRECT(mbuf)))
         return false;
     return stage_packet_is_shared_anywhere(mbuf, packet);
 }
 
-/* Sets the field to CE. Mends the checksum of IPv4, but where the card is asked to compute it (RTE_MBUF_F_TX_IP_CKSUM). */
+/* Sets the field to CE. Corrects the checksum of IPv4, unless the card is asked to compute it
+ * (RTE_MBUF_F_TX_IP_CKSUM). */
 void stage_packet_mark(struct rte_mbuf *mbuf, const struct stage_packet *packet);
 
 #endif

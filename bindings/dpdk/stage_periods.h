@@ -12,15 +12,15 @@
 
 struct stage_periods {
     struct pie_period current;
-    uint64_t handed; /* the number of the last one that is over: it was handed to the writer, or lost */
-    uint64_t over;   /* how many were handed to the writer */
+    uint64_t handed; /* the number of the last complete interval, which the writer received or which was lost */
+    uint64_t over;   /* the number of intervals that the writer received */
     uint64_t written __rte_cache_aligned; /* how many of those the writer has written .. */
     uint64_t number;                      /* the number of the last one, with those lost before it */
     bool is_begun;                        /* the text has its header row */
     struct pie_period ended[STAGE_PERIODS];
 };
 
-/* The current period is over. Answers false where it is lost, since too many wait to be written. */
+/* Ends the current interval. Returns false if it is lost, because too many are pending. */
 __attribute__((noinline)) static bool stage_periods_end(struct stage_periods *periods) {
     periods->handed = periods->current.begun;
     if (periods->over - __atomic_load_n(&periods->written, __ATOMIC_ACQUIRE) == STAGE_PERIODS)

@@ -14,7 +14,7 @@
 
 #define SHIFT 50 /* of the factor of the clock */
 
-/* A packet that waits, in 24 bytes of the ring. */
+/* A queued packet, in 24 bytes of the ring. */
 struct waiting {
     struct rte_mbuf *mbuf;
     uint64_t arrived;   /* the controller's moment right after the packet's arrival */
@@ -38,7 +38,7 @@ struct cut {
     struct pie_state pie;
     struct pie_stats stats;
     uint64_t count, bytes;  /* number of events, bytes in the queue */
-    uint64_t first;         /* the number of the oldest packet that waits */
+    uint64_t first;         /* the number of the oldest queued packet */
     uint32_t packets, told; /* queued packets, and those of them already written */
     struct waiting *queue;  /* memory for those: number n is at the place n modulo the queue's room .. */
     uint32_t *flows;        /* for their flows; NULL if no flows are used */
@@ -60,12 +60,12 @@ struct pie_stage {
     void *scratch;           /* for its text; NULL if none is requested */
     bool is_followed;        /* the history is written */
     size_t memory_bytes;
-    uint64_t longest; /* a wait above this many nanoseconds asks for the flight recorder's text */
+    uint64_t longest; /* a wait above this many nanoseconds requests the flight recorder's text */
     enum record record;
     struct stage_periods *periods; /* NULL if no interval records are requested */
     pie_stage_flow flow;           /* NULL where flows are not asked for */
     void *flow_user;
-    uint32_t *flows;               /* of the packets that wait: number n's is at the place n modulo the queue's room */
+    uint32_t *flows;               /* of the queued packets: number n is at the place n modulo the queue's room */
     uint32_t room;
     bool ecn, hands_back;
 

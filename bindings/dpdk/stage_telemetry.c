@@ -16,7 +16,7 @@
 static struct {
     rte_spinlock_t lock; /* of all that follows, and held while a stage is read */
     struct {
-        struct pie_stage *stage; /* NULL where the number is free */
+        struct pie_stage *stage; /* NULL if the number is free */
         char name[NAME];
     } stages[STAGE_TELEMETRY_MOST];
 } shown = {.lock = RTE_SPINLOCK_INITIALIZER};

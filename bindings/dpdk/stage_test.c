@@ -116,7 +116,7 @@ static void test_create(void) {
     printf("stage_test: making a stage, and want of memory\n");
 }
 
-/* A queue of four packets, and one of 1000 bytes; what is handed back, and what is freed. */
+/* A queue of four packets, and one of 1000 bytes; the returned packets, and the freed ones. */
 static void test_full(void) {
     for (int hands_back = 0; hands_back <= 1; hands_back++) {
         struct pie_stage_params params;
@@ -229,8 +229,8 @@ static void test_decisions(uint32_t events, uint32_t flight) {
            flight != 0 ? ", with a flight recorder" : "", stats.marked, stats.early);
 }
 
-/* The update that makes the probability positive is made by the burst whose packets it may pick: they are marked, and not dropped as packets that
- * nobody looked at. */
+/* The burst whose packets the probability may pick makes the update that raises it above 0: the
+ * packets must be marked, and not dropped because no header was read. */
 static void test_first_marks(void) {
     struct pie_stage_params params;
     struct pie_stage_stats stats;
@@ -259,8 +259,9 @@ static void test_first_marks(void) {
     printf("stage_test: the first marks\n");
 }
 
-/* What is odd, recorded: packets of no IP, oversized ones, a full queue, a clock that jumps back; then a history that nobody writes, so that events
- * are written over: the gap is told, and one at its end. */
+/* Unusual events, recorded: packets without IP, oversized ones, a full queue, a clock that jumps
+ * back; then a history that nobody writes, so that events are overwritten: the gap must be
+ * reported, also one at the end. */
 static void test_record(void) {
     struct pie_stage_params params;
     struct pie_stage_stats stats;
@@ -309,8 +310,9 @@ static void test_record(void) {
     printf("stage_test: the record, and events that are missed\n");
 }
 
-/* The flight recorder of what is odd: packets of no IP, oversized ones, a full queue, a clock that jumps back, bursts of more than 32 packets, and
- * fewer events kept than a burst has. A packet that waits too long asks for its text. */
+/* The flight recorder with unusual events: packets without IP, oversized ones, a full queue, a
+ * clock that jumps back, bursts of more than 32 packets, and fewer events than a burst has. A
+ * packet that waits too long requests the text. */
 static void test_flight(uint32_t flight) {
     struct pie_stage_params params;
     struct pie_stage_stats stats;
@@ -352,7 +354,8 @@ static void test_flight(uint32_t flight) {
     printf("stage_test: the flight recorder of %" PRIu32 " events\n", flight);
 }
 
-/* A history that is cut: each text stands alone, none lacks an event, and a gap stays in the text before the cut. */
+/* A history that is cut: each text can be audited alone, none lacks an event, and a gap stays in
+ * the text before the cut. */
 static void test_cut(void) {
     struct pie_stage_params params;
     struct rte_mbuf *mbufs[8], *out[8];
@@ -429,7 +432,7 @@ static void test_pace(void) {
     printf("stage_test: the pace of pie-fwd\n");
 }
 
-/* Each packet's wait is counted once, in the first sort whose bound it doesn't exceed. */
+/* Each packet's wait is counted once, in the first class whose bound it does not exceed. */
 static void test_waits(void) {
     struct pie_stage_params params;
     struct pie_stage_stats before = {0}, after;
@@ -461,7 +464,8 @@ static void test_waits(void) {
     printf("stage_test: waits by their sorts\n");
 }
 
-/* New parameters while packets wait: they are in force from then on, history and flight recorder have them, and what is refused changes nothing. */
+/* New parameters while packets are queued: they are in force from then on, history and flight
+ * recorder contain them, and a refused call changes nothing. */
 static void test_params(uint32_t events, uint32_t flight) {
     struct pie_stage_params params;
     struct pie_params wanted, found;

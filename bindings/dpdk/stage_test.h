@@ -27,7 +27,7 @@ struct rte_mbuf *alloc(void);
 
 void expect_all_back(void);
 
-/* A frame of this size whose ECN field is this, in one segment. */
+/* Returns a frame of this size with this ECN field, in one segment. */
 struct rte_mbuf *plain(uint16_t size, uint8_t ecn);
 
 /* A frame of IPv6 behind this many VLAN tags. */

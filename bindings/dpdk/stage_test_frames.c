@@ -108,7 +108,7 @@ void test_marks(void) {
     printf("stage_test: marks in IPv4 and IPv6, behind VLAN tags, across segments\n");
 }
 
-/* What is no IP header, or is cut short, has no ECN field. */
+/* Bytes that are no IP header, or only a part of one, have no ECN field. */
 void test_no_ip(void) {
     uint8_t bytes[256];
     for (int version = 4; version <= 6; version += 2) {

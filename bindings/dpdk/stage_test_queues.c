@@ -32,7 +32,8 @@ static void test_classes(void) {
     }
 }
 
-/* Sends so many bytes, some at a time as a link does, and counts those of each queue, which has packets of its size alone. */
+/* Sends this number of bytes, a few at a time as a link does, and counts the bytes of each queue,
+ * whose packets have a size of their own. */
 static void send_bytes(struct fwd_queues *queues, uint64_t bytes, const uint16_t *sizes, uint64_t *sent, uint64_t now) {
     struct rte_mbuf *out[BURST];
     for (uint64_t at = 0; at < bytes;) {

@@ -148,7 +148,8 @@ struct record_writer {
     struct summed summed;
 };
 
-/* Writes the flight recorder's text again and again, while the others go on; each is of later events. */
+/* Writes the flight recorder's text repeatedly, while the others continue; each text has later
+ * events. */
 static void *write_flights(void *argument) {
     char name[64];
     uint64_t last = 0;

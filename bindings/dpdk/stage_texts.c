@@ -55,7 +55,7 @@ static void copy_packet(void *to, uint64_t number, const struct waiting *packet)
         stage->cut.flows[number % stage->room] = stage->flows[number % stage->room];
 }
 
-/* Under the lock, cuts where the packets that wait are copied. */
+/* Under the lock: cuts at the place up to which the queued packets are copied. */
 static void cut_here(struct pie_stage *stage) {
     struct cut *cut = &stage->cut;
     cut->at = stage->flight.count;
@@ -95,7 +95,8 @@ bool pie_stage_history_cut(struct pie_stage *stage) {
     return true;
 }
 
-/* Events were missed, beyond where the text is cut: it is cut anew, and what came until then is missed too. */
+/* Events after the cut were missed: the text is cut again, and the events until then are missed
+ * too. */
 static void miss_the_cut(struct pie_stage *stage, struct pie_event *lost) {
     struct pie_flight_follower *follower = &stage->follower;
     cut_history(stage);
@@ -150,7 +151,7 @@ size_t pie_stage_record(struct pie_stage *stage, bool is_over, unsigned char *te
     return size;
 }
 
-/* The memory that a flight recorder's packets are handed over to. */
+/* The memory through which the packets of a flight recorder are passed. */
 struct handed {
     const struct pie_stage *stage;
     PIE_WORD *queued;

@@ -15,7 +15,7 @@
 struct stage_words {
     uint32_t key[8];
     uint64_t counter; /* blocks made */
-    uint32_t left;    /* words not yet handed out */
+    uint32_t left;    /* unused words */
     uint64_t words[STAGE_WORDS];
 };
 
@@ -72,7 +72,7 @@ static inline void stage_blocks(stage_lanes x[16], const uint32_t key[8], uint64
         x[i] += start[i];
 }
 
-/* Takes a key from the system; false where it has no random bits. */
+/* Takes a key from the system. Returns false if the system has no random bits. */
 static inline bool stage_words_seed(struct stage_words *words) {
     memset(words, 0, sizeof *words);
     return getrandom(words->key, sizeof words->key, 0) == sizeof words->key;

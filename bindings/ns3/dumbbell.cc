@@ -21,7 +21,7 @@ using namespace ns3;
 namespace
 {
 
-/* A scenario, as the command line says it. */
+/* A scenario, from the command line. */
 struct Scenario
 {
     std::string queue = "recorded"; /* recorded or pie, also with a choice of ChoicesOf; recorded-scaled; pie-mark, pie-mark-burst or fifo */
@@ -33,7 +33,7 @@ struct Scenario
     uint32_t seed = 1;
     double seconds = 20;
     double warmUp = 5; /* seconds that steady figures exclude */
-    double buffer = 0; /* send buffer of each flow, in kB; 0: as SendBufferBytes says */
+    double buffer = 0; /* send buffer of each flow in kB; 0: SendBufferBytes */
     std::string history;
     std::string flowsFile;
     std::string records;
@@ -74,7 +74,8 @@ SeeWait(Time wait)
     }
 }
 
-/* (What a receiver reads is no measure of the link: bytes behind a gap are read when it closes, even where they came before the warm-up's end.) */
+/* (The bytes that a receiver reads do not measure the link: bytes after a gap are read when it
+ * closes, even if they arrived before the end of the warm-up.) */
 void
 SeeSent(Ptr<const QueueDiscItem> item)
 {
@@ -130,12 +131,13 @@ SetTcp(const Scenario& scenario)
 /* RFC 8033's optional elements, which both PIEs have by the same names. */
 struct Choices
 {
-    bool isByRate = true;       /* delays from the departure rate (section 5.2), and else from time stamps (section 4.3) */
+    bool isByRate = true;       /* delays from the departure rate (section 5.2), otherwise from time stamps (section
+                                   4.3) */
     bool isDerandomized = true; /* section 5.4 */
     bool isCapped = true;       /* section 5.5 */
 };
 
-/* The choices that a queue's name asks for behind its first word: those of RFC 8033 where it asks for none. */
+/* Returns the choices in a queue's name after its first word; those of RFC 8033 by default. */
 Choices
 ChoicesOf(const std::string& asked)
 {
@@ -145,7 +147,7 @@ ChoicesOf(const std::string& asked)
     return {!isAll && asked != "-stamp", !isAll && asked != "-random", !isAll && asked != "-uncapped"};
 }
 
-/* Takes this beginning off a word, and answers whether the word has it. */
+/* Removes this beginning from a word. Returns true if the word had it. */
 bool
 TakesOff(std::string& word, const std::string& beginning)
 {
@@ -157,7 +159,8 @@ TakesOff(std::string& word, const std::string& beginning)
     return true;
 }
 
-/* The queue of the shared link. What is not set here has the default of RFC 8033 in both. */
+/* The queue of the shared link. Attributes that are not set here have the default of RFC 8033 in
+ * both. */
 TrafficControlHelper
 QueueOf(const Scenario& scenario)
 {

@@ -50,7 +50,7 @@ Expect(uint32_t code, const char* call)
     NS_ABORT_MSG_IF(code != PIE_DONE, call << " refused by code " << code);
 }
 
-/* An event of now, whose other numbers are 0. */
+/* Returns an event at the present time; its other numbers are 0. */
 pie_event
 EventBy(uint16_t caller)
 {

@@ -6,7 +6,8 @@
 #include <stdint.h>
 
 struct layer {
-    int32_t overhead; /* bytes that the link layer adds to each packet; negative where the packet has a header that the link has not */
+    int32_t overhead; /* bytes that the link layer adds to each packet; negative if the packet has a header that the
+                         link has not */
     uint32_t mpu;     /* the least size */
     bool is_atm;      /* in cells of 53 bytes that carry 48 */
 };

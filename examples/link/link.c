@@ -33,14 +33,14 @@
 #define AT_ONCE 64         /* packets read from one device before the link is looked at again */
 #define BACK_PACKETS 65536 /* that may be on the way back */
 #define WORDS 128          /* random words taken at once */
-#define LOOK_TIME 10000000 /* ns that the history's thread waits before it looks again */
+#define LOOK_TIME 10000000 /* ns between two looks of the history's thread */
 
 struct bottleneck {
     const struct options *options;
     int from, to;          /* the devices */
     bool from_has, to_has; /* whether there is something to read */
     struct pie_state pie;  /* the controller in front of the queue */
-    struct packets queue;  /* wait for the link */
+    struct packets queue;  /* queued for the link */
     struct packets there;  /* packets on the link, until the end of their transmission */
     struct packets back;   /* packets on the way back, until the delay has passed */
     uint64_t start;        /* of the run, by CLOCK_MONOTONIC */
@@ -50,7 +50,7 @@ struct bottleneck {
     uint64_t next_update;  /* the moment from which an update is not too soon */
     struct flight_file flight;
     struct pie_flight_follower follower;
-    FILE *history;         /* NULL where none is written */
+    FILE *history;         /* NULL if none is written */
     _Atomic uint64_t missed; /* missing events so far */
     struct records records;
     struct flows flows;
@@ -149,7 +149,7 @@ static uint64_t tag_of(struct bottleneck *link, const struct packet *packet, uin
     return tag;
 }
 
-/* An arrival: the library says whether the packet waits, is marked or is dropped. */
+/* Decides an arrival: the library queues, marks or drops the packet. */
 static void arrive(struct bottleneck *link, struct packet *packet, uint64_t now) {
     struct pie_event event = {.moment = now, .word = random_word(), .caller = SENDER};
     uint32_t room = (uint32_t)link->options->control.opening.packets - link->queue.count;
@@ -189,7 +189,7 @@ static void turn_back(struct bottleneck *link, struct packet *packet, uint64_t n
     }
 }
 
-/* Reads what waits at a device, at most AT_ONCE packets. */
+/* Reads pending packets of a device, at most AT_ONCE. */
 static void receive(struct bottleneck *link, int device, void (*take)(struct bottleneck *, struct packet *, uint64_t)) {
     static uint8_t bytes[LARGEST];
     for (int i = 0; i < AT_ONCE; i++) {
@@ -380,7 +380,7 @@ static void *write_history(void *argument) {
     return NULL;
 }
 
-/* Signals come only while the program waits. */
+/* Signals are received only while the program waits. */
 static void hold_signals(sigset_t *before) {
     struct sigaction action = {.sa_handler = stop};
     sigset_t held;

@@ -24,7 +24,7 @@ struct options {
     uint64_t every;         /* ns that a period lasts */
     uint64_t rtt;           /* ns on the way back */
     uint64_t grant;         /* ns from one grant to the next; 0: the link sends whenever it is free */
-    bool at_start;          /* a packet is handed on when its transmission begins, not when it ends */
+    bool at_start;          /* a packet leaves when its transmission begins, not when it ends */
     struct layer layer;     /* what a packet takes on the link beside its bytes */
     struct rate_step rates[MOST_STEPS]; /* by their moments; the first is 0 */
     size_t steps;

@@ -23,7 +23,8 @@ struct packets {
     uint64_t bytes;
 };
 
-/* A packet with a copy of these bytes, which takes as many on the link; NULL for want of memory. */
+/* Returns a packet with a copy of these bytes and this size on the link; NULL if there is no
+ * memory. */
 struct packet *packet_of(const uint8_t *bytes, uint32_t length);
 
 void push(struct packets *packets, struct packet *packet);
@@ -33,7 +34,8 @@ struct packet *pop(struct packets *packets);
 
 void free_all(struct packets *packets);
 
-/* The ECN field (RFC 3168, section 5) of an IPv4 or IPv6 packet; Not-ECT of anything else. */
+/* Returns the ECN field (RFC 3168, section 5) of an IPv4 or IPv6 packet; Not-ECT for any other
+ * bytes. */
 uint32_t ecn_of(const uint8_t *bytes, size_t size);
 
 /* Sets the ECN field of an IPv4 or IPv6 packet to CE; of IPv4 the header's checksum is mended (RFC 1624). */

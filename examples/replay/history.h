@@ -12,10 +12,11 @@ struct history {
     struct pie_history text;
 };
 
-/* Opens the file ("-": standard output), and writes the opening; false where that cannot be done. */
+/* Opens the file ("-": standard output), and writes the opening. Returns false if that fails. */
 bool open_history(struct history *history, const char *name, const struct pie_opening *opening);
 
-/* Writes that it was `unix_time` (nanoseconds since 1970) at this moment; false where that cannot be done. */
+/* Writes that the wall-clock time at this moment is `unix_time` (nanoseconds since 1970). Returns
+ * false if that fails. */
 bool write_time(struct history *history, uint64_t moment, uint64_t unix_time);
 
 /* Writes the record of an event, after its call. */

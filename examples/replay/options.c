@@ -30,7 +30,7 @@ static const char help_of_units[] =
     "\n"
     "  replay --rate 50mbit --ecn -o history -w commented.pcapng yesterday.pcap 'dst net 192.0.2.0/24'\n";
 
-/* The words from here on, with spaces between them, as tcpdump joins them; NULL for want of memory. */
+/* Joins the words from here on with spaces, as tcpdump does. Returns NULL if there is no memory. */
 static char *joined(int count, char **words) {
     size_t size = 1;
     for (int i = 0; i < count; i++)

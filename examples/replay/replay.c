@@ -33,7 +33,8 @@ struct replay {
     struct history history;
     struct flows flows;
     struct waiting queue[MOST_PACKETS];
-    uint64_t first, packets, bytes; /* the queue's: of its first packet the place, and how many packets and bytes wait */
+    uint64_t first, packets, bytes; /* of the queue: the place of its first packet, and the numbers of queued packets
+                                       and bytes */
     uint64_t now;                   /* the greatest moment of an arrival */
     uint64_t free_at, rest;         /* the moment at which the link is free; and the rest of its last transmission
                                        below a ns, times the rate */
@@ -132,7 +133,8 @@ static uint32_t arrive(struct replay *replay, const struct ip_packet *packet, ui
     return verdict;
 }
 
-/* The comment on a packet, or on the packets that it was split into, where one was dropped or marked: why, and by what. */
+/* Returns the comment on a packet, or on the packets into which it was split, if one was dropped or
+ * marked: the verdict and its cause. */
 static void tell(char *comment, const uint32_t *answers, uint32_t parts, const struct pie_state *before) {
     int count = 0;
     for (uint32_t verdict = PIE_MARK; verdict <= PIE_PACKETS; verdict++) {
@@ -148,7 +150,7 @@ static void tell(char *comment, const uint32_t *answers, uint32_t parts, const s
                  (double)before->old_delay / 1e6);
 }
 
-/* Sends a frame's packet, split where it is a super-packet, and leaves the comment on it. */
+/* Sends a frame's packet, split if it is a super-packet, and stores the comment on it. */
 static void send_packet(struct replay *replay, const struct ip_packet *packet, char *comment) {
     const uint64_t mtu = replay->options.split;
     const struct pie_state before = replay->pie;
@@ -240,7 +242,7 @@ static bool read_capture(struct replay *replay, struct capture *capture) {
     return answer == PCAP_ERROR_BREAK;
 }
 
-/* Tells a number where it isn't 0. */
+/* Prints a number unless it is 0. */
 static void say(uint64_t count, const char *what) {
     if (count != 0)
         fprintf(stderr, "replay: %" PRIu64 " %s\n", count, what);

@@ -10,15 +10,16 @@
 #define FLIGHT_EVENTS 100000 /* the least number of events that it keeps */
 
 struct flight_file {
-    const char *name; /* NULL where it lies in no file */
+    const char *name; /* NULL if it is in no file */
     struct pie_flight flight;
-    void *memory;     /* NULL where none is kept */
+    void *memory;     /* NULL if none is kept */
     void *scratch;    /* for a dump while the recorder continues */
     size_t bytes;
 };
 
-/* Opens a recorder in a file of this name (NULL: in memory of its own), right after the state was opened by this. A file that is there already is
- * what an earlier run left: it goes to NAME.before. False where that cannot be done. */
+/* Opens a recorder in a file of this name (NULL: in memory), right after the state was opened with
+ * this opening. An existing file is left from an earlier run and is renamed to NAME.before. Returns
+ * false if that fails. */
 bool open_flight(struct flight_file *file, const char *name, const struct pie_opening *opening, const struct pie_state *state);
 
 /* Keeps an event, after its call. */
@@ -27,7 +28,8 @@ static inline void keep_event(struct flight_file *file, const struct pie_state *
         pie_flight_keep(&file->flight, state, event);
 }
 
-/* Tells the recorder that it was `unix_time` (nanoseconds since 1970) at this moment: its texts begin with that. One thread at a time. */
+/* Stores that the wall-clock time at this moment is `unix_time` (nanoseconds since 1970); the
+ * recorder's texts begin with it. One thread at a time. */
 static inline void tell_flight(const struct flight_file *file, uint64_t moment, uint64_t unix_time) {
     if (file->memory != NULL)
         pie_flight_clock(file->memory, moment, unix_time);
@@ -36,8 +38,8 @@ static inline void tell_flight(const struct flight_file *file, uint64_t moment, 
 /* Writes the recorder's text to NAME.history, while other threads may keep events; one thread at a time. Answers as pie_flight_dump. */
 int write_flight(const struct flight_file *file);
 
-/* Writes the text of a file that an earlier run left, to this stream. Answers as pie_flight_dump, and PIE_FLIGHT_NONE where the file cannot be
- * read. */
+/* Writes the text of a file that an earlier run left to this stream. Returns the status of
+ * pie_flight_dump, or PIE_FLIGHT_NONE if the file cannot be read. */
 int write_flight_of(const char *name, FILE *to);
 
 /* Returns a description of a result of pie_flight_dump, for a log. */

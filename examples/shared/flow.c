@@ -12,7 +12,7 @@ static bool begins_with_ports(uint8_t protocol) {
     return protocol == TCP || protocol == UDP || protocol == SCTP || protocol == DCCP || protocol == UDPLITE;
 }
 
-/* The ports, of a packet that is no fragment, where they are there. */
+/* Reads the ports of a packet that is no fragment, if they are there. */
 static void read_ports(const uint8_t *bytes, size_t size, size_t at, struct flow *flow) {
     if (!begins_with_ports(flow->protocol) || size < at + PORTS)
         return;
@@ -95,7 +95,7 @@ uint32_t flow_number(const struct flow *flow) {
     return hash ^ hash >> 16;
 }
 
-/* A protocol as IANA names it, of those that often come; else its number. */
+/* Returns the IANA name of a protocol if it is a frequent one, otherwise its number. */
 static const char *protocol_text(uint8_t protocol, char text[4]) {
     switch (protocol) {
     case 1: return "icmp";
@@ -138,7 +138,7 @@ bool open_flows(struct flows *flows, const char *name) {
            fflush(flows->file) == 0;
 }
 
-/* The row of a flow, a new one where it has none; NULL where there is no room. */
+/* Returns the row of a flow, a new one if it has none; NULL if there is no room. */
 static struct flow_row *row_of(struct flows *flows, const struct flow *flow, uint32_t number) {
     uint32_t place = number % FLOW_PLACES, count = flows->count;
     for (; flows->places[place] != 0; place = (place + 1) % FLOW_PLACES) {

@@ -27,7 +27,7 @@ struct flow {
     bool has_ports;
 };
 
-/* Reads a packet that begins with its IP header, as far as it is there; false where it is none. */
+/* Reads the beginning of a packet from its IP header on. Returns false if it has none. */
 bool read_flow(const uint8_t *bytes, size_t size, struct flow *flow);
 
 /* Returns a flow's number: a hash of its identification. Two flows may have the same number. */
@@ -52,15 +52,15 @@ struct flow_row {
 /* All flows that were seen. One thread notes them, and the same or another one writes them. */
 struct flows {
     FILE *file;           /* NULL where nobody asks for flows */
-    uint32_t *places;     /* in `rows`, from 1 on, by the number; 0 where there is none */
+    uint32_t *places;     /* the index in `rows`, from 1 on, by the number; 0 if there is none */
     struct flow_row *rows;
     uint32_t count;       /* of the rows: stored last by the thread that notes, and loaded first by that which writes */
     uint32_t written;
-    uint64_t missing;     /* packets whose flows have no row, since there are too many */
+    uint64_t missing;     /* packets of flows without a row, because there are too many flows */
     struct flow_top top;  /* of this period */
 };
 
-/* Opens the file (NULL: none), and writes its header; false where that cannot be done. */
+/* Opens the file (NULL: none), and writes its header. Returns false if that fails. */
 bool open_flows(struct flows *flows, const char *name);
 
 /* Counts a packet of this many bytes on the wire, which arrives at this moment in ns and begins with its IP header.

@@ -79,7 +79,7 @@ static void write_number(FILE *file, unsigned __int128 number, uint64_t parts) {
     fprintf(file, ".%0*" PRIu64, digits, rest);
 }
 
-/* A text in quotes, as the format has it. */
+/* Writes a text in quotes, in the notation of the format. */
 static void write_quoted(FILE *file, const char *text) {
     for (; *text != '\0'; text++) {
         if (*text == '\\' || *text == '"')
@@ -172,7 +172,7 @@ static void remove_at_exit(void) {
     remove_metrics();
 }
 
-/* Under the lock, names the file: from here on it goes at the end. */
+/* Under the lock: stores the name of the file, which is removed at the end from now on. */
 static bool name_place(const char *path) {
     errno = ENAMETOOLONG;
     if (strlen(path) >= sizeof place.path || (size_t)snprintf(place.beside, sizeof place.beside, "%s.new", path) >= sizeof place.beside)

@@ -22,8 +22,8 @@ struct metrics {
     uint64_t oversized, refused;     /* dropped undecided: for a size outside 1 to 65535 bytes, and by a refusal */
     uint64_t departed, departed_bytes;
     uint64_t updates, late;          /* and of these, later than by a whole period */
-    uint64_t lost;                   /* events that the history lacks */
-    uint64_t waits[PIE_WAIT_SORTS];  /* packets that departed, by the sorts of their waits .. */
+    uint64_t lost;                   /* events missing in the history */
+    uint64_t waits[PIE_WAIT_SORTS];  /* departed packets, by the classes of their waits .. */
     unsigned __int128 waited;        /* their sum in nanoseconds: 64 bits would overflow within days */
     uint64_t probs[PIE_PROB_SORTS];  /* updates, by those of the probability after them .. */
     unsigned __int128 probs_sum;     /* their sum in 10^-12 */
@@ -46,17 +46,18 @@ struct metrics_queue {
  * queues no longer exist. One file for each program. */
 bool write_metrics(const char *path, const struct metrics_queue *queues, size_t count);
 
-/* Takes the file away, for who wants to know whether it went; false where that fails, with errno. */
+/* Removes the file, if the caller needs the result. Returns false with errno if that fails. */
 bool remove_metrics(void);
 
-/* The metrics of one queue on their way from the thread that decides to one that writes. Neither waits for the other. */
+/* The metrics of one queue, passed from the thread that decides to the thread that writes. Neither
+ * waits for the other. */
 struct metrics_file {
-    const char *path; /* NULL where none are written */
+    const char *path; /* NULL if none are written */
     struct metrics_queue queue;
     struct metrics told;
     uint64_t due;            /* the moment from which they are written again */
-    atomic_bool is_told;     /* `told` is the writer's; else the other's */
-    bool is_refused;         /* it was said that the file cannot be written */
+    atomic_bool is_told;     /* `told` belongs to the writer, the others to the other thread */
+    bool is_refused;         /* the message that the file cannot be written was printed */
 };
 
 #define METRICS_PERIOD UINT64_C(1000000000) /* ns */
@@ -69,7 +70,7 @@ static inline bool is_metrics_due(const struct metrics_file *file, uint64_t mome
     return file->path != NULL && moment >= file->due && !atomic_load_explicit(&file->is_told, memory_order_acquire);
 }
 
-/* Hands the metrics over, where they are due. */
+/* Passes the metrics to the writer, if they are due. */
 void tell_metrics(struct metrics_file *file, const struct metrics *metrics, uint64_t moment);
 
 /* Writes the metrics, and reports an error once for `program`. The writing thread calls it. */

@@ -14,9 +14,9 @@ extern "C" {
 struct records {
     FILE *file; /* NULL if none are written */
     struct pie_period period;
-    uint64_t begun;                      /* periods that had begun before the event at hand */
+    uint64_t begun;                      /* intervals that had begun before the present event */
     size_t size;                         /* bytes of `line` */
-    unsigned char line[PIE_RESUME_ROOM]; /* the record of the period that the event at hand may end */
+    unsigned char line[PIE_RESUME_ROOM]; /* the record of the interval that the present event may end */
 };
 
 /* Opens the file (NULL: none, "-": standard output) for intervals of `every` ns, and writes the header row.
@@ -27,7 +27,7 @@ bool open_records(struct records *records, const char *name, uint64_t every, uin
 /* Makes the record of the period under way. */
 void make_record(struct records *records);
 
-/* Writes the record that was made, and lets readers see it. */
+/* Writes the completed record, and makes it visible to readers. */
 void write_record(struct records *records);
 
 /* Writes the last record, and closes the file; false where anything could not be written. */

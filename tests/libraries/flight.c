@@ -249,7 +249,7 @@ static void refusals(void) {
     free(memory);
 }
 
-/* Memory that is damaged: whatever is in it, a dump ends and touches nothing else. */
+/* Damaged memory: whatever it contains, a dump ends and changes nothing else. */
 static void damaged(uint64_t seed, uint64_t rounds) {
     struct queue queue;
     struct pie_flight flight;

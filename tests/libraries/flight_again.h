@@ -166,7 +166,7 @@ struct row {
     uint64_t count;
 };
 
-/* Takes the next line apart, in place: the bytes of its fields end in 0. Answers where the next begins. */
+/* Splits the next line in place: each field ends with a 0. Returns the beginning of the next line. */
 static char *next_row(char *at, char *end, struct row *row) {
     row->count = 0;
     row->fields[row->count++] = at;
@@ -294,7 +294,7 @@ static int is_next(struct again *again, const struct row *row, const char *line)
     return answer <= 100 && count != 0 && memcmp(bytes, line, count) == 0;
 }
 
-/* The packets that wait at the end of the text that was decided last. */
+/* The queued packets at the end of the text that was decided last. */
 static struct packet ended[MOST_WAITING];
 static uint64_t ended_count;
 

@@ -15,8 +15,9 @@
 #define UNIX_TIME UINT64_C(1795550400000000000)
 
 static struct text followed, kept; /* what was followed; the whole history as it was written beside it */
-static size_t *ends;               /* where the record of event n ends in the latter, from event 0 on: that of the opening */
-static uint64_t most, looks, anew; /* events; times that were looked; texts that began anew */
+static size_t *ends;               /* the end of the record of event n in the latter, from event 0 on, which is the
+                                      opening */
+static uint64_t most, looks, anew; /* events; the number of looks; texts that began again */
 
 static struct queue queue;
 static struct pie_flight flight;

@@ -2,7 +2,7 @@
 
 enum { LINK = 2, TIMER = 3 };
 
-/* Asks for a packet that arrives, and queues it where the answer says so. */
+/* Decides an arriving packet, and queues it if the verdict says so. */
 static uint32_t arrive(struct pie_state *state, struct pie_array_queue *queue, struct pie_event *event) {
     uint32_t answer = pie_arrive_event(state, queue->bytes, queue->most_packets - queue->packets, event);
     if (answer == PIE_ENQUEUE || answer == PIE_MARK) {
@@ -16,7 +16,7 @@ static uint32_t arrive(struct pie_state *state, struct pie_array_queue *queue, s
     return answer;
 }
 
-/* The oldest packet leaves, or none. One whose departure is refused stays. */
+/* Removes the oldest packet, if there is one. If its departure is refused, it stays. */
 static uint32_t depart(struct pie_state *state, struct pie_array_queue *queue, struct pie_event *event) {
     if (queue->packets == 0) {
         return pie_empty_event(state, event);

@@ -13,14 +13,15 @@ extern "C" {
 /* Why a loop ended. */
 enum {
     PIE_ARRAY_ALL = 0,     /* all was done */
-    PIE_ARRAY_REFUSED = 1, /* a call was refused: the event that comes next says why, and nothing changed by it */
-    PIE_ARRAY_GROW = 2,    /* the ring's memory is full, and more packets may wait: call again with more of it */
-    PIE_ARRAY_EVENTS = 3,  /* there were as many events as the opening allows, and nothing else refuses the next one */
+    PIE_ARRAY_REFUSED = 1, /* a call was refused: the next event has the reason; nothing was changed by it */
+    PIE_ARRAY_GROW = 2,    /* the memory of the ring is full, and more packets may be queued: call again with more
+                              memory */
+    PIE_ARRAY_EVENTS = 3,  /* there are as many events as the opening allows, and nothing else refuses the next one */
     PIE_ARRAY_KIND = 4,    /* the event that comes next is of no kind that the loop decides, or writes */
     PIE_ARRAY_OUT = 5      /* there is no room for one more event */
 };
 
-/* A packet that waits: its ECN field as it will leave, and the state's moment right after it arrived. */
+/* A queued packet: its ECN field on departure, and the state's moment right after its arrival. */
 struct pie_array_packet {
     uint64_t tag;
     uint64_t since;
@@ -33,9 +34,9 @@ struct pie_array_queue {
     struct pie_array_packet *ring; /* memory for `slots` packets */
     uint32_t slots;                /* a power of two */
     uint32_t first;                /* the slot of the oldest */
-    uint32_t packets;              /* how many wait, at most `slots` */
-    uint32_t most_packets;         /* how many may wait */
-    uint64_t bytes;                /* how many bytes wait */
+    uint32_t packets;              /* the number of queued packets, at most `slots` */
+    uint32_t most_packets;         /* the most packets that may be queued */
+    uint64_t bytes;                /* the number of queued bytes */
     uint64_t events;               /* how many events were decided */
     uint64_t most_events;          /* how many there may be */
     uint64_t rate;                 /* of the link of pie_array_offer, in bits a second, 1 to 2^60 */

@@ -24,7 +24,7 @@ SETTINGS = {"0.5", "0.85", "1.85", "1.5", "4.4", "5.1"}
 DIGITS = {"goodput": 2, "jain": 2, "early": 0, "tail": 0, "marks": 0, "lost": 0, "probes": 0}
 NAMES = {"tail": "tail drop, here", "stamp": "PIE, here", "wide": "the same, target 20 ms", "half": "the same, `--decay half`",
          "rate": "PIE by rate, here",
-         "marks": "PIE, here, `--mark_ecnth 100%`", "slowwide": "PIE, here, target 30 ms", "pfifo": "`pfifo`", "pie": "`pie`",
+         "mtu": "PIE, here, `--mean_pkt 1514b`", "marks": "PIE, here, `--mark_ecnth 100%`", "slowwide": "PIE, here, target 30 ms", "pfifo": "`pfifo`", "pie": "`pie`",
          "pie-rate": "`pie dq_rate_estimator`", "fq_codel": "`fq_codel`", "cake": "`cake`"}
 
 
@@ -327,6 +327,8 @@ def short_table():
     sizes = sorted({int(row["bytes"]) for row in SHORT if row["scenario"] == "short"})
     lines = []
     for queue in SCENARIOS["short"]["queues"]:
+        if not RUNS.blocks("short", queue):
+            continue
         cells = [NAMES[queue]]
         for size in sizes:
             times = took("short", queue, size)
@@ -415,7 +417,7 @@ def burst_sentence():
 # ---- the picture ----
 
 COLOURS = {"stamp": "#1f5fa8", "pie": "#b0303a", "fq_codel": "#3a8a3a", "cake": "#c08020", "tail": "#888888", "pfifo": "#333333", "half": "#7a4fa0",
-           "rate": "#20a0a0", "wide": "#70b0e0", "pie-rate": "#e08080", "marks": "#a0a020", "slowwide": "#70b0e0"}
+           "rate": "#20a0a0", "wide": "#70b0e0", "pie-rate": "#e08080", "marks": "#a0a020", "slowwide": "#70b0e0", "mtu": "#8080ff"}
 WIDE, HIGH, ACROSS = 230, 150, 4
 
 

@@ -6,7 +6,7 @@ Three namespaces: senders, the bottleneck, receivers. The bottleneck is examples
 below it. Both hand a packet on when its transmission begins. netem at the receivers' device delays what goes back, by its destination, so that flows
 differ in their round trip.
 
-usage: bench/uml/network.py SCENARIO.json"""
+usage: bench/uml/network.py FOLDER/BLOCK.json"""
 import contextlib
 import ctypes
 import json
@@ -23,6 +23,8 @@ LINK = HERE.parents[1] / "examples/link/out/link"
 TRAFFIC = HERE / "out/traffic"
 LEAD = 3.0      # seconds from the bottleneck's start to the traffic's; the kernel's pie makes its first update half a second after it was made
 REST = 1.0      # seconds after the traffic, in which its last packets arrive
+MOST_BY_DEFAULT = 100e6     # bits a second that Linux's usual bound of a TCP flow's memory allows
+TCP_MEMORY = 1 << 26        # bytes of a TCP flow above that rate
 PORT = 5201
 RECEIVER = "10.2.0.1"
 SPACES = ("senders", "bottleneck", "receivers")
@@ -94,6 +96,9 @@ class Run:
             do("ip link set lo up", space)
             set_number(space, "tcp_ecn", self.scenario["ecn"])
             set_number(space, "tcp_no_metrics_save", 1)
+            if max(rate for _, rate in self.rates) > MOST_BY_DEFAULT:
+                for name in ("tcp_rmem", "tcp_wmem"):
+                    set_number(space, name, f"4096 131072 {TCP_MEMORY}")
         (self.set_up_link if self.is_ours() else self.set_up_router)()
         for place in range(len(self.delays)):
             do(f"ip addr add 10.1.0.{place + 1}/24 dev senders", "senders")

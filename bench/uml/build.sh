@@ -23,7 +23,7 @@ xz --decompress --stdout --threads=0 $source | tar --extract --directory "$work"
     --exclude='*/Documentation/*/*' --exclude='*/drivers/gpu/*.[ch]' --exclude='*/sound/*.[ch]'
 cd "$work"
 sed -i '/^config HZ$/,/default/s/100/1000/' arch/um/Kconfig
-# (nothing but what the runs need: a tenth of the time to build)
+# (what the runs need, and nothing else)
 for word in EXPERT 64BIT MULTIUSER FHANDLE POSIX_TIMERS PRINTK BUG BASE_FULL FUTEX EPOLL SIGNALFD TIMERFD EVENTFD SHMEM ADVISE_SYSCALLS MEMBARRIER \
     FILE_LOCKING NO_HZ_IDLE HIGH_RES_TIMERS BINFMT_ELF BINFMT_SCRIPT TTY UNIX98_PTYS SSL NULL_CHAN PROC_FS SYSCTL PROC_SYSCTL SYSFS TMPFS HOSTFS \
     UML_TIME_TRAVEL_SUPPORT NAMESPACES NET NET_NS UNIX PACKET INET NETDEVICES NET_CORE TUN VETH NET_SCHED NET_SCH_HTB NET_SCH_PRIO NET_SCH_PIE \

@@ -126,7 +126,9 @@ class Run:
             do(f"ip -n bottleneck link set {device} netns {device}")
 
     def set_up_router(self):
-        """A router: htb has the rate, without the 14 bytes of an Ethernet header and without a bucket, and below it is the queue."""
+        """A router: htb has the rate, without the 14 bytes of an Ethernet header and without a bucket, and below it is the queue. A size table
+        (stab) counts the headers of a super-packet once. If senders pass super-packets, there is none, and the rate grows by the Ethernet headers
+        of full packets."""
         for space, device in (("senders", "near"), ("receivers", "far")):
             do(f"ip link add {space} netns {space} type veth peer name {device} netns bottleneck")
         do("ip addr add 10.1.0.254/24 dev near", "bottleneck")
@@ -134,7 +136,8 @@ class Run:
         set_number("bottleneck", "ip_forward", 1)
         do("ip link set near up", "bottleneck")
         do("ip link set far up", "bottleneck")
-        do("tc qdisc add dev far root handle 1: stab overhead -14 linklayer ethernet htb default 1", "bottleneck")
+        table = "" if self.scenario["offload"] else "stab overhead -14 linklayer ethernet"
+        do(f"tc qdisc add dev far root handle 1: {table} htb default 1", "bottleneck")
         self.set_rate(self.rates[0][1], "add")
         words = [str(word).format(packets=self.scenario["packets"]) for word in self.queue["words"]]
         do(["tc", "qdisc", "add", "dev", "far", "parent", "1:1", "handle", "10:", *words], "bottleneck")
@@ -142,6 +145,7 @@ class Run:
 
     def set_rate(self, rate, verb):
         bucket = self.scenario["bucket"]
+        rate = round(rate * 1514 / 1500) if self.scenario["offload"] else rate
         words = f"rate {rate}bit ceil {rate}bit burst {bucket}b cburst {bucket}b quantum 1514"
         do(f"tc class {verb} dev far parent 1: classid 1:1 htb {words}", "bottleneck")
 

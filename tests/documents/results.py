@@ -38,6 +38,6 @@ check(20 * len(differ) <= len(results.halves()), f"queues differ from themselves
 inside = [it[4][1] <= 0 <= it[4][2] for it in results.halves()]
 check(sum(inside) >= 0.84 * len(inside), f"of {len(inside)} intervals of 90 per cent for no difference only {sum(inside)} contain 0")
 for name, it in results.SCENARIOS.items():
-    shown = f"`{name}`" in page
+    shown = f"|`{name}`|{it['words']}|" in page
     check(shown == results.was_run(name), f"scenario {name}: {'shown' if shown else 'not shown'}, and {'' if results.was_run(name) else 'not '}run")
 finish()

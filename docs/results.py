@@ -125,7 +125,7 @@ def difference_of(scenario, one, other, field, part="after", other_scenario=None
 # The margins: half of a difference between queues that are known to differ. Of waits what a target of 20 ms makes in place of 15; of goodput,
 # as a share, what a limit of 10 ms costs in place of 200.
 def margin(field):
-    if field == "probe":
+    if field != "goodput":
         ours, theirs = difference_of("four", "wide", "stamp", "probe")
         return abs(fmean(ours) - fmean(theirs)) / 2
     full, tight = (fmean(RUNS.values(scenario, "stamp", "goodput").values()) for scenario in ("four", "tight"))

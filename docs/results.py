@@ -230,7 +230,7 @@ def same_table(one="stamp", other="pie"):
             found = test(name, one, other, field, part)
             ours = difference_of(name, one, other, field, part)[0]
             digits = 3 if field == "goodput" and ours and fmean(ours) < 3 else None
-            cells.append(f"{interval(found, field, digits)} {found[3]}, {found[4]:.2f}" if found else "")
+            cells.append(f"{interval(found, field, digits)} {found[3]}" if found else "")
         lines.append(cells)
     return table(["scenario", "seconds", "goodput", "wait"], lines)
 

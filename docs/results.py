@@ -2,8 +2,9 @@
 """Writes docs/RESULTS.md and docs/ellipses.svg from docs/RESULTS.in and the stored runs: bench/uml/results.csv, bench/uml/short.csv and
 bindings/ns3/results.csv. Every figure of the page is an expression in RESULTS.in, between {{ and }}, that calls functions of this script.
 
-usage: docs/results.py [--check]      --check: writes nothing. Status 1 if a file differs from what the runs give, or RESULTS.in has a figure of its
-                                      own"""
+usage: docs/results.py [--check | --needs]
+  --check   writes nothing. Status 1 if a file differs from what the runs give, or RESULTS.in has a figure of its own
+  --needs   prints the number of blocks that each open comparison needs"""
 import csv
 import functools
 import math
@@ -16,16 +17,19 @@ from statistics import fmean, median, stdev
 ROOT = Path(__file__).resolve().parents[1]
 sys.path[:0] = [str(ROOT / "bench"), str(ROOT / "bench/uml")]
 sys.dont_write_bytecode = True
-from equivalence import compare, compare_pairs  # noqa: E402
-from scenarios import SAME_BLOCKS, SCENARIOS  # noqa: E402
+from equivalence import compare, compare_pairs, judge, power  # noqa: E402
+from scenarios import FIVE, SCENARIOS, queues_of  # noqa: E402
 
 # decimal numbers of RESULTS.in that are settings of a scenario, or of RFC 8033
 SETTINGS = {"0.5", "0.85", "1.85", "1.5", "4.4", "5.1"}
 DIGITS = {"goodput": 2, "jain": 2, "early": 0, "tail": 0, "marks": 0, "lost": 0, "probes": 0}
 NAMES = {"tail": "tail drop, here", "stamp": "PIE, here", "wide": "the same, target 20 ms", "half": "the same, `--decay half`",
          "rate": "PIE by rate, here",
-         "marks": "PIE, here, `--mark_ecnth 100%`", "slowwide": "PIE, here, target 30 ms", "pfifo": "`pfifo`", "pie": "`pie`",
+         "mtu": "PIE, here, `--mean_pkt 1514b`", "marks": "PIE, here, `--mark_ecnth 100%`", "slowwide": "PIE, here, target 30 ms", "pfifo": "`pfifo`", "pie": "`pie`",
          "pie-rate": "`pie dq_rate_estimator`", "fq_codel": "`fq_codel`", "cake": "`cake`"}
+
+
+FIVE_NAMES = list(queues_of(FIVE, 1))
 
 
 def read(name):
@@ -121,7 +125,7 @@ def difference_of(scenario, one, other, field, part="after", other_scenario=None
 # The margins: half of a difference between queues that are known to differ. Of waits what a target of 20 ms makes in place of 15; of goodput,
 # as a share, what a limit of 10 ms costs in place of 200.
 def margin(field):
-    if field == "probe":
+    if field != "goodput":
         ours, theirs = difference_of("four", "wide", "stamp", "probe")
         return abs(fmean(ours) - fmean(theirs)) / 2
     full, tight = (fmean(RUNS.values(scenario, "stamp", "goodput").values()) for scenario in ("four", "tight"))
@@ -155,6 +159,13 @@ def add(scenario, queue, *fields):
     return shown(sum(fmean(RUNS.values(scenario, queue, field).values()) for field in fields), "early")
 
 
+def payload(scenario, queue):
+    """The payload that arrived, in per cent of the bytes that the queue counted as sent."""
+    begin, end = RUNS.part(scenario, "after")
+    bits, sent = (fmean(RUNS.values(scenario, queue, field).values()) for field in ("goodput", "sent"))
+    return f"{100 * bits * 1e6 * (end - begin) / (8 * sent):.1f}"
+
+
 def verdict_sentence(scenario):
     goodput, wait = (test(scenario, "stamp", "pie", field) for field in ("goodput", "probe"))
     return (f"The goodput differs by {interval(goodput, 'goodput')}, which is `{goodput[3]}`, and the wait by {interval(wait, 'probe')}, "
@@ -173,16 +184,27 @@ def was_run(scenario):
     return any(name == scenario for name, _ in RUNS.rows)
 
 
+def cell(scenario, queue):
+    """Goodput, wait and blocks of a queue after the start."""
+    rows = RUNS.blocks(scenario, queue)
+    wait, goodput = value(scenario, queue, "probe"), fmean(RUNS.values(scenario, queue, "goodput").values()) if rows else 0
+    return f"{shown(goodput, 'goodput', 3 if goodput < 3 else 1 if goodput > 100 else 2)}, {wait or '-'} ({len(rows)})" if rows else ""
+
+
 def scenarios_table():
-    """Every scenario that was run."""
+    """Every scenario that was run, with the result of every queue that ran it."""
     lines = []
     for name, it in SCENARIOS.items():
         if was_run(name):
-            queues = [queue for queue in it["queues"] if (name, queue) in RUNS.rows]
-            blocks = sorted({len(RUNS.blocks(name, queue, "whole")) for queue in queues})
-            count = " to ".join(map(str, blocks[:1] + blocks[1:][-1:]))
-            lines.append([f"`{name}`", it["words"], it["section"], " ".join(queues), count, share(name)])
-    return table(["name", "traffic", "RFC 7928", "queues", "blocks", "probes, % of packets"], lines)
+            others = [f"{queue} {cell(name, queue)}" for queue in it["queues"] if queue not in FIVE_NAMES and cell(name, queue)]
+            lines.append([f"`{name}`", it["words"], it["section"], share(name), *(cell(name, queue) for queue in FIVE_NAMES), "; ".join(others)])
+    return table(["name", "traffic", "RFC 7928", "probes, %", "PIE, here", *(NAMES[queue] for queue in FIVE_NAMES[1:]), "other queues"], lines)
+
+
+def not_run():
+    """Names the scenarios that have no stored run."""
+    found = [f"{it['words']} (`{name}`)" for name, it in SCENARIOS.items() if not was_run(name)]
+    return f"These have scenarios and no stored run: {'; '.join(found)}." if found else ""
 
 
 def split_parts(scenario):
@@ -203,18 +225,14 @@ def pairs_of(one="stamp", other="pie"):
 def same_table(one="stamp", other="pie"):
     lines = []
     for name, part, bounds in pairs_of(one, other):
-        cells = [SCENARIOS[name]["words"], name_of_part(bounds)]
+        cells = [f"`{name}`", name_of_part(bounds)]
         for field in ("goodput", "probe"):
             found = test(name, one, other, field, part)
-            if found is None:
-                cells += ["", ""]
-                continue
-            ours, theirs = difference_of(name, one, other, field, part)
-            digits = 3 if field == "goodput" and fmean(theirs) < 3 else None
-            means = f"{shown(fmean(ours), field, digits)}, {shown(fmean(theirs), field, digits)}"
-            cells += [means, f"{interval(found, field, digits)} {found[3]}, {found[4]:.2f}"]
+            ours = difference_of(name, one, other, field, part)[0]
+            digits = 3 if field == "goodput" and ours and fmean(ours) < 3 else None
+            cells.append(f"{interval(found, field, digits)} {found[3]}" if found else "")
         lines.append(cells)
-    return table(["traffic", "seconds", "goodput, here and `pie`", "difference", "wait, here and `pie`", "difference"], lines)
+    return table(["scenario", "seconds", "goodput", "wait"], lines)
 
 
 def verdicts(field, one="stamp", other="pie"):
@@ -224,11 +242,47 @@ def verdicts(field, one="stamp", other="pie"):
     return f"{found.count('same')} same, {found.count('different')} different, {found.count('open')} open"
 
 
+def later_differences(one="stamp", other="pie"):
+    """The mean differences of waits in the parts after a start."""
+    found = [test(name, one, other, "probe", part) for name, part, bounds in pairs_of(one, other) if bounds[0] > 0]
+    return [it[0] for it in found if it]
+
+
 def longer():
-    """The number of parts after a start in which the mean wait of a probe is greater here, of how many."""
-    found = [test(name, "stamp", "pie", "probe", which) for name, which, bounds in pairs_of() if bounds[0] > 0]
-    found = [it[0] for it in found if it]
-    return f"{sum(it > 0 for it in found)} of {len(found)}"
+    """The number of parts after a start in which the mean wait of a probe is greater here, of how many, and the chance of so many if none differs."""
+    found = later_differences()
+    most, count = sum(it > 0 for it in found), len(found)
+    chance = sum(math.comb(count, it) for it in range(most, count + 1)) / 2 ** count
+    return f"{most} of {count} parts; by chance alone so many or more are longer in {100 * chance:.0f} % of all draws"
+
+
+def pooled():
+    """The mean of the differences over all parts after a start, each part with the same weight."""
+    found = later_differences()
+    return interval(judge(fmean(found), stdev(found) / math.sqrt(len(found)), len(found) - 1, margin("probe")), "probe")
+
+
+def blocks_needed(scenario, one, other, field, part, most=512):
+    """The number of blocks that makes a comparison `same` with a chance of 80 % if there is no difference, by the spread of the stored blocks;
+    `most` if it is more."""
+    ours, theirs = difference_of(scenario, one, other, field, part)
+    spread_of = stdev(it - other for it, other in zip(ours, theirs))
+    least = 2       # bisection: the power grows with the number of blocks
+    while least < most:
+        count = (least + most) // 2
+        least, most = (least, count) if power(margin_of(field, theirs), spread_of / math.sqrt(count), count - 1) >= 0.8 else (count + 1, most)
+    return least
+
+
+def print_needs():
+    """Prints for each open comparison the blocks that it has, and those that it needs."""
+    pairs = [*((*it, "stamp", "pie") for it in pairs_of()), *((*it, "tail", "pfifo") for it in pairs_of("tail", "pfifo"))]
+    for name, part, _, one, other in pairs:
+        for field in ("goodput", "probe"):
+            found = test(name, one, other, field, part)
+            if found and found[3] == "open":
+                has = len(difference_of(name, one, other, field, part)[0])
+                print(f"{name}, {part} s, {one} and {other}, {field}: {has} of {blocks_needed(name, one, other, field, part)}")
 
 
 def same_calibration_table():
@@ -258,8 +312,12 @@ def halves():
 
 
 def halves_count():
-    found = [it[-1][3] for it in halves()]
-    return f"{len(found)} comparisons: {found.count('same')} same, {found.count('open')} open, {found.count('different')} different"
+    """The verdicts of each queue beside itself, and the number of 90 % intervals that contain 0."""
+    found = [it[-1] for it in halves()]
+    verdicts_of = [it[3] for it in found]
+    inside = sum(it[1] <= 0 <= it[2] for it in found)
+    return (f"{len(found)} comparisons. The 90 % interval contains 0 in {inside} of them, {100 * inside / len(found):.0f} %. Verdicts: "
+            f"{verdicts_of.count('same')} same, {verdicts_of.count('open')} open, {verdicts_of.count('different')} different")
 
 
 def halves_different():
@@ -327,6 +385,8 @@ def short_table():
     sizes = sorted({int(row["bytes"]) for row in SHORT if row["scenario"] == "short"})
     lines = []
     for queue in SCENARIOS["short"]["queues"]:
+        if not RUNS.blocks("short", queue):
+            continue
         cells = [NAMES[queue]]
         for size in sizes:
             times = took("short", queue, size)
@@ -415,7 +475,7 @@ def burst_sentence():
 # ---- the picture ----
 
 COLOURS = {"stamp": "#1f5fa8", "pie": "#b0303a", "fq_codel": "#3a8a3a", "cake": "#c08020", "tail": "#888888", "pfifo": "#333333", "half": "#7a4fa0",
-           "rate": "#20a0a0", "wide": "#70b0e0", "pie-rate": "#e08080", "marks": "#a0a020", "slowwide": "#70b0e0"}
+           "rate": "#20a0a0", "wide": "#70b0e0", "pie-rate": "#e08080", "marks": "#a0a020", "slowwide": "#70b0e0", "mtu": "#8080ff"}
 WIDE, HIGH, ACROSS = 230, 150, 4
 
 
@@ -500,6 +560,9 @@ def differences(stored):
 
 
 def main():
+    if "--needs" in sys.argv:
+        print_needs()
+        return 0
     if "--check" not in sys.argv:
         (ROOT / "docs/RESULTS.md").write_text(page())
         (ROOT / "docs/ellipses.svg").write_text(picture())

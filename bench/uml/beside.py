@@ -7,8 +7,8 @@ usage: bench/uml/beside.py PIE FOLDER [--blocks FIRST-LAST] [--kept COUNT] [NAME
        bench/uml/beside.py PIE FOLDER --queues stamp,pie [--blocks 1-2] OPTIONS         one scenario by options, as scenarios.py has them
   PIE        the built program; build/pie is what make builds
   --queues   of the link: tail, stamp, rate (the delay by the departure rate), half (the other decay), wide (a target of 20 ms), marks (ECN up to any
-             probability), slowwide (a target of 30 ms); of the kernel: pfifo, pie, pie-rate (dq_rate_estimator), pie-wide, fq_codel, cake
-  --blocks   the blocks of the scenario; all by default
+             probability), slowwide (a target of 30 ms), mtu (a mean_pkt of 1514 bytes); of the kernel: pfifo, pie, pie-rate (dq_rate_estimator), pie-wide, fq_codel, cake
+  --blocks   the blocks of the scenario, as 1-2; all by default
   --kept     the number of blocks of each scenario whose files stay in the folder; 1 by default
   --late     also runs whose traffic began late: for a test in real time on a busy machine
 UML_LINUX=FILE in the environment is a Linux whose time is simulated (build.sh). Status 1: a run failed, or a history is not clean.
@@ -22,6 +22,7 @@ import json
 import os
 import random
 import re
+import resource
 import shutil
 import subprocess
 import sys
@@ -40,6 +41,7 @@ OURS = {
     "half": ["--decay", "half"],
     "wide": ["--target", "20ms"],
     "slowwide": ["--target", "30ms"],
+    "mtu": ["--mean_pkt", "1514b"],
     "marks": ["--mark_ecnth", "100%"],
 }
 THEIRS = {
@@ -53,7 +55,7 @@ THEIRS = {
 UNITS = {"ns": 1e-9, "us": 1e-6, "ms": 1e-3, "s": 1, "bit": 1, "kbit": 1e3, "mbit": 1e6, "gbit": 1e9}
 FIELDS = ["scenario", "queue", "block", "from", "to", "goodput", "groups", "jain", "wait", "wait95", "wait99", "probe", "probe95", "probe99",
           "probes", "lost", "over150", "share", "voice", "voice99", "voice_lost", "dns", "dns99", "early", "tail", "marks", "sent", "prob", "base",
-          "late", "audit", "version"]
+          "late", "audit", "processor", "version"]
 SHORT_FIELDS = ["scenario", "queue", "block", "bytes", "since", "took"]
 MOST_DELAYS = 15            # bands of netem
 JITTER = 0.1                # of a round trip, up and down
@@ -198,8 +200,8 @@ def scenario_of(name, words, queues, blocks):
     bounds = {0, seconds} | {moment for moment, _ in rates} | {group[end] for group in groups for end in ("since", "until")}
     bounds = sorted(bounds | ({words.beginning} if 0 < words.beginning < seconds else set()))
     probe = number(words.probe, "ms", "s") if words.probe else 0.1 if rates[0][1] >= 10e6 and len(rates) == 1 else 0.2
-    found = {"name": name, "seed": SAME_BLOCKS.get(name, name),
-             "queues": {queue: queue_of(queue, words) for queue in queues}, "seconds": seconds, "rates": rates, "groups": groups,
+    queues = {queue: queue_of(queue, words) | {"blocks": count} for queue, count in queues.items()}
+    found = {"name": name, "seed": SAME_BLOCKS.get(name, name), "queues": queues, "seconds": seconds, "rates": rates, "groups": groups,
              "short": words.short, "ecn": int(words.ecn), "offload": words.offload, "bounds": bounds, "probe": probe, "bucket": words.bucket,
              "reverse": rate_of(words.reverse) if words.reverse else 0,
              "packets": max(1, int(rates[0][1] / 8 * number(words.limit, "ms", "s") / 1500))}
@@ -208,14 +210,11 @@ def scenario_of(name, words, queues, blocks):
     return found
 
 
-def order_of(scenario, done):
-    """The runs that are not made yet: block by block, and in each block the queues in a random order."""
-    order = []
-    for block in scenario["blocks"]:
-        queues = sorted(scenario["queues"])
-        random.Random(f"{scenario['name']}-{block}-order").shuffle(queues)
-        order += [f"{block}-{queue}" for queue in queues if (scenario["name"], queue, block) not in done]
-    return order
+def order_of(scenario, block, done):
+    """The runs of a block that are not made yet: the queues in a random order."""
+    queues = sorted(queue for queue, it in scenario["queues"].items() if it["blocks"] >= int(block))
+    random.Random(f"{scenario['name']}-{block}-order").shuffle(queues)
+    return [f"{block}-{queue}" for queue in queues if (scenario["name"], queue, block) not in done]
 
 
 def last_of(values, share):
@@ -358,12 +357,12 @@ def short_form(value):
 
 
 def version_of():
-    """The trees of Git that made the runs: bench/uml, examples/link and dist. `git log --find-object=TREE` finds their commits."""
-    top = str(HERE.parents[1])
-    trees = [subprocess.run(["git", "-C", top, "rev-parse", f"HEAD:{name}"], capture_output=True, text=True).stdout[:8]
-             for name in ("bench/uml", "examples/link", "dist")]
-    changed = subprocess.run(["git", "-C", top, "diff", "--quiet", "HEAD", "--", "bench/uml", "examples/link", "dist"]).returncode
-    return ".".join(trees) + "+" * bool(changed)
+    """Git's names of the files that made a run: of network.py, traffic.c, examples/link and dist. `git log --find-object=NAME` finds the commits.
+    A `+` follows if one of them has a change that is not committed."""
+    top, files = str(HERE.parents[1]), ("bench/uml/network.py", "bench/uml/traffic.c", "examples/link", "dist")
+    names = [subprocess.run(["git", "-C", top, "rev-parse", f"HEAD:{name}"], capture_output=True, text=True).stdout[:8] for name in files]
+    changed = subprocess.run(["git", "-C", top, "diff", "--quiet", "HEAD", "--", *files]).returncode
+    return ".".join(names) + "+" * bool(changed)
 
 
 class Table:
@@ -382,24 +381,32 @@ class Table:
             csv.DictWriter(out, self.fields, lineterminator="\n").writerows({key: short_form(it) for key, it in row.items()} for row in rows)
 
 
-def run(scenario, folder, program, results, short, words):
-    """Makes the runs that are not made yet, and adds their rows. Returns the failures."""
+def processor_seconds():
+    """Seconds that the ended children of this process took from a processor."""
+    it = resource.getrusage(resource.RUSAGE_CHILDREN)
+    return it.ru_utime + it.ru_stime
+
+
+def run(scenario, number, folder, program, results, short, words):
+    """Makes those runs of a block that are not made yet, and adds their rows. Returns the failures."""
     done = {(row["scenario"], row["queue"], row["block"]) for row in results.rows}
-    scenario["order"] = order_of(scenario, done)
+    scenario["order"] = order_of(scenario, number, done)
     if not scenario["order"]:
         return []
     folder.mkdir(parents=True, exist_ok=True)
-    (folder / "scenario.json").write_text(json.dumps(scenario))
+    (folder / f"{number}.json").write_text(json.dumps(scenario))
     linux = [str(HERE / "run.sh")] * (not os.environ.get("IN_USER_MODE_LINUX"))
+    before = processor_seconds()
     with open(folder / "said", "w") as said:
-        subprocess.run([*linux, sys.executable, str(HERE / "network.py"), str(folder / "scenario.json")], stderr=said)
-    failed, version = [], version_of()
+        subprocess.run([*linux, sys.executable, str(HERE / "network.py"), str(folder / f"{number}.json")], stderr=said)
+    failed, version, processor = [], version_of(), (processor_seconds() - before) / len(scenario["order"])
     for place in scenario["order"]:
         block, queue = place.split("-", 1)
         try:
             found = Found(scenario, block, folder / place, program, words.late)
             same = {"scenario": scenario["name"], "queue": queue, "block": block}
-            rows = [same | {"from": begin, "to": end, "version": version} | found.row(begin, end) for begin, end in parts_of(scenario)]
+            more = {"processor": round(processor, 1), "version": version}
+            rows = [same | {"from": begin, "to": end} | more | found.row(begin, end) for begin, end in parts_of(scenario)]
         except (OSError, ValueError, KeyError, StopIteration) as why:
             failed.append(f"{scenario['name']}: {place}: {type(why).__name__}: {why}: {(folder / 'said').read_text()[-2000:]}")
             continue
@@ -414,10 +421,10 @@ def run(scenario, folder, program, results, short, words):
     return failed
 
 
-def tell(results, name):
+def tell(folder, name):
     """The rows of a scenario, of each queue the means over blocks."""
     fields = ["goodput", "wait", "probe", "probe99", "early", "tail", "marks", "base"]
-    rows = [row for row in Table(results.file, FIELDS).rows if row["scenario"] == name]
+    rows = [row for row in Table(folder / "results.csv", FIELDS).rows if row["scenario"] == name]
     print(f"| {name}: seconds | queue | blocks | " + " | ".join(fields) + " |\n" + "|---" * (3 + len(fields)) + "|")
     for key in dict.fromkeys((row["from"], row["to"], row["queue"]) for row in rows):
         these = [row for row in rows if (row["from"], row["to"], row["queue"]) == key]
@@ -433,19 +440,18 @@ def main():
     program, folder = os.path.abspath(words.program), Path(words.folder).resolve()
     folder.mkdir(parents=True, exist_ok=True)
     blocks = [int(it) for it in words.blocks.split("-")] if words.blocks else None
-    chosen = []
+    chosen = {name: SCENARIOS[name] for name in words.names or ([] if words.queues else SCENARIOS)}
     if words.queues:
-        numbers = range(blocks[0], blocks[-1] + 1) if blocks else range(1, 3)
-        chosen = [("own", lambda: scenario_of("own", words, words.queues.split(","), numbers))]
-    for name in words.names or ([] if words.queues else SCENARIOS):
-        it = SCENARIOS[name]
-        numbers = range(blocks[0], min(blocks[-1], it["blocks"]) + 1) if blocks else range(1, it["blocks"] + 1)
-        chosen.append((name, lambda it=it, numbers=numbers: scenario_of(it["name"], options(it["options"]), it["queues"], numbers)))
+        last = blocks[-1] if blocks else 2
+        chosen["own"] = {"queues": dict.fromkeys(words.queues.split(","), last)}
     failed = []
-    for name, scenario in chosen:
-        results, short = Table(folder / "results.csv", FIELDS), Table(folder / "short.csv", SHORT_FIELDS)
-        failed += run(scenario(), folder / name, program, results, short, words)
-        tell(results, name)
+    for name, it in chosen.items():
+        last = max(it["queues"].values())
+        for number in range(blocks[0], min(blocks[-1], last) + 1) if blocks else range(1, last + 1):
+            scenario = scenario_of(name, options(it["options"]) if "options" in it else words, it["queues"], [number])
+            results, short = Table(folder / "results.csv", FIELDS), Table(folder / "short.csv", SHORT_FIELDS)
+            failed += run(scenario, str(number), folder / name, program, results, short, words)
+        tell(folder, name)
     for it in failed:
         print(f"bench/uml/beside.py: {it}")
     sys.exit(1 if failed else 0)

@@ -23,15 +23,16 @@ xz --decompress --stdout --threads=0 $source | tar --extract --directory "$work"
     --exclude='*/Documentation/*/*' --exclude='*/drivers/gpu/*.[ch]' --exclude='*/sound/*.[ch]'
 cd "$work"
 sed -i '/^config HZ$/,/default/s/100/1000/' arch/um/Kconfig
-make -s ARCH=um defconfig
-for word in UML_TIME_TRAVEL_SUPPORT HIGH_RES_TIMERS HOSTFS TMPFS UNIX98_PTYS NAMESPACES NET_NS PACKET IPV6 NETDEVICES NET_CORE TUN VETH NET_SCHED \
-    NET_SCH_HTB NET_SCH_PRIO NET_SCH_PIE NET_SCH_FQ_CODEL NET_SCH_CAKE NET_SCH_NETEM NET_CLS NET_CLS_U32 TCP_CONG_ADVANCED TCP_CONG_CUBIC \
-    TCP_CONG_BBR DEFAULT_CUBIC; do
+# (what the runs need, and nothing else)
+for word in EXPERT 64BIT MULTIUSER FHANDLE POSIX_TIMERS PRINTK BUG BASE_FULL FUTEX EPOLL SIGNALFD TIMERFD EVENTFD SHMEM ADVISE_SYSCALLS MEMBARRIER \
+    FILE_LOCKING NO_HZ_IDLE HIGH_RES_TIMERS BINFMT_ELF BINFMT_SCRIPT TTY UNIX98_PTYS SSL NULL_CHAN PROC_FS SYSCTL PROC_SYSCTL SYSFS TMPFS HOSTFS \
+    UML_TIME_TRAVEL_SUPPORT NAMESPACES NET NET_NS UNIX PACKET INET NETDEVICES NET_CORE TUN VETH NET_SCHED NET_SCH_HTB NET_SCH_PRIO NET_SCH_PIE \
+    NET_SCH_FQ_CODEL NET_SCH_CAKE NET_SCH_NETEM NET_CLS NET_CLS_U32 TCP_CONG_ADVANCED TCP_CONG_CUBIC TCP_CONG_BBR DEFAULT_CUBIC; do
     echo "CONFIG_$word=y"
-done >> .config
-make -s ARCH=um olddefconfig
-for word in UML_TIME_TRAVEL_SUPPORT HOSTFS NET_SCH_PIE NET_SCH_CAKE TUN VETH; do
-    grep -q "^CONFIG_$word=y" .config || { echo "bench/uml/build.sh: this Linux has no $word" >&2; exit 1; }
-done
+done > wanted
+make -s ARCH=um KCONFIG_ALLCONFIG=wanted allnoconfig
+while read -r word; do
+    grep -q "^$word$" .config || { echo "bench/uml/build.sh: this Linux has no $word" >&2; exit 1; }
+done < wanted
 make -s ARCH=um "-j$(nproc)" linux
 strip -o "$folder/linux" linux

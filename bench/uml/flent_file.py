@@ -24,8 +24,8 @@ def mean(values):
 
 def main():
     folder, to = Path(sys.argv[1]).resolve(), sys.argv[2]
-    scenario = json.loads((folder.parent / "scenario.json").read_text())
     block, queue = folder.name.split("-", 1)
+    scenario = json.loads((folder.parent / f"{block}.json").read_text())
     found = Found(scenario, block, folder, None)
     begin = json.loads((folder / "run.json").read_text())["begin"] / 1e9
     flows = [flow for group, numbers in zip(scenario["groups"], scenario["blocks"][block]["groups"]) if is_tcp(group) for flow in numbers]

@@ -6,7 +6,7 @@ Three namespaces: senders, the bottleneck, receivers. The bottleneck is examples
 below it. Both hand a packet on when its transmission begins. netem at the receivers' device delays what goes back, by its destination, so that flows
 differ in their round trip.
 
-usage: bench/uml/network.py SCENARIO.json"""
+usage: bench/uml/network.py FOLDER/BLOCK.json"""
 import contextlib
 import ctypes
 import json
@@ -23,6 +23,8 @@ LINK = HERE.parents[1] / "examples/link/out/link"
 TRAFFIC = HERE / "out/traffic"
 LEAD = 3.0      # seconds from the bottleneck's start to the traffic's; the kernel's pie makes its first update half a second after it was made
 REST = 1.0      # seconds after the traffic, in which its last packets arrive
+MOST_BY_DEFAULT = 100e6     # bits a second that Linux's usual bound of a TCP flow's memory allows
+TCP_MEMORY = 1 << 26        # bytes of a TCP flow above that rate
 PORT = 5201
 RECEIVER = "10.2.0.1"
 SPACES = ("senders", "bottleneck", "receivers")
@@ -94,6 +96,9 @@ class Run:
             do("ip link set lo up", space)
             set_number(space, "tcp_ecn", self.scenario["ecn"])
             set_number(space, "tcp_no_metrics_save", 1)
+            if max(rate for _, rate in self.rates) > MOST_BY_DEFAULT:
+                for name in ("tcp_rmem", "tcp_wmem"):
+                    set_number(space, name, f"4096 131072 {TCP_MEMORY}")
         (self.set_up_link if self.is_ours() else self.set_up_router)()
         for place in range(len(self.delays)):
             do(f"ip addr add 10.1.0.{place + 1}/24 dev senders", "senders")
@@ -121,7 +126,9 @@ class Run:
             do(f"ip -n bottleneck link set {device} netns {device}")
 
     def set_up_router(self):
-        """A router: htb has the rate, without the 14 bytes of an Ethernet header and without a bucket, and below it is the queue."""
+        """A router: htb has the rate, without the 14 bytes of an Ethernet header and without a bucket, and below it is the queue. A size table
+        (stab) counts the headers of a super-packet once. If senders pass super-packets, there is none, and the rate grows by the Ethernet headers
+        of full packets."""
         for space, device in (("senders", "near"), ("receivers", "far")):
             do(f"ip link add {space} netns {space} type veth peer name {device} netns bottleneck")
         do("ip addr add 10.1.0.254/24 dev near", "bottleneck")
@@ -129,7 +136,8 @@ class Run:
         set_number("bottleneck", "ip_forward", 1)
         do("ip link set near up", "bottleneck")
         do("ip link set far up", "bottleneck")
-        do("tc qdisc add dev far root handle 1: stab overhead -14 linklayer ethernet htb default 1", "bottleneck")
+        table = "" if self.scenario["offload"] else "stab overhead -14 linklayer ethernet"
+        do(f"tc qdisc add dev far root handle 1: {table} htb default 1", "bottleneck")
         self.set_rate(self.rates[0][1], "add")
         words = [str(word).format(packets=self.scenario["packets"]) for word in self.queue["words"]]
         do(["tc", "qdisc", "add", "dev", "far", "parent", "1:1", "handle", "10:", *words], "bottleneck")
@@ -137,6 +145,7 @@ class Run:
 
     def set_rate(self, rate, verb):
         bucket = self.scenario["bucket"]
+        rate = round(rate * 1514 / 1500) if self.scenario["offload"] else rate
         words = f"rate {rate}bit ceil {rate}bit burst {bucket}b cburst {bucket}b quantum 1514"
         do(f"tc class {verb} dev far parent 1: classid 1:1 htb {words}", "bottleneck")
 

@@ -1,5 +1,6 @@
 #!/usr/bin/env bash
-# for: real TCP through the link in user space (tests/program/link.sh, examples/link), and pictures of it and of examples/
+# for: real TCP through the link in user space and flent through it
+# (tests/program/link.sh, flent.sh, examples/link), and pictures of it and of examples/
 # The link also needs root and /dev/net/tun, which no package provides; --check reports them too.
 . "$(dirname "$0")/../../tests/shared/packages.sh"
 
@@ -17,4 +18,4 @@ programs ip iperf3 ping sysctl timeout cc make awk
 if [ "$lacking" = 0 ]; then
     required 'permission to create network namespaces and TUN devices' makes_devices
 fi
-packages iproute2 iperf3 iputils-ping procps gcc libc6-dev make gawk gnuplot-nox
+packages iproute2 iperf3 iputils-ping procps gcc libc6-dev make gawk gnuplot-nox flent irtt

@@ -1,13 +1,16 @@
 #!/usr/bin/env python3
-"""Draws docs/bounds.svg: three of the bounds of docs/GUARANTEES.md, and runs inside them, from what `pie run` writes. A burst of 150 packets that
-come at 1 Gbit/s, to a link of 10 Mbit/s, 100 microseconds before an update, and the first packet that is dropped early. The share of packets
-that are picked at one probability: with random words, with the least word each, and with the greatest. And the probability at a delay of twice the
-target, from 0, and at none, from 1.
+"""Draws docs/bounds.svg: three bounds of docs/GUARANTEES.md, and runs of `pie run` inside them:
 
-With --check nothing is drawn: the stored picture has to be the one that this would draw, and each run inside its bound.
+- a burst of 150 packets at 1 Gbit/s into a link of 10 Mbit/s, 100 microseconds before an update,
+  and the first packet that is dropped early;
+- the fraction of picked packets at one probability, with random words, with the least word each
+  time, and with the greatest;
+- the probability at a delay of twice the target from 0 on, and without delay from 1 on.
 
-usage: docs/bounds.py [PROGRAM] [--check]      PROGRAM: crates/pie/out/pie where none is given
-"""
+With --check nothing is drawn: the stored picture must be the one that the script would draw, and
+each run must be inside its bound.
+
+usage: docs/bounds.py [PROGRAM] [--check]      PROGRAM: crates/pie/out/pie by default"""
 import random
 import subprocess
 import sys

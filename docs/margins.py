@@ -1,25 +1,33 @@
 #!/usr/bin/env python3
-"""Draws docs/margins.svg: phase margin and gain margin of the control loop with the default parameters, over the rate per flow, for some
-round-trip times. The margins are computed from a linear model. They are not proved.
+"""Draws docs/margins.svg: phase margin and gain margin of the control loop with the default
+parameters, over the rate per flow, for some round-trip times. The margins are computed from a
+linear model. They are not proved.
 
-TCP is the fluid model of Hollot, Misra, Towsley and Gong (INFOCOM 2001); RFC 8033 refers to the PIE paper, which uses this model. N Reno flows with
-a window W = R C / N at a rate C and a round-trip time R (which includes the target delay) lose or mark a share s = 2 / W^2 of their packets. From the
-share to the queueing delay the loop has the transfer function
+TCP is the fluid model of Hollot, Misra, Towsley and Gong (INFOCOM 2001), which the PIE paper uses
+that RFC 8033 refers to. N Reno flows have a window W = R C / N at a rate C and a round-trip time R,
+which includes the target delay. They lose or mark a share s = 2 / W^2 of their packets. The transfer
+function of the loop from the share to the queueing delay is
     (W / 2R) e^-Rs / ((s + 2 / RW) (s + 1 / R)).
-The share is not the drop probability p: by default probabilities accumulate, and no packet is picked before their sum reaches 0.85. At one
-probability p a pick takes 0.85 / p + 1 / p packets on average, so the share is p / 1.85 (for small p).
-The controller is the update of RFC 8033, section 4.2, divided as auto-tuning does at p = 1.85 s, and held from one update to the next:
+The share is not the drop probability p: by default probabilities accumulate, and no packet is picked
+before their sum reaches 0.85. At a constant probability p a pick takes 0.85 / p + 1 / p packets on
+average, so the share is p / 1.85 (for small p). The controller is the update of RFC 8033, section
+4.2, divided by the auto-tuning divisor at p = 1.85 s, and held from one update to the next:
     ((alpha + beta) - beta e^-Ts) / Ts.
-So the margins depend on R and on the rate per flow, C / N.
+The margins therefore depend on R and on the rate per flow, C / N.
 
-With --check nothing is drawn. The stored picture has to equal the one that this script draws, and margins are compared with results of other
-methods. An integrator with a delay has its margins in closed form. The frequency at which the loop's gain is 1 solves a cubic, if the controller
-is taken as alpha and beta without the sampling. The mean number of packets to a pick is summed exactly. A simulation in steps of the fluid model,
-which is not linear, with this project's rule in whole numbers, has to settle where the margins are positive, and to oscillate where they are
-negative. The numbers on docs/GUARANTEES.md have to be the computed ones.
+With --check nothing is drawn. The stored picture must equal the one that this script draws, and the
+margins are compared with other methods:
 
-usage: docs/margins.py [--check]
-"""
+- An integrator with a delay has its margins in closed form.
+- The frequency at which the loop's gain is 1 solves a cubic, if the controller is alpha and beta
+  without sampling.
+- The mean number of packets to a pick is summed exactly.
+- A stepwise simulation of the fluid model, which is not linear, with this project's rule in
+  integers, must settle where the margins are positive, and oscillate where they are negative.
+
+The numbers in docs/GUARANTEES.md must be the computed ones.
+
+usage: docs/margins.py [--check]"""
 import cmath
 import math
 import sys

@@ -1,12 +1,15 @@
 #!/usr/bin/env python3
-"""Builds the static libraries, crates/pie_c/out/libpie_c.a and crates/pie_link_c/out/libpie_link_c.a, or that of the crate that is named. `rt lib`
-does that too, and proves again what it has no kept work of: in a fresh clone all crates below. Where these are proved, by the gate (`rt ci` leaves each
-library in out/rlib, with no stamp) or otherwise, and none is older than its sources, the crate alone is proved and compiled, over them; and where its
-assembly is newer than all of these, all stays.
+"""Builds the static libraries, crates/pie_c/out/libpie_c.a and crates/pie_link_c/out/libpie_link_c.a,
+or the library of the named crate. `rt lib` does the same, but proves again whatever it has not kept:
+in a fresh clone all crates below. If these crates are proved, by the gate (`rt ci` leaves each
+library in out/rlib, without a stamp) or otherwise, and none is older than its sources, this script
+proves and compiles the crate alone, over them. If the crate's assembly is newer than all of these,
+nothing is built.
 
-The assembly of a library's code is written beside it, crates/CRATE/out/CRATE.S, from the same module and with the same options: dist/ is a copy of it.
-If CRATE is the program, pie, its assembly alone is written. If the environment has PIE_MODULE, the crate is always compiled, and its LLVM module is
-copied to that file (bindings/kernel/make.sh).
+The assembly of a library is written beside it, crates/CRATE/out/CRATE.S, from the same module and
+with the same options; dist/ has a copy. If CRATE is the program, pie, only its assembly is written.
+If PIE_MODULE is set, the crate is always compiled, and its LLVM module is copied to that file
+(bindings/kernel/make.sh).
 
 usage: bindings/c/library.py [CRATE]"""
 import importlib.machinery

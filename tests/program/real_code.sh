@@ -19,7 +19,7 @@ if [ $status = 3 ]; then
 fi
 cat "$work/found"
 [ $status = 0 ] || exit 1
-grep -q '[1-9][0-9]*  decays only at two delays of 0' "$work/found" || fail "Linux decayed wherever the history with the other decay does"
+grep -q '[1-9][0-9]*  decays only after two delays of 0' "$work/found" || fail "Linux decayed wherever the history with the other decay does"
 while IFS='|' read -r old new; do
     cp "$steps/out/linux_pie.h" "$work/"
     sed "s|$old|$new|" "$steps/out/linux_pie.c" > "$work/linux_pie.c"

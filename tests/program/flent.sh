@@ -1,8 +1,9 @@
 #!/usr/bin/env bash
-# flent's own tests through the link in user space (examples/link), while four TCP flows fill its queue: `ping` (ICMP, and UDP by irtt) and `voip`
-# (a packet each 20 ms, by irtt). flent loads what it wrote and plots it without a display. No round trip is below the link's delay, and the link's
-# history is clean. Its tests of TCP need netperf, which is not free software and is left out. If this machine lacks something, a line that begins
-# with NOT RUN says so.
+# Runs flent's own tests through the link in user space (examples/link), while four TCP flows fill
+# its queue: `ping` (ICMP, and UDP by irtt) and `voip` (a packet each 20 ms, by irtt). flent must
+# load and plot its data file without a display. No round trip may be below the link's delay, and
+# the link's history must be clean. flent's tests of TCP need netperf, which is not free software,
+# and are left out. Prints a line NOT RUN if a requirement is missing.
 # usage: tests/program/flent.sh [PROGRAM]      PROGRAM: crates/pie/out/pie by default
 # needs: program, library, root
 . "$(dirname "$0")/../shared/script.sh"

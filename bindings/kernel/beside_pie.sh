@@ -60,7 +60,7 @@ END
 fill_root "$work/init" virtio virtio_ring virtio_pci_legacy_dev virtio_pci_modern_dev virtio_pci virtio_blk veth sch_htb sch_netem
 truncate -s 1G "$work/disk"
 # shellcheck disable=SC2086
-LIMIT=3000 boot "rate=${RATE:-400mbit} seconds=${SECONDS_OF_TRAFFIC:-45}" $SIMULATED -m 1536 -drive "file=$work/disk,format=raw,if=virtio"
+LIMIT=${LIMIT:-3000} boot "rate=${RATE:-400mbit} seconds=${SECONDS_OF_TRAFFIC:-45}" $SIMULATED -m 1536 -drive "file=$work/disk,format=raw,if=virtio"
 tr -d '\r' < "$work/console" | grep -A 6 -E 'SUM|pie_recorded'
 tr -d '\0' < "$work/disk" > "$work/history"
 echo "$me: Linux $release: $(grep -c '^arrive' "$work/history") arrivals; $("$pie" audit < "$work/history")"

@@ -2,12 +2,12 @@
 # Boots a kernel of Debian under qemu-system-x86_64 with the module, in simulated time, and sends TCP and pings through it from one network namespace over
 # another to a third (boot_init.sh). Afterwards sums.py audits each record and compares its sums with those of `tc -s -j` and of the receiver. The kernel
 # must not warn. The same boot loads modules with faults (the first four of mutants.txt), and sums.py must find each fault.
-# --all: all faults, and the kernel's own queues in the same place.
+# --all: all faults, and the kernel's own queues in the same place. SEED seeds the simulation (1).
 # ROOT contains a kernel's boot/ and lib/modules/, of an installed package (/, the default) or an unpacked one. HEADERS is the folder above the kernel's
 # headers (/usr/src). It takes a minute of one processor, and two with --all.
-# needs: a request, program
+# needs: program
 #
-# usage: [PIE=program] [HEADERS=folder] [KEEP=folder for all files] bindings/kernel/boot.sh [--all] [ROOT]
+# usage: [PIE=program] [SEED=1] [HEADERS=folder] [KEEP=folder for all files] bindings/kernel/boot.sh [--all] [ROOT]
 set -eu
 cd "$(dirname "$0")/../.."
 all=0

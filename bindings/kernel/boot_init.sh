@@ -75,6 +75,17 @@ link_down_and_up() {
     /bin/ip -n r route replace 10.0.2.0/24 dev rb
 }
 
+# floods SECONDS: ICMP at three times the rate of 10 Mbit/s, for so long
+floods() {
+    senders=
+    for number in 1 2 3; do
+        /bin/ip netns exec a $box ping -q -i 0.001 -s 1400 10.0.2.1 > /dev/null &
+        senders="$senders $!"
+    done
+    $box sleep "$1"
+    $box kill $senders
+}
+
 # refuses WORDS..: the change of the leaf 2: is refused; prints tc's text
 refuses() {
     if /bin/tc -n r qdisc change dev rb parent 1:1 handle 2: "$@" 2> /tmp/refused; then
@@ -89,7 +100,7 @@ received flows.before
 /bin/tc -n r qdisc add dev rb root handle 1: htb default 1
 /bin/tc -n r class add dev rb parent 1: classid 1:1 htb rate 10mbit
 /bin/tc -n r qdisc add dev rb parent 1:1 handle 2: pie_recorded || echo "FAILED tc pie_recorded"
-tap follow rb > /tmp/flows.followed &
+tap follow --flows /tmp/flows.csv rb > /tmp/flows.followed &
 tap record rb > /tmp/flows.periods &
 pings flows
 sends 4
@@ -166,17 +177,21 @@ wait
 ends changes
 $box rmmod sch_pie_recorded || echo "FAILED rmmod"
 
-# each module with a fault: ECN through tbf with a limit that is reached, the link down and up, and traffic again
+# each module with a fault: ECN through tbf, by marks alone, with a limit that is reached; then a flood whose packets are dropped whenever two wait, and a
+# purge meanwhile
 for module in /mods/mutants/*.ko; do
     [ -e $module ] || continue
     name=${module##*/}
     name=mutant_${name%.ko}
-    $box insmod $module kind=pie || echo "FAILED insmod $module"
+    $box insmod $module || echo "FAILED insmod $module"
     received $name.before
     /bin/tc -n r qdisc add dev rb root handle 1: tbf rate 10mbit burst 10kb latency 10s
-    /bin/tc -n r qdisc add dev rb parent 1:1 handle 2: pie limit 60 target 2ms tupdate 10ms ecn || echo "FAILED tc $name"
-    sends 2 > /dev/null &
-    $box sleep 1.3
+    /bin/tc -n r qdisc add dev rb parent 1:1 handle 2: pie_recorded limit 60 target 2ms tupdate 10ms ecn mark_ecnth 100% || echo "FAILED tc $name"
+    sends 1 > /dev/null
+    /bin/tc -n r qdisc change dev rb parent 1:1 handle 2: pie_recorded target 1us tupdate 1ms alpha 32 beta 32 || echo "FAILED change $name"
+    floods 0.3
+    floods 0.2 &
+    $box sleep 0.1
     link_down_and_up
     wait
     ends $name
@@ -203,7 +218,7 @@ $box rmmod sch_pie_recorded || echo "FAILED rmmod after the namespace"
 $box dmesg | $box grep -E 'WARNING|BUG|Oops|Call Trace'
 $box stty -F /dev/ttyS1 raw
 cd /tmp
-$box tar -cf - *.history *.followed *.periods *.excerpt *.json *.before *.after | $box gzip -c > /dev/ttyS1
+$box tar -cf - *.history *.followed *.periods *.excerpt *.json *.csv *.before *.after | $box gzip -c > /dev/ttyS1
 echo ended
 $box sleep 1
 $box poweroff -f

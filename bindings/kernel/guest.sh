@@ -25,6 +25,7 @@ cp -r include "$work/build/"
 build_module() {
     make -s -C "$headers/linux-headers-$release" M="$work/build/bindings/kernel/$1" modules > "$work/make.log" 2>&1 || { cat "$work/make.log" >&2; exit 1; }
     cp "$work/build/bindings/kernel/$1"/*.ko "$2"
+    strip --strip-debug "$2"
 }
 
 # fill_root INIT MODULE..: fills the first file system: INIT is its first process; MODULE.. are modules of the kernel, as far as they are modules there
@@ -49,15 +50,15 @@ fill_root() {
             cp -n -L "$library" "$work/root$library"
         done
     done
-    (cd "$work/root" && find . | cpio -o -H newc --quiet | gzip -1) > "$work/initrd"
+    (cd "$work/root" && find . | sort | cpio -o -H newc --quiet --reproducible | gzip -1n) > "$work/initrd"
 }
 
 # boot PARAMETERS [OPTION..]: boots with these parameters of the kernel and options of qemu, until the first process ends. Fails if it did not end well.
 boot() {
     local parameters=$1
     shift
-    timeout "${LIMIT:-900}" qemu-system-x86_64 -display none -monitor none -no-reboot -kernel "$kernel" -initrd "$work/initrd" \
-        -append "console=ttyS0 quiet panic=-1 panic_on_warn=1 mitigations=off random.trust_cpu=on $parameters rdinit=/init" \
+    timeout "${LIMIT:-900}" qemu-system-x86_64 -nodefaults -display none -monitor none -no-reboot -kernel "$kernel" -initrd "$work/initrd" \
+        -append "console=ttyS0 quiet panic=-1 panic_on_warn=1 mitigations=off nokaslr random.trust_cpu=on $parameters rdinit=/init" \
         -serial "file:$work/console" "$@" < /dev/null > "$work/qemu.log" 2>&1 || true
     if ! grep -q '^ended' "$work/console" || grep -E '^FAILED|WARNING:|BUG:|Oops|KASAN|possible circular' "$work/console"; then
         cat "$work/qemu.log" "$work/console" >&2
@@ -66,5 +67,6 @@ boot() {
     fi
 }
 
-# in simulated time: an instruction takes a nanosecond, and two runs are alike
-SIMULATED="-m 768 -smp 1 -icount shift=0,sleep=off -rtc clock=vm -cpu Nehalem,+rdrand"
+# In simulated time: an instruction takes a nanosecond, and chance comes from the seed. Two runs of the same files are alike, unless qemu's two threads
+# meet when the processor becomes idle, which happened on a busy machine.
+SIMULATED="-m 768 -smp 1 -icount shift=0,sleep=off -rtc base=2026-01-01T00:00:00,clock=vm -seed ${SEED:-1} -cpu Nehalem,+rdrand"

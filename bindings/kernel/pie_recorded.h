@@ -37,4 +37,22 @@ struct tc_pie_recorded_xstats {
 	__u32 reserved;
 };
 
+/*
+ * A flow in a record. The flows follow the recorder at the next page; flow F has the place
+ * F % PIE_RECORDED_FLOWS. Read `flow`, then the others, then `flow` again, which must be the same.
+ */
+struct pie_recorded_flow {
+	__u32 flow;		/* the upper half of the tags of its packets; 0: no flow */
+	__u8 family;		/* 4 or 6: IP; 0: other packets */
+	__u8 protocol;
+	__be16 ports[2];	/* source and destination; 0 if they are not known */
+	__u16 reserved;
+	__u64 moment;		/* when this place was written */
+	__u8 source[16];	/* of IPv4 the first four bytes */
+	__u8 destination[16];
+	__u64 spare;
+};
+
+#define PIE_RECORDED_FLOWS 1024
+
 #endif

@@ -2,6 +2,9 @@
  * (pie_flight.h), a file below /proc/net/pie_recorded that this program maps read-only. `pie-tap --help` has the commands. */
 #include "pie_follow.h"
 
+#include "pie_recorded.h"
+
+#include <arpa/inet.h>
 #include <dirent.h>
 #include <errno.h>
 #include <fcntl.h>
@@ -21,8 +24,8 @@ static const char usage[] =
     "Reads the records of queues of pie_recorded\n"
     "\n"
     "Usage: pie-tap list\n"
-    "       pie-tap dump QUEUE\n"
-    "       pie-tap follow QUEUE\n"
+    "       pie-tap dump [--flows FILE] QUEUE\n"
+    "       pie-tap follow [--flows FILE] QUEUE\n"
     "       pie-tap record QUEUE [EVERY]\n"
     "\n"
     "  list     Print the records of this network namespace: number, device, handle, parent, events so far, file\n"
@@ -31,6 +34,9 @@ static const char usage[] =
     "           ends it. If events were overwritten before they were read, a record `lost,N` says how many, and an excerpt follows\n"
     "  record   Decide each event again, and write a CSV record for each period of EVERY (1s), as `pie explain --every EVERY --csv\n"
     "           --wall` does. Standard error names an event that was decided differently, and the status is 2\n"
+    "\n"
+    "  --flows  Write to FILE, as CSV, the addresses of each flow when its first packet was seen: the upper half of a tag is the flow. A flow\n"
+    "           may be missing if there are many. pie-report --flows reads FILE\n"
     "\n"
     "QUEUE is the number of a record (tc -s qdisc show prints it), a device that has one record, or a file.\n";
 
@@ -143,6 +149,79 @@ static void list(void) {
     closedir(folder);
 }
 
+/* ---- flows */
+
+/* The flows of a record. */
+struct flows {
+    FILE *out; /* NULL: none are asked for */
+    const struct pie_recorded_flow *places;
+    uint64_t seen[PIE_RECORDED_FLOWS]; /* when the place was written that was read last */
+};
+
+static void open_flows(struct flows *flows, const struct tap *tap, const char *file) {
+    struct pie_flight_layout layout;
+    size_t page = (size_t)sysconf(_SC_PAGESIZE), at;
+    if (file == NULL)
+        return;
+    if (!pie_flight_layout_in(&layout, tap->memory, tap->bytes))
+        fail("this is no record: ", tap->path);
+    at = (layout.words * 8 + page - 1) / page * page;
+    if (tap->bytes < at + PIE_RECORDED_FLOWS * sizeof *flows->places)
+        fail("the module that wrote this record keeps no flows: ", tap->path);
+    flows->places = (const struct pie_recorded_flow *)((const char *)tap->memory + at);
+    if ((flows->out = fopen(file, "wx")) == NULL)
+        fail("a new file cannot be written: ", file);
+    fprintf(flows->out, "flow,protocol,source,source_port,destination,destination_port\n");
+}
+
+static void write_flow(FILE *out, const struct pie_recorded_flow *flow) {
+    static const struct {
+        int number;
+        const char *name;
+        int has_ports;
+    } protocols[] = {{1, "icmp", 0}, {6, "tcp", 1},        {17, "udp", 1},   {33, "33", 1},
+                     {50, "esp", 0}, {58, "ipv6-icmp", 0}, {132, "sctp", 1}, {136, "136", 1}};
+    int family = flow->family == 4 ? AF_INET : AF_INET6, has_ports = 0;
+    char source[INET6_ADDRSTRLEN], destination[INET6_ADDRSTRLEN], protocol[16];
+    size_t i;
+    snprintf(protocol, sizeof protocol, "%d", flow->protocol);
+    for (i = 0; i < sizeof protocols / sizeof *protocols; i++) {
+        if (protocols[i].number == flow->protocol) {
+            snprintf(protocol, sizeof protocol, "%s", protocols[i].name);
+            has_ports = protocols[i].has_ports && (flow->ports[0] != 0 || flow->ports[1] != 0);
+        }
+    }
+    inet_ntop(family, flow->source, source, sizeof source);
+    inet_ntop(family, flow->destination, destination, sizeof destination);
+    if (has_ports)
+        fprintf(out, "0x%08x,%s,%s,%d,%s,%d\n", flow->flow, protocol, source, ntohs(flow->ports[0]), destination, ntohs(flow->ports[1]));
+    else
+        fprintf(out, "0x%08x,%s,%s,,%s,\n", flow->flow, protocol, source, destination);
+}
+
+/* Writes the flows that were written to the record since the last call. */
+static void write_flows(struct flows *flows) {
+    size_t i;
+    if (flows->out == NULL)
+        return;
+    for (i = 0; i < PIE_RECORDED_FLOWS; i++) {
+        const struct pie_recorded_flow *from = &flows->places[i];
+        struct pie_recorded_flow flow;
+        uint32_t number = __atomic_load_n(&from->flow, __ATOMIC_ACQUIRE);
+        if (number == 0 || from->moment == flows->seen[i])
+            continue;
+        memcpy(&flow, from, sizeof flow);
+        __atomic_thread_fence(__ATOMIC_ACQUIRE);
+        if (flow.flow != number || __atomic_load_n(&from->flow, __ATOMIC_RELAXED) != number)
+            continue; /* it is being written: the next call reads it */
+        flows->seen[i] = flow.moment;
+        if (flow.family != 0)
+            write_flow(flows->out, &flow);
+    }
+    if (fflush(flows->out) != 0)
+        fail("the file of flows cannot be written", "");
+}
+
 static int write_out(void *user, const unsigned char *bytes, size_t count) {
     (void)user;
     return fwrite(bytes, 1, count, stdout) != count;
@@ -153,7 +232,7 @@ static void flush(void) {
         fail("the output cannot be written", "");
 }
 
-static int dump(struct tap *tap) {
+static int dump(struct tap *tap, struct flows *flows) {
     int answer;
     do
         answer = pie_flight_dump(tap->memory, tap->bytes, tap->scratch, write_out, NULL);
@@ -163,6 +242,7 @@ static int dump(struct tap *tap) {
     if (answer == PIE_FLIGHT_BROKEN)
         fail("a record contains an event that cannot be: ", tap->path);
     flush();
+    write_flows(flows);
     return 0;
 }
 
@@ -196,7 +276,7 @@ static void follow_clock(const struct tap *tap, uint64_t *told) {
     }
 }
 
-static int follow(struct tap *tap) {
+static int follow(struct tap *tap, struct flows *flows) {
     static struct pie_flight_follower follower;
     struct pie_flight_text text;
     PIE_WORD *snapshot;
@@ -219,6 +299,7 @@ static int follow(struct tap *tap) {
         if (answer == PIE_FLIGHT_BROKEN)
             fail("a record contains an event that cannot be: ", tap->path);
         flush();
+        write_flows(flows);
         if (!goes_on)
             return 0;
         follow_clock(tap, &told);
@@ -367,7 +448,9 @@ static int record(struct tap *tap, const char *words) {
 }
 
 int main(int count, char **words) {
+    static struct flows flows;
     struct tap tap;
+    int is_dump, has_flows;
     signal(SIGINT, end);
     signal(SIGTERM, end);
     if (count == 2 && strcmp(words[1], "--help") == 0) {
@@ -378,17 +461,17 @@ int main(int count, char **words) {
         list();
         return 0;
     }
-    if (count < 3 || count > 4 || (count == 4 && strcmp(words[1], "record") != 0)) {
+    if (count > 1 && strcmp(words[1], "record") == 0 && (count == 3 || count == 4)) {
+        map(&tap, find(words[2]));
+        return record(&tap, count == 4 ? words[3] : "1s");
+    }
+    is_dump = count > 1 && strcmp(words[1], "dump") == 0;
+    has_flows = count == 5 && strcmp(words[2], "--flows") == 0;
+    if ((!is_dump && (count < 2 || strcmp(words[1], "follow") != 0)) || (count != 3 && !has_flows)) {
         fputs(usage, stderr);
         return 2;
     }
-    map(&tap, find(words[2]));
-    if (strcmp(words[1], "dump") == 0)
-        return dump(&tap);
-    if (strcmp(words[1], "follow") == 0)
-        return follow(&tap);
-    if (strcmp(words[1], "record") == 0)
-        return record(&tap, count == 4 ? words[3] : "1s");
-    fputs(usage, stderr);
-    return 2;
+    map(&tap, find(words[count - 1]));
+    open_flows(&flows, &tap, has_flows ? words[3] : NULL);
+    return is_dump ? dump(&tap, &flows) : follow(&tap, &flows);
 }

@@ -28,6 +28,7 @@
 #include "pie_flight.h"
 #include "pie_random.h"
 #include "pie_recorded.h"
+#include "pie_flows.h"
 
 /* The callers of the events. */
 enum { PR_ENQUEUE = 1, PR_DEQUEUE = 2, PR_TIMER = 3, PR_PURGE = 4, PR_CHANGE = 5 };
@@ -58,7 +59,7 @@ struct pr_net {
 	struct proc_dir_entry *folder;
 };
 
-/* The memory of a record, which user space maps, and its file. */
+/* The memory of a record, which user space maps: the recorder, and the flows. And its file. */
 struct pr_record {
 	void *words;
 	size_t bytes;
@@ -78,6 +79,7 @@ struct pr_sched {
 	struct pie_event departure;
 	struct pie_event other;
 	struct pr_random random;
+	u64 hash_key;
 	u32 room;		/* the most packets */
 	u32 next_tag;
 	bool ecn;
@@ -88,6 +90,7 @@ struct pr_sched {
 	struct hrtimer timer;
 	struct Qdisc *sch;
 	struct pr_record *record;
+	struct pie_recorded_flow *places; /* of flows in the record */
 	u32 events;	/* the options as tc gave them */
 	u32 serial;
 	u32 alpha;
@@ -128,30 +131,28 @@ static void pr_kept(struct pr_sched *q, const struct pie_flight_burst *burst)
 }
 
 /* Records q->arrival. */
-static void pr_keep_arrival(struct pr_sched *q)
+static __always_inline void pr_keep_arrival(struct pr_sched *q)
 {
 	const struct pie_event *event = &q->arrival;
-	struct pie_flight_burst burst;
+	struct pie_flight_burst burst = pie_flight_begin(&q->flight);
 
-	burst = pie_flight_begin(&q->flight);
 	pie_flight_arrive(&burst, event->moment, event->tag, event->word, event->size, event->ecn,
 			  event->answer, PR_ENQUEUE);
 	pr_kept(q, &burst);
 }
 
 /* Records q->departure, of a packet that arrived at `since`. */
-static void pr_keep_departure(struct pr_sched *q, u64 since)
+static __always_inline void pr_keep_departure(struct pr_sched *q, u64 since)
 {
 	const struct pie_event *event = &q->departure;
 	struct pie_stats *stats = &q->flight.stats;
-	struct pie_flight_burst burst;
+	struct pie_flight_burst burst = pie_flight_begin(&q->flight);
 	u64 waited = q->pie.moment - since;
 
 	stats->left++;
 	stats->left_bytes += event->size;
 	stats->waited += waited;
 	stats->waited_high += stats->waited < waited;
-	burst = pie_flight_begin(&q->flight);
 	pie_flight_depart(&burst, event->moment, event->tag, since, event->size, event->ecn,
 			  event->caller);
 	pr_kept(q, &burst);
@@ -172,8 +173,8 @@ static noinline void pr_keep_other(struct pr_sched *q)
 	pr_kept(q, &burst);
 }
 
-/* Returns the packet's ECN field; not-ECT if it has none or could not be marked. */
-static noinline u32 pr_ecn(struct sk_buff *skb)
+/* Returns the ECN field of any packet as pr_ecn. */
+static noinline u32 pr_ecn_of_any(struct sk_buff *skb)
 {
 	unsigned int end = skb_network_offset(skb);
 	u32 ecn;
@@ -197,10 +198,34 @@ static noinline u32 pr_ecn(struct sk_buff *skb)
 	return ecn != PIE_NOT_ECT && skb_try_make_writable(skb, end) ? PIE_NOT_ECT : ecn;
 }
 
+/* Returns the packet's ECN field; not-ECT if it has none or could not be marked. */
+static __always_inline u32 pr_ecn(struct sk_buff *skb)
+{
+	const u8 *header = skb_network_header(skb);
+
+	/* most packets: IPv4, with a header that no other packet shares */
+	if (likely(skb->protocol == htons(ETH_P_IP) && !skb_cloned(skb) &&
+		   header + sizeof(struct iphdr) <= skb_tail_pointer(skb)))
+		return ipv4_get_dsfield((const struct iphdr *)header) & INET_ECN_MASK;
+	return pr_ecn_of_any(skb);
+}
+
 /* Marks a packet, which can be marked. */
 static noinline void pr_mark(struct sk_buff *skb)
 {
 	INET_ECN_set_ce(skb);
+}
+
+/* Returns the flow of a packet, whose addresses are in the record if there was a place. */
+static __always_inline u32 pr_flow(struct pr_sched *q, struct sk_buff *skb)
+{
+	bool is_hashed = skb->l4_hash || skb->sw_hash;
+	u32 flow = likely(is_hashed) ? skb->hash : pr_hash(skb, q->hash_key);
+	struct pie_recorded_flow *place = &q->places[flow % PIE_RECORDED_FLOWS];
+
+	if (unlikely(place->flow != flow))
+		pr_write_flow(place, skb, flow, q->arrival.moment);
+	return flow;
 }
 
 /* Counts and records an arrival whose packet is dropped. */
@@ -228,9 +253,9 @@ static noinline void pr_dropped(struct pr_sched *q, u32 verdict)
 		pr_keep_arrival(q);
 }
 
-/* Enqueues or drops a packet that needs no segmentation. */
+/* Enqueues or drops a packet that needs no segmentation. A tag is only for the record. */
 static __always_inline int pr_enqueue_one(struct sk_buff *skb, struct Qdisc *sch,
-					  struct sk_buff **to_free)
+					  struct sk_buff **to_free, const bool is_recorded)
 {
 	struct pr_sched *q = qdisc_priv(sch);
 	struct pie_event *event = &q->arrival;
@@ -239,9 +264,8 @@ static __always_inline int pr_enqueue_one(struct sk_buff *skb, struct Qdisc *sch
 	u32 verdict;
 
 	event->moment = ktime_get_ns();
-	event->tag = q->next_tag;
-	if (q->flows)
-		event->tag |= (u64)skb_get_hash(skb) << 32;
+	if (is_recorded)
+		event->tag = q->next_tag | (q->flows ? (u64)pr_flow(q, skb) << 32 : 0);
 	event->word = pr_word(&q->random, event->moment);
 	event->size = qdisc_pkt_len(skb);
 	ecn = q->ecn ? pr_ecn(skb) : PIE_NOT_ECT;
@@ -258,16 +282,17 @@ static __always_inline int pr_enqueue_one(struct sk_buff *skb, struct Qdisc *sch
 		pr_dropped(q, verdict);
 		return qdisc_drop(skb, sch, to_free);
 	}
-	q->next_tag++;
 	since = q->pie.moment;
-	pr_cb(skb)->tag = event->tag;
-	pr_cb(skb)->since = since | ecn << PR_ECN_SHIFT;
-	if (q->record) {
+	if (is_recorded) {
+		q->next_tag++;
+		pr_cb(skb)->tag = event->tag;
+		pr_cb(skb)->since = since | ecn << PR_ECN_SHIFT;
 		pie_flight_came(&q->flight, event, since, ecn);
 		if (q->flight.bytes > stats->largest_queue)
 			stats->largest_queue = q->flight.bytes;
 		pr_keep_arrival(q);
 	} else {
+		pr_cb(skb)->since = since;
 		q->flight.packets++;
 		q->flight.bytes += event->size;
 	}
@@ -275,6 +300,8 @@ static __always_inline int pr_enqueue_one(struct sk_buff *skb, struct Qdisc *sch
 		q->maxq = q->flight.packets;
 	return qdisc_enqueue_tail(skb, sch);
 }
+
+static int pr_enqueue(struct sk_buff *skb, struct Qdisc *sch, struct sk_buff **to_free);
 
 /* Enqueues the segments of a GSO packet, each decided by itself. */
 static noinline int pr_enqueue_gso(struct sk_buff *skb, struct Qdisc *sch, struct sk_buff **to_free)
@@ -292,7 +319,7 @@ static noinline int pr_enqueue_gso(struct sk_buff *skb, struct Qdisc *sch, struc
 
 		skb_mark_not_on_list(segs);
 		qdisc_skb_cb(segs)->pkt_len = size;
-		if (pr_enqueue_one(segs, sch, to_free) == NET_XMIT_SUCCESS) {
+		if (pr_enqueue(segs, sch, to_free) == NET_XMIT_SUCCESS) {
 			after += size;
 			count++;
 		}
@@ -305,38 +332,57 @@ static noinline int pr_enqueue_gso(struct sk_buff *skb, struct Qdisc *sch, struc
 	return NET_XMIT_SUCCESS;
 }
 
+static noinline int pr_enqueue_recorded(struct sk_buff *skb, struct Qdisc *sch,
+					struct sk_buff **to_free)
+{
+	return pr_enqueue_one(skb, sch, to_free, true);
+}
+
 static int pr_enqueue(struct sk_buff *skb, struct Qdisc *sch, struct sk_buff **to_free)
 {
+	const struct pr_sched *q = qdisc_priv(sch);
+
 	if (unlikely(skb_is_gso(skb)))
 		return pr_enqueue_gso(skb, sch, to_free);
-	return pr_enqueue_one(skb, sch, to_free);
+	if (q->record)
+		return pr_enqueue_recorded(skb, sch, to_free);
+	return pr_enqueue_one(skb, sch, to_free, false);
 }
 
 /* A packet has left the queue, by q->departure.caller. */
-static __always_inline void pr_left(struct pr_sched *q, const struct sk_buff *skb)
+static __always_inline void pr_left(struct pr_sched *q, const struct sk_buff *skb,
+				    const bool is_recorded)
 {
 	struct pr_cb *cb = pr_cb(skb);
 	struct pie_event *event = &q->departure;
-	u64 since = cb->since & (BIT_ULL(PR_ECN_SHIFT) - 1);
+	u64 since = cb->since;
 	u32 answer;
 
 	event->moment = ktime_get_ns();
-	event->tag = cb->tag;
 	event->size = qdisc_pkt_len(skb);
-	event->ecn = cb->since >> PR_ECN_SHIFT;
+	if (is_recorded) {
+		event->tag = cb->tag;
+		event->ecn = since >> PR_ECN_SHIFT;
+		since &= BIT_ULL(PR_ECN_SHIFT) - 1;
+	}
 	q->flight.packets--;
 	q->flight.bytes -= event->size;
 	answer = pie_depart_event(&q->pie, q->flight.bytes, since, event);
-	if (likely(answer == PIE_DONE) && q->record)
+	if (is_recorded && likely(answer == PIE_DONE))
 		pr_keep_departure(q, since);
 }
 
 static struct sk_buff *pr_dequeue(struct Qdisc *sch)
 {
 	struct sk_buff *skb = qdisc_dequeue_head(sch);
+	struct pr_sched *q = qdisc_priv(sch);
 
-	if (likely(skb))
-		pr_left(qdisc_priv(sch), skb);
+	if (unlikely(!skb))
+		return skb;
+	if (q->record)
+		pr_left(q, skb, true);
+	else
+		pr_left(q, skb, false);
 	return skb;
 }
 
@@ -552,6 +598,7 @@ static int pr_record_open(struct pr_sched *q, const struct pie_opening *opening,
 	struct net_device *dev = qdisc_dev(q->sch);
 	struct pr_net *net = net_generic(dev_net(dev), pr_net_id);
 	struct pr_record *record;
+	size_t flows_at;
 	char name[64];
 	long most;
 
@@ -564,7 +611,8 @@ static int pr_record_open(struct pr_sched *q, const struct pie_opening *opening,
 	record = kzalloc(sizeof(*record), GFP_KERNEL);
 	if (!record)
 		return -ENOMEM;
-	record->bytes = PAGE_ALIGN(pie_flight_bytes(q->events, opening->packets));
+	flows_at = PAGE_ALIGN(pie_flight_bytes(q->events, opening->packets));
+	record->bytes = flows_at + PIE_RECORDED_FLOWS * sizeof(struct pie_recorded_flow);
 	most = (long)READ_ONCE(memory) << (20 - PAGE_SHIFT);
 	if (atomic_long_add_return(record->bytes >> PAGE_SHIFT, &pr_pages) > most) {
 		NL_SET_ERR_MSG(extack, "records would exceed the module's parameter memory");
@@ -572,11 +620,12 @@ static int pr_record_open(struct pr_sched *q, const struct pie_opening *opening,
 		return -ENOMEM;
 	}
 	record->words = vmalloc_user(record->bytes);
-	if (!record->words || !pie_flight_open(&q->flight, record->words, record->bytes, q->events,
-					       opening, &q->pie)) {
+	if (!record->words ||
+	    !pie_flight_open(&q->flight, record->words, flows_at, q->events, opening, &q->pie)) {
 		pr_record_free(record);
 		return -ENOMEM;
 	}
+	q->places = record->words + flows_at;
 	pie_flight_clock(record->words, opening->moment, ktime_get_real_ns());
 	q->serial = (u32)atomic_inc_return(&pr_serial);
 	snprintf(name, sizeof(name), "%u-%x:%x-%x:%x-%u", dev->ifindex,
@@ -647,6 +696,7 @@ static int pr_init(struct Qdisc *sch, struct nlattr *opt, struct netlink_ext_ack
 	q->arrival.caller = PR_ENQUEUE;
 	q->departure.caller = PR_DEQUEUE;
 	get_random_bytes(&q->random, sizeof(q->random));
+	q->hash_key = get_random_u64();
 	err = pr_record_open(q, &opening, extack);
 	if (err)
 		return err;
@@ -666,7 +716,7 @@ static void pr_reset(struct Qdisc *sch)
 	if (q->is_open) {
 		q->departure.caller = PR_PURGE;
 		for (skb = sch->q.head; skb; skb = skb->next) {
-			pr_left(q, skb);
+			pr_left(q, skb, q->record);
 			q->purged++;
 		}
 		q->departure.caller = PR_DEQUEUE;

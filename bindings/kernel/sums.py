@@ -5,7 +5,7 @@
 - NAME.json: the output of `tc -s -j qdisc show` when the record ended
 - NAME.before, NAME.after: the receiver's /proc/net/netstat
 
-Each NAME.excerpt, a record without sums, must be clean.
+Each NAME.excerpt, a record without sums, must be clean. NAME.csv names the flows of NAME.history, except those whose place another flow has.
 
 Each history must be clean, and its sums must be equal. A purge drops packets that no counter of `tc` has: its departures have a caller of their own. The
 history NAME of a module with a fault begins with mutant_: if its sums are equal and it is clean, the fault was not found, which is a failure.
@@ -20,6 +20,8 @@ import sys
 from pathlib import Path
 
 DEQUEUE, PURGE = "2", "4"
+PLACES = 1024  # PIE_RECORDED_FLOWS
+ARP = "42"  # bytes of a request or reply
 
 
 def said(pie, history, *words):
@@ -58,6 +60,20 @@ def differences(sums, told, arrived_ce):
     return [f"{what}: {recorded} recorded, {counted} counted" for what, recorded, counted in pairs if recorded != counted]
 
 
+def unnamed(folder, name):
+    """What is wrong with the file of flows."""
+    arrivals = [line.split(",") for line in (folder / f"{name}.history").read_text().splitlines() if line.startswith("arrive,")]
+    numbers = {int(it[3]) >> 32 for it in arrivals if it[4] != ARP} - {0}
+    rows = list(csv.DictReader(io.StringIO((folder / f"{name}.csv").read_text())))
+    named = {int(row["flow"], 16) for row in rows}
+    ways = {(row["protocol"], row["source"], row["destination"], row["destination_port"]) for row in rows}
+    expected = {("tcp", "10.0.1.1", "10.0.2.1", "5201"), ("icmp", "10.0.1.1", "10.0.2.1", "")}
+    print(f"  {name}: {len(named)} of {len(numbers)} flows have addresses")
+    wrong = [f"flow {it:#010x} has no packet" for it in named - numbers]
+    wrong += [f"flow {it:#010x} has no addresses" for it in numbers - named if it % PLACES not in {other % PLACES for other in named}]
+    return wrong + [f"no flow {it}" for it in expected - ways]
+
+
 def judged(pie, folder, name):
     """Prints the sums of a queue, and returns what is wrong."""
     history = folder / f"{name}.history"
@@ -69,6 +85,8 @@ def judged(pie, folder, name):
     arrived = congestion_marks(folder / f"{name}.after") - congestion_marks(folder / f"{name}.before")
     wrong = [] if re.fullmatch(r"clean,\d+", finding) else [f"audit: {finding}"]
     wrong += differences(sums, told, arrived)
+    if (folder / f"{name}.csv").exists():
+        wrong += unnamed(folder, name)
     print(f"  {name}: {finding}; {sums['sent']} sent, {sums['early']} early, {sums['bytes'] + sums['packets']} by limits, {sums['mark']} marked, "
           f"{sums['purged']} purged, {arrived} marks arrived")
     return wrong

@@ -1,0 +1,220 @@
+/* Requests by rtnetlink to queues of pie_recorded, for sanitized.sh, which runs this program in a booted kernel:
+ *
+ *     requests fail DEVICE          adds, changes, prints and deletes a queue; each time one later allocation of the request fails, until none is left
+ *     requests fuzz DEVICE COUNT SEED      sends COUNT requests with random attributes: types, lengths, values and flags
+ *     requests map FILE             maps a record to write, which must be refused
+ *
+ * It prints how many requests were accepted and refused. The kernel must survive; a record must not be there afterwards. */
+#include <errno.h>
+#include <fcntl.h>
+#include <linux/pkt_sched.h>
+#include <linux/rtnetlink.h>
+#include <net/if.h>
+#include <stdint.h>
+#include <stdio.h>
+#include <stdlib.h>
+#include <string.h>
+#include <sys/mman.h>
+#include <sys/socket.h>
+#include <unistd.h>
+
+#define KIND "pie_recorded"
+#define OPTIONS_MAX 20
+
+struct request {
+    struct nlmsghdr head;
+    struct tcmsg queue;
+    unsigned char attributes[2048];
+};
+
+static int device, kernel;
+static uint64_t state;
+
+static uint32_t chance(uint32_t below) {
+    state = state * 6364136223846793005u + 1442695040888963407u;
+    return (uint32_t)(state >> 33) % below;
+}
+
+/* Begins a request for the root queue of the device. */
+static void begin(struct request *it, int type, int flags) {
+    memset(it, 0, sizeof *it);
+    it->head.nlmsg_len = NLMSG_LENGTH(sizeof it->queue);
+    it->head.nlmsg_type = type;
+    it->head.nlmsg_flags = NLM_F_REQUEST | NLM_F_ACK | flags;
+    it->queue.tcm_family = AF_UNSPEC;
+    it->queue.tcm_ifindex = device;
+    it->queue.tcm_parent = TC_H_ROOT;
+    it->queue.tcm_handle = 0x20000;
+}
+
+/* Adds an attribute whose header may have another length than its data. */
+static struct rtattr *add(struct request *it, unsigned type, const void *data, unsigned bytes, int length) {
+    struct rtattr *at = (struct rtattr *)((char *)it + NLMSG_ALIGN(it->head.nlmsg_len));
+    at->rta_type = type;
+    at->rta_len = (unsigned short)(length < 0 ? (int)RTA_LENGTH(bytes) : length);
+    if (bytes != 0)
+        memcpy(RTA_DATA(at), data, bytes);
+    it->head.nlmsg_len = NLMSG_ALIGN(it->head.nlmsg_len) + RTA_ALIGN(RTA_LENGTH(bytes));
+    return at;
+}
+
+/* Sends a request and reads its answers. Returns the error of the last, or 0. */
+static int ask(struct request *it) {
+    static char answer[65536];
+    struct nlmsghdr *at = (struct nlmsghdr *)answer;
+    for (;;) {
+        ssize_t bytes;
+        if (send(kernel, it, it->head.nlmsg_len, 0) < 0)
+            return errno;
+        for (;;) {
+            bytes = recv(kernel, answer, sizeof answer, 0);
+            if (bytes < 0)
+                return errno;
+            for (at = (struct nlmsghdr *)answer; NLMSG_OK(at, bytes); at = NLMSG_NEXT(at, bytes))
+                if (at->nlmsg_type == NLMSG_ERROR)
+                    return -((struct nlmsgerr *)NLMSG_DATA(at))->error;
+        }
+    }
+}
+
+/* Sends a request with the N-th fault of its allocations. Returns its error; `is_hit` says if there was such an allocation. */
+static int ask_failing(struct request *it, int n, int *is_hit) {
+    char text[16] = "";
+    int file = open("/proc/thread-self/fail-nth", O_RDWR), error;
+    struct timeval second = {1, 0};
+    if (file < 0) {
+        perror("/proc/thread-self/fail-nth");
+        exit(1);
+    }
+    snprintf(text, sizeof text, "%d", n);
+    setsockopt(kernel, SOL_SOCKET, SO_RCVTIMEO, &second, sizeof second);
+    if (write(file, text, strlen(text)) < 0) {
+        perror("fail-nth");
+        exit(1);
+    }
+    error = ask(it);
+    memset(text, 0, sizeof text);
+    if (pread(file, text, sizeof text - 1, 0) < 0)
+        perror("fail-nth");
+    if (write(file, "0", 1) < 0)
+        perror("fail-nth");
+    close(file);
+    *is_hit = atoi(text) == 0;
+    return error;
+}
+
+static void options(struct request *it, uint32_t target, uint32_t events) {
+    struct rtattr *nest;
+    uint32_t one = 1;
+    add(it, TCA_KIND, KIND, sizeof KIND, -1);
+    nest = add(it, TCA_OPTIONS, NULL, 0, -1);
+    add(it, TCA_PIE_TARGET, &target, 4, -1);
+    add(it, TCA_PIE_ECN, &one, 4, -1);
+    if (events != 0)
+        add(it, 19, &events, 4, -1);
+    nest->rta_len = (unsigned short)((char *)it + it->head.nlmsg_len - (char *)nest);
+}
+
+static void remove_queue(void) {
+    struct request it;
+    begin(&it, RTM_DELQDISC, 0);
+    ask(&it);
+}
+
+/* Each allocation of each request fails once. */
+static void fail_each(void) {
+    static const char *const names[] = {"add", "change", "print", "delete"};
+    int what, n, is_hit, error;
+    for (what = 0; what < 4; what++) {
+        int failed = 0, passed = 0;
+        for (n = 1; n < 2000; n++) {
+            struct request it;
+            remove_queue();
+            if (what != 0) {
+                begin(&it, RTM_NEWQDISC, NLM_F_CREATE | NLM_F_REPLACE);
+                options(&it, 15000, 1000);
+                ask(&it);
+            }
+            begin(&it, what == 2 ? RTM_GETQDISC : what == 3 ? RTM_DELQDISC : RTM_NEWQDISC, what == 0 ? NLM_F_CREATE | NLM_F_EXCL : 0);
+            if (what < 2)
+                options(&it, 5000, 1000);
+            error = ask_failing(&it, n, &is_hit);
+            if (!is_hit)
+                break;
+            error != 0 ? failed++ : passed++;
+        }
+        printf("TOLD fail %s: %d allocations failed one at a time, %d requests refused, %d done without it\n", names[what], n - 1, failed, passed);
+    }
+    remove_queue();
+}
+
+/* Adds random options. */
+static void random_options(struct request *it) {
+    static const uint32_t numbers[] = {0, 1, 100, 1000, 15000, 65535, 65536, 1u << 20, (1u << 20) + 1, 10000000, 10000001, 1000000000, 0x7fffffff, 0xffffffff};
+    struct rtattr *nest = add(it, chance(20) != 0 ? TCA_OPTIONS : chance(12), NULL, 0, -1);
+    unsigned count = chance(8);
+    while (count-- != 0) {
+        unsigned char data[64];
+        unsigned type = chance(10) != 0 ? 1 + chance(OPTIONS_MAX) : chance(65536), bytes = chance(8) != 0 ? 4 : chance(sizeof data), i;
+        uint32_t number = chance(3) != 0 ? numbers[chance(sizeof numbers / sizeof *numbers)] : chance(2) != 0 ? chance(100000) : (uint32_t)(state >> 32);
+        if (type == 19 && chance(4) != 0)
+            number = chance(3000);
+        for (i = 0; i < sizeof data; i++)
+            data[i] = (unsigned char)chance(256);
+        memcpy(data, &number, 4);
+        add(it, type | (chance(20) == 0 ? NLA_F_NESTED : 0), data, bytes, chance(20) != 0 ? -1 : (int)chance(80));
+    }
+    nest->rta_len = chance(30) != 0 ? (unsigned short)((char *)it + it->head.nlmsg_len - (char *)nest) : (unsigned short)chance(200);
+}
+
+static void fuzz(unsigned count) {
+    unsigned accepted = 0, refused = 0, number;
+    struct timeval second = {1, 0};
+    setsockopt(kernel, SOL_SOCKET, SO_RCVTIMEO, &second, sizeof second);
+    for (number = 0; number < count; number++) {
+        struct request it;
+        int is_change = chance(2) == 0;
+        begin(&it, chance(30) != 0 ? RTM_NEWQDISC : chance(2) != 0 ? RTM_DELQDISC : RTM_GETQDISC, is_change ? 0 : NLM_F_CREATE | NLM_F_REPLACE);
+        if (chance(40) == 0)
+            it.queue.tcm_handle = chance(65536) << 16;
+        add(&it, TCA_KIND, KIND, sizeof KIND, -1);
+        if (chance(20) != 0)
+            random_options(&it);
+        ask(&it) == 0 ? accepted++ : refused++;
+    }
+    remove_queue();
+    printf("TOLD fuzz: %u requests accepted, %u refused\n", accepted, refused);
+}
+
+/* Returns 0 if a record can be mapped to be read, and neither written nor executed, at once or later. */
+static int map_record(const char *path) {
+    int file = open(path, O_RDWR), is_refused;
+    void *at;
+    if (file < 0)
+        return 1;
+    is_refused = mmap(NULL, 4096, PROT_READ | PROT_WRITE, MAP_SHARED, file, 0) == MAP_FAILED;
+    is_refused &= mmap(NULL, 4096, PROT_READ | PROT_EXEC, MAP_SHARED, file, 0) == MAP_FAILED;
+    is_refused &= mmap(NULL, 1u << 30, PROT_READ, MAP_SHARED, file, 0) == MAP_FAILED;
+    at = mmap(NULL, 4096, PROT_READ, MAP_SHARED, file, 0);
+    is_refused &= at != MAP_FAILED && mprotect(at, 4096, PROT_READ | PROT_WRITE) != 0 && mprotect(at, 4096, PROT_READ | PROT_EXEC) != 0;
+    printf("TOLD map: %s\n", is_refused ? "read-only" : "FAILED");
+    return !is_refused;
+}
+
+int main(int words, char **word) {
+    struct sockaddr_nl to = {.nl_family = AF_NETLINK};
+    if (words == 3 && strcmp(word[1], "map") == 0)
+        return map_record(word[2]);
+    if (words < 3 || (device = (int)if_nametoindex(word[2])) == 0)
+        return 2;
+    kernel = socket(AF_NETLINK, SOCK_RAW | SOCK_CLOEXEC, NETLINK_ROUTE);
+    if (kernel < 0 || bind(kernel, (struct sockaddr *)&to, sizeof to) != 0)
+        return 1;
+    state = words > 4 ? strtoull(word[4], NULL, 10) : 1;
+    if (strcmp(word[1], "fail") == 0)
+        fail_each();
+    else
+        fuzz(words > 3 ? (unsigned)strtoul(word[3], NULL, 10) : 1000);
+    fflush(stdout);
+    return 0;
+}

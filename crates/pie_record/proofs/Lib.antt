@@ -1,3 +1,4 @@
+mod LaneFacts
 mod NumberFacts
 mod LineFacts
 mod ScanFacts

@@ -1,10 +1,8 @@
 -- How far a scan has come: over a byte, over a block of bytes that a mask marks, and to what stops it.
-use Rattle.std.proofs.Common.{◌≢◌, suc, zero, sym, ap, ◌∙◌, arith, subst, get_or, take, ⊎_elim}
+use Rattle.std.proofs.Common.{suc, zero, sym, ◌∙◌, arith, subst, get_or, ⊎_elim}
 use Rattle.std.proofs.lemmas.Bool.{cases_lt}
-use Rattle.std.proofs.lemmas.List.{append-nil}
 use Rattle.std.specs.Int.{bit_at}
-use Rattle.pie_record.specs.{◌≡◌, ◌<◌, ◌+◌, ◌-◌, ◌++◌, ◌∷◌, ◌≤◌, ℕ, List, [], length, refl, commas, IsPlain, IsScanned, Scans, AreMarked}
-use Rattle.pie_record.specs.declared.scan.Stop.{Stop}
+use Rattle.pie_record.specs.{◌≡◌, ◌<◌, ◌+◌, ◌++◌, ◌∷◌, ◌≤◌, ℕ, List, [], length, refl, IsPlain, IsScanned, Scans, AreMarked}
 use Rattle.pie_record.specs.declared.scan.Stop.TheVariants as stop
 use Rattle.pie_record.proofs.LineFacts.{comma-stepped, other-stepped, plain-above, plain-more}
 
@@ -48,34 +46,29 @@ module _ (from : ℕ) (bytes before : List ℕ) where
   pub stops-odd : (now : List ℕ) (end last place : ℕ) → Scans from bytes before now end place stop.Odd → Scans from bytes before now last place stop.Odd
   stops-odd now end last place scans = record { scanned = scans.scanned; stop = scans.stop }
 
-  module _ (at next mask : ℕ) (marks : AreMarked bytes at next mask) (low : at ≤ next) where
+  module _ (at end mask : ℕ) (marks : AreMarked bytes at end mask) (room : end ≤ length bytes) where
     -- bytes without a bit are above the comma
-    unmarked : (bit : ℕ) → bit ≤ 32 → ((k : ℕ) → k < bit → bit_at mask k ≡ 0) → (k : ℕ) → k < at + bit - next → 44 < get_or bytes (next + k) 0
+    unmarked : (bit : ℕ) → at + bit ≤ end → ((k : ℕ) → k < bit → bit_at mask k ≡ 0) → (k : ℕ) → k < bit → 44 < get_or bytes (at + k) 0
     unmarked bit few none k less =
-        let place : ℕ = next + k - at in
-        let same : at + place ≡ next + k = omega arith in
-        ⊎_elim (λ high. high) (λ small.
-        let one = marks.each place (omega arith) (omega arith) (rw same small) in
-        let clear = none place (omega arith) in
-        absurd (omega (arith, one, clear))) (cases_lt 44 (get_or bytes (next + k) 0))
+        ⊎_elim (λ high. high) (λ small. let one = marks.each k (omega arith) small in let clear = none k less in absurd (omega (arith, one, clear)))
+        (cases_lt 44 (get_or bytes (at + k) 0))
 
     -- the scan passes them
-    pub scanned-past : (now : List ℕ) (bit : ℕ) → bit ≤ 32 → next ≤ at + bit → at + 32 ≤ length bytes → ((k : ℕ) → k < bit → bit_at mask k ≡ 0)
-        → IsScanned from bytes before now next → IsScanned from bytes before now (at + bit)
-    scanned-past now bit few rising within none so_far =
-        let n : ℕ = at + bit - next in
-        let same : next + n ≡ at + bit = omega arith in
-        subst (λ (p : ℕ). IsScanned from bytes before now p) same
-        (scanned-above now next n (unmarked bit few none) (omega arith) so_far)
+    pub scanned-past : (now : List ℕ) (bit : ℕ) → at + bit ≤ end → ((k : ℕ) → k < bit → bit_at mask k ≡ 0)
+        → IsScanned from bytes before now at → IsScanned from bytes before now (at + bit)
+    scanned-past now bit few none so_far = scanned-above now at bit (unmarked bit few none) (omega arith) so_far
 
--- the marks behind the lowest
-pub marks-next : (bytes : List ℕ) (at next mask rest bit : ℕ) → AreMarked bytes at next mask → bit_at mask bit ≡ 1
-    → ((k : ℕ) → k < bit → bit_at mask k ≡ 0) → ((k : ℕ) → k < 64 → k ≢ bit → bit_at rest k ≡ bit_at mask k)
-    → ((k : ℕ) → bit_at rest k ≡ 1 → (bit_at mask k ≡ 1) × (k ≢ bit)) → AreMarked bytes at (at + bit + 1) rest
-marks-next bytes at next mask rest bit marks set below kept no_more = record {
-  each = λ k after less small. kept k (omega arith) (λ e. omega (arith, e)) ∙ marks.each k (let there = marks.within bit set in omega (arith, there.1)) less small;
-  within = λ k one. let was = no_more k one in (
-    (marks.within k was.0).0,
-    ⊎_elim (λ less. let clear = below k less in absurd (omega (arith, clear, was.0))) (λ more. omega (arith, was.1)) (cases_lt k bit),
-  );
+    -- .. up to the first that is marked
+    pub scanned-to : (now : List ℕ) (bit : ℕ) → bit_at mask bit ≡ 1 → ((k : ℕ) → k < bit → bit_at mask k ≡ 0)
+        → IsScanned from bytes before now at → IsScanned from bytes before now (at + bit)
+    scanned-to now bit set none so_far = scanned-past now bit (let there = marks.within bit set in omega arith) none so_far
+
+-- the marks behind a place
+pub marks-next : (bytes : List ℕ) (at end mask rest bit : ℕ) → AreMarked bytes at end mask
+    → ((k : ℕ) → bit_at rest k ≡ bit_at mask (bit + 1 + k)) → AreMarked bytes (at + bit + 1) end rest
+marks-next bytes at end mask rest bit marks behind = record {
+  each = λ k less small.
+      let same : at + bit + 1 + k ≡ at + (bit + 1 + k) = omega arith in
+      behind k ∙ marks.each (bit + 1 + k) (omega arith) (rw same at small);
+  within = λ k one. let it = marks.within (bit + 1 + k) (sym (behind k) ∙ one) in omega arith;
 }

@@ -38,7 +38,7 @@ fn top_bits(lanes: u8x32) -> u64
 #[inline(always)]
 pub(crate) fn marked(bytes: &[u8], at: usize) -> u64
     requires { at + 32 ≤ length bytes.now }
-    ensures { AreMarked bytes.now at at result }
+    ensures { AreMarked bytes.now at (at + 32) result }
 {
     let block = load(bytes, at);
     let low = up_to(block, b',');
@@ -56,14 +56,11 @@ pub(crate) fn lowest(mask: u64) -> usize
     mask.trailing_zeros() as usize
 }
 
-/// Returns the mask without the bit at `place`.
+/// Returns the mask of the bytes behind that at `place`.
 #[inline(always)]
-pub(crate) fn without(mask: u64, place: usize) -> u64
-    requires bound { place < 64 }
-    requires set { bit_at mask place ≡ 1 }
-    ensures smaller { result < mask }
-    ensures kept { (k : ℕ) → k < 64 → k ≢ place → bit_at result k ≡ bit_at mask k }
-    ensures no_more { (k : ℕ) → bit_at result k ≡ 1 → (bit_at mask k ≡ 1) × (k ≢ place) }
+pub(crate) fn behind(mask: u64, place: usize) -> u64
+    requires { place < 64 }
+    ensures { (k : ℕ) → bit_at result k ≡ bit_at mask (place + 1 + k) }
 {
-    mask & !(1 << place)
+    mask >> place >> 1
 }

@@ -3,7 +3,7 @@ ghost use Rattle.std.specs.Prelude.{◌≡◌, ◌+◌, ◌++◌, ◌∷◌, ◌
 ghost use Rattle.pie_record.specs.{ℕ, List, [], Option, Some, true, false, IfOk, IfErr, IfSome, OnOk, length, drop, IsRead, Keeps, IsAtEnd, Consumes, prepend_known};
 ghost use Rattle.pie_record.specs.{TakesBytes, TakesLine, commas, IsPlainLine};
 
-use crate::TraceFault;
+use crate::fault::ReadFailure;
 use crate::scan::{Stop, scan};
 use std::alloc::Global;
 use std::io;
@@ -48,16 +48,15 @@ fn read_over<R: Read>(reader: &mut R, bytes: &mut Vec<u8>) -> io::Result<usize>
 
 // Makes room for what is read at a time.
 #[inline(never)]
-fn make_room(bytes: &mut Vec<u8>) -> Result<(), TraceFault>
+fn make_room(bytes: &mut Vec<u8>) -> Result<(), ReadFailure>
     ensures some { OnOk result (0 < length bytes.new.items) }
-    ensures memory { IfErr result (λ why. why ≡ TraceFault.Memory) }
 {
     if !bytes.is_empty() {
         return Ok(());
     }
     match bytes.resize(CHUNK, 0) {
         Ok(()) => Ok(()),
-        Err(_) => Err(TraceFault::Memory),
+        Err(_) => Err(ReadFailure::Memory),
     }
 }
 
@@ -75,14 +74,9 @@ impl<R: Read> Input<R> {
     }
 
     /// Reads bytes ahead unless some are ahead already. Returns true if any is.
-    ///
-    /// # Errors
-    ///
-    /// `Read` if the reader fails; `Memory`.
-    fn fill(&mut self) -> Result<bool, TraceFault>
+    fn fill(&mut self) -> Result<bool, ReadFailure>
         ensures keeps { OnOk result (Keeps self.old self.new) }
         ensures none { IfOk result (λ some. some ≡ false → IsAtEnd self.new) }
-        ensures device { IfErr result IsRead }
     {
         if self.at < self.end {
             return Ok(true);
@@ -98,23 +92,22 @@ impl<R: Read> Input<R> {
                 self.end = count;
                 Ok(count > 0)
             }
-            Err(_) => Err(TraceFault::Read),
+            Err(_) => Err(ReadFailure::Device),
         }
     }
 
     /// Takes the bytes that are ahead up to the end of a line, or up to a byte that csv has to read, and adds them to the line.
-    fn take_bytes(&mut self, line: &mut Vec<u8>, ends: &mut Vec<usize>) -> Result<Stop, TraceFault>
-        ensures taken { IfOk result (λ stop. TakesBytes stop self.old line.old.items ends.old.items line.new.items ends.new.items self.new) }
-        ensures memory { IfErr result (λ why. why ≡ TraceFault.Memory) }
+    fn take_bytes(&mut self, line: &mut Vec<u8>, ends: &mut Vec<usize>) -> Result<Stop, ReadFailure>
+        ensures { IfOk result (λ stop. TakesBytes stop self.old line.old.items ends.old.items line.new.items ends.new.items self.new) }
     {
         let ahead = &self.bytes[self.at..self.end];
         let (count, stop) = match scan(ahead, line.len(), ends) {
             Ok(found) => found,
-            Err(_) => return Err(TraceFault::Memory),
+            Err(_) => return Err(ReadFailure::Memory),
         };
         match line.extend_from_slice(&ahead[..count]) {
             Ok(()) => {}
-            Err(_) => return Err(TraceFault::Memory),
+            Err(_) => return Err(ReadFailure::Memory),
         }
         match stop {
             Stop::Feed => {
@@ -133,17 +126,12 @@ impl<R: Read> Input<R> {
     }
 
     /// Reads a line up to its line feed, or up to a byte that csv has to read, or up to the end.
-    ///
-    /// # Errors
-    ///
-    /// `Read` if the reader fails; `Memory`.
     pub(crate) fn take_line(
         &mut self,
         line: &mut Vec<u8>,
         ends: &mut Vec<usize>,
-    ) -> Result<Stop, TraceFault>
-        ensures taken { IfOk result (λ stop. TakesLine stop self.old line.new.items ends.new.items self.new) }
-        ensures device { IfErr result IsRead }
+    ) -> Result<Stop, ReadFailure>
+        ensures { IfOk result (λ stop. TakesLine stop self.old line.new.items ends.new.items self.new) }
     {
         line.clear();
         ends.clear();
@@ -160,31 +148,32 @@ impl<R: Read> Input<R> {
                 Err(why) => return Err(why),
             }
         }
-        Err(TraceFault::Read)
+        Err(ReadFailure::Device)
     }
 
     /// Puts bytes back before those that are left.
+    #[cold]
+    #[inline(never)]
     pub(crate) fn put_back(
         &mut self,
         alloc: Global,
         first: &[u8],
         line: &[u8],
-    ) -> Result<(), TraceFault>
-        ensures put { OnOk result (self.new ≡ prepend_known (first.now ++ line.now) self.old) }
-        ensures memory { IfErr result (λ why. why ≡ TraceFault.Memory) }
+    ) -> Result<(), ReadFailure>
+        ensures { OnOk result (self.new ≡ prepend_known (first.now ++ line.now) self.old) }
     {
         let mut bytes = Vec::new(alloc);
         match bytes.extend_from_slice(first) {
             Ok(()) => {}
-            Err(_) => return Err(TraceFault::Memory),
+            Err(_) => return Err(ReadFailure::Memory),
         }
         match bytes.extend_from_slice(line) {
             Ok(()) => {}
-            Err(_) => return Err(TraceFault::Memory),
+            Err(_) => return Err(ReadFailure::Memory),
         }
         match bytes.extend_from_slice(&self.bytes[self.at..self.end]) {
             Ok(()) => {}
-            Err(_) => return Err(TraceFault::Memory),
+            Err(_) => return Err(ReadFailure::Memory),
         }
         self.at = 0;
         self.end = bytes.len();

@@ -5,6 +5,7 @@ ghost use Rattle.pie_record.specs.{true, false, OnOk, IfOk, IfErr, IsRead, Reads
 ghost use Rattle.pie_record.specs.Source.{Turns};
 
 use crate::TraceFault;
+use crate::fault::ReadFailure;
 use crate::input::Input;
 use crate::records::Turn;
 use crate::scan::Stop;
@@ -80,9 +81,8 @@ fn put_line_back<R: Read>(
     input: &mut Input<R>,
     line: &[u8],
     is_first: bool,
-) -> Result<(), TraceFault>
-    ensures put { OnOk result (input.new ≡ prepend_known (if is_first then line.now else 10 ∷ line.now) input.old) }
-    ensures memory { IfErr result (λ why. why ≡ TraceFault.Memory) }
+) -> Result<(), ReadFailure>
+    ensures { OnOk result (input.new ≡ prepend_known (if is_first then line.now else 10 ∷ line.now) input.old) }
 {
     if is_first {
         input.put_back(alloc, &[], line)
@@ -109,10 +109,9 @@ fn read_fields<R: Read>(
     line: &mut Vec<u8>,
     ends: &mut Vec<usize>,
     is_first: bool,
-) -> Result<Found, TraceFault>
+) -> Result<Found, ReadFailure>
     ensures line { IfOk result (λ what. what ≡ Found.Plain → IsLine line.new.items ends.new.items) }
     ensures found { IfOk result (λ what. ReadsPlain what is_first input.old (split_line line.new.items) input.new) }
-    ensures device { IfErr result IsRead }
 {
     match input.take_line(line, ends) {
         Ok(Stop::Feed) => {}
@@ -144,7 +143,7 @@ fn read_fields<R: Read>(
     }
     match ends.push(line.len()) {
         Ok(()) => Ok(Found::Plain),
-        Err(_) => Err(TraceFault::Memory),
+        Err(_) => Err(ReadFailure::Memory),
     }
 }
 
@@ -288,18 +287,13 @@ impl Record {
     }
 
     /// Reads a line into the record.
-    ///
-    /// # Errors
-    ///
-    /// `Read` if the reader fails; `Memory`.
     pub(crate) fn read_line<R: Read>(
         &mut self,
         alloc: Global,
         input: &mut Input<R>,
         is_first: bool,
-    ) -> Result<Found, TraceFault>
-        ensures found { IfOk result (λ what. ReadsPlain what is_first input.old self.new input.new) }
-        ensures device { IfErr result IsRead }
+    ) -> Result<Found, ReadFailure>
+        ensures { IfOk result (λ what. ReadsPlain what is_first input.old self.new input.new) }
     {
         self.is_plain = false;
         match read_fields(alloc, input, &mut self.line, &mut self.ends, is_first) {
@@ -307,35 +301,27 @@ impl Record {
                 self.is_plain = true;
                 Ok(Found::Plain)
             }
-            Ok(Found::Empty) => Ok(Found::Empty),
-            Ok(Found::Nothing) => Ok(Found::Nothing),
-            Ok(Found::Odd) => Ok(Found::Odd),
-            Err(why) => Err(why),
+            other => other,
         }
     }
 
-    /// Lets csv read a record.
-    ///
-    /// # Errors
-    ///
-    /// `Read` if the reader fails; `Memory`. After either no record is left.
+    /// Lets csv read a record. After a failure no record is left.
     #[inline(never)]
     pub(crate) fn read_quoted<R: Read>(
         &mut self,
         reader: &mut csv::Reader<R>,
-    ) -> Result<Turn, TraceFault>
+    ) -> Result<Turn, ReadFailure>
         requires { IsReading reader.old }
         ensures reading { IsReading reader.new }
         ensures turned { IfOk result (λ how. Turns how (rows_left R.remaining reader.old) self.new (rows_left R.remaining reader.new)) }
-        ensures device { IfErr result IsRead }
     {
         self.is_plain = false;
         match reader.read_byte_record(&mut self.quoted) {
             Ok(true) => Ok(Turn::Taken),
             Ok(false) => Ok(Turn::Over),
             Err(failed) => match failed.kind() {
-                ErrorKind::Io(_) => Err(TraceFault::Read),
-                _ => Err(TraceFault::Memory),
+                ErrorKind::Io(_) => Err(ReadFailure::Device),
+                _ => Err(ReadFailure::Memory),
             },
         }
     }

@@ -2,7 +2,7 @@
 ghost use Rattle.std.specs.Prelude.{◌≡◌, ◌≤◌, ◌<◌, ◌+◌, ◌^◌, ◌++◌, ℕ, List, take};
 ghost use Rattle.pie_record.specs.{IfOk, length, commas, IsPlainLine, IsStop, IsScanned, Scans};
 
-use crate::block::{lowest, marked, without};
+use crate::block::{behind, lowest, marked};
 use std::alloc::AllocError;
 
 /// The number of bytes that are looked at together.
@@ -13,13 +13,13 @@ const BLOCK: usize = 32;
 pub(crate) enum Stop {
     /// The line feed at the end of the line.
     Feed,
-    /// A quote or a carriage return: csv has to read this record.
+    /// A byte that csv has to read.
     Odd,
     /// The end of the bytes.
     End,
 }
 
-/// Scans the byte at `place`.
+/// Scans the byte at `place`. Any byte below the comma, except the line feed, is left to csv, the quote and the carriage return with it.
 #[inline(always)]
 fn scan_byte(
     bytes: &[u8],
@@ -32,15 +32,18 @@ fn scan_byte(
     ensures { (before : List ℕ) → IsScanned from bytes.now before ends.old.items place
         → IfOk result (λ p. Scans from bytes.now before ends.new.items (place + 1) p.0 p.1) }
 {
-    match bytes[place] {
-        b',' => {
-            ends.push(from + place)?;
-            Ok((place + 1, Stop::End))
-        }
-        b'\n' => Ok((place, Stop::Feed)),
-        b'"' | b'\r' => Ok((place, Stop::Odd)),
-        _ => Ok((place + 1, Stop::End)),
+    let byte = bytes[place];
+    if byte == b',' {
+        ends.push(from + place)?;
+        return Ok((place + 1, Stop::End));
     }
+    if byte == b'\n' {
+        return Ok((place, Stop::Feed));
+    }
+    if byte > b',' {
+        return Ok((place + 1, Stop::End));
+    }
+    Ok((place, Stop::Odd))
 }
 
 /// Scans the 32 bytes from `at` on.
@@ -58,15 +61,15 @@ fn scan_block(
     let mut left = marked(bytes, at);
     let mut next = at;
     while left != 0 {
-        let bit = lowest(left);
-        let (after, stop) = scan_byte(bytes, at + bit, from, ends)?;
+        let passed = lowest(left);
+        let (after, stop) = scan_byte(bytes, next + passed, from, ends)?;
         match stop {
             Stop::End => {}
             Stop::Feed => return Ok((after, Stop::Feed)),
             Stop::Odd => return Ok((after, Stop::Odd)),
         }
-        left = without(left, bit);
-        next = at + bit + 1;
+        left = behind(left, passed);
+        next = next + passed + 1;
     }
     Ok((at + BLOCK, Stop::End))
 }

@@ -4,11 +4,11 @@ use Rattle.pie_record.proofs.records.make_turn.Goals as goal
 
 pub returns-in-Empty-clause-turned : goal.returns-in-Empty-clause-turned
 returns-in-Empty-clause-turned g c =
-    let found = rw c.in-Empty.is at c.in-Ok.ensures.found in
+    let found = rw c.in-Empty.is at c.in-Ok.ensures in
     rw c.in-Lines.is (empty-turn c.in-Lines.is_first c.in-Lines.input c.read_line.new.input c.read_line.new.self found)
 
 pub returns-in-Odd-clause-turned : goal.returns-in-Odd-clause-turned
 returns-in-Odd-clause-turned g c =
-    let found = rw c.in-Odd.is at c.in-Ok.ensures.found in
+    let found = rw c.in-Odd.is at c.in-Ok.ensures in
     rw c.in-Lines.is (odd-turn c.in-Lines.is_first c.in-Lines.input c.read_line.new.input c.read_line.new.self (source_left c.turn_to_csv.new.source) found
     c.turn_to_csv.ensures.1)

@@ -1,50 +1,49 @@
-use Rattle.std.proofs.Common.{arith, ap, refl, ◌∙◌, ◌≡◌, ◌+◌, ◌<◌, ℕ}
+use Rattle.std.proofs.Common.{arith, ap, refl, subst, ◌∙◌, ◌≡◌, ◌+◌, ◌-◌, ◌<◌, ℕ}
 use Rattle.std.proofs.lemmas.Nat.Bits.{bit_at-zero}
 use Rattle.std.specs.Int.{bit_at}
-use Rattle.pie_record.proofs.ScanFacts.{marks-next, scanned-past, stops-feed, stops-odd, went-on}
+use Rattle.pie_record.specs.{IsScanned}
+use Rattle.pie_record.proofs.ScanFacts.{marks-next, scanned-past, scanned-to, stops-feed, stops-odd, went-on}
 use Rattle.pie_record.proofs.scan.scan_block.Goals as goal
 
 pub returns-in-Feed : goal.returns-in-Feed
 returns-in-Feed c = λ before start.
-    let marks = c.loop-left.invariant.marks in
-    let there = marks.within c.lowest-bit.result c.lowest-bit.ensures.set in
-    let past = scanned-past c.args.from c.args.bytes.now before c.args.at c.loop-left.next c.loop-left.left marks c.loop-left.invariant.low c.loop-left.ends.items
-    c.lowest-bit.result (omega (arith, there.0)) there.1 c.requires.within c.lowest-bit.ensures.below (c.loop-left.invariant.scanned before start) in
-    stops-feed c.args.from c.args.bytes.now before c.scan_byte.new.ends.items (c.args.at + c.lowest-bit.result + 1) (c.args.at + 32) c.in_ok-after.after
-    (rw c.in-Feed.is at (c.in_ok-after.ensures before past))
+    let i = c.loop-left.invariant in
+    let l = c.lowest-passed in
+    let to = scanned-to c.args.from c.args.bytes.now before c.loop-left.next (c.args.at + 32) c.loop-left.left i.marks c.requires.within
+    c.loop-left.ends.items l.result l.ensures.set l.ensures.below (i.scanned before start) in
+    stops-feed c.args.from c.args.bytes.now before c.scan_byte.new.ends.items (c.loop-left.next + l.result + 1) (c.args.at + 32) c.in_ok-after.after
+    (rw c.in-Feed.is at (c.in_ok-after.ensures before to))
 
 pub returns-in-Odd : goal.returns-in-Odd
 returns-in-Odd c = λ before start.
-    let marks = c.loop-left.invariant.marks in
-    let there = marks.within c.lowest-bit.result c.lowest-bit.ensures.set in
-    let past = scanned-past c.args.from c.args.bytes.now before c.args.at c.loop-left.next c.loop-left.left marks c.loop-left.invariant.low c.loop-left.ends.items
-    c.lowest-bit.result (omega (arith, there.0)) there.1 c.requires.within c.lowest-bit.ensures.below (c.loop-left.invariant.scanned before start) in
-    stops-odd c.args.from c.args.bytes.now before c.scan_byte.new.ends.items (c.args.at + c.lowest-bit.result + 1) (c.args.at + 32) c.in_ok-after.after
-    (rw c.in-Odd.is at (c.in_ok-after.ensures before past))
+    let i = c.loop-left.invariant in
+    let l = c.lowest-passed in
+    let to = scanned-to c.args.from c.args.bytes.now before c.loop-left.next (c.args.at + 32) c.loop-left.left i.marks c.requires.within
+    c.loop-left.ends.items l.result l.ensures.set l.ensures.below (i.scanned before start) in
+    stops-odd c.args.from c.args.bytes.now before c.scan_byte.new.ends.items (c.loop-left.next + l.result + 1) (c.args.at + 32) c.in_ok-after.after
+    (rw c.in-Odd.is at (c.in_ok-after.ensures before to))
 
 pub loop-left-preserved : goal.loop-left-preserved
 loop-left-preserved c =
-    let marks = c.loop-left.invariant.marks in
-    let there = marks.within c.lowest-bit.result c.lowest-bit.ensures.set in
+    let i = c.loop-left.invariant in
+    let l = c.lowest-passed in
+    let there = i.marks.within l.result l.ensures.set in
     record {
-      low = omega arith;
-      high = omega (arith, there.0);
-      marks = marks-next c.args.bytes.now c.args.at c.loop-left.next c.loop-left.left c.without-left.result c.lowest-bit.result marks
-          c.lowest-bit.ensures.set c.lowest-bit.ensures.below c.without-left.ensures.kept c.without-left.ensures.no_more;
+      high = omega (arith, there);
+      marks = marks-next c.args.bytes.now c.loop-left.next (c.args.at + 32) c.loop-left.left c.behind-left.result l.result i.marks c.behind-left.ensures;
       scanned = λ before start.
-          let past = scanned-past c.args.from c.args.bytes.now before c.args.at c.loop-left.next c.loop-left.left marks c.loop-left.invariant.low c.loop-left.ends.items
-          c.lowest-bit.result (omega (arith, there.0)) there.1 c.requires.within c.lowest-bit.ensures.below
-          (c.loop-left.invariant.scanned before start) in
-          went-on c.args.from c.args.bytes.now before c.scan_byte.new.ends.items (c.args.at + c.lowest-bit.result + 1) c.in_ok-after.after
-          (rw c.in-End.is at (c.in_ok-after.ensures before past));
+          let to = scanned-to c.args.from c.args.bytes.now before c.loop-left.next (c.args.at + 32) c.loop-left.left i.marks c.requires.within
+          c.loop-left.ends.items l.result l.ensures.set l.ensures.below (i.scanned before start) in
+          went-on c.args.from c.args.bytes.now before c.scan_byte.new.ends.items (c.loop-left.next + l.result + 1) c.in_ok-after.after
+          (rw c.in-End.is at (c.in_ok-after.ensures before to));
     }
 
 pub returns : goal.returns
 returns c = λ before start.
-    let marks = c.loop-left.invariant.marks in
-    let none : (k : ℕ) → k < 32 → bit_at c.loop-left.left k ≡ 0 = λ k less. ap (λ (m : ℕ). bit_at m k) c.loop-left-test.false ∙ bit_at-zero k in
-    record {
-      scanned = scanned-past c.args.from c.args.bytes.now before c.args.at c.loop-left.next c.loop-left.left marks c.loop-left.invariant.low c.loop-left.ends.items
-          32 (omega arith) c.loop-left.invariant.high c.requires.within none (c.loop-left.invariant.scanned before start);
-      stop = refl;
-    }
+    let i = c.loop-left.invariant in
+    let n : ℕ = c.args.at + 32 - c.loop-left.next in
+    let same : c.loop-left.next + n ≡ c.args.at + 32 = omega (arith, i.high) in
+    let none : (k : ℕ) → k < n → bit_at c.loop-left.left k ≡ 0 = λ k less. ap (λ (m : ℕ). bit_at m k) c.loop-left-test.false ∙ bit_at-zero k in
+    let past = scanned-past c.args.from c.args.bytes.now before c.loop-left.next (c.args.at + 32) c.loop-left.left i.marks c.requires.within
+    c.loop-left.ends.items n (omega (arith, same)) none (i.scanned before start) in
+    record { scanned = subst (λ (p : ℕ). IsScanned c.args.from c.args.bytes.now before c.loop-left.ends.items p) same past; stop = refl }

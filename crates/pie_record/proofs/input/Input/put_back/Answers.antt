@@ -2,8 +2,8 @@ use Rattle.std.proofs.Common.{rules, ap, ◌∙◌, ◌≡◌, length, List, ℕ
 use Rattle.pie_record.proofs.InputFacts.{is-put-back}
 use Rattle.pie_record.proofs.input.Input.put_back.Goals as goal
 
-pub returns-clause-put : goal.returns-clause-put
-returns-clause-put g c =
+pub returns : goal.returns
+returns g c =
     let i = c.self.inside in
     let begun : c.extend_from_slice.new.self.items ≡ c.args.first.now =
     c.in-Ok.ensures.items ∙ ap (λ (l : List ℕ). l ++ c.args.first.now) c.new-bytes.ensures.items in

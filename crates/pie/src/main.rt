@@ -22,7 +22,9 @@ fn main(mut rt: HostRuntime) -> ExitCode {
         &mut output,
         &mut errors,
     );
-    ExitCode::from(end.told(output.is_closed(), &mut errors))
+    let is_closed = output.is_closed();
+    let _ = end.report(is_closed, &mut errors);
+    ExitCode::from(end.status(is_closed))
 }
 
 /// The words of the command line, or nothing where they could not be had, which is then said on standard error.

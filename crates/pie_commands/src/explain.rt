@@ -212,7 +212,7 @@ fn ended<E: Write>(errors: &mut E, given: Result<u64, ExplainFault>) -> End
 /// `pie explain`: explains the chosen events of a history or an excerpt, up to its first fault or the first event
 /// that differs. Returns a difference as `End::Differs`. If the text has a fault, the options choose no event, no
 /// event matches, or the reader, the writer or memory fails, the end is an error. Each error has a line on
-/// `errors`; a writer's fault is reported later (`End::told`). If it `is_shown`, progress is reported on `errors`
+/// `errors`; a writer's fault is reported later (`End::report`). If it `is_shown`, progress is reported on `errors`
 /// too.
 pub(crate) fn explain<H: Clock, R: Read + Drop, W: Write, E: Write>(
     rt: &H,

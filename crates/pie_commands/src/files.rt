@@ -32,7 +32,8 @@ pub trait NamedFiles {
 
     /// Returns true if `name` leads to the file `other`, under any name, or to standard input if `other` is `None`.
     fn is_one(&self, name: &str, other: Option<&str>) -> bool
-        ensures { IsSome (holds self.now name.now) → option_map (λ other. other.now) other.entry ≡ Some name.now → result ≡ true };
+        ensures same { IsSome (holds self.now name.now) → option_map (λ other. other.now) other.entry ≡ Some name.now → result ≡ true }
+        ensures works { works ≡ true → result ≡ true → option_map (λ other. other.now) other.entry ≡ Some name.now };
 
     /// A file that was made to be written.
     type Made: Write + Drop;
@@ -45,7 +46,9 @@ pub trait NamedFiles {
     fn make(&mut self, name: &str, is_forced: bool) -> io::Result<Self::Made>
         ensures fresh { IfOk result (λ made. Self.Made.contents made ≡ fresh) }
         ensures empty { IsEmpty fresh }
-        ensures keeps { Keeps (holds self.old) (holds self.new) };
+        ensures keeps { Keeps (holds self.old) (holds self.new) }
+        ensures free { MayHave is_forced (holds self.old name.now) → MayHave is_forced (holds self.new name.now) }
+        ensures works { works ≡ true → MayHave is_forced (holds self.old name.now) → IsOk result };
 
     /// Moves the new file onto `name`. An existing file of that name must be one that may be replaced.
     ///

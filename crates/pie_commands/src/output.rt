@@ -1,7 +1,7 @@
 //! An output that is made, and then put in its place or left.
 ghost use Rattle.std.specs.Prelude.{◌≡◌, false, true, IfSome, IsSome, None, Some, option_map};
 ghost use Rattle.pie_commands.specs.Files.{file_of};
-ghost use Rattle.pie_commands.specs.Output.{IsEmpty, Keeps, MayHave, Settles};
+ghost use Rattle.pie_commands.specs.Output.{IsEmpty, IsHindered, Keeps, MayHave, Settles};
 
 use crate::faults::named_fault;
 use crate::files::NamedFiles;
@@ -31,13 +31,11 @@ pub(crate) fn make_for<H: NamedFiles, E: Write>(
     ensures keeps { Keeps (H.holds rt.old) (H.holds rt.new) }
     ensures other { IfSome result (λ _. IsSome (H.holds rt.old name.now)
         → file_of (option_map (λ other. other.now) read.entry) ≡ Some name.now → ⊥) }
+    ensures free { MayHave is_forced (H.holds rt.old name.now) → MayHave is_forced (H.holds rt.new name.now) }
+    ensures works { result ≡ None → IsHindered H.works (file_of (option_map (λ other. other.now) read.entry)) is_forced name.now (H.holds rt.old) }
 {
     if rt.is_one(name, file_of(read)) {
-        named_fault(
-            errors,
-            name,
-            "this is what is read, and can't be written too",
-        );
+        named_fault(errors, name, "this is what is read, and can't be written too");
         return None;
     }
     match rt.make(name, is_forced) {

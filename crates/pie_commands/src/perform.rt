@@ -57,12 +57,12 @@ fn perform_for<H: Threads + Wait + Sync + NamedFiles + Screen, R: Read + Drop, E
     input: R,
     errors: &mut E,
 ) -> End
-    ensures { EndsAt (file_of (file_in (rows_of (found_of options.now)))) (is_forced (rows_of (found_of options.now))) name.now H.fresh
+    ensures { EndsAt H.works (file_of (file_in (rows_of (found_of options.now)))) (is_forced (rows_of (found_of options.now))) name.now H.fresh
         (H.holds rt.old) (H.holds rt.new) (EndsAs subcommand (rows_of (found_of options.now)) H.works (R.remaining input) (H.holds rt.old)) result }
 {
     let is_forced = flag(options, "force");
     let Some(mut made) = make_for(rt, name, file(options), is_forced, errors) else {
-        return End::Unable;
+        return End::Unplaced;
     };
     let end = perform(&*rt, alloc, subcommand, options, input, &mut made, errors);
     let is_there = settle(rt, made, name, is_forced, end.is_whole(), errors);

@@ -1,4 +1,4 @@
-# Completion of pie for bash: put it where bash looks, as /usr/share/bash-completion/completions/pie, or source it.
+# Completion of pie for bash. Install it as /usr/share/bash-completion/completions/pie, or source it.
 _pie() {
     local word=${COMP_WORDS[COMP_CWORD]} subcommand=${COMP_WORDS[1]:-} words
     if [ "$COMP_CWORD" = 1 ]; then

@@ -34,7 +34,7 @@ fn words(rt: &HostRuntime) -> Option<Vec<String>> {
         Err(error) => {
             let _ = match error.kind() {
                 ErrorKind::OutOfMemory => eprintln!(rt; "pie: out of memory"),
-                _ => eprintln!(rt; "pie: a word of the command line is not UTF-8"),
+                _ => eprintln!(rt; "pie: an argument is not valid UTF-8"),
             };
             return None;
         }

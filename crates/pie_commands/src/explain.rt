@@ -20,13 +20,13 @@ use std::time::Clock;
 
 /// The message for options that don't choose events by exactly one option.
 const NO_CHOICE: &str =
-    "explain takes one of --event N, --tag T, --lost, --marked and --all, or --summary, --every, --flows or --digest; see pie explain --help";
+    "explain needs one of --event N, --tag T, --lost, --marked and --all, or --summary, --every, --flows or --digest; see pie explain --help";
 
 /// The message for an interval of length 0.
-const NO_PERIOD: &str = "--every: a period lasts at least 1 ns";
+const NO_PERIOD: &str = "--every: the interval must be at least 1 ns";
 
 /// The message for `--flows` together with `--digest`.
-const NOT_BOTH: &str = "--flows and --digest: explain takes one of them";
+const NOT_BOTH: &str = "--flows cannot be combined with --digest";
 
 /// The events that are chosen, where exactly one of the five options chooses some; a summary is of all where none does.
 fn chosen(

@@ -88,7 +88,7 @@ fn is_standard(name: &str) -> bool {
 fn is_there() -> Error {
     Error::new(
         ErrorKind::AlreadyExists,
-        "a file is there, which --force replaces",
+        "the file exists; --force replaces it",
     )
 }
 
@@ -126,7 +126,7 @@ fn create_beside(rt: &HostRuntime, name: &str, replaced: Option<&Metadata>) -> i
     }
     Err(Error::new(
         ErrorKind::AlreadyExists,
-        "too many files are left beside it, as .partial",
+        "too many partial files exist beside it",
     ))
 }
 

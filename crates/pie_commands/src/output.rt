@@ -35,7 +35,7 @@ pub(crate) fn make_for<H: NamedFiles, E: Write>(
     ensures works { result ≡ None → IsHindered H.works (file_of (option_map (λ other. other.now) read.entry)) is_forced name.now (H.holds rt.old) }
 {
     if rt.is_one(name, file_of(read)) {
-        named_fault(errors, name, "this is what is read, and can't be written too");
+        named_fault(errors, name, "the input file cannot be the output file");
         return None;
     }
     match rt.make(name, is_forced) {
@@ -75,7 +75,7 @@ fn abandon<H: NamedFiles, E: Write>(rt: &mut H, made: H::Made, errors: &mut E)
         named_fault(
             errors,
             other.as_str(),
-            "this has what was written until then",
+            "this file has the incomplete output",
         );
     }
 }

@@ -73,7 +73,7 @@ fn tuning_in<E: Write>(options: &ArgMatches<'_>, errors: &mut E) -> Option<Tunin
     let t_update = read_of(time_in(options, "tupdate"), "tupdate", errors)?;
     let packets = read_of(packets_in(options), "limit", errors)?;
     let Some(decay) = decay_of(options) else {
-        let _ = writeln!(errors, "pie: --decay is zero or half");
+        let _ = writeln!(errors, "pie: --decay must be zero or half");
         return None;
     };
     Some(TuningOptions {
@@ -99,7 +99,7 @@ fn report_rounded<E: Write>(options: &ArgMatches<'_>, errors: &mut E) {
         if number(options, name).unwrap_or(0) % 2 == 1 {
             let _ = writeln!(
                 errors,
-                "pie: {name} is rounded down to whole thousandths per second"
+                "pie: warning: {name} is rounded down to a whole number of thousandths per second"
             );
         }
     }
@@ -111,7 +111,7 @@ fn report_short<E: Write>(asked: &TuningOptions, params: &RawParams, errors: &mu
         let limit = params.limit_bytes;
         let _ = writeln!(
             errors,
-            "pie: limit_bytes, {limit}, is under rate x target: the queue is full before it waits so long, and all losses are tail drops"
+            "pie: warning: limit_bytes ({limit}) is below rate x target: the queue is full before the delay reaches the target, and all losses are tail drops"
         );
     }
 }
@@ -122,7 +122,7 @@ fn report_stall<E: Write>(asked: &TuningOptions, params: &RawParams, errors: &mu
         let threshold = params.dq_threshold;
         let _ = writeln!(
             errors,
-            "pie: dq_threshold, {threshold}, is above half of rate x target: the departure rate's estimate can stand still, as time stamps do not"
+            "pie: warning: dq_threshold ({threshold}) is above half of rate x target: the departure rate may not be measured for a long time"
         );
     }
 }
@@ -143,7 +143,7 @@ pub(crate) fn params<W: Write, E: Write>(
         Err(why) => return failed(errors, why),
     };
     if asked.packets == 0 || u64::from(Limits::MOST_PACKETS) < asked.packets {
-        return failed(errors, "--limit is 1 to 1048576 packets");
+        return failed(errors, "--limit must be 1 to 1048576 packets");
     }
     report_rounded(options, errors);
     report_short(&asked, &params.raw(), errors);

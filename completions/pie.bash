@@ -12,7 +12,7 @@ _pie() {
             cut) words='--from --to --event --around --last --every --progress --output --force --help' ;;
             storm) words='--senders --packets --burst --seed --load --changes --folds --profile --delay --picking --step --size --decay --count --help' ;;
             params) words='--rate --target --tupdate --limit --alpha --beta --ecn --bytemode --mtu --dq_rate_estimator --no_derandomization \
-                --no_cap_drop_adjustment --decay --help' ;;
+                --no_cap_drop_adjustment --decay --overhead --mpu --linklayer --help' ;;
             help) words='run audit explain cut migrate storm params help' ;;
             *) words='' ;;
         esac

@@ -61,4 +61,7 @@ complete -c pie -n '__fish_seen_subcommand_from params' -l dq_rate_estimator -d 
 complete -c pie -n '__fish_seen_subcommand_from params' -l no_derandomization -d 'pick by the random word alone'
 complete -c pie -n '__fish_seen_subcommand_from params' -l no_cap_drop_adjustment -d 'raise the probability without a cap'
 complete -c pie -n '__fish_seen_subcommand_from params' -l decay -x -a 'zero half' -d 'delays at which the probability decays'
+complete -c pie -n '__fish_seen_subcommand_from params' -l overhead -x -d 'bytes that the link adds to each packet'
+complete -c pie -n '__fish_seen_subcommand_from params' -l mpu -x -d 'least size of a packet on the link'
+complete -c pie -n '__fish_seen_subcommand_from params' -l linklayer -x -a 'ethernet atm adsl' -d 'format of the link'
 complete -c pie -n '__fish_seen_subcommand_from help' -a 'run audit explain cut migrate storm params help'

@@ -59,6 +59,59 @@ chosen stamp,derandomized,capped,unscaled,half 1024 --decay half
 chosen stamp,derandomized,capped,unscaled 1024 --decay=zero
 chosen stamp,random,uncapped,scaled,half 9000 --no_derandomization --no_cap_drop_adjustment --bytemode --mtu 9000 --decay half
 chosen stamp,derandomized,capped,unscaled 1024 --mtu 9000
+# Sizes on the link, computed by hand from the table of tc-stab(8): 1540 bytes are 33 cells and 1064 bytes 23; with a
+# least size, 88 bytes are the greatest of a step of four; 10000 bytes are four entries of 43 cells and one of 38.
+on_link() {
+    chosen "stamp,derandomized,capped,$1" "${@:2}"
+}
+on_link unscaled 1219 --overhead 40 --linklayer atm
+on_link unscaled 1219 --overhead 40 --linklayer=adsl
+on_link unscaled 1064 --overhead 40 --linklayer ethernet
+on_link unscaled 1010 --overhead=-14
+on_link unscaled 1 --overhead=-65535 --mpu 0
+on_link unscaled 1024 --mpu 84
+on_link unscaled 65535 --mpu 65535
+on_link scaled 1749 --bytemode --mtu 1500 --overhead 40 --linklayer atm
+on_link scaled 53 --bytemode --mtu 48 --linklayer atm
+on_link scaled 106 --bytemode --mtu 49 --linklayer atm
+on_link scaled 84 --bytemode --mtu 40 --overhead 44 --mpu 84
+on_link scaled 88 --bytemode --mtu 41 --overhead 44 --mpu 84
+on_link scaled 11130 --bytemode --mtu 10000 --linklayer atm
+expect 'a size above 65535' 1 '' 'pie: the parameter mean_pkt is out of its range\n' '' params --overhead 65535
+for bytes in '' - -- 65536 -65536 +4 1.5 40b 0x10 4-; do
+    expect "no overhead: $bytes" 1 '' 'pie: --overhead must be a whole number of bytes, -65535 to 65535\n' '' params "--overhead=$bytes"
+done
+expect 'a link layer of another word' 1 '' 'pie: --linklayer must be ethernet, atm or adsl\n' '' params --linklayer ATM
+# The sizes of examples/link, which tests/program/layer.sh compares with those of the kernel.
+if command -v cc > /dev/null; then
+    cc -I "$top/examples/link" -o "$work/layer" -x c - "$top/examples/link/layer.c" <<'END' || exit 1
+#include "layer.h"
+#include <stdio.h>
+#include <stdlib.h>
+int main(int count, char **words) {
+    struct layer layer = {atoi(words[1]), (uint32_t)atoi(words[2]), atoi(words[3])};
+    for (int i = 4; i < count; i++)
+        printf("%u\n", size_on_link(&layer, (uint32_t)atoi(words[i])));
+}
+END
+    sizes=$(seq 1 113 1514)
+    while read -r overhead mpu is_atm; do
+        layer=$([ "$is_atm" = 1 ] && echo atm || echo ethernet)
+        for size in $sizes; do
+            "$program" params --bytemode --mtu "$size" --overhead="$overhead" --mpu "$mpu" --linklayer "$layer" | cut -d, -f17
+        done > "$work/found"
+        # shellcheck disable=SC2086
+        if ! "$work/layer" "$overhead" "$mpu" "$is_atm" $sizes | cmp -s - "$work/found"; then
+            echo "$script: with overhead $overhead, mpu $mpu and $layer, other sizes than those of examples/link"
+            failed=1
+        fi
+    done <<'END'
+-14 0 0
+44 84 0
+40 0 1
+-10 53 1
+END
+fi
 for time in 20ms 20MS 020ms 20.0ms 20msec 20Msecs 0.02s .02sec 20000us 20000usecs 20000000ns 20000000nsecs; do
     params "a target of $time" "$usual,0,1000,1000,$events,20000000,15000000,150000000,125,1250,1024,262144,0,16384" '' --target "$time"
 done

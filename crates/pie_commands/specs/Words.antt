@@ -75,7 +75,8 @@ rules_for Storm = number_rule (codes "senders") 2 8 ∷ number_rule (codes "pack
 rules_for Params = text_rule (codes "rate") ∷ text_rule (codes "target") ∷ text_rule (codes "tupdate") ∷ text_rule (codes "limit")
     ∷ number_rule (codes "alpha") 0 32 ∷ number_rule (codes "beta") 0 32 ∷ flag_rule (codes "ecn") ∷ flag_rule (codes "bytemode")
     ∷ number_rule (codes "mtu") 1 65535 ∷ flag_rule (codes "dq_rate_estimator") ∷ flag_rule (codes "no_derandomization")
-    ∷ flag_rule (codes "no_cap_drop_adjustment") ∷ text_rule (codes "decay") ∷ []
+    ∷ flag_rule (codes "no_cap_drop_adjustment") ∷ text_rule (codes "decay") ∷ text_rule (codes "overhead") ∷ number_rule (codes "mpu") 0 65535
+    ∷ text_rule (codes "linklayer") ∷ []
 
 abbrev pub app_for : Subcommand → App
 app_for subcommand = with_rules (new_app (word_of subcommand)) (rules_for subcommand)

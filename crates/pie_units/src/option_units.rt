@@ -14,6 +14,8 @@ pub enum OptionFault {
     Unread(Quantity, UnitFault),
     /// The rate is 0.
     NoRate,
+    /// The text is not a whole number from -65535 to 65535.
+    NotBytes,
 }
 
 impl OptionFault {
@@ -34,6 +36,7 @@ impl OptionFault {
             OptionFault::Unread(_, UnitFault::TooGreat) =>
                 "must be at most 1152921504606846975 nanoseconds, bits per second or packets",
             OptionFault::NoRate => "must be at least 1bit",
+            OptionFault::NotBytes => "must be a whole number of bytes, -65535 to 65535",
         }
     }
 }

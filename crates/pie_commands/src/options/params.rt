@@ -17,7 +17,8 @@ TIME, RATE and PACKETS are written as for tc, in upper or lower case:
            1024); or in bytes per second with bps, kbps, kibps and so on. Examples: 100mbit,
            12.5mbps.
   PACKETS  a number of packets, with or without p.
-Values are not rounded: 1.5ns and 0.5bit are errors.
+Values are not rounded: 1.5ns and 0.5bit are errors. A negative overhead needs an equals sign:
+--overhead=-14.
 
 alpha and beta are in sixteenths per second, as for tc: 2 and 20 are 125 and 1250 thousandths, the
 values of RFC 8033. With --ecn, packets of ECN-capable endpoints are marked while the probability is
@@ -33,6 +34,11 @@ target.
 --no_cap_drop_adjustment switch UseDerandomization and UseCapDropAdjustment of ns-3 off, which are
 always on with tc. With --decay half the probability decays at delays below half the target, as in
 DPDK's rte_pie; tc decays at delays of 0.
+
+--overhead, --mpu and --linklayer are those of tc stab. The packets of the trace must then have their
+sizes on the link, as examples/link records them. mean_pkt is the size on the link of a packet of
+1024 bytes, or with --bytemode of the MTU, as tc stab computes it. limit_bytes is 200 ms of bytes on
+the link.
 
 Example: the options of tc qdisc add dev eth0 root pie target 20ms limit 1000p ecn
 dq_rate_estimator, at 100 Mbit/s:
@@ -56,5 +62,8 @@ The output is one line:
         row!("no_derandomization": Nothing, "Pick packets by the random word alone. Default: off"),
         row!("no_cap_drop_adjustment": Nothing, "Do not cap a rise of the probability. Default: off"),
         row!("decay": Value("zero|half"), "Decay at delays of 0, or below half the target. Default: zero"),
+        row!("overhead": Value("BYTES"), "Bytes that the link adds to each packet, -65535 to 65535. Default: 0"),
+        row!("mpu": Number(0, 65535), "Least size of a packet on the link, in bytes. Default: 0"),
+        row!("linklayer": Value("ethernet|atm|adsl"), "Format of the link; atm and adsl are cells of 53 bytes. Default: ethernet"),
     ],
 };

@@ -12,6 +12,7 @@ use Rattle.clap.specs.declared.builder.value_parser.ValueParser.TheVariants.{Uns
 use Rattle.pie_commands.specs.declared.options.subcommand.Subcommand.{Subcommand}
 use Rattle.pie_commands.specs.declared.options.subcommand.Subcommand.TheVariants.{Run, Audit, Explain, Cut, Migrate, Storm, Params}
 use Rattle.pie_commands.specs.SubcommandWords.{word_of}
+use Rattle.pie_commands.specs.Files.{file_of}
 
 -- `pie`, which has a version and wants a subcommand
 abbrev pub pie_alone : App
@@ -140,10 +141,6 @@ is_joined options = flag_given (codes "joined") options
 abbrev pub is_forced : List Row → Bool
 is_forced options = flag_given (codes "force") options
 
--- the file that is to be made, where the options name one: `-` is the name of none, but standard output
-abbrev pub file_made : Option Text → Option Text
-file_made None = None
-file_made (Some name) = if bytes_eq name (codes "-") then None else Some name
-
+-- the output file that the options name: `-` is standard output, and no file
 abbrev pub output_in : List Row → Option Text
-output_in options = file_made (first_of (codes "output") options)
+output_in options = file_of (first_of (codes "output") options)

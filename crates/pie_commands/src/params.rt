@@ -1,4 +1,4 @@
-//! `pie params`: the parameters and the choices that `tc`'s options ask for, as the record that opens a book.
+//! `pie params`: converts options of `tc` to the record that opens a book.
 ghost use Rattle.std.specs.Prelude.{◌≡◌, IfSome, None, Ok, codes, option_map};
 ghost use Rattle.clap.specs.Words.{first_of, found_of, rows_of};
 ghost use Rattle.pie_units.specs.Units.{packets_of, rate_of, time_of};
@@ -143,7 +143,7 @@ fn tuning_in<E: Write>(options: &ArgMatches<'_>, errors: &mut E) -> Option<Tunin
     })
 }
 
-/// Says which gains are rounded.
+/// Warns of each gain that is rounded.
 fn report_rounded<E: Write>(options: &ArgMatches<'_>, errors: &mut E) {
     for name in ["alpha", "beta"] {
         if number(options, name).unwrap_or(0) % 2 == 1 {
@@ -155,7 +155,7 @@ fn report_rounded<E: Write>(options: &ArgMatches<'_>, errors: &mut E) {
     }
 }
 
-/// Says that the queue is full before it can wait for the target.
+/// Warns if the queue is full before the delay reaches the target.
 fn report_short<E: Write>(asked: &TuningOptions, params: &RawParams, errors: &mut E) {
     if is_short(asked.rate, params) {
         let limit = params.limit_bytes;
@@ -166,7 +166,7 @@ fn report_short<E: Write>(asked: &TuningOptions, params: &RawParams, errors: &mu
     }
 }
 
-/// Says that the departure rate's estimator can stall.
+/// Warns if the estimator of the departure rate can stall.
 fn report_stall<E: Write>(asked: &TuningOptions, params: &RawParams, errors: &mut E) {
     if can_stall(asked, params) {
         let threshold = params.dq_threshold;

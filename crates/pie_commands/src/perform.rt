@@ -47,7 +47,7 @@ fn perform<H: Threads + Wait + Sync + NamedFiles + Screen, R: Read + Drop, W: Wr
     }
 }
 
-/// Performs a subcommand that writes to a new file, which is moved onto this name once all was written.
+/// Performs a subcommand that writes to a new file, which is moved onto `name` when the output is complete.
 fn perform_for<H: Threads + Wait + Sync + NamedFiles + Screen, R: Read + Drop, E: Write>(
     rt: &mut H,
     alloc: Global,
@@ -79,7 +79,7 @@ fn output_for<'a>(subcommand: Subcommand, options: &ArgMatches<'a>) -> Option<&'
     }
 }
 
-/// Performs a subcommand with its options, and writes to `output`, or to a file where the options name one.
+/// Performs a subcommand with its options, and writes to `output`, or to the output file that the options name.
 pub(crate) fn performed<
     H: Threads + Wait + Sync + NamedFiles + Screen,
     R: Read + Drop,

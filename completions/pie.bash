@@ -1,4 +1,4 @@
-# Completion of pie for bash: put it where bash looks, as /usr/share/bash-completion/completions/pie, or source it.
+# Completion of pie for bash. Install it as /usr/share/bash-completion/completions/pie, or source it.
 _pie() {
     local word=${COMP_WORDS[COMP_CWORD]} subcommand=${COMP_WORDS[1]:-} words
     if [ "$COMP_CWORD" = 1 ]; then
@@ -12,7 +12,7 @@ _pie() {
             cut) words='--from --to --event --around --last --every --progress --output --force --help' ;;
             storm) words='--senders --packets --burst --seed --load --changes --folds --profile --delay --picking --step --size --decay --count --help' ;;
             params) words='--rate --target --tupdate --limit --alpha --beta --ecn --bytemode --mtu --dq_rate_estimator --no_derandomization \
-                --no_cap_drop_adjustment --decay --help' ;;
+                --no_cap_drop_adjustment --decay --overhead --mpu --linklayer --help' ;;
             help) words='run audit explain cut migrate storm params help' ;;
             *) words='' ;;
         esac

@@ -102,6 +102,8 @@ int read_options(int count, char **words, struct options *options) {
         return OPTIONS_HELP;
     if (options->steps == 0)
         options->rates[options->steps++].rate = options->control.rate;
+    struct pie_params *params = &options->control.opening.params;
+    params->mean_pkt = size_on_link(&options->layer, (uint32_t)params->mean_pkt);
     if (place >= 0 && place < count)
         place = refuse_word(&command, words[place], "", "unknown");
     else if (place >= 0 && options->grant != 0 && options->grant < LEAST_GRANT)

@@ -6,7 +6,7 @@
 # needs: program
 . "$(dirname "$0")/../shared/expect.sh"
 
-choice='pie: explain takes one of --event N, --tag T, --lost, --marked and --all, or --summary, --every, --flows or --digest; see pie explain --help\n'
+choice='pie: explain needs one of --event N, --tag T, --lost, --marked and --all, or --summary, --every, --flows or --digest; see pie explain --help\n'
 expect 'a lost packet' 0 "$header$lost" '' "$history" explain --csv --lost
 expect 'a tag' 0 "$header$lost" '' "$history" explain --tag 6 --csv
 expect 'no packet lost before a changed verdict' 2 "$header" "$differs" "$changed" explain --csv --lost

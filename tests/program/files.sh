@@ -57,7 +57,7 @@ expect 'a fault is worse than a difference' 1 "$work/changed: differs,10\n$work/
     audit "$work/changed" "$work/faulty" "$work/none"
 expect 'a difference is no better behind a fault' 1 "$work/changed: differs,10\n" "pie: $work/faulty: record 3: unknown kind\n" '' \
     audit "$work/faulty" "$work/changed"
-expect 'standard input, twice' 1 '-: clean,11\n' 'pie: -: standard input was read already\n' "$history" audit - -
+expect 'standard input, twice' 1 '-: clean,11\n' 'pie: -: standard input has already been read\n' "$history" audit - -
 missing="$work/missing: No such file or directory (os error 2)"
 expect 'a missing file' 1 "$work/none: clean,0\n" "pie: $missing\n" '' audit "$work/missing" "$work/none"
 # A name of 240 bytes is valid: its file is audited, and its fault is reported.
@@ -93,7 +93,7 @@ written() {
     rm -f "$made"
     expect "$name" "$status" '' "${errors-}" "$input" "$@" -o "$made"
     holds "$name" "$text"
-    expect "$name, again" 1 '' "pie: $made: a file is there, which --force replaces\n" "$input" "$@" -o "$made"
+    expect "$name, again" 1 '' "pie: $made: the file exists; --force replaces it\n" "$input" "$@" -o "$made"
     holds "$name, again" "$text"
     printf 'older text, longer than what comes\n%.0s' 1 2 3 4 5 6 7 8 9 > "$made"
     chmod 640 "$made"
@@ -110,7 +110,7 @@ errors=$differs written 'explanations up to an event that differs, to a file' 2 
 
 # After a fault the partial output stays beside the file, and an existing file is unchanged. The partial output of
 # an earlier fault stays too.
-until='this has what was written until then'
+until='this file has the incomplete output'
 fault='pie: record 3: wrong number of fields\n'
 begun='open,0,4,16,100\ndepart,1,9,empty\n'
 expect 'a fault, to a file' 1 '' "${fault}pie: $made.partial: $until\n" '' run "$work/faulty.trace" -o "$made"
@@ -123,7 +123,7 @@ done
 rm "$made".*
 expect 'a fault before anything was written, to a file' 1 '' 'pie: the first record is not an open record\n' 'dep\n' run --force -o "$made"
 holds 'a fault before anything was written, to a file' older
-expect 'a mistake that is found late, to a file' 1 '' 'pie: --from is after --to: no event is at both\n' "$history" \
+expect 'a mistake that is found late, to a file' 1 '' 'pie: --from must not be after --to\n' "$history" \
     explain --all --from 2 --to 1 --force -o "$made"
 holds 'a mistake that is found late, to a file' older
 rm "$made"
@@ -175,11 +175,11 @@ mkdir "$work/other"
 for name in "$work/trace" "$work/./trace" "$work/other/../trace" "$work/hard" "$work/symbolic"; do
     for words in '' --force; do
         for command in run migrate 'explain --all'; do
-            says="pie: $name: this is what is read, and can't be written too\n"
+            says="pie: $name: the input file cannot be the output file\n"
             expect "$command $words of a file to itself as $name" 1 '' "$says" '' $command $words "$work/trace" -o "$name"
         done
         "$program" run $words -o "$name" < "$work/trace" > "$work/output" 2> "$work/errors"
-        [ $? = 1 ] && [ "$(cat "$work/errors")" = "pie: $name: this is what is read, and can't be written too" ] ||
+        [ $? = 1 ] && [ "$(cat "$work/errors")" = "pie: $name: the input file cannot be the output file" ] ||
             fail "run $words of standard input to itself as $name: $(cat "$work/errors")"
         printf -- "$trace" | cmp -s - "$work/trace" || fail "$name: what was read was destroyed"
     done
@@ -191,7 +191,7 @@ rm "$work/hard" "$work/symbolic"
 printf older > "$work/else"
 for there in else nowhere; do
     ln -s "../$there" "$made"
-    expect "a link to $there" 1 '' "pie: $made: a file is there, which --force replaces\n" "$trace" run -o "$made"
+    expect "a link to $there" 1 '' "pie: $made: the file exists; --force replaces it\n" "$trace" run -o "$made"
     expect "a link to $there, by --force" 0 '' '' "$trace" run -o "$made" --force
     [ -L "$made" ] && fail "a link to $there, by --force: it was followed"
     holds "a link to $there, by --force" "$history"

@@ -170,7 +170,7 @@ def long_waits():
 
 def refusals():
     history = "open,0,4,16,100\nreset,1,1500000,done\n"
-    expect("--flows --digest", pie(history, "--flows=2", "--digest"), (1, "", "pie: --flows and --digest: explain takes one of them\n"))
+    expect("--flows --digest", pie(history, "--flows=2", "--digest"), (1, "", "pie: --flows cannot be combined with --digest\n"))
     for text in ("0", "1001", "x"):
         expect(f"--flows {text}", pie(history, "--flows", text)[0], 1)
 

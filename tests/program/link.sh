@@ -74,6 +74,8 @@ done <<'END'
 --rate 100mbit --target 20ms --limit 1000p --alpha 3 --beta 21 --tupdate 10ms --ecn
 --rate 9000kbit --dq_rate_estimator --no_derandomization --no_cap_drop_adjustment --ecn
 --rate 10mbit --bytemode
+--rate 10mbit --overhead 40 --linklayer atm
+--rate 10mbit --bytemode --overhead=-10 --mpu 53 --linklayer adsl
 --rate 10mbit --bytemode --mtu 9000 --limit 77p
 --rate 10mbit --decay half
 END

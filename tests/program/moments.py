@@ -31,13 +31,13 @@ def rows_of_moments():
                  "1500usec 1.5msecs 1.5msec 0.0015sec 0.0015Secs 1500000nsec 1500000nsecs").split():
         status, out, errors = pie(history, "--all", "--from", text, "--to", text)
         expect(f"--from {text}", (status, out.split(":")[0], errors), (0, "event 1", ""))
-    form = "pie: --from: a moment is whole nanoseconds, or a number with ns, us, ms, s, m or h, such as 1500000, 1.5ms or 2m\n"
+    form = "pie: --from: a moment must be a whole number of nanoseconds, or a number with ns, us, ms, s, m or h, such as 1.5ms or 2m\n"
     for text in ["", "s", ".", ".s", "5.s", "1 s", "+1", "-1", "1e3", "0x1", "1.5.5s", "1,5s", "1min", "1mm", "1hour", "1secss", "ms1", "1bit", "1.5e3ns"]:
         expect(f"--from {text!r}", pie(history, "--all", f"--from={text}"), (1, "", form))
-    fine = "pie: --from: a moment is no more precise than a nanosecond\n"
+    fine = "pie: --from: a moment must be a whole number of nanoseconds\n"
     for text in ["1.5", "1.5ns", ".1", "1.0000000001s", "1.0000000000000000000s"]:
         expect(f"--from {text!r}", pie(history, "--all", f"--from={text}"), (1, "", fine))
-    late = "pie: --to: a moment is at most 1152921504606846975 ns\n"
+    late = "pie: --to: a moment must be at most 1152921504606846975 ns\n"
     for text in ["1152921504606846976", "1152921504.606846976s", "18446744073709551617", "320256h", "99999999999999999999999999s",
                  "340282366920938463463374607431768211456.5s"]:
         expect(f"--to {text}", pie(history, "--all", "--to", text), (1, "", late))

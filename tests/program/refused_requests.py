@@ -153,7 +153,7 @@ def outputs_refused(library, met, name, words, given):
                 check(is_whole or is_kept, name, "-o", forced, place, on, "another file, or", got[0], got[2][:200])
                 # (a part of the output remains under the partial name, which is reported; after a hard link it may
                 # be the whole output)
-                is_told = f"pie: {made}.partial: this has what was written until then\n".encode() in got[2]
+                is_told = f"pie: {made}.partial: this file has the incomplete output\n".encode() in got[2]
                 check(all(want.startswith(text) for text in left.values()), name, "-o", place, on, "no beginning of the text is left")
                 check(set(left) <= {"made.partial"} and (is_whole or is_told or not any(left.values())), name, "-o", place, on, got[2], list(left))
             check(place > 4, name, "-o", forced, "met", place - 1, "requests alone")

@@ -145,7 +145,7 @@ for profile in 1 2; do
         fi
     done
 done
-wanted='--delay is rate or stamp, --picking derandomized or random, --step capped or uncapped, --size unscaled or scaled, --decay zero or half'
+wanted='--delay must be rate or stamp, --picking derandomized or random, --step capped or uncapped, --size unscaled or scaled, and --decay zero or half'
 for words in --delay=stamps --picking=rate --step=Capped --size=scaled, --decay=quarter; do
     expect "storm $words" 1 '' "pie: storm: $wanted\n" '' storm $words
 done

@@ -126,7 +126,7 @@ def interrupted():
 
 def words():
     for line in ['"$1" $(printf "r\\377n")', '"$1" run $(printf "\\377")']:
-        check(shell(line + " </dev/null") == (1, b"", b"pie: a word of the command line is not UTF-8\n"), line)
+        check(shell(line + " </dev/null") == (1, b"", b"pie: an argument is not valid UTF-8\n"), line)
     for line in ['"$1"', '"$1" runs', '"$1" run more', '"$1" run one more', '"$1" run --wrong', '"$1" ""']:
         status, output, errors = shell(line + " </dev/null")
         check(status == 1 and not output and errors, line)

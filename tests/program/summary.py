@@ -197,8 +197,8 @@ def lengths():
     """Texts that are no length of a period."""
     history = "open,0,4,16,100\nreset,1,1500000,done\n"
     for text in ("0", "0ms", "0.000000s"):
-        expect(f"--every {text}", pie(history, "--every", text), (1, "", "pie: --every: a period lasts at least 1 ns\n"))
-    form = "pie: --every: a moment is whole nanoseconds, or a number with ns, us, ms, s, m or h, such as 1500000, 1.5ms or 2m\n"
+        expect(f"--every {text}", pie(history, "--every", text), (1, "", "pie: --every: the interval must be at least 1 ns\n"))
+    form = "pie: --every: a moment must be a whole number of nanoseconds, or a number with ns, us, ms, s, m or h, such as 1.5ms or 2m\n"
     expect("--every soon", pie(history, "--summary", "--every", "soon"), (1, "", form))
 
 

@@ -209,20 +209,20 @@ def hold_ends():
 def hold_texts():
     """Texts that are no times of day, and options that don't go together."""
     history = f"{OPENING}clock,0,0\nreset,1,0,done\n"
-    form = "pie: --from: a time of day is written in UTC as 2026-11-24T20:00:00Z, with at most nine decimals of a second\n"
+    form = "pie: --from: a wall-clock time must have the form 2026-11-24T20:00:00Z, with at most nine decimals of a second\n"
     for text in ("2026-11-24", "2026-11-24T20:00Z", "2026-11-24T20:00:00", "2026-11-24T20:00:00z", "2026-11-24t20:00:00Z", "2026-11-24 20:00:00Z",
                  "2026-11-24T20:00:00+00:00", "2026-11-24T24:00:00Z", "2026-11-24T20:60:00Z", "2026-11-24T20:00:60Z", "2026-13-24T20:00:00Z",
                  "2026-00-24T20:00:00Z", "2026-11-31T20:00:00Z", "2026-02-29T20:00:00Z", "2100-02-29T20:00:00Z", "2026-11-00T20:00:00Z",
                  "2026-11-24T20:00:00.Z", "2026-11-24T20:00:00.1234567890Z", "2026-11-24T20:00:00,5Z", "2026-11-24T20:00:00Z ",
                  "2026-1-24T20:00:00ZZ", "2026-11-24T20:00:0xZ", "1234-", "20260-11-24T20:00:00Z"):
         expected = form if text != "20260-11-24T20:00:00Z" else (
-            "pie: --from: a moment is whole nanoseconds, or a number with ns, us, ms, s, m or h, such as 1500000, 1.5ms or 2m\n")
+            "pie: --from: a moment must be a whole number of nanoseconds, or a number with ns, us, ms, s, m or h, such as 1.5ms or 2m\n")
         expect(f"--from {text!r}", pie(history, "--all", f"--from={text}"), (1, "", expected))
-    past = "pie: --to: a time of day is from 1970 to 2554-07-21T23:34:33.709551615Z\n"
+    past = "pie: --to: a wall-clock time must be between 1970 and 2554-07-21T23:34:33.709551615Z\n"
     for text in ("1969-12-31T23:59:59.999999999Z", "0000-01-01T00:00:00Z", "2554-07-21T23:34:33.709551616Z", "2554-07-21T23:34:34Z",
                  "9999-12-31T23:59:59Z"):
         expect(f"--to {text!r}", pie(history, "--all", "--to", text), (1, "", past))
-    order = "pie: --from is after --to: no event is at both\n"
+    order = "pie: --from must not be after --to\n"
     one, two = "2026-11-24T20:00:00Z", "2026-11-24T20:00:00.000000001Z"
     expect("after", pie(history, "--all", "--from", two, "--to", one), (1, "", order))
     expect("the same", pie(history, "--all", "--from", one, "--to", one), (0, "", ""))

@@ -69,19 +69,19 @@ mistake "error: invalid value '0' for '--event <N>': 0 is not in 1..184467440737
 mistake "error: a value is required for '--from <MOMENT>' but none was supplied" cut --from
 mistake "error: unexpected argument 'more' found" cut one more
 # Words that choose no events, or choose in two ways.
-unchosen='pie: cut takes --from, --to or both, or --event N, which may have --around M, or --last N, or --every N; see pie cut --help'
+unchosen='pie: cut needs --from, --to or both; or --event N, with or without --around M; or --last N; or --every N; see pie cut --help'
 for words in '' '--around 3' '--event 3 --from 2' '--event 3 --to 2' '--around 3 --from 2' '--event 3 --around 1 --from 1 --to 2' \
     '--last 3 --event 3' '--last 3 --every 3' '--every 3 --to 1s' '--last 3 --around 1' '--every 3 --around 1' '--last 3 --from 0'; do
     mistake "$unchosen" cut $words
 done
-mistake 'pie: --from is after --to: no event is at both' cut --from 2 --to 1ns
+mistake 'pie: --from must not be after --to' cut --from 2 --to 1ns
 for words in '' -; do
-    mistake 'pie: cut --last reads a file twice, so it takes one that has a name' cut --last 3 $words
+    mistake 'pie: cut --last reads its input twice, so it needs a file' cut --last 3 $words
 done
 mistake "error: invalid value '0' for '--last <N>': 0 is not in 1..18446744073709551615" cut --last 0
 mistake "error: invalid value '0' for '--every <N>': 0 is not in 1..18446744073709551615" cut --every 0
 mistake 'pie: one: No such file or directory (os error 2)' cut --last 3 one
-mistake 'pie: --from: a moment is whole nanoseconds, or a number with ns, us, ms, s, m or h, such as 1500000, 1.5ms or 2m' cut --from soon
+mistake 'pie: --from: a moment must be a whole number of nanoseconds, or a number with ns, us, ms, s, m or h, such as 1.5ms or 2m' cut --from soon
 mistake "error: invalid value '1' for '--senders <N>': 1 is not in 2..=8" storm --senders 1
 mistake "error: invalid value '9' for '--senders <N>': 9 is not in 2..=8" storm --senders 9
 mistake "error: invalid value 'two' for '--senders <N>': invalid digit found in string" storm --senders two
@@ -102,7 +102,7 @@ mistake "error: unexpected argument '--fast' found" storm --senders 3 --packets 
 mistake "error: unexpected argument 'more' found" storm --senders 3 --packets 10 --seed 7 more
 mistake "error: the argument '--seed <N>' cannot be used multiple times" storm --senders 3 --packets 10 --seed 7 --seed 8
 mistake "error: a value is required for '--tag <N>' but none was supplied" explain --csv --lost --all --event 1 --tag
-mistake 'pie: explain takes one of --event N, --tag T, --lost, --marked and --all, or --summary, --every, --flows or --digest; see pie explain --help' \
+mistake 'pie: explain needs one of --event N, --tag T, --lost, --marked and --all, or --summary, --every, --flows or --digest; see pie explain --help' \
     explain --csv --lost --all --event 1 --tag 2
 mistake "error: unexpected argument 'eleven' found" explain --csv --lost --all --event 1 --tag 2 ten eleven
 mistake "error: unexpected argument '--twelve' found" explain --csv --lost --all --event 1 --tag 2 --twelve

@@ -22,7 +22,9 @@ fn main(mut rt: HostRuntime) -> ExitCode {
         &mut output,
         &mut errors,
     );
-    ExitCode::from(end.told(output.is_closed(), &mut errors))
+    let is_closed = output.is_closed();
+    let _ = end.report(is_closed, &mut errors);
+    ExitCode::from(end.status(is_closed))
 }
 
 /// The words of the command line, or nothing where they could not be had, which is then said on standard error.
@@ -32,7 +34,7 @@ fn words(rt: &HostRuntime) -> Option<Vec<String>> {
         Err(error) => {
             let _ = match error.kind() {
                 ErrorKind::OutOfMemory => eprintln!(rt; "pie: out of memory"),
-                _ => eprintln!(rt; "pie: a word of the command line is not UTF-8"),
+                _ => eprintln!(rt; "pie: an argument is not valid UTF-8"),
             };
             return None;
         }

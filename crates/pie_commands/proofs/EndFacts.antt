@@ -14,8 +14,6 @@ pub if-all : (known : Option (List ℕ)) (P Q S : List ℕ → Type 0) → IfSom
     → IfSome known (λ text. P text × Q text × S text)
 if-all known P Q S p q s = grind (arith, nat_tests)
 
--- ---- before a subcommand begins
-
 -- ---- a text that may hold more than is known
 
 -- what is known is so

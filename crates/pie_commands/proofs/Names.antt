@@ -30,7 +30,7 @@ pub use Rattle.pie_commands.specs.Words.{file_in, files_in, is_forced, is_joined
 pub use Rattle.pie_commands.specs.declared.cut.Pieces.TheVariants.{Every, Part}
 pub use Rattle.pie_commands.specs.declared.cut.Wanted.TheVariants.{Last, Once}
 pub use Rattle.pie_commands.specs.declared.end.End.{End}
-pub use Rattle.pie_commands.specs.declared.end.End.TheVariants.{Done, Failed, Fault, Unable}
+pub use Rattle.pie_commands.specs.declared.end.End.TheVariants.{Done, Failed, Fault, Unable, Unplaced}
 pub use Rattle.pie_commands.specs.declared.options.subcommand.Subcommand.TheVariants.{Audit, Cut, Explain, Migrate, Params, Run, Storm}
 pub use Rattle.pie_cut.specs.Joined.{EndView, JoinsText}
 pub use Rattle.pie_cut.specs.Last.{LastEither}

@@ -2,7 +2,8 @@
 use Rattle.std.proofs.Common.{arith}
 use Rattle.std.proofs.lemmas.Bool.Decides.{nat_tests}
 use Rattle.pie_commands.proofs.Names.{◌≡◌, ℕ, List, Bool, true, false, Option, Some, None, refl, sym, inl, inr, IsSome, Text, file_of, Held, IsEmpty}
-use Rattle.pie_commands.proofs.Names.{Keeps, Places, Settles, End, Unable, ◌&&◌, if◌then◌else◌, not, settled, status_of, EndsAt, EndsIn, is_whole}
+use Rattle.pie_commands.specs.Output.{IsHindered, MayHave}
+use Rattle.pie_commands.proofs.Names.{Keeps, Places, Settles, End, Unplaced, ◌&&◌, if◌then◌else◌, not, settled, status_of, EndsAt, EndsIn, is_whole}
 
 pub keeps-same : (held : Held) → Keeps held held
 keeps-same held other text is = is
@@ -16,37 +17,50 @@ places-since : (read : Option Text) (forced : Bool) (name : Text) (left : Option
     → (IsSome (old name) → read ≡ Some name → ⊥) → Places None forced name left mid new → Places read forced name left old new
 places-since read forced name left old mid new kept another places = grind (arith, nat_tests)
 
+-- what hinders the move of a file hindered it before the file was made
+hindered-since : (works forced : Bool) (read : Option Text) (name : Text) (old mid : Held) → (MayHave forced (old name) → MayHave forced (mid name))
+    → (works ≡ true → MayHave forced (mid name) → ⊥) → IsHindered works read forced name old
+hindered-since works forced read name old mid free hindered is may = absurd (hindered is (free may))
+
 -- how a subcommand ends that wrote to a file which is then in its place or not
-pub ends-settled : (read : Option Text) (forced : Bool) (name : Text) (old mid new : Held)
+pub ends-settled : (works : Bool) (read : Option Text) (forced : Bool) (name : Text) (old mid new : Held)
     (ends : End → Option (List ℕ) → Option (List ℕ) → Type 0) (end : End) (there : Bool) (fresh left : Option (List ℕ)) → IsEmpty fresh → Keeps old mid
-    → (IsSome (old name) → read ≡ Some name → ⊥) → Settles there None forced name left mid new → (is_whole end ≡ false → there ≡ false)
-    → ends end fresh left → EndsAt read forced name fresh old new ends (settled end there)
-ends-settled read forced name old mid new ends end there fresh left empty kept another settles whole ended = go (is_whole end) there refl settles whole
+    → (IsSome (old name) → read ≡ Some name → ⊥) → (MayHave forced (old name) → MayHave forced (mid name))
+    → Settles there None forced name left mid new → (is_whole end ≡ false → there ≡ false)
+    → (is_whole end ≡ true → works ≡ true → MayHave forced (mid name) → there ≡ true)
+    → ends end fresh left → EndsAt works read forced name fresh old new ends (settled end there)
+ends-settled works read forced name old mid new ends end there fresh left empty kept another free settles part whole ended =
+    go (is_whole end) there refl settles part whole
   where
     go : (all placed : Bool) → all ≡ is_whole end → Settles placed None forced name left mid new → (all ≡ false → placed ≡ false)
-        → EndsAt read forced name fresh old new ends (if all && not placed then Unable else end)
-    go true true is settles whole =
-        inr (left, empty, ended, rw (sym is) (places-since read forced name left old mid new kept another settles))
-    go true false is settles whole = inl (refl, keeps-both old mid new kept settles)
-    go false true is settles whole = let wrong : true ≡ false = whole refl in cc
-    go false false is settles whole = inr (left, empty, ended, rw (sym is) (keeps-both old mid new kept settles))
+        → (all ≡ true → works ≡ true → MayHave forced (mid name) → placed ≡ true)
+        → EndsAt works read forced name fresh old new ends (if all && not placed then Unplaced else end)
+    go true true is settles part whole =
+        inr (inr (left, empty, ended, rw (sym is) (places-since read forced name left old mid new kept another settles)))
+    go true false is settles part whole = inl (
+      refl,
+      keeps-both old mid new kept settles,
+      hindered-since works forced read name old mid free (λ w may. let wrong : false ≡ true = whole refl w may in cc),
+    )
+    go false true is settles part whole = let wrong : true ≡ false = part refl in cc
+    go false false is settles part whole = inr (inr (left, empty, ended, rw (sym is) (keeps-both old mid new kept settles)))
 
 -- with the status 1 each file holds what it held
 settles-keeps : (read : Option Text) (forced : Bool) (name : Text) (left : Option (List ℕ)) (old new : Held) (end : End) → status_of end ≡ 1
     → Settles (is_whole end) read forced name left old new → Keeps old new
 settles-keeps read forced name left old new end one settles = grind (arith, nat_tests)
 
-pub ends-keep : (output read : Option Text) (forced : Bool) (fresh : Option (List ℕ)) (old new : Held) (ends : End → Option (List ℕ) → Option (List ℕ) → Type 0) (end : End)
-    (before now : Option (List ℕ)) → status_of end ≡ 1 → EndsIn output read forced fresh old new ends end before now → Keeps old new
-ends-keep output read forced fresh old new ends end before now one ended = grind (arith, settles-keeps)
+pub ends-keep : (works : Bool) (output read : Option Text) (forced : Bool) (fresh : Option (List ℕ)) (old new : Held) (ends : End → Option (List ℕ) → Option (List ℕ) → Type 0) (end : End)
+    (before now : Option (List ℕ)) → status_of end ≡ 1 → EndsIn works output read forced fresh old new ends end before now → Keeps old new
+ends-keep works output read forced fresh old new ends end before now one ended = grind (arith, settles-keeps)
 
 -- output to the caller's writer
-pub ends-output : (output read : Option Text) (forced : Bool) (fresh : Option (List ℕ)) (held : Held) (ends : End → Option (List ℕ) → Option (List ℕ) → Type 0) (end : End)
-    (before now : Option (List ℕ)) → output ≡ None → ends end before now → EndsIn output read forced fresh held held ends end before now
-ends-output output read forced fresh held ends end before now is ended = grind (arith, keeps-same)
+pub ends-output : (works : Bool) (output read : Option Text) (forced : Bool) (fresh : Option (List ℕ)) (held : Held) (ends : End → Option (List ℕ) → Option (List ℕ) → Type 0) (end : End)
+    (before now : Option (List ℕ)) → output ≡ None → ends end before now → EndsIn works output read forced fresh held held ends end before now
+ends-output works output read forced fresh held ends end before now is ended = grind (arith, keeps-same)
 
 -- to a file
-pub ends-file : (output read : Option Text) (forced : Bool) (name : Text) (fresh : Option (List ℕ)) (old new : Held)
+pub ends-file : (works : Bool) (output read : Option Text) (forced : Bool) (name : Text) (fresh : Option (List ℕ)) (old new : Held)
     (ends : End → Option (List ℕ) → Option (List ℕ) → Type 0) (end : End) (before now : Option (List ℕ)) → output ≡ Some name → now ≡ before
-    → EndsAt (file_of read) forced name fresh old new ends end → EndsIn output read forced fresh old new ends end before now
-ends-file output read forced name fresh old new ends end before now is same ended = grind (arith, nat_tests)
+    → EndsAt works (file_of read) forced name fresh old new ends end → EndsIn works output read forced fresh old new ends end before now
+ends-file works output read forced name fresh old new ends end before now is same ended = grind (arith, nat_tests)

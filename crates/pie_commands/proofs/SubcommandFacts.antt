@@ -134,7 +134,7 @@ pub answers-performed : (words : List Text) (matches : ArgMatches) (subcommand :
 answers-performed words matches subcommand rows works input fresh old new end before now matched name given ended =
     let found : subcommand_in words ≡ Some (word_of subcommand) = sym (name ∙ name-found words matches matched) in
     record {
-      keeps = λ one. ends-keep (output_for subcommand rows) (file_in rows) (is_forced rows) fresh old new (EndsAs subcommand rows works input old) end before now
+      keeps = λ one. ends-keep works (output_for subcommand rows) (file_in rows) (is_forced rows) fresh old new (EndsAs subcommand rows works input old) end before now
           one ended;
       differs = λ is. (subcommand, differs-to subcommand rows works input fresh old new before now (rw is at ended), found);
       ends = λ other asks.

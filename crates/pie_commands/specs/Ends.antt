@@ -1,5 +1,5 @@
 -- The end of a run, a migration and an audit: the exit status and the output.
-use Rattle.std.specs.Prelude.{ℕ, ◌≡◌, ◌⊎◌, ◌^◌, ◌++◌, ◌&&◌, if◌then◌else◌, List, Bool, true, false, Option, Some, None, Result, Ok, Err, codes}
+use Rattle.std.specs.Prelude.{ℕ, ◌≡◌, ◌⊎◌, ◌^◌, ◌++◌, ◌&&◌, if◌then◌else◌, not, List, [], Bool, true, false, Option, Some, None, Result, Ok, Err, codes}
 use Rattle.std.specs.Prelude.{IfErr, IfOk, IfSome}
 use Rattle.std.specs.Fmt.{decimal}
 use Rattle.std.specs.Io.KnownBytes.{Appends}
@@ -30,6 +30,10 @@ is_unwritten _ = false
 -- the exit status of the program: 141 if the writer failed because its reader is gone
 abbrev pub end_status : Bool → End → ℕ
 end_status closed end = if closed && is_unwritten end then 141 else status_of end
+
+-- the line that reports a failure of the writer; none if its reader is gone
+abbrev pub end_report : Bool → End → List ℕ
+end_report closed end = if not closed && is_unwritten end then codes "pie: cannot write the output\n" else []
 
 -- ---- any subcommand
 

@@ -19,6 +19,11 @@ KeepsBut forced name old new = (other : Name) (text : List ℕ) → old other �
 abbrev pub MayHave : Bool → Option (List ℕ) → Type 0
 MayHave forced held = (forced ≡ true) ⊎ (held ≡ None)
 
+-- a new file cannot have this name: a file of the name must not be replaced, or it is the file that is read; or, unless
+-- `works`, any other failure
+abbrev pub IsHindered : Bool → Option Name → Bool → Name → Held → Type 0
+IsHindered works read forced name old = works ≡ true → MayHave forced (old name) → read ≡ Some name
+
 -- each file except the one of this name, if that may be replaced and is not the file that is read, holds what it
 -- held
 abbrev pub Replaces : Option Name → Bool → Name → Held → Held → Type 0

@@ -58,7 +58,7 @@ output_for _ options = output_in options
 -- the files before and after
 abbrev pub EndsTo : Subcommand → List Row → Bool → Option (List ℕ) → Option (List ℕ) → Held → Held → End → Option (List ℕ) → Option (List ℕ) → Type 0
 EndsTo subcommand options works input fresh old new =
-    EndsIn (output_for subcommand options) (file_in options) (is_forced options) fresh old new (EndsAs subcommand options works input old)
+    EndsIn works (output_for subcommand options) (file_in options) (is_forced options) fresh old new (EndsAs subcommand options works input old)
 
 -- an event can differ in what three of them read
 abbrev pub may_differ : Subcommand → Bool

@@ -1,8 +1,14 @@
 -- `pie params`: what the options ask for, and how it ends.
-use Rattle.std.specs.Prelude.{ℕ, ◌≡◌, ◌<◌, ◌≤◌, ◌^◌, ◌⊎◌, List, Option, Some, None, Result, Ok, codes}
+use Rattle.std.specs.Prelude.{ℕ, ◌≡◌, ◌<◌, ◌≤◌, ◌^◌, ◌⊎◌, ◌||◌, List, Option, Some, None, Result, Ok, codes, if◌then◌else◌}
+use Rattle.std.specs.Str.{bytes_eq}
 use Rattle.std.specs.Io.KnownBytes.{Appends}
 use Rattle.clap.specs.Words.{Row, Text, first_of}
 use Rattle.pie_params.specs.Range.{IsInRange}
+use Rattle.pie_units.specs.Layer.{overhead_of}
+use Rattle.pie_units.specs.declared.layer.Layer.{Layer}
+use Rattle.pie_units.specs.declared.layer.LinkLayer.{LinkLayer}
+use Rattle.pie_units.specs.declared.layer.LinkLayer.TheVariants.{Atm, Ethernet}
+use Rattle.pie_units.specs.declared.layer.Overhead.TheVariants.{Added}
 use Rattle.pie_units.specs.declared.options.TuningOptions.{TuningOptions}
 use Rattle.pie_units.specs.declared.option_units.OptionFault.{OptionFault}
 use Rattle.pie_record.specs.Text.{text_of}
@@ -13,12 +19,26 @@ use Rattle.pie_commands.specs.Words.{flag_given, number_or}
 use Rattle.pie_record.specs.declared.fault.TraceFault.TheVariants as trace_fault
 use Rattle.pie_commands.specs.StormEnds.{decay_in}
 use Rattle.pie_commands.specs.declared.end.End.{End}
-use Rattle.pie_commands.specs.declared.end.End.TheVariants.{Done, Differs, Fault, Unable, Failed}
+use Rattle.pie_commands.specs.declared.end.End.TheVariants.{Done, Differs, Fault, Unable, Unplaced, Failed}
 
--- the number that an option's text gives, or `unnamed` if the option isn't given
-abbrev pub given_or : (Text → Result ℕ OptionFault) → ℕ → Option Text → Result ℕ OptionFault
+-- the value that an option's text gives, or `unnamed` if the option isn't given
+abbrev pub given_or : {A : Type 0} → (Text → Result A OptionFault) → A → Option Text → Result A OptionFault
 given_or reads unnamed None = Ok unnamed
 given_or reads unnamed (Some text) = reads text
+
+-- the link layer of this name, or Ethernet without a name
+abbrev pub link_layer_by : Option Text → Option LinkLayer
+link_layer_by None = Some Ethernet
+link_layer_by (Some name) =
+    if bytes_eq name (codes "ethernet") then Some Ethernet
+    else if bytes_eq name (codes "atm") || bytes_eq name (codes "adsl") then Some Atm
+    else None
+
+-- the options of `tc stab` ask for this
+pub record AsksForLayer (options : List Row) (layer : Layer) : Type 0 where
+  pub overhead : given_or overhead_of (Added 0) (first_of (codes "overhead") options) ≡ Ok layer.overhead
+  pub mpu : layer.mpu ≡ number_or (codes "mpu") 0 65535 0 options
+  pub format : link_layer_by (first_of (codes "linklayer") options) ≡ Some layer.format
 
 -- the options ask for this
 pub record AsksFor (options : List Row) (asked : TuningOptions) : Type 0 where
@@ -35,6 +55,7 @@ pub record AsksFor (options : List Row) (asked : TuningOptions) : Type 0 where
   pub no_derandomization : asked.no_derandomization ≡ flag_given (codes "no_derandomization") options
   pub no_cap_drop_adjustment : asked.no_cap_drop_adjustment ≡ flag_given (codes "no_cap_drop_adjustment") options
   pub decay : decay_in options ≡ Some asked.decay
+  pub layer : AsksForLayer options asked.layer
 
 -- the record of the requested parameters was written: the parameters are in their ranges, and the limit of packets
 -- is 1 to 2^20
@@ -60,4 +81,5 @@ EndsParams options Done before now = WritesParams options before now
 EndsParams options Differs before now = ⊥
 EndsParams options (Fault why) before now = why ≡ trace_fault.Write
 EndsParams options Unable before now = now ≡ before
+EndsParams options Unplaced before now = ⊥
 EndsParams options Failed before now = (now ≡ before) × RefusesParams options

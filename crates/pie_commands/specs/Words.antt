@@ -12,6 +12,7 @@ use Rattle.clap.specs.declared.builder.value_parser.ValueParser.TheVariants.{Uns
 use Rattle.pie_commands.specs.declared.options.subcommand.Subcommand.{Subcommand}
 use Rattle.pie_commands.specs.declared.options.subcommand.Subcommand.TheVariants.{Run, Audit, Explain, Cut, Migrate, Storm, Params}
 use Rattle.pie_commands.specs.SubcommandWords.{word_of}
+use Rattle.pie_commands.specs.Files.{file_of}
 
 -- `pie`, which has a version and wants a subcommand
 abbrev pub pie_alone : App
@@ -75,7 +76,8 @@ rules_for Storm = number_rule (codes "senders") 2 8 ∷ number_rule (codes "pack
 rules_for Params = text_rule (codes "rate") ∷ text_rule (codes "target") ∷ text_rule (codes "tupdate") ∷ text_rule (codes "limit")
     ∷ number_rule (codes "alpha") 0 32 ∷ number_rule (codes "beta") 0 32 ∷ flag_rule (codes "ecn") ∷ flag_rule (codes "bytemode")
     ∷ number_rule (codes "mtu") 1 65535 ∷ flag_rule (codes "dq_rate_estimator") ∷ flag_rule (codes "no_derandomization")
-    ∷ flag_rule (codes "no_cap_drop_adjustment") ∷ text_rule (codes "decay") ∷ []
+    ∷ flag_rule (codes "no_cap_drop_adjustment") ∷ text_rule (codes "decay") ∷ text_rule (codes "overhead") ∷ number_rule (codes "mpu") 0 65535
+    ∷ text_rule (codes "linklayer") ∷ []
 
 abbrev pub app_for : Subcommand → App
 app_for subcommand = with_rules (new_app (word_of subcommand)) (rules_for subcommand)
@@ -139,10 +141,6 @@ is_joined options = flag_given (codes "joined") options
 abbrev pub is_forced : List Row → Bool
 is_forced options = flag_given (codes "force") options
 
--- the file that is to be made, where the options name one: `-` is the name of none, but standard output
-abbrev pub file_made : Option Text → Option Text
-file_made None = None
-file_made (Some name) = if bytes_eq name (codes "-") then None else Some name
-
+-- the output file that the options name: `-` is standard output, and no file
 abbrev pub output_in : List Row → Option Text
-output_in options = file_made (first_of (codes "output") options)
+output_in options = file_of (first_of (codes "output") options)

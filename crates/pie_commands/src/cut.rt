@@ -47,10 +47,10 @@ pub(crate) enum Wanted {
 
 /// The message for options that don't choose events in exactly one way.
 const NO_PART: &str =
-    "cut takes --from, --to or both, or --event N, which may have --around M, or --last N, or --every N; see pie cut --help";
+    "cut needs --from, --to or both; or --event N, with or without --around M; or --last N; or --every N; see pie cut --help";
 
 /// The message for `--last` with an input that can't be read twice.
-const NO_NAME: &str = "cut --last reads a file twice, so it takes one that has a name";
+const NO_NAME: &str = "cut --last reads its input twice, so it needs a file";
 
 /// The events within these bounds, where there is one.
 fn within(from: Option<When>, to: Option<When>) -> Option<Span>

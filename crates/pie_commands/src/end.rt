@@ -1,42 +1,34 @@
-//! The result of the program and its exit status.
-ghost use Rattle.std.specs.Prelude.{◌≡◌, false, true};
-ghost use Rattle.pie_commands.specs.Ends.{end_of, is_unwritten, status_of, end_status};
+//! The end of the program and its exit status.
+ghost use Rattle.std.specs.Prelude.{◌≡◌, [], OnOk};
+ghost use Rattle.std.specs.Io.KnownBytes.{Appends};
+ghost use Rattle.pie_commands.specs.Ends.{end_of, end_report, end_status, is_unwritten};
 ghost use Rattle.pie_commands.specs.Outputs.{is_whole, settled};
 
 use crate::faults::fault;
 use pie_trace::TraceFault;
 use std::fmt::Display;
+use std::io;
 use std::io::Write;
 
-/// How `pie` ended.
+/// The end of `pie`.
 #[derive(Clone, Copy)]
 pub enum End {
-    /// All went well.
+    /// The subcommand is done.
     Done,
     /// An event of a history differs.
     Differs,
     /// The trace or the history has this fault, or else the reader, the writer or memory failed.
     Fault(TraceFault),
-    /// A file can't be opened, created or moved, or memory or a thread is missing at the start. Nothing was written
-    /// to the caller's writer.
+    /// A file can't be opened, or memory or a thread is missing at the start. Nothing was written.
     Unable,
+    /// The output file can't be created, or can't be moved onto its name. Each file is unchanged.
+    Unplaced,
     /// The options select nothing that exists, or one of several files has a fault. The error stream has a line for
     /// it.
     Failed,
 }
 
 impl End {
-    /// Returns the exit status: 0 if done, 2 if an event differs, otherwise 1.
-    fn status(self) -> u8
-        ensures { result ≡ status_of self }
-    {
-        match self {
-            End::Done => 0,
-            End::Differs => 2,
-            End::Fault(_) | End::Unable | End::Failed => 1,
-        }
-    }
-
     /// Returns true if the writer failed.
     fn is_unwritten(self) -> bool
         ensures { result ≡ is_unwritten self }
@@ -44,22 +36,33 @@ impl End {
         matches!(self, End::Fault(TraceFault::Write))
     }
 
-    /// Returns the exit status and reports a failure of the writer with a line on `errors`. If the writer failed because
-    /// its reader is gone (`is_closed`), as with `head`, nothing is written and the status is 141. A shell gives this
-    /// status to a program that SIGPIPE ended.
-    pub fn told<E: Write>(self, is_closed: bool, errors: &mut E) -> u8
-        ensures status { result ≡ end_status is_closed self }
-        ensures quiet { is_closed ≡ true → E.contents errors.new ≡ E.contents errors.old }
-        ensures silent { is_unwritten self ≡ false → E.contents errors.new ≡ E.contents errors.old }
+    /// Returns the exit status: 0 if done, 2 if an event differs, otherwise 1. If the writer failed because its reader
+    /// is gone (`is_closed`), as with `head`, it is 141, the status of a program that SIGPIPE ended in a shell.
+    pub fn status(self, is_closed: bool) -> u8
+        ensures { result ≡ end_status is_closed self }
     {
-        if !self.is_unwritten() {
-            return self.status();
+        match self {
+            End::Done => 0,
+            End::Differs => 2,
+            End::Fault(TraceFault::Write) if is_closed => 141,
+            _ => 1,
         }
-        if is_closed {
-            return 141;
+    }
+
+    /// Writes the line of a failure of the writer to `errors`. If its reader is gone (`is_closed`), or the writer did
+    /// not fail, nothing is written.
+    ///
+    /// # Errors
+    ///
+    /// Returns the error of `errors`.
+    pub fn report<E: Write>(self, is_closed: bool, errors: &mut E) -> io::Result<()>
+        ensures line { OnOk result (Appends (E.contents errors.old) (E.contents errors.new) (end_report is_closed self)) }
+        ensures quiet { end_report is_closed self ≡ [] → E.contents errors.new ≡ E.contents errors.old }
+    {
+        if is_closed || !self.is_unwritten() {
+            return Ok(());
         }
-        fault(errors, TraceFault::Write);
-        1
+        errors.write_all(b"pie: cannot write the output\n")
     }
 
     /// Returns true if the output is complete.
@@ -69,18 +72,18 @@ impl End {
         matches!(self, End::Done | End::Differs)
     }
 
-    /// The end where what was written had to be put in its place, and is there or not.
+    /// Returns the end of a subcommand with this end. `is_there` is true if its output file has its name.
     pub(crate) fn settled(self, is_there: bool) -> End
         ensures { result ≡ settled self is_there }
     {
         if self.is_whole() && !is_there {
-            return End::Unable;
+            return End::Unplaced;
         }
         self
     }
 }
 
-/// The end of a run or a migration with this answer, with a line on `errors` where it is a fault. It knows no more of the answer.
+/// Returns the end of a run or a migration with this result, and writes the line of a fault to `errors`.
 pub(crate) fn ended<T: Copy, E: Write>(errors: &mut E, given: Result<T, TraceFault>) -> End
     ensures { result ≡ end_of given }
 {
@@ -90,8 +93,8 @@ pub(crate) fn ended<T: Copy, E: Write>(errors: &mut E, given: Result<T, TraceFau
     }
 }
 
-/// Returns the end for a fault and writes its line to `errors`. A writer's fault has no line here: `End::told`
-/// decides later if it is reported.
+/// Returns the end for a fault and writes its line to `errors`. A writer's fault has no line here: `End::report`
+/// writes it later.
 pub(crate) fn faulted<E: Write>(errors: &mut E, why: TraceFault) -> End
     ensures { result ≡ End.Fault why }
 {
@@ -102,7 +105,7 @@ pub(crate) fn faulted<E: Write>(errors: &mut E, why: TraceFault) -> End
     end
 }
 
-/// The end where nothing can begin, with its line on `errors`.
+/// Returns the end of a subcommand that cannot begin, and writes its line to `errors`.
 pub(crate) fn unable<E: Write, D: Display + Drop>(errors: &mut E, text: D) -> End
     ensures { result ≡ End.Unable }
 {

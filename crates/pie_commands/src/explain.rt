@@ -20,13 +20,13 @@ use std::time::Clock;
 
 /// The message for options that don't choose events by exactly one option.
 const NO_CHOICE: &str =
-    "explain takes one of --event N, --tag T, --lost, --marked and --all, or --summary, --every, --flows or --digest; see pie explain --help";
+    "explain needs one of --event N, --tag T, --lost, --marked and --all, or --summary, --every, --flows or --digest; see pie explain --help";
 
 /// The message for an interval of length 0.
-const NO_PERIOD: &str = "--every: a period lasts at least 1 ns";
+const NO_PERIOD: &str = "--every: the interval must be at least 1 ns";
 
 /// The message for `--flows` together with `--digest`.
-const NOT_BOTH: &str = "--flows and --digest: explain takes one of them";
+const NOT_BOTH: &str = "--flows cannot be combined with --digest";
 
 /// The events that are chosen, where exactly one of the five options chooses some; a summary is of all where none does.
 fn chosen(
@@ -212,7 +212,7 @@ fn ended<E: Write>(errors: &mut E, given: Result<u64, ExplainFault>) -> End
 /// `pie explain`: explains the chosen events of a history or an excerpt, up to its first fault or the first event
 /// that differs. Returns a difference as `End::Differs`. If the text has a fault, the options choose no event, no
 /// event matches, or the reader, the writer or memory fails, the end is an error. Each error has a line on
-/// `errors`; a writer's fault is reported later (`End::told`). If it `is_shown`, progress is reported on `errors`
+/// `errors`; a writer's fault is reported later (`End::report`). If it `is_shown`, progress is reported on `errors`
 /// too.
 pub(crate) fn explain<H: Clock, R: Read + Drop, W: Write, E: Write>(
     rt: &H,

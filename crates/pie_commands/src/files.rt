@@ -25,27 +25,31 @@ pub trait NamedFiles {
     ///
     /// # Errors
     ///
-    /// Where there is no such file, or it can't be opened.
+    /// Returns an error if there is no such file, or if it can't be opened.
     fn open_named(&self, name: &str) -> io::Result<Self::File>
         ensures opened { IfOk result (λ file. Self.File.remaining file ≡ holds self.now name.now) }
         ensures works { works ≡ true → IsSome (holds self.now name.now) → IsOk result };
 
     /// Returns true if `name` leads to the file `other`, under any name, or to standard input if `other` is `None`.
     fn is_one(&self, name: &str, other: Option<&str>) -> bool
-        ensures { IsSome (holds self.now name.now) → option_map (λ other. other.now) other.entry ≡ Some name.now → result ≡ true };
+        ensures same { IsSome (holds self.now name.now) → option_map (λ other. other.now) other.entry ≡ Some name.now → result ≡ true }
+        ensures works { works ≡ true → result ≡ true → option_map (λ other. other.now) other.entry ≡ Some name.now };
 
-    /// A file that was made to be written.
+    /// A file that was created to be written.
     type Made: Write + Drop;
 
-    /// Makes an empty file that `place` can move onto this name, and changes no other. A pipe or a device of this name is opened as it is.
+    /// Creates an empty file that `place` can move onto this name, and changes no other file. A pipe or a device of this
+    /// name is opened as it is.
     ///
     /// # Errors
     ///
-    /// Where a file of this name is there that must not be replaced, or the new one can't be made.
+    /// Returns an error if a file of this name must not be replaced, or if the new file can't be created.
     fn make(&mut self, name: &str, is_forced: bool) -> io::Result<Self::Made>
         ensures fresh { IfOk result (λ made. Self.Made.contents made ≡ fresh) }
         ensures empty { IsEmpty fresh }
-        ensures keeps { Keeps (holds self.old) (holds self.new) };
+        ensures keeps { Keeps (holds self.old) (holds self.new) }
+        ensures free { MayHave is_forced (holds self.old name.now) → MayHave is_forced (holds self.new name.now) }
+        ensures works { works ≡ true → MayHave is_forced (holds self.old name.now) → IsOk result };
 
     /// Moves the new file onto `name`. An existing file of that name must be one that may be replaced.
     ///
@@ -58,7 +62,7 @@ pub trait NamedFiles {
         ensures fails { IfErr result (λ _. Keeps (holds self.old) (holds self.new)) }
         ensures works { works ≡ true → MayHave is_forced (holds self.old name.now) → IsOk result };
 
-    /// Leaves what was made where it is, and answers the name that it has there; or removes it, where nothing was written.
+    /// Leaves the new file under its other name, and returns that name. Removes the file if it is empty.
     fn leave(&mut self, made: Self::Made) -> Option<String>
         ensures { Keeps (holds self.old) (holds self.new) };
 }

@@ -14,14 +14,14 @@ use std::{fs, io};
 /// The number of names that are tried for a file created beside another.
 const MOST_NAMES: u32 = 100;
 
-/// Where a program writes: standard output, a file that it made beside the one that it is for, or a pipe or a device. As one type of all, what
-/// writes to either is compiled once, and inlined as what has one caller is.
+/// The output of the program: standard output, a new file beside its final name, or a pipe or a device. One type for
+/// all means that the code that writes is compiled once.
 #[derive(Drop)]
 pub struct Output {
     to: Either<Stdout, File>,
     /// The name of the file that was made, until that is moved.
     made: Option<String>,
-    /// Nobody reads it any more.
+    /// True if its reader is gone.
     is_closed: bool,
 }
 
@@ -37,7 +37,7 @@ impl Output {
         }
     }
 
-    /// Standard output.
+    /// Returns standard output.
     pub fn standard(output: Stdout) -> Output
         ensures { is_closed result ≡ false }
     {
@@ -51,7 +51,7 @@ impl Output {
         self.is_closed
     }
 
-    /// Notes whether a write that was answered so failed since nobody reads it any more.
+    /// Stores that the reader is gone if a write with this result failed for that reason.
     fn note(&mut self, given: &io::Result<usize>)
         ensures { is_closed self.new ≡ has_closed (is_closed self.old) given.now }
     {
@@ -84,15 +84,15 @@ fn is_standard(name: &str) -> bool {
     matches!(name, "/dev/stdout" | "/dev/fd/1" | "/proc/self/fd/1")
 }
 
-/// A file is there that must not be replaced.
+/// Returns the error for a file that must not be replaced.
 fn is_there() -> Error {
     Error::new(
         ErrorKind::AlreadyExists,
-        "a file is there, which --force replaces",
+        "the file exists; --force replaces it",
     )
 }
 
-/// The name of a file beside the one of this name, the `count`-th that is tried.
+/// Returns the name number `count` that is tried for a file beside `name`.
 fn name_beside(rt: &HostRuntime, name: &str, count: u32) -> io::Result<String> {
     let made = match count {
         1 => format!(in rt.alloc(); "{name}.partial")?,
@@ -101,7 +101,7 @@ fn name_beside(rt: &HostRuntime, name: &str, count: u32) -> io::Result<String> {
     Ok(made)
 }
 
-/// A new file of this name, which may be used as the one that it will replace, if there is one.
+/// Creates a file of this name, with the permissions of the file that it will replace, if there is one.
 fn create(rt: &HostRuntime, name: &str, replaced: Option<&Metadata>) -> io::Result<File> {
     let mut how = OpenOptions::new();
     how.write(true).create_new(true);
@@ -114,7 +114,7 @@ fn create(rt: &HostRuntime, name: &str, replaced: Option<&Metadata>) -> io::Resu
     Ok(file)
 }
 
-/// A new file beside the one of this name, under a name that no file has.
+/// Creates a file beside `name`, under a name that no file has.
 fn create_beside(rt: &HostRuntime, name: &str, replaced: Option<&Metadata>) -> io::Result<Output> {
     for count in 1..=MOST_NAMES {
         let made = name_beside(rt, name, count)?;
@@ -126,11 +126,11 @@ fn create_beside(rt: &HostRuntime, name: &str, replaced: Option<&Metadata>) -> i
     }
     Err(Error::new(
         ErrorKind::AlreadyExists,
-        "too many files are left beside it, as .partial",
+        "too many partial files exist beside it",
     ))
 }
 
-/// Opens what is no file to write to it as it is.
+/// Opens a pipe or a device to write to it.
 fn open_as_it_is(rt: &HostRuntime, name: &str) -> io::Result<Output> {
     let to = OpenOptions::new().write(true).open(rt, name)?;
     Ok(Output::new(Right(to), None))
@@ -144,8 +144,8 @@ fn is_free(rt: &HostRuntime, name: &str) -> bool {
     }
 }
 
-/// Moves a file onto a name that no file has. That it has none is seen to in the same step, where the folder can hold links; elsewhere an empty file
-/// takes the name first, which replaces none.
+/// Moves a file onto a name that no file has. A hard link fails if a file has the name. If the folder has no links, an
+/// empty file takes the name first, which replaces no file.
 fn move_to_free(rt: &HostRuntime, made: &str, name: &str) -> io::Result<()> {
     match fs::hard_link(rt, made, name) {
         Ok(()) => {
@@ -159,7 +159,7 @@ fn move_to_free(rt: &HostRuntime, made: &str, name: &str) -> io::Result<()> {
     }
 }
 
-/// Moves a file onto the name of an empty one, which goes where that can't be done.
+/// Moves a file onto the name of an empty one. If it can't be moved, the empty file is removed.
 fn replace_empty(rt: &HostRuntime, made: &str, name: &str) -> io::Result<()> {
     let moved = fs::rename(rt, made, name);
     if moved.is_err() {

@@ -53,7 +53,7 @@ pub(crate) fn parsed<T: Copy, F: Copy + Display, E: Write>(
 }
 
 /// The message for bounds that exclude every moment.
-pub(crate) const NO_ORDER: &str = "--from is after --to: no event is at both";
+pub(crate) const NO_ORDER: &str = "--from must not be after --to";
 
 /// Returns true unless both bounds are given, are of one kind (moments or wall-clock times), and `from` is after
 /// `to`.

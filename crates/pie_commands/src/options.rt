@@ -17,5 +17,5 @@ mod storm;
 mod subcommand;
 
 pub(crate) use command_line::options;
-pub(crate) use given::{file, flag, number, number_or, output, text};
+pub(crate) use given::{file, file_of, flag, number, number_or, output, text};
 pub(crate) use subcommand::Subcommand;

@@ -1,24 +1,15 @@
-//! An output that is made, and then put in its place or left.
+//! An output file that is created, and then moved onto its name or left.
 ghost use Rattle.std.specs.Prelude.{◌≡◌, false, true, IfSome, IsSome, None, Some, option_map};
 ghost use Rattle.pie_commands.specs.Files.{file_of};
-ghost use Rattle.pie_commands.specs.Output.{IsEmpty, Keeps, MayHave, Settles};
+ghost use Rattle.pie_commands.specs.Output.{IsEmpty, IsHindered, Keeps, MayHave, Settles};
 
 use crate::faults::named_fault;
 use crate::files::NamedFiles;
+use crate::options::file_of;
 use std::io::Write;
 
-/// The file that is read: none for `-`, which is standard input.
-fn file_of<'a>(read: Option<&'a str>) -> Option<&'a str>
-    ensures { option_map (λ name. name.now) result ≡ file_of (option_map (λ name. name.now) read.entry) }
-{
-    match read {
-        Some(name) => { if name == "-" { None } else { Some(name) } }
-        None => None,
-    }
-}
-
-/// A new file that can be moved onto this name; or none, with a line on `errors`, where it can't be made, where a file is there that must not be
-/// replaced, and where that is what is read.
+/// Creates a file that can be moved onto `name`. If it can't be created, a file of the name must not be replaced, or is
+/// the file that is read, writes a line to `errors` and returns `None`.
 pub(crate) fn make_for<H: NamedFiles, E: Write>(
     rt: &mut H,
     name: &str,
@@ -31,13 +22,11 @@ pub(crate) fn make_for<H: NamedFiles, E: Write>(
     ensures keeps { Keeps (H.holds rt.old) (H.holds rt.new) }
     ensures other { IfSome result (λ _. IsSome (H.holds rt.old name.now)
         → file_of (option_map (λ other. other.now) read.entry) ≡ Some name.now → ⊥) }
+    ensures free { MayHave is_forced (H.holds rt.old name.now) → MayHave is_forced (H.holds rt.new name.now) }
+    ensures works { result ≡ None → IsHindered H.works (file_of (option_map (λ other. other.now) read.entry)) is_forced name.now (H.holds rt.old) }
 {
     if rt.is_one(name, file_of(read)) {
-        named_fault(
-            errors,
-            name,
-            "this is what is read, and can't be written too",
-        );
+        named_fault(errors, name, "the input file cannot be the output file");
         return None;
     }
     match rt.make(name, is_forced) {
@@ -49,7 +38,7 @@ pub(crate) fn make_for<H: NamedFiles, E: Write>(
     }
 }
 
-/// Moves what was made onto its name, where that can be done; else says on `errors` what goes wrong.
+/// Moves the output file onto its name. If it can't be moved, writes a line to `errors` and returns false.
 fn put<H: NamedFiles, E: Write>(
     rt: &mut H,
     made: &mut H::Made,
@@ -69,7 +58,7 @@ fn put<H: NamedFiles, E: Write>(
     }
 }
 
-/// Leaves what was made under its other name, which is said on `errors` where something was written.
+/// Leaves the output file under its other name. If it isn't empty, writes that name to `errors`.
 fn abandon<H: NamedFiles, E: Write>(rt: &mut H, made: H::Made, errors: &mut E)
     ensures { Keeps (H.holds rt.old) (H.holds rt.new) }
 {
@@ -77,13 +66,13 @@ fn abandon<H: NamedFiles, E: Write>(rt: &mut H, made: H::Made, errors: &mut E)
         named_fault(
             errors,
             other.as_str(),
-            "this has what was written until then",
+            "this file has the incomplete output",
         );
     }
 }
 
-/// Moves what was made onto its name, where it `is_whole`, and answers whether it is there. Else, or where it can't be moved, which is said on
-/// `errors`, it stays under its other name, and the file of its name as it was.
+/// Moves an output that `is_whole` onto its name, and returns true if it has the name. Otherwise the output is left
+/// under its other name, and a file of its name is unchanged. If it can't be moved, writes a line to `errors`.
 pub(crate) fn settle<H: NamedFiles, E: Write>(
     rt: &mut H,
     made: H::Made,

@@ -1,9 +1,12 @@
-//! `pie params`: the parameters and the choices that `tc`'s options ask for, as the record that opens a book.
-ghost use Rattle.std.specs.Prelude.{◌≡◌, ℕ, IfSome, None, Ok, codes};
+//! `pie params`: converts options of `tc` to the record that opens a book.
+ghost use Rattle.std.specs.Prelude.{◌≡◌, IfSome, None, Ok, codes, option_map};
 ghost use Rattle.clap.specs.Words.{first_of, found_of, rows_of};
 ghost use Rattle.pie_units.specs.Units.{packets_of, rate_of, time_of};
+ghost use Rattle.pie_units.specs.Layer.{overhead_of};
+ghost use Rattle.pie_units.specs.declared.layer.Layer.{Layer};
+ghost use Rattle.pie_units.specs.declared.layer.Overhead.{Overhead};
 ghost use Rattle.pie_units.specs.declared.options.TuningOptions.{TuningOptions};
-ghost use Rattle.pie_commands.specs.Tuning.{AsksFor, EndsParams, given_or};
+ghost use Rattle.pie_commands.specs.Tuning.{AsksFor, AsksForLayer, EndsParams, given_or, link_layer_by};
 
 use crate::end::{End, failed, faulted};
 use crate::options::{flag, number, number_or, text};
@@ -13,8 +16,8 @@ use pie_book::Limits;
 use pie_params::{Params, RawParams};
 use pie_trace::TraceFault;
 use pie_units::{
-    OptionFault, TuningOptions, can_stall, elements_for, gain_of, is_short, opening_for,
-    packets_of, params_for, rate_of, time_of, write_opening,
+    Layer, LinkLayer, OptionFault, Overhead, TuningOptions, can_stall, elements_for, gain_of,
+    is_short, opening_for, overhead_of, packets_of, params_for, rate_of, time_of, write_opening,
 };
 use std::io::Write;
 
@@ -48,18 +51,63 @@ fn packets_in(options: &ArgMatches<'_>) -> Result<u64, OptionFault>
     }
 }
 
-/// Returns the number of the option `name`. If its text is not valid, writes a line to `errors` and returns `None`.
-fn read_of<E: Write>(read: Result<u64, OptionFault>, name: &str, errors: &mut E) -> Option<u64>
-    ensures read { IfSome result (λ number. read ≡ Ok number) }
-    ensures none { result ≡ None → (number : ℕ) → read ≡ Ok number → ⊥ }
+/// Returns the overhead of the option `--overhead`, or none if it isn't given.
+fn overhead_in(options: &ArgMatches<'_>) -> Result<Overhead, OptionFault>
+    ensures { result ≡ given_or overhead_of (Overhead.Added 0) (first_of (codes "overhead") (rows_of (found_of options.now))) }
+{
+    match text(options, "overhead") {
+        Some(text) => overhead_of(text),
+        None => Ok(Overhead::Added(0)),
+    }
+}
+
+/// Returns the link layer of this name, or Ethernet without a name. `adsl` is ATM, as for `tc`.
+fn link_layer_by(name: Option<&str>) -> Option<LinkLayer>
+    ensures { result ≡ link_layer_by (option_map (λ name. name.now) name.entry) }
+{
+    match name {
+        None => Some(LinkLayer::Ethernet),
+        Some(name) => {
+            if name == "ethernet" {
+                Some(LinkLayer::Ethernet)
+            } else if name == "atm" || name == "adsl" {
+                Some(LinkLayer::Atm)
+            } else {
+                None
+            }
+        }
+    }
+}
+
+/// Returns the value of the option `name`. If its text is not valid, writes a line to `errors` and returns `None`.
+fn read_of<T: Copy, E: Write>(read: Result<T, OptionFault>, name: &str, errors: &mut E) -> Option<T>
+    ensures read { IfSome result (λ value. read ≡ Ok value) }
+    ensures none { result ≡ None → (value : T) → read ≡ Ok value → ⊥ }
 {
     match read {
-        Ok(number) => Some(number),
+        Ok(value) => Some(value),
         Err(why) => {
             let _ = writeln!(errors, "pie: --{name} {why}");
             None
         }
     }
+}
+
+/// Returns the options of `tc stab`. If a text is not valid, writes a line to `errors` and returns `None`.
+fn layer_in<E: Write>(options: &ArgMatches<'_>, errors: &mut E) -> Option<Layer>
+    ensures asked { IfSome result (AsksForLayer (rows_of (found_of options.now))) }
+    ensures none { result ≡ None → (layer : Layer) → AsksForLayer (rows_of (found_of options.now)) layer → ⊥ }
+{
+    let overhead = read_of(overhead_in(options), "overhead", errors)?;
+    let Some(format) = link_layer_by(text(options, "linklayer")) else {
+        let _ = writeln!(errors, "pie: --linklayer must be ethernet, atm or adsl");
+        return None;
+    };
+    Some(Layer {
+        overhead,
+        mpu: number_or(options, "mpu", 0, 65535, 0) as u16,
+        format,
+    })
 }
 
 /// Returns the values of all options. If a text is not a valid number of its kind or names no choice, writes a line
@@ -72,8 +120,9 @@ fn tuning_in<E: Write>(options: &ArgMatches<'_>, errors: &mut E) -> Option<Tunin
     let target = read_of(time_in(options, "target"), "target", errors)?;
     let t_update = read_of(time_in(options, "tupdate"), "tupdate", errors)?;
     let packets = read_of(packets_in(options), "limit", errors)?;
+    let layer = layer_in(options, errors)?;
     let Some(decay) = decay_of(options) else {
-        let _ = writeln!(errors, "pie: --decay is zero or half");
+        let _ = writeln!(errors, "pie: --decay must be zero or half");
         return None;
     };
     Some(TuningOptions {
@@ -86,43 +135,44 @@ fn tuning_in<E: Write>(options: &ArgMatches<'_>, errors: &mut E) -> Option<Tunin
         ecn: flag(options, "ecn"),
         dq_rate_estimator: flag(options, "dq_rate_estimator"),
         bytemode: flag(options, "bytemode"),
-        mtu: number_or(options, "mtu", 1, 65535, 1514),
+        mtu: number_or(options, "mtu", 1, 65535, 1514) as u16,
         no_derandomization: flag(options, "no_derandomization"),
         no_cap_drop_adjustment: flag(options, "no_cap_drop_adjustment"),
         decay,
+        layer,
     })
 }
 
-/// Says which gains are rounded.
+/// Warns of each gain that is rounded.
 fn report_rounded<E: Write>(options: &ArgMatches<'_>, errors: &mut E) {
     for name in ["alpha", "beta"] {
         if number(options, name).unwrap_or(0) % 2 == 1 {
             let _ = writeln!(
                 errors,
-                "pie: {name} is rounded down to whole thousandths per second"
+                "pie: warning: {name} is rounded down to a whole number of thousandths per second"
             );
         }
     }
 }
 
-/// Says that the queue is full before it can wait for the target.
+/// Warns if the queue is full before the delay reaches the target.
 fn report_short<E: Write>(asked: &TuningOptions, params: &RawParams, errors: &mut E) {
     if is_short(asked.rate, params) {
         let limit = params.limit_bytes;
         let _ = writeln!(
             errors,
-            "pie: limit_bytes, {limit}, is under rate x target: the queue is full before it waits so long, and all losses are tail drops"
+            "pie: warning: limit_bytes ({limit}) is below rate x target: the queue is full before the delay reaches the target, and all losses are tail drops"
         );
     }
 }
 
-/// Says that the departure rate's estimator can stall.
+/// Warns if the estimator of the departure rate can stall.
 fn report_stall<E: Write>(asked: &TuningOptions, params: &RawParams, errors: &mut E) {
     if can_stall(asked, params) {
         let threshold = params.dq_threshold;
         let _ = writeln!(
             errors,
-            "pie: dq_threshold, {threshold}, is above half of rate x target: the departure rate's estimate can stand still, as time stamps do not"
+            "pie: warning: dq_threshold ({threshold}) is above half of rate x target: the departure rate may not be measured for a long time"
         );
     }
 }
@@ -143,7 +193,7 @@ pub(crate) fn params<W: Write, E: Write>(
         Err(why) => return failed(errors, why),
     };
     if asked.packets == 0 || u64::from(Limits::MOST_PACKETS) < asked.packets {
-        return failed(errors, "--limit is 1 to 1048576 packets");
+        return failed(errors, "--limit must be 1 to 1048576 packets");
     }
     report_rounded(options, errors);
     report_short(&asked, &params.raw(), errors);

@@ -47,7 +47,7 @@ fn perform<H: Threads + Wait + Sync + NamedFiles + Screen, R: Read + Drop, W: Wr
     }
 }
 
-/// Performs a subcommand that writes to a new file, which is moved onto this name once all was written.
+/// Performs a subcommand that writes to a new file, which is moved onto `name` when the output is complete.
 fn perform_for<H: Threads + Wait + Sync + NamedFiles + Screen, R: Read + Drop, E: Write>(
     rt: &mut H,
     alloc: Global,
@@ -57,12 +57,12 @@ fn perform_for<H: Threads + Wait + Sync + NamedFiles + Screen, R: Read + Drop, E
     input: R,
     errors: &mut E,
 ) -> End
-    ensures { EndsAt (file_of (file_in (rows_of (found_of options.now)))) (is_forced (rows_of (found_of options.now))) name.now H.fresh
+    ensures { EndsAt H.works (file_of (file_in (rows_of (found_of options.now)))) (is_forced (rows_of (found_of options.now))) name.now H.fresh
         (H.holds rt.old) (H.holds rt.new) (EndsAs subcommand (rows_of (found_of options.now)) H.works (R.remaining input) (H.holds rt.old)) result }
 {
     let is_forced = flag(options, "force");
     let Some(mut made) = make_for(rt, name, file(options), is_forced, errors) else {
-        return End::Unable;
+        return End::Unplaced;
     };
     let end = perform(&*rt, alloc, subcommand, options, input, &mut made, errors);
     let is_there = settle(rt, made, name, is_forced, end.is_whole(), errors);
@@ -79,7 +79,7 @@ fn output_for<'a>(subcommand: Subcommand, options: &ArgMatches<'a>) -> Option<&'
     }
 }
 
-/// Performs a subcommand with its options, and writes to `output`, or to a file where the options name one.
+/// Performs a subcommand with its options, and writes to `output`, or to the output file that the options name.
 pub(crate) fn performed<
     H: Threads + Wait + Sync + NamedFiles + Screen,
     R: Read + Drop,

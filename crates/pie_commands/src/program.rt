@@ -28,8 +28,8 @@ use std::thread::Threads;
 /// Runs `pie` with the command line `words`, which begins with the program's name, and returns its end. The exit
 /// status is 0 if done, 1 for a fault, whose line is on `errors`, and 2 if an audit, an explanation or a cut found
 /// an event that differs. For a mistake in the command line, the message of `clap` is written to `errors` and the
-/// status is 1. A request for help is written to `output` and the status is 0. Only `End::told` reports a failure
-/// of `output`.
+/// status is 1. A request for help is written to `output` and the status is 0. Only `End::report` reports a
+/// failure of `output`.
 ///
 /// If the command line names a `FILE`, `rt` opens it. Everything below about the reader then applies to the file's
 /// text, if `rt` knows it; `-` names the reader. If a file can't be opened, the status is 1 and nothing is written.

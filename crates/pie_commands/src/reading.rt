@@ -25,7 +25,7 @@ pub(crate) fn reader_named<H: NamedFiles, R: Read + Drop, E: Write>(
         return match input.take() {
             Some(reader) => Some(Left(reader)),
             None => {
-                fault(errors, "-: standard input was read already");
+                fault(errors, "-: standard input has already been read");
                 None
             }
         };

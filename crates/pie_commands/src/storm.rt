@@ -23,8 +23,8 @@ use std::time::Clock;
 
 /// The message for an option whose text names none of its choices.
 const NO_CHOICE: &str =
-    "storm: --delay is rate or stamp, --picking derandomized or random, --step capped or uncapped, --size unscaled or scaled, \
---decay zero or half";
+    "storm: --delay must be rate or stamp, --picking derandomized or random, --step capped or uncapped, --size unscaled or scaled, \
+and --decay zero or half";
 
 /// Which of two choices a word names: the first with no word, and none with another one.
 fn choice<T: Copy>(word: Option<&str>, first: &[u8], one: T, second: &[u8], other: T) -> Option<T>

@@ -1,3 +1,4 @@
+mod ExamplesLayer
 mod ExamplesUnits
 mod ExamplesDates
 pub mod DigitFacts

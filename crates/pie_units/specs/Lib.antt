@@ -4,5 +4,6 @@ pub mod Number
 pub mod Date
 pub mod Utc
 pub mod When
+pub mod Layer
 pub mod Opening
 pub mod Units

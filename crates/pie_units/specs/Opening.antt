@@ -11,20 +11,22 @@ use Rattle.pie_params.specs.Profile.{default_profile, profile_for}
 use Rattle.pie_event.specs.declared.profile.Profile.TheVariants.{One}
 use Rattle.pie_event.specs.declared.opening.Mode.TheVariants.{Rolling}
 use Rattle.pie_event.specs.declared.opening.Opening.{Opening}
+use Rattle.pie_units.specs.Layer.{size_on_link}
 use Rattle.pie_units.specs.declared.options.TuningOptions.{TuningOptions}
 
 -- a gain of `tc`, which counts sixteenths per second
 abbrev pub gain_of : ℕ → ℕ
 gain_of gain = gain * 1000 / 16
 
--- the defaults at the rate, except these: a packet's mean size is the MTU in `bytemode`, and marks may be forbidden
+-- the defaults at the rate, except these: the mean size is the size on the link of a packet of the default mean size, or
+-- of the MTU in `bytemode`; and marks may be forbidden
 abbrev pub params_for : TuningOptions → RawParams
 params_for tuning = record (profile_for tuning.rate) {
   target = tuning.target;
   t_update = tuning.t_update;
   alpha = tuning.alpha;
   beta = tuning.beta;
-  mean_pkt = if tuning.bytemode then tuning.mtu else default_profile.mean_pkt;
+  mean_pkt = size_on_link tuning.layer (if tuning.bytemode then tuning.mtu else default_profile.mean_pkt);
   mark_ecnth = if tuning.ecn then default_profile.mark_ecnth else 0;
 }
 

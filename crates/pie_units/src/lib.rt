@@ -8,10 +8,12 @@
 //!
 //! Numbers of `tc`'s options have refusals of their own (`time_of`, `rate_of`, `packets_of`). `params_for` returns the
 //! nine parameters of the options (`TuningOptions`), `elements_for` the optional elements of RFC 8033. `write_opening`
-//! writes exactly the record of their opening (`opening_for`).
+//! writes exactly the record of their opening (`opening_for`). Its mean size is a size on the link, as `tc stab` computes
+//! it (`size_on_link`).
 #![tactic(auto)]
 
 mod date;
+mod layer;
 mod moment;
 mod number;
 mod opening;
@@ -22,6 +24,7 @@ mod utc;
 mod when;
 
 pub use date::{Date, date_of};
+pub use layer::{Layer, LinkLayer, Overhead, overhead_of};
 pub use moment::{Moment, MomentFault};
 pub use number::{UnitFault, read};
 pub use opening::{opening_for, write_opening};

@@ -11,13 +11,13 @@ use thiserror::Error;
 #[derive(Clone, Copy, Debug, PartialEq, Eq, Error)]
 pub enum MomentFault {
     /// The text has another form.
-    #[error("a moment is whole nanoseconds, or a number with ns, us, ms, s, m or h, such as 1500000, 1.5ms or 2m")]
+    #[error("a moment must be a whole number of nanoseconds, or a number with ns, us, ms, s, m or h, such as 1.5ms or 2m")]
     NotAMoment,
     /// The value is not a whole number of nanoseconds, or the text has more than 18 decimals.
-    #[error("a moment is no more precise than a nanosecond")]
+    #[error("a moment must be a whole number of nanoseconds")]
     TooFine,
     /// The value is above 2^60 - 1 nanoseconds.
-    #[error("a moment is at most 1152921504606846975 ns")]
+    #[error("a moment must be at most 1152921504606846975 ns")]
     TooLate,
 }
 

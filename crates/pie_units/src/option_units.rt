@@ -14,6 +14,8 @@ pub enum OptionFault {
     Unread(Quantity, UnitFault),
     /// The rate is 0.
     NoRate,
+    /// The text is not a whole number from -65535 to 65535.
+    NotBytes,
 }
 
 impl OptionFault {
@@ -21,18 +23,20 @@ impl OptionFault {
     fn text(self) -> &'static str {
         match self {
             OptionFault::Unread(Quantity::Time, UnitFault::NotANumber) =>
-                "is a number of ns, us, ms or s, as 20ms",
+                "must be a number with ns, us, ms or s, such as 20ms",
             OptionFault::Unread(Quantity::Rate, UnitFault::NotANumber) =>
-                "is a number of bit, kbit, mbit, gbit or tbit, or of bps, kbps and so on, as 100mbit",
-            OptionFault::Unread(_, UnitFault::NotANumber) => "is a number of packets, as 1000p",
+                "must be a number with bit, kbit, mbit, gbit or tbit, or with bps, kbps and so on, such as 100mbit",
+            OptionFault::Unread(_, UnitFault::NotANumber) =>
+                "must be a number of packets, such as 1000p",
             OptionFault::Unread(Quantity::Time, UnitFault::TooPrecise) =>
-                "is no more precise than a nanosecond",
+                "must be a whole number of nanoseconds",
             OptionFault::Unread(Quantity::Rate, UnitFault::TooPrecise) =>
-                "is no more precise than a bit a second",
-            OptionFault::Unread(_, UnitFault::TooPrecise) => "is a whole number of packets",
+                "must be a whole number of bits per second",
+            OptionFault::Unread(_, UnitFault::TooPrecise) => "must be a whole number of packets",
             OptionFault::Unread(_, UnitFault::TooGreat) =>
-                "is at most 1152921504606846975, in nanoseconds, bits a second or packets",
-            OptionFault::NoRate => "is at least 1bit",
+                "must be at most 1152921504606846975 nanoseconds, bits per second or packets",
+            OptionFault::NoRate => "must be at least 1bit",
+            OptionFault::NotBytes => "must be a whole number of bytes, -65535 to 65535",
         }
     }
 }

@@ -2,6 +2,7 @@
 ghost use Rattle.std.specs.Prelude.{◌≡◌, ◌≤◌, ◌*◌, nat_lt};
 ghost use Rattle.pie_units.specs.Opening.{can_stall, elements_for, gain_of, params_for};
 
+use crate::layer::{Layer, size_on_link};
 use pie_params::{Decay, Delay, Elements, Params, Picking, RawParams, Size, Step};
 
 /// The options of a queue.
@@ -27,13 +28,15 @@ pub struct TuningOptions {
     /// True if smaller packets have a smaller probability.
     pub bytemode: bool,
     /// The link's MTU, in bytes. In `bytemode` a packet's probability is in proportion to its size over the MTU.
-    pub mtu: u64,
+    pub mtu: u16,
     /// True if the random word alone picks packets, without de-randomization (RFC 8033, section 5.4).
     pub no_derandomization: bool,
     /// True if the rise of the probability in an update has no cap (RFC 8033, section 5.5).
     pub no_cap_drop_adjustment: bool,
     /// The delays at which the probability decays.
     pub decay: Decay,
+    /// The link layer, which determines the sizes of packets on the link.
+    pub layer: Layer,
 }
 
 /// Converts a gain of `tc`, in sixteenths per second, to thousandths per second, rounded down.
@@ -74,21 +77,23 @@ pub fn elements_for(tuning: &TuningOptions) -> Elements
 }
 
 /// Returns the nine parameters for these options. Parameters without an option of `tc` are the defaults at the link's
-/// rate, except `mean_pkt`, which is the MTU in `bytemode`. Packets are marked up to the default threshold, or never.
+/// rate, except `mean_pkt`: the size on the link of a packet of the default mean size, or of the MTU in `bytemode`.
+/// Packets are marked up to the default threshold, or never.
 pub fn params_for(tuning: &TuningOptions) -> RawParams
     ensures { result ≡ params_for tuning.now }
 {
     let usual = Params::for_rate(tuning.rate).raw();
+    let mean_pkt = if tuning.bytemode {
+        u64::from(tuning.mtu)
+    } else {
+        usual.mean_pkt
+    };
     RawParams {
         target: tuning.target,
         t_update: tuning.t_update,
         alpha: tuning.alpha,
         beta: tuning.beta,
-        mean_pkt: if tuning.bytemode {
-            tuning.mtu
-        } else {
-            usual.mean_pkt
-        },
+        mean_pkt: size_on_link(tuning.layer, mean_pkt),
         mark_ecnth: if tuning.ecn { usual.mark_ecnth } else { 0 },
         ..usual
     }

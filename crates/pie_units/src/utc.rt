@@ -22,10 +22,10 @@ const SECOND: u64 = 1_000_000_000;
 #[derive(Clone, Copy, Debug, PartialEq, Eq, Error)]
 pub enum UtcFault {
     /// The text has another form, or the date or hour does not exist.
-    #[error("a time of day is written in UTC as 2026-11-24T20:00:00Z, with at most nine decimals of a second")]
+    #[error("a wall-clock time must have the form 2026-11-24T20:00:00Z, with at most nine decimals of a second")]
     NotUtc,
     /// The time is before 1970, or more than 2^64 - 1 nanoseconds after its beginning.
-    #[error("a time of day is from 1970 to 2554-07-21T23:34:33.709551615Z")]
+    #[error("a wall-clock time must be between 1970 and 2554-07-21T23:34:33.709551615Z")]
     OutOfRange,
 }
 

@@ -59,18 +59,19 @@ pub(crate) use row;
 
 /// The option that requests progress reports.
 pub(crate) const PROGRESS: Argument =
-    row!("progress": Nothing, "Show on standard error how much was read, as is done where that is a terminal");
+    row!("progress": Nothing, "Report progress on standard error. Default: on if it is a terminal and the output is not");
 
 /// The file to write in place of standard output.
 pub(crate) const OUTPUT: Argument = row!("output": Lettered('o', "FILE"),
-    "Write to this file, which is there once all of it was written, and not to standard output");
+    "Write to FILE, which is created or replaced when the output is complete. Default: standard output");
 
 /// The option that allows an existing output file to be replaced.
 pub(crate) const FORCE: Argument =
-    row!("force": Nothing, "Replace the file that -o names, where it is there already");
+    row!("force": Nothing, "Replace the FILE of -o if it exists. Default: off");
 
 /// A file that may be named.
-pub(crate) const FILE: Argument = row!("file": File, "The file to read; - or none: standard input");
+pub(crate) const FILE: Argument =
+    row!("file": File, "File to read; - is standard input. Default: standard input");
 
 /// An argument of this name, before it is known what it takes.
 fn named<'a>(alloc: Global, name: &'a str, help: &'a str) -> Arg<'a>

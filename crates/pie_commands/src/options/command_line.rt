@@ -17,11 +17,12 @@ const VERSION: &str = "0.1.0";
 
 /// What `pie --help` says below its subcommands.
 pub(crate) const PIE_HELP: &str =
-    "Example: run a trace of one arrival and one departure, and see what was decided:
+    "Example: run a trace of one arrival and one departure, and print the decisions:
 
   printf 'open,0,4,16,100\\narrive,1,10,7,1500,ect0,0\\ndepart,2,25\\n' | pie run
 
-What a run writes is its history, which pie audit decides again and pie explain explains.";
+The output of a run is its history. pie audit decides it again, and pie explain
+explains it.";
 
 /// A subcommand without what it takes.
 fn plain<'a>(alloc: Global, name: &'a str, about: &'a str, help: &'a str) -> Command<'a>

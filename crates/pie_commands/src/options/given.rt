@@ -1,18 +1,19 @@
 //! The values of the options of a subcommand.
 ghost use Rattle.std.specs.Prelude.{◌≡◌, ◌≤◌, option_map};
 ghost use Rattle.clap.specs.Words.{first_of, found_of, rows_of};
-ghost use Rattle.pie_commands.specs.Words.{file_in, file_made, flag_given, number_given, number_or, output_in};
+ghost use Rattle.pie_commands.specs.Files.{file_of};
+ghost use Rattle.pie_commands.specs.Words.{file_in, flag_given, number_given, number_or, output_in};
 
 use clap::ArgMatches;
 
-/// The number that an option is given.
+/// Returns the number that is given for an option.
 pub(crate) fn number(options: &ArgMatches<'_>, name: &str) -> Option<u64>
     ensures { result ≡ number_given name.now (rows_of (found_of options.now)) }
 {
     options.get_one::<u64>(name)
 }
 
-/// The number that an option is given, or else this one. `clap` refuses words that give one out of this range.
+/// Returns the number that is given for an option, or `unnamed`. `clap` refuses a number outside `least` to `most`.
 pub(crate) fn number_or(
     options: &ArgMatches<'_>,
     name: &str,
@@ -38,23 +39,23 @@ pub(crate) fn flag(options: &ArgMatches<'_>, name: &str) -> bool
     options.get_one::<bool>(name).unwrap_or(false)
 }
 
-/// The text that an option is given.
+/// Returns the text that is given for an option.
 pub(crate) fn text<'a>(options: &ArgMatches<'a>, name: &str) -> Option<&'a str>
     ensures { option_map (λ text. text.now) result ≡ first_of name.now (rows_of (found_of options.now)) }
 {
     options.get_str(name)
 }
 
-/// The file that the words name to be read, where they name one.
+/// Returns the file to read that the options name.
 pub(crate) fn file<'a>(options: &ArgMatches<'a>) -> Option<&'a str>
     ensures { option_map (λ name. name.now) result ≡ file_in (rows_of (found_of options.now)) }
 {
     text(options, "file")
 }
 
-/// The file of this name: none for `-`, which is standard output.
-fn file_made<'a>(name: Option<&'a str>) -> Option<&'a str>
-    ensures { option_map (λ name. name.now) result ≡ file_made (option_map (λ name. name.now) name.entry) }
+/// Returns the file of this name: none for `-`, which is standard input or output.
+pub(crate) fn file_of<'a>(name: Option<&'a str>) -> Option<&'a str>
+    ensures { option_map (λ name. name.now) result ≡ file_of (option_map (λ name. name.now) name.entry) }
 {
     match name {
         Some(name) => { if name == "-" { None } else { Some(name) } }
@@ -62,9 +63,9 @@ fn file_made<'a>(name: Option<&'a str>) -> Option<&'a str>
     }
 }
 
-/// The file that the words name to be written, where they name one.
+/// Returns the output file that the options name.
 pub(crate) fn output<'a>(options: &ArgMatches<'a>) -> Option<&'a str>
     ensures { option_map (λ name. name.now) result ≡ output_in (rows_of (found_of options.now)) }
 {
-    file_made(text(options, "output"))
+    file_of(text(options, "output"))
 }

@@ -1,24 +1,25 @@
-//! The words of `pie migrate`: what it takes, and what `--help` says of it.
+//! The page of `pie migrate`: its arguments and its help.
 
 use crate::options::argument::{Argument, FILE, FORCE, OUTPUT, PROGRESS, Page};
 
-/// The words of `pie migrate`.
+/// The page of `pie migrate`.
 pub(crate) const PAGE: Page<'static> = Page {
     word: "migrate",
-    about: "Reads a history from a file or standard input and writes the same history in version two",
-    help: "A history of version one begins with open or rolling. In version two it begins with open2,1,bounded or open2,1,rolling, each
-shown ends with 1, since its controller is always active, and all else stays. One of version two or three is written as it is.
-pie audit finds the same in both, and pie run --help says how records are written.
+    about: "Rewrites a history of version one in version two",
+    help: "A history of version one begins with open or rolling. In version two it begins with open2,1,bounded
+or open2,1,rolling, and each record shown has 1 as its last field, because the controller is always
+active. All other records are copied. A history of version two or three is copied. pie audit has the
+same result for both histories. pie run --help lists the records.
 
-A record that cannot be read ends it with status 1; the records before it have been written.
-With -o FILE they go to FILE once all were written; pie run --help says what becomes of FILE at a fault, and where it is there
-already.
+If a record cannot be read, the status is 1. The records before it have been written. With -o FILE
+the output is moved to FILE when it is complete. pie run --help describes -o.
 
 Example:
 
-  printf 'open,0,4,16,100\\narrive,1,10,7,1500,ect0,0\\nshow\\n' | pie run | pie migrate
+  printf 'open,0,4,16,100\\narrive,1,10,7,1500,ect0,0\\nshow\\n' |
+    pie run | pie migrate
 
-writes
+The output is
 
   open2,1,bounded,0,4,16,100
   arrive,1,10,7,1500,ect0,0,enqueue

@@ -19,11 +19,12 @@ returns g c =
     let wrote = subst (λ (made : Option (List ℕ)). EndsAs c.args.subcommand options works input mid c.perform-end.result made left) c.in-Some.ensures.fresh
     c.perform-end.ensures in
     let ended = EndsAs-kept c.args.subcommand options works input old mid c.perform-end.result fresh left c.make_for.ensures.keeps wrote in
-    let at : EndsAt (file_of read) c.flag-is_forced.result c.args.name.now fresh old new ends (settled c.perform-end.result c.settle-is_there.result) =
-    ends-settled (file_of read) c.flag-is_forced.result c.args.name.now old mid new ends c.perform-end.result c.settle-is_there.result fresh left
-    c.in-Some.ensures.empty c.make_for.ensures.keeps c.in-Some.ensures.other c.settle-is_there.ensures.settles
-    (λ part. c.settle-is_there.ensures.part (c.is_whole.ensures ∙ part)) ended in
-    rw c.settled.ensures (subst (λ (name : Option Name). EndsAt (file_of name) (is_forced options) c.args.name.now fresh old new ends
+    let at : EndsAt works (file_of read) c.flag-is_forced.result c.args.name.now fresh old new ends (settled c.perform-end.result c.settle-is_there.result) =
+    ends-settled works (file_of read) c.flag-is_forced.result c.args.name.now old mid new ends c.perform-end.result c.settle-is_there.result fresh left
+    c.in-Some.ensures.empty c.make_for.ensures.keeps c.in-Some.ensures.other c.make_for.ensures.free
+    c.settle-is_there.ensures.settles (λ part. c.settle-is_there.ensures.part (c.is_whole.ensures ∙ part))
+    (λ whole. c.settle-is_there.ensures.whole (c.is_whole.ensures ∙ whole)) ended in
+    rw c.settled.ensures (subst (λ (name : Option Name). EndsAt works (file_of name) (is_forced options) c.args.name.now fresh old new ends
     (settled c.perform-end.result c.settle-is_there.result)) c.file.ensures
-    (subst (λ (forced : Bool). EndsAt (file_of read) forced c.args.name.now fresh old new ends (settled c.perform-end.result c.settle-is_there.result))
+    (subst (λ (forced : Bool). EndsAt works (file_of read) forced c.args.name.now fresh old new ends (settled c.perform-end.result c.settle-is_there.result))
     c.flag-is_forced.ensures at))

@@ -42,7 +42,7 @@ tap() {
     /bin/ip netns exec r /bin/pie-tap "$@"
 }
 
-# sends SECONDS [WORDS..]: four flows of TCP for so long; prints the receiver's rate
+# sends SECONDS [WORDS..]: four flows of TCP; prints the receiver's rate
 sends() {
     $box echo "TOLD $(/bin/ip netns exec a /bin/iperf3 -c 10.0.2.1 -P 4 -t "$@" -f m | $box grep 'SUM.*receiver')"
 }
@@ -75,7 +75,7 @@ link_down_and_up() {
     /bin/ip -n r route replace 10.0.2.0/24 dev rb
 }
 
-# floods SECONDS: ICMP at three times the rate of 10 Mbit/s, for so long
+# floods SECONDS: ICMP at three times the rate of the link
 floods() {
     senders=
     for number in 1 2 3; do

@@ -67,6 +67,6 @@ boot() {
     fi
 }
 
-# In simulated time: an instruction takes a nanosecond, and chance comes from the seed. Two runs of the same files are alike, unless qemu's two threads
-# meet when the processor becomes idle, which happened on a busy machine.
+# In simulated time: an instruction takes a nanosecond, and chance comes from the seed. Two runs of the same files are alike, with rare exceptions on a
+# busy machine.
 SIMULATED="-m 768 -smp 1 -icount shift=0,sleep=off -rtc base=2026-01-01T00:00:00,clock=vm -seed ${SEED:-1} -cpu Nehalem,+rdrand"

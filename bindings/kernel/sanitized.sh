@@ -1,8 +1,11 @@
 #!/usr/bin/env bash
-# Boots kernels with sanitizers and loads the module: KASAN, UBSAN, kmemleak, lockdep (PROVE_LOCKING) and failing allocations in one, KCSAN in the other;
-# `plain` is Debian's own kernel. Four processors run sanitized/init: each allocation of each request fails once, random requests of netlink, senders while
-# options change and queues are replaced. The first two kernels are built from Debian's linux-source-6.1 in BUILD, with the options that the scenario needs
-# (sanitized/config). Each takes half an hour of a processor, and SECONDS_OF_TRAFFIC (120).
+# Boots kernels with sanitizers and loads the module. `kasan` has KASAN, UBSAN, kmemleak, lockdep (PROVE_LOCKING) and
+# failing allocations, `kcsan` has KCSAN, and `plain` is Debian's own kernel with checks of freed and neighbouring memory
+# (slub_debug, page_poison). Four processors run sanitized/init: each allocation of each request fails once, random
+# requests of netlink, senders while options change and queues are replaced. The first two kernels are built from
+# Debian's linux-source-6.1 in BUILD, with the options that the scenario needs (sanitized/config). It boots kasan and
+# kcsan unless a kind is named, and takes SECONDS_OF_TRAFFIC (120) for each, and the time to build a kernel.
+# Debian's packages for a kernel: linux-source-6.1 flex bison bc libelf-dev.
 # needs: a request
 #
 # usage: [BUILD=folder] [SECONDS_OF_TRAFFIC=120] [REQUESTS=5000] [SEED=1] [JOBS=4] bindings/kernel/sanitized.sh [kasan | kcsan | plain]
@@ -49,6 +52,7 @@ booted() {
     # a slow machine stalls the guest, which is no error of it
     local parameters="panic=-1 nowatchdog rcupdate.rcu_cpu_stall_suppress=1"
     [ $kind = kcsan ] || parameters="$parameters panic_on_warn=1"
+    [ $kind != plain ] || parameters="$parameters slub_debug=FZPU page_poison=1"
     timeout "${LIMIT:-7200}" nice -n "${NICE:-19}" qemu-system-x86_64 -nodefaults -display none -monitor none -no-reboot -kernel "$kernel" \
         -initrd "$work/initrd" -m 3072 -smp 4 -accel tcg,thread=multi -cpu Nehalem,+rdrand -serial "file:$work/console" \
         -append "console=ttyS0 quiet $parameters mitigations=off random.trust_cpu=on rdinit=/init \
@@ -75,7 +79,7 @@ for kind in ${1:-kasan kcsan}; do
             exit 1
         fi
     fi
-    bad='^FAILED|WARNING:|BUG:|Oops|KASAN|UBSAN|possible (circular|recursive)|unreferenced object'
+    bad='^FAILED|WARNING:|BUG:|BUG [a-z]|Oops|KASAN|UBSAN|possible (circular|recursive)|unreferenced object'
     if ! grep -q '^ended' "$console" || grep -v KCSAN "$console" | grep -E "$bad"; then
         cat "$console" >&2
         echo "$me: the kernel did not end well: $kind" >&2

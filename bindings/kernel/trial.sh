@@ -1,8 +1,9 @@
 #!/usr/bin/env bash
-# Tries the packages as a new user does. It installs Debian 12 with a kernel, its headers and the packages juniperbowls and juniperbowls-dkms in a folder by
-# apt, which builds the module by DKMS. qemu boots that folder with a link of 0.5 Mbit/s as eth0, and the commands of README's "First use" run there:
-# tc qdisc replace, pie-tap follow, pie explain. Datagrams are sent faster than the link, so some are lost, and each loss must be explained.
-# Needs root, debootstrap, dpkg-buildpackage with debhelper, qemu and Debian's mirror. It takes some minutes.
+# Tries the packages as a new user does. It installs Debian 12 with a kernel, its headers and the packages juniperbowls
+# and juniperbowls-dkms in a folder by apt, which builds the module by DKMS. qemu boots that folder with a link of
+# 0.5 Mbit/s as eth0, and the commands of README's "First use" run there: tc qdisc replace, pie-tap follow, pie explain.
+# Datagrams are sent faster than the link, and each drop that tc counts must be explained. It needs root, debootstrap,
+# dpkg-buildpackage with debhelper, qemu and Debian's mirror, and takes some minutes.
 # needs: a request
 #
 # usage: [DEBS=folder with packages] [KEEP=folder for all files] bindings/kernel/trial.sh
@@ -43,7 +44,8 @@ ln -sf /bin/true "$debian/usr/sbin/update-initramfs"
     inside apt-get install --yes --no-install-recommends linux-image-amd64 linux-headers-amd64
 } > "$work/kernel.log" 2>&1
 cp "$DEBS"/juniperbowls_*.deb "$DEBS"/juniperbowls-dkms_*.deb "$debian/root/"
-inside sh -c 'cd /root && apt-get install --reinstall --yes --no-install-recommends ./juniperbowls_*.deb ./juniperbowls-dkms*.deb' > "$work/install.log" 2>&1 ||
+inside sh -c 'cd /root && apt-get install --reinstall --yes --no-install-recommends ./juniperbowls_*.deb ./juniperbowls-dkms*.deb' \
+    > "$work/install.log" 2>&1 ||
     { cat "$work/install.log" >&2; exit 1; }
 inside dkms status
 umount "$debian/proc"
@@ -52,13 +54,15 @@ release=$(cd "$debian/lib/modules" && echo *)
 # the first file system has what mounts the folder
 mkdir -p "$work/first"/{bin,dev,new,mods}
 cp "$(command -v busybox)" "$work/first/bin/"
-for name in virtio_ring virtio virtio_pci_legacy_dev virtio_pci_modern_dev virtio_pci netfs fscache 9pnet 9pnet_virtio 9p failover net_failover virtio_net; do
+modules="virtio_ring virtio virtio_pci_legacy_dev virtio_pci_modern_dev virtio_pci netfs fscache 9pnet 9pnet_virtio 9p"
+modules="$modules failover net_failover virtio_net"
+for name in $modules; do
     find "$debian/lib/modules/$release/kernel" -name "$name.ko*" -exec cp {} "$work/first/mods/" \;
 done
-cat > "$work/first/init" << 'END_INIT'
+cat > "$work/first/init" << END_INIT
 #!/bin/busybox sh
-for name in virtio_ring virtio virtio_pci_legacy_dev virtio_pci_modern_dev virtio_pci netfs fscache 9pnet 9pnet_virtio 9p failover net_failover virtio_net; do
-    [ ! -e /mods/$name.ko ] || /bin/busybox insmod /mods/$name.ko
+for name in $modules; do
+    [ ! -e /mods/\$name.ko ] || /bin/busybox insmod /mods/\$name.ko
 done
 /bin/busybox mount -t 9p -o trans=virtio,version=9p2000.L,ro root /new && exec /bin/busybox switch_root /new /bin/bash /root/trial
 END_INIT

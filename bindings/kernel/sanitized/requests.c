@@ -1,8 +1,9 @@
 /* Requests by rtnetlink to queues of pie_recorded, for sanitized.sh, which runs this program in a booted kernel:
  *
- *     requests fail DEVICE          adds, changes, prints and deletes a queue; each time one later allocation of the request fails, until none is left
- *     requests fuzz DEVICE COUNT SEED      sends COUNT requests with random attributes: types, lengths, values and flags
- *     requests map FILE             maps a record to write, which must be refused
+ *     requests fail DEVICE               adds, changes, prints and deletes a queue; each time one later allocation of the
+ *                                        request fails, until none is left
+ *     requests fuzz DEVICE COUNT SEED    sends COUNT requests with random attributes: types, lengths, values and flags
+ *     requests map FILE                  maps a record to write, which must be refused
  *
  * It prints how many requests were accepted and refused. The kernel must survive; a record must not be there afterwards. */
 #include <errno.h>
@@ -124,6 +125,7 @@ static void remove_queue(void) {
 /* Each allocation of each request fails once. */
 static void fail_each(void) {
     static const char *const names[] = {"add", "change", "print", "delete"};
+    static const int types[] = {RTM_NEWQDISC, RTM_NEWQDISC, RTM_GETQDISC, RTM_DELQDISC};
     int what, n, is_hit, error;
     for (what = 0; what < 4; what++) {
         int failed = 0, passed = 0;
@@ -135,7 +137,7 @@ static void fail_each(void) {
                 options(&it, 15000, 1000);
                 ask(&it);
             }
-            begin(&it, what == 2 ? RTM_GETQDISC : what == 3 ? RTM_DELQDISC : RTM_NEWQDISC, what == 0 ? NLM_F_CREATE | NLM_F_EXCL : 0);
+            begin(&it, types[what], what == 0 ? NLM_F_CREATE | NLM_F_EXCL : 0);
             if (what < 2)
                 options(&it, 5000, 1000);
             error = ask_failing(&it, n, &is_hit);
@@ -150,13 +152,17 @@ static void fail_each(void) {
 
 /* Adds random options. */
 static void random_options(struct request *it) {
-    static const uint32_t numbers[] = {0, 1, 100, 1000, 15000, 65535, 65536, 1u << 20, (1u << 20) + 1, 10000000, 10000001, 1000000000, 0x7fffffff, 0xffffffff};
+    static const uint32_t numbers[] = {0,       1,        100,      1000,       15000,      65535,     65536,
+                                       1 << 20, 1048577,  10000000, 10000001,   1000000000, 0x7fffffff, 0xffffffff};
     struct rtattr *nest = add(it, chance(20) != 0 ? TCA_OPTIONS : chance(12), NULL, 0, -1);
     unsigned count = chance(8);
     while (count-- != 0) {
         unsigned char data[64];
-        unsigned type = chance(10) != 0 ? 1 + chance(OPTIONS_MAX) : chance(65536), bytes = chance(8) != 0 ? 4 : chance(sizeof data), i;
-        uint32_t number = chance(3) != 0 ? numbers[chance(sizeof numbers / sizeof *numbers)] : chance(2) != 0 ? chance(100000) : (uint32_t)(state >> 32);
+        unsigned type = chance(10) != 0 ? 1 + chance(OPTIONS_MAX) : chance(65536);
+        unsigned bytes = chance(8) != 0 ? 4 : chance(sizeof data), i;
+        uint32_t number = numbers[chance(sizeof numbers / sizeof *numbers)];
+        if (chance(3) == 0)
+            number = chance(2) != 0 ? chance(100000) : (uint32_t)(state >> 32);
         if (type == 19 && chance(4) != 0)
             number = chance(3000);
         for (i = 0; i < sizeof data; i++)
@@ -174,7 +180,8 @@ static void fuzz(unsigned count) {
     for (number = 0; number < count; number++) {
         struct request it;
         int is_change = chance(2) == 0;
-        begin(&it, chance(30) != 0 ? RTM_NEWQDISC : chance(2) != 0 ? RTM_DELQDISC : RTM_GETQDISC, is_change ? 0 : NLM_F_CREATE | NLM_F_REPLACE);
+        int type = chance(30) != 0 ? RTM_NEWQDISC : chance(2) != 0 ? RTM_DELQDISC : RTM_GETQDISC;
+        begin(&it, type, is_change ? 0 : NLM_F_CREATE | NLM_F_REPLACE);
         if (chance(40) == 0)
             it.queue.tcm_handle = chance(65536) << 16;
         add(&it, TCA_KIND, KIND, sizeof KIND, -1);

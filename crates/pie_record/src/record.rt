@@ -214,6 +214,7 @@ impl Record {
     }
 
     /// Returns the field at `place`, counted from 0, or `None` if there are fewer fields.
+    #[inline(always)]
     pub fn get(&self, place: usize) -> Option<&[u8]>
         ensures { option_map (λ field. field.now) result ≡ field_at self.now place }
     {

@@ -43,36 +43,10 @@ use std::thread::Threads;
 /// at a terminal or `--progress` is given. The report is cleared before anything else is written there. It changes
 /// nothing of the following.
 ///
-/// `pie run`: without a fault the whole history text is written and the end is `Done`. With a fault the history
-/// text of the records before it is written, and the end is that fault. Otherwise the end names the failure of the
-/// reader, the writer or memory. Refused records are no fault.
-///
-/// `pie audit`: for a history with a fault the end is that fault, and nothing is written to `output`. For any other
-/// history exactly the line of its finding is written, and the end is `Done` if it is clean, otherwise `Differs`.
-/// If the reader, the writer or memory fails, the end names the failure; unless it is the writer's, nothing is
-/// written.
-///
-/// `pie audit FILE..`: each file is audited in turn and the line of its finding is written. A file has no line, and
-/// the end is `Failed`, only if the file can't be opened or read, its text has a fault, or memory is short.
-///
-/// `pie migrate`: the history is written in version two up to its first fault, and the end is that fault. Without a
-/// fault the end is `Done`. Failures are reported as for `pie run`.
-///
-/// `pie explain`: if not exactly one option chooses events, or the value of `--from` or `--to` is not valid, the
-/// status is 1 and nothing is written. Otherwise the explanations of the chosen events are written, up to the first
-/// fault and the first event that differs. The status is 2 if an event differs, 1 for a fault and if no event
-/// matches, otherwise 0. If the reader, the writer or memory fails, it is 1.
-///
-/// `pie cut`: if the options don't choose events in exactly one way, the end is `Failed` and nothing is written.
-/// Otherwise the excerpt of these events, or each segment, is written. An event that differs ends the cut as
-/// `Differs`, a fault ends it with that fault, and if no event is chosen the end is `Failed`. The last events of a
-/// text that can't be read twice can't be cut: the end is `Failed` and nothing is written.
-///
-/// `pie storm`: the threads of the runtime run the storm of the requested plan. Its history, which is legal and
-/// clean, is written, and the status is 0. If memory, a thread or the writer fails, the status is 1.
-///
-/// `pie params`: the record that opens a book with the requested parameters is written, and the status is 0. If a
-/// text is not a valid number of its kind, a number is out of its range, or the writer fails, the status is 1.
+/// `EndsAs` defines the end and the output of each subcommand. A run, a migration, an explanation and a cut write
+/// their output up to the first fault or the first event that differs. An audit of one text writes nothing if the text
+/// has a fault. If the options are not valid together, the end is `Failed` and nothing is written. If the reader, the
+/// writer or memory fails, the end names the failure.
 pub fn command<H: Threads + Wait + Sync + NamedFiles + Screen, R: Read + Drop, W: Write, E: Write>(
     rt: &mut H,
     alloc: Global,
@@ -102,7 +76,7 @@ fn matches_of<'a>(alloc: Global, words: &'a [String]) -> Result<ArgMatches<'a>, 
     options(alloc)?.try_get_matches_from(words)
 }
 
-/// Performs the subcommand that was found in words; or says what `clap` says of them.
+/// Performs the subcommand of the command line, or writes the help or the message of `clap`.
 fn answer<H: Threads + Wait + Sync + NamedFiles + Screen, R: Read + Drop, W: Write, E: Write>(
     rt: &mut H,
     alloc: Global,
@@ -138,7 +112,7 @@ fn chosen_subcommand<'a, 'b>(
     Some((Subcommand::named(name)?, options))
 }
 
-/// What `clap` says of the words: help, or a mistake.
+/// Writes the help that was requested to `output`, or the message of a mistake to `errors`.
 fn mistake<W: Write, E: Write>(error: &Error, output: &mut W, errors: &mut E) -> End
     ensures same { result ≡ End.Differs → ⊥ }
     ensures memory { kind_of error.now ≡ ErrorKind.OutOfMemory → (result ≡ End.Unable) × (W.contents output.new ≡ W.contents output.old) }

@@ -1,6 +1,6 @@
 #!/usr/bin/env python3
 """Compares include/pie.h, include/pie_link.h and the Rust declarations (bindings/rust/src) with the source of the
-libraries (crates/pie_abi/src, crates/pie_c/src, crates/pie_port/src, crates/pie_link_c/src): structs with the
+libraries (crates/pie_params/src and those of pie_abi, pie_c, pie_port and pie_link_c): structs with the
 order, names and widths of their fields; functions with the order, names and widths of their parameters; codes, ECN
 fields, the version. Ranges, defaults and tables of rates in comments are compared with each other, docs/FORMATS.md,
 docs/LIBRARY.md and docs/PARAMETERS.md; the orders of errors with the source; the words of a flight recorder's
@@ -16,7 +16,7 @@ from fractions import Fraction
 from pathlib import Path
 
 # names in the source and what pie.h calls them
-TYPES = {"PieParams": "pie_params", "PieState": "pie_state", "PieUpdated": "pie_updated", "PieEvent": "pie_event", "PieOpening": "pie_opening",
+TYPES = {"RawParams": "pie_params", "PieState": "pie_state", "PieUpdated": "pie_updated", "PieEvent": "pie_event", "PieOpening": "pie_opening",
          "PieStats": "pie_stats", "LivePeriod": "pie_period", "Meter": "pie_meter", "Bounds": "pie_bounds", "Peak": "pie_peak", "Total": "pie_total",
          "usize": "size_t"}
 RUST_TYPES = {"Params": "pie_params", "State": "pie_state", "RawUpdated": "pie_updated", "RawEvent": "pie_event", "RawOpening": "pie_opening",
@@ -276,7 +276,7 @@ def compare_numbers(header, source):
     """The numbers of the parameters, which pie_check_params answers."""
     told = re.search(r"number of the first parameter out of its range: (.*?)\.", one_line(header.text.replace("\n *", "\n")))
     listed = {name: int(number) for number, name in re.findall(r"(\d) (\w+)", told[1] if told else "")}
-    numbered = {re.sub(r"(?<=.)([A-Z])", r"_\1", name).lower(): int(number) for name, number in re.findall(r"Field::(\w+) => (\d+)", source.text)}
+    numbered = {re.sub(r"(?<=.)([A-Z])", r"_\1", name).lower(): int(number) for name, number in re.findall(r"Field::(\w+) => (\d+),", source.text)}
     yield from same("include/pie.h: the numbers of the parameters", listed, numbered)
     yield from same("include/pie.h: the order of the parameters", [name for _, name in header.structs.get("pie_params", [])], list(numbered))
 
@@ -412,7 +412,7 @@ def read_source(folder, pattern, but="tests"):
 
 def differences(root):
     header = Header((root / "include/pie.h").read_text())
-    text = "\n".join(read_source(root / f"crates/{it}/src", "*.rt") for it in ("pie_abi", "pie_c", "pie_summary"))
+    text = "\n".join(read_source(root / f"crates/{it}/src", "*.rt") for it in ("pie_params", "pie_abi", "pie_c", "pie_summary"))
     source = Rust(text, TYPES, r'pub extern "C" ')
     rust_text = read_source(root / "bindings/rust/src", "*.rs", "link")
     rust = Rust(rust_text, RUST_TYPES, r"(?<!pub )")

@@ -7,7 +7,7 @@ use Rattle.pie_event.specs.declared.opening.Mode.TheVariants.{Bounded, Rolling}
 use Rattle.pie_event.specs.declared.opening.Opening.{Opening}
 use Rattle.pie_abi.specs.declared.opening.PieOpening.{PieOpening}
 use Rattle.pie_abi.specs.Choices.{elements_of, last_moment, profile_of}
-use Rattle.pie_abi.specs.Params.{are_in_range, raw_of}
+use Rattle.pie_abi.specs.Params.{are_in_range}
 
 -- the limits of the history
 abbrev pub limits_of : PieOpening → Limits
@@ -29,7 +29,7 @@ opening_refusal o =
 
 -- the opening of the history
 abbrev pub opening_in : PieOpening → Opening
-opening_in o = book.opening_of (limits_of o) (raw_of o.params) o.moment (mode_of o.mode) (profile_of o.profile) (elements_of o.choices)
+opening_in o = book.opening_of (limits_of o) o.params o.moment (mode_of o.mode) (profile_of o.profile) (elements_of o.choices)
 
 -- the opening of the history, or the code of its refusal
 abbrev pub opening_of : PieOpening → Result Opening ℕ

@@ -1,38 +1,9 @@
--- Parameters in the layout of C, and the numbers of their fields.
+-- The numbers of the parameters' fields, and the test of their ranges.
 use Rattle.std.specs.Prelude.{ℕ, Bool, is_none, Option, Some, None}
 use Rattle.pie_params.specs.declared.raw.Field.{Field}
 use Rattle.pie_params.specs.declared.raw.Field.TheVariants.{Target, TUpdate, MaxBurst, Alpha, Beta, MeanPkt, LimitBytes, MarkEcnth, DqThreshold}
 use Rattle.pie_params.specs.declared.raw.RawParams.{RawParams}
 use Rattle.pie_params.specs.Range.{first_bad}
-use Rattle.pie_abi.specs.declared.params.PieParams.{PieParams}
-
--- the parameters as the record whose ranges are checked
-abbrev pub raw_of : PieParams → RawParams
-raw_of p = record {
-  target = p.target;
-  t_update = p.t_update;
-  max_burst = p.max_burst;
-  alpha = p.alpha;
-  beta = p.beta;
-  mean_pkt = p.mean_pkt;
-  limit_bytes = p.limit_bytes;
-  mark_ecnth = p.mark_ecnth;
-  dq_threshold = p.dq_threshold;
-}
-
--- the parameters of that record in the layout of C
-abbrev pub params_of : RawParams → PieParams
-params_of p = record {
-  target = p.target;
-  t_update = p.t_update;
-  max_burst = p.max_burst;
-  alpha = p.alpha;
-  beta = p.beta;
-  mean_pkt = p.mean_pkt;
-  limit_bytes = p.limit_bytes;
-  mark_ecnth = p.mark_ecnth;
-  dq_threshold = p.dq_threshold;
-}
 
 -- the number of a field, counted from 1 in the order of the checks
 abbrev pub field_number : Field → ℕ
@@ -52,5 +23,5 @@ bad_number None = 0
 bad_number (Some field) = field_number field
 
 -- true if all parameters are in their ranges
-unfoldable pub are_in_range : PieParams → Bool
-are_in_range params = is_none (first_bad (raw_of params))
+unfoldable pub are_in_range : RawParams → Bool
+are_in_range params = is_none (first_bad params)

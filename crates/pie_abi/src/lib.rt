@@ -13,6 +13,5 @@ pub mod writing;
 
 pub use event::PieEvent;
 pub use opening::PieOpening;
-pub use params::PieParams;
 pub use stats::PieStats;
 pub use writing::write_text;

@@ -1,31 +1,18 @@
 -- Examples of the definitions: each theorem computes.
-use Rattle.pie_c.proofs.Names.{◌≡◌, ◌^◌, true, false, refl, PieParams, PieState, usual, Half, Stamp, Random, Uncapped, Scaled, One, accu_left}
+use Rattle.pie_c.proofs.Names.{◌≡◌, ◌^◌, true, false, refl, default_profile, PieState, usual, Half, Stamp, Random, Uncapped, Scaled, One, accu_left}
 use Rattle.pie_c.proofs.Names.{arrived, capped, departed, opened, verdict, arrival_of, packet_refusal, waited_refusal, departure_refusal}
-use Rattle.pie_c.proofs.Names.{update_refusal, raw_of, choices_of, elements_of, are_in_range, held_in, is_activity_sound, is_rate_sound}
+use Rattle.pie_c.proofs.Names.{update_refusal, choices_of, elements_of, are_in_range, held_in, is_activity_sound, is_rate_sound}
 use Rattle.pie_c.proofs.Names.{is_sound, state_of, with_arrival, with_rate}
 use Rattle.pie_early.specs.Decision.{is_considered, is_picked}
 
--- the default parameters, and a controller that is opened with them at 0
-abbrev defaults : PieParams
-defaults = record {
-  target = 15_000_000;
-  t_update = 15_000_000;
-  max_burst = 150_000_000;
-  alpha = 125;
-  beta = 1250;
-  mean_pkt = 1024;
-  limit_bytes = 262_144;
-  mark_ecnth = 100_000_000_000;
-  dq_threshold = 16384;
-}
-
+-- a controller that is opened with the default parameters at 0
 abbrev start : PieState
-start = state_of (opened One usual (raw_of defaults) 0)
+start = state_of (opened One usual default_profile 0)
 
 sound-states : (is_sound start ≡ true) × (is_sound (record start { last = 1 }) ≡ false) × (is_sound (record start { measuring = 2 }) ≡ false)
     × (is_sound (record start { measuring = 1; cycle_count = 16383 }) ≡ true)
     × (is_sound (record start { measuring = 1; cycle_count = 16384 }) ≡ false)
-    × (is_sound (record start { params = record defaults { dq_threshold = 3000 } }) ≡ false)
+    × (is_sound (record start { params = record default_profile { dq_threshold = 3000 } }) ≡ false)
     × (is_sound (record start { active = 0 }) ≡ false) × (is_sound (record start { profile = 2; active = 0 }) ≡ true)
     × (is_sound (record start { profile = 2; active = 2 }) ≡ false) × (is_sound (record start { profile = 3 }) ≡ false)
 unfolding state_of is_sound is_rate_sound is_activity_sound are_in_range choices_of
@@ -41,7 +28,7 @@ stamped = (refl, refl, refl, refl, refl, refl, refl, refl)
 
 -- fields of an unsound state that a call does not change are kept; a threshold above 65536 has the effect of 65536
 abbrev odd : PieState
-odd = record start { params = record defaults { dq_threshold = 2 ^ 17 }; measuring = 1; cycle_start = 7; cycle_count = 65535; profile = 9 }
+odd = record start { params = record default_profile { dq_threshold = 2 ^ 17 }; measuring = 1; cycle_start = 7; cycle_count = 65535; profile = 9 }
 
 odd_states : (with_rate odd (departed (capped (held_in odd)) 1 0 0 8)
     ≡ record odd { moment = 8; average = 1; measuring = 0; cycle_start = 0; cycle_count = 0 })

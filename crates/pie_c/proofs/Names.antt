@@ -1,9 +1,9 @@
 -- Names from lower crates that the files of this folder use, in one place.
 pub use Rattle.pie_c.specs.Names.{Opening}
-pub use Rattle.pie_c.specs.{last_moment, profile_number, profile_of, opening_in, opening_of, is_bad_size, verdict_number, params_of, raw_of}
-pub use Rattle.pie_c.specs.{PieOpening, PieParams, Depart, Held, IsSound, arrived, capped, departed, opened, updated, arrival_of}
+pub use Rattle.pie_c.specs.{last_moment, profile_number, profile_of, opening_in, opening_of, is_bad_size, verdict_number}
+pub use Rattle.pie_c.specs.{PieOpening, RawParams, Depart, Held, IsSound, arrived, capped, departed, opened, updated, arrival_of}
 pub use Rattle.pie_c.specs.{departure_refusal, if_taken, unless_refused, waited_refusal, held_by_opening, takes_stamps, with_arrival, with_departure}
-pub use Rattle.pie_c.specs.{with_rate, with_registers, PieState, Event, first_bad, Ecn}
+pub use Rattle.pie_c.specs.{with_rate, with_registers, PieState, Event, first_bad, default_profile, Ecn}
 unfoldable pub use Rattle.pie_c.specs.{choices_of, elements_of, opening_refusal, are_in_range, cause, verdict, arrival_refusal, moment_refusal}
 unfoldable pub use Rattle.pie_c.specs.{packet_refusal, reset_refusal, update_refusal, held_in, is_activity_sound, is_rate_sound}
 unfoldable pub use Rattle.pie_c.specs.{is_sound, state_of}

@@ -5,8 +5,8 @@ use Rattle.pie_c.specs.{Makes, Passes, Steps, params_refusal, KeepsSound, LooksB
 use Rattle.pie_c.proofs.Names.{reset_refusal, ◌≡◌, ℕ, ◌≤◌, ◌<◌, ◌^◌, ◌==◌, if◌then◌else◌, nat_lt, Bool, true, false, List, [], ◌∷◌, Some, ◌++◌}
 use Rattle.pie_c.proofs.Names.{arith, refl, ◌∙◌, eqb-true, nat_tests, ArrivingPacket, Verdict, Depart, RawParams, first_bad, Held, accu_left}
 use Rattle.pie_c.proofs.Names.{arrived, capped, count_kept_open, departed, is_unmeasured, cause, opened, passed, verdict, with_count, name_of}
-use Rattle.pie_c.proofs.Names.{place_of_cause, PieParams, PieState, is_bad_size, departure_refusal, waited_refusal, moment_refusal, if_taken}
-use Rattle.pie_c.proofs.Names.{packet_refusal, unless_refused, PieOpening, Opening, opening_of, opening_refusal, held_by_opening, raw_of}
+use Rattle.pie_c.proofs.Names.{place_of_cause, RawParams, PieState, is_bad_size, departure_refusal, waited_refusal, moment_refusal, if_taken}
+use Rattle.pie_c.proofs.Names.{packet_refusal, unless_refused, PieOpening, Opening, opening_of, opening_refusal, held_by_opening}
 use Rattle.pie_c.proofs.Names.{elements_of, last_moment, held_in, is_sound, state_of, takes_stamps, are_in_range, with_arrival, with_departure}
 use Rattle.pie_c.proofs.Names.{with_rate, with_registers}
 use Rattle.std.proofs.Common.{max, Ok}
@@ -32,7 +32,7 @@ threshold-in params good =
 
 pub threshold-held : (s : PieState) → is_sound s ≡ true → (held_in s).params.dq_threshold ≤ 65536
 unfolding held_in
-threshold-held s sound = threshold-in (raw_of s.params) (held-sound s sound).params
+threshold-held s sound = threshold-in s.params (held-sound s sound).params
 
 -- ---- A sound state after a call stays sound and represents the call
 
@@ -194,17 +194,17 @@ unfolding held_in state_of
 resets keeps looks s t moment free is = let taken = reset-taken s moment free in let back = state-held s taken.0 in
     makes keeps looks s t (Restart moment) (reset_refusal s moment) taken.0 (grind (arith, nat_tests)) (λ _. taken.1)
 
-change-taken : (s : PieState) (params : PieParams) (moment : ℕ) → params_refusal s params moment ≡ 0
+change-taken : (s : PieState) (params : RawParams) (moment : ℕ) → params_refusal s params moment ≡ 0
     → (is_sound s ≡ true) × (are_in_range params ≡ true) × (moment < 2 ^ 60)
 unfolding params_refusal
 change-taken s params moment free = (grind (arith, nat_tests), grind (arith, nat_tests), grind (arith, nat_tests))
 
-pub changes : KeepsSound → LooksBack → (s t : PieState) (params : PieParams) (moment : ℕ) → params_refusal s params moment ≡ 0
-    → t ≡ with_rate (record s { params = params }) (changed (held_in s) (raw_of params) moment)
-    → Makes s (Change (raw_of params) moment) (params_refusal s params moment) t
+pub changes : KeepsSound → LooksBack → (s t : PieState) (params : RawParams) (moment : ℕ) → params_refusal s params moment ≡ 0
+    → t ≡ with_rate (record s { params = params }) (changed (held_in s) params moment)
+    → Makes s (Change params moment) (params_refusal s params moment) t
 unfolding held_in state_of
 changes keeps looks s t params moment free is = let taken = change-taken s params moment free in let back = state-held s taken.0 in
-    makes keeps looks s t (Change (raw_of params) moment) (params_refusal s params moment) taken.0 (grind (arith, nat_tests))
+    makes keeps looks s t (Change params moment) (params_refusal s params moment) taken.0 (grind (arith, nat_tests))
     (λ _. (taken.2, params-from params taken.1))
 
 pub opened-state : (s : PieState) (o : PieOpening) (it : Opening) (raw : RawParams) (h : Held) → opening_of o ≡ Ok it → raw ≡ it.params

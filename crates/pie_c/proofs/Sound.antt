@@ -1,7 +1,7 @@
 -- A state contains a controller's state, and is sound if that is.
 use Rattle.pie_c.specs.{Begun, count_of, flag, flag_of, start_of}
-use Rattle.pie_c.proofs.Names.{RawParams, params_of, ◌≡◌, ◌<◌, ◌^◌, ◌≤◌, ◌==◌, if◌then◌else◌, ℕ, suc, Bool, true, None, arith, refl, ap, nat_tests}
-use Rattle.pie_c.proofs.Names.{first_bad, One, Held, IsSound, PieParams, PieState, raw_of, are_in_range, held_in, is_activity_sound, is_rate_sound}
+use Rattle.pie_c.proofs.Names.{RawParams, ◌≡◌, ◌<◌, ◌^◌, ◌≤◌, ◌==◌, if◌then◌else◌, ℕ, suc, Bool, true, None, arith, refl, ap, nat_tests}
+use Rattle.pie_c.proofs.Names.{first_bad, One, Held, IsSound, PieState, are_in_range, held_in, is_activity_sound, is_rate_sound}
 use Rattle.pie_c.proofs.Names.{is_sound, profile_number, profile_of, Stamp, state_of, choices_of, elements_of, usual}
 use Rattle.std.proofs.Common.{Option, is_none, zero}
 use Rattle.pie_event.specs.declared.profile.Profile.{Profile}
@@ -37,11 +37,11 @@ held-state h = let back = elements-back h.elements in grind (arith, nat_tests)
 
 -- ---- Soundness
 
-pub params-from : (p : PieParams) → are_in_range p ≡ true → first_bad (raw_of p) ≡ None
+pub params-from : (p : RawParams) → are_in_range p ≡ true → first_bad p ≡ None
 unfolding are_in_range
 params-from p e = grind (arith, nat_tests)
 
-params-to : (p : RawParams) → first_bad p ≡ None → are_in_range (params_of p) ≡ true
+params-to : (p : RawParams) → first_bad p ≡ None → are_in_range p ≡ true
 unfolding are_in_range
 params-to p e = ap is_none e
 
@@ -87,7 +87,7 @@ activity-to profile active s p a always = grind (arith, nat_tests)
 pub state-sound : (h : Held) → IsSound h → is_sound (state_of h) ≡ true
 unfolding state_of is_sound
 state-sound h sound =
-    let params : are_in_range (params_of h.params) ≡ true = params-to h.params sound.params in
+    let params : are_in_range h.params ≡ true = params-to h.params sound.params in
     let rate : is_rate_sound (state_of h) ≡ true = rate-to (state_of h) h.rate.begun sound.average refl refl refl sound.cycle in
     let activity : is_activity_sound (state_of h) ≡ true = activity-to h.profile h.active (state_of h) refl refl sound.active in
     let few : choices_of h.elements ≤ 31 = few-choices h.elements in

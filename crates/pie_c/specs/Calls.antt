@@ -1,7 +1,7 @@
 -- Refusals and return values of the calls. The state after a call is the controller's state after its step.
 use Rattle.std.specs.Prelude.{ℕ, ◌≡◌, ◌≤◌, ◌^◌, ◌==◌, ◌&&◌, true, max, nat_lt, not, List, [], ◌∷◌, ◌++◌, if◌then◌else◌}
 use Rattle.pie_c.specs.Names.{Arrive, Call, Depart, IsTaken, Pass, after_call, event_of_call, ControllerEvent, Opened, Held, IsSound, Represents, arrived}
-use Rattle.pie_c.specs.Names.{capped, delay_answered, departed, due, is_too_soon, updated, verdict, PieParams, ecn_at, is_bad_size, verdict_number}
+use Rattle.pie_c.specs.Names.{capped, delay_answered, departed, due, is_too_soon, updated, verdict, RawParams, ecn_at, is_bad_size, verdict_number}
 use Rattle.pie_c.specs.Names.{PieState, PieUpdated, last_moment, are_in_range}
 use Rattle.pie_aqm.specs.declared.verdict.ArrivingPacket.{ArrivingPacket}
 use Rattle.pie_c.specs.State.{held_in, is_sound, state_of, takes_stamps, with_arrival, with_departure}
@@ -142,7 +142,7 @@ updated_by state queued moment =
     else nothing_updated (update_refusal state queued moment)
 
 -- the code of the refusal of new parameters; 0 if they are accepted
-unfoldable pub params_refusal : PieState → PieParams → ℕ → ℕ
+unfoldable pub params_refusal : PieState → RawParams → ℕ → ℕ
 params_refusal state params moment =
     if not (is_sound state) then 110
     else if not (are_in_range params) then 107

@@ -6,12 +6,12 @@ pub use Rattle.pie_abi.specs.Events.{arrived_event, bare_event, left_event}
 pub use Rattle.pie_abi.specs.Opening.{opening_in, opening_of}
 unfoldable pub use Rattle.pie_abi.specs.Opening.{opening_refusal}
 pub use Rattle.pie_abi.specs.Packets.{ecn_at, ecn_from, is_bad_size, verdict_number}
-pub use Rattle.pie_abi.specs.Params.{bad_number, params_of, raw_of}
+pub use Rattle.pie_abi.specs.Params.{bad_number}
 unfoldable pub use Rattle.pie_abi.specs.Params.{are_in_range}
 pub use Rattle.pie_abi.specs.Writing.{after_writing, count_written}
 pub use Rattle.pie_abi.specs.declared.event.PieEvent.{PieEvent}
 pub use Rattle.pie_abi.specs.declared.opening.PieOpening.{PieOpening}
-pub use Rattle.pie_abi.specs.declared.params.PieParams.{PieParams}
+pub use Rattle.pie_params.specs.declared.raw.RawParams.{RawParams}
 pub use Rattle.pie_abi.specs.declared.stats.PieStats.{PieStats}
 pub use Rattle.pie_aqm.specs.Calls.{Arrive, Call, Change, Depart, IsTaken, Pass, Restart, after_call, event_of_call}
 pub use Rattle.pie_aqm.specs.Events.{ControllerEvent, Opened}

@@ -1,6 +1,6 @@
 -- The controller of a state, the soundness of states, and the state of an opening.
 use Rattle.std.specs.Prelude.{ℕ, ◌^◌, ◌%◌, Bool, not, ◌&&◌, ◌==◌, nat_lt, nat_le, Option, Some, None, if◌then◌else◌}
-use Rattle.pie_c.specs.Names.{Begun, Held, choices_of, elements_of, last_moment, profile_number, profile_of, are_in_range, params_of, raw_of}
+use Rattle.pie_c.specs.Names.{Begun, Held, choices_of, elements_of, last_moment, profile_number, profile_of, are_in_range}
 use Rattle.pie_c.specs.Names.{PieState, profile_for, Opened, opened, PieOpening}
 use Rattle.pie_rate.specs.declared.raw.RawCycle.{RawCycle}
 use Rattle.pie_aqm.specs.declared.raw.RawController.{RawController}
@@ -31,7 +31,7 @@ abbrev pub controller_in : PieState → RawController
 controller_in s = record {
   profile = profile_of s.profile;
   elements = elements_of s.choices;
-  params = raw_of s.params;
+  params = s.params;
   moment = s.moment;
   active = s.active == 1;
   rate = record { average = s.average; begun = cycle_in s.measuring s.cycle_start s.cycle_count };
@@ -46,7 +46,7 @@ held_in s = controller_in s
 -- the state that contains a controller's state
 unfoldable pub state_of : Held → PieState
 state_of h = record {
-  params = params_of h.params;
+  params = h.params;
   moment = h.moment;
   prob = h.control.prob;
   old_delay = h.control.old_delay;
@@ -125,7 +125,7 @@ is_sound s =
 -- the default opening for a link of this rate
 abbrev pub default_opening : ℕ → PieOpening
 default_opening rate = record {
-  params = params_of (profile_for rate);
+  params = profile_for rate;
   moment = 0;
   profile = 1;
   choices = 1;
@@ -137,7 +137,7 @@ default_opening rate = record {
 
 -- the state and the opening of a controller with this opening
 abbrev pub held_by_opening : PieOpening → Held
-held_by_opening o = opened (profile_of o.profile) (elements_of o.choices) (raw_of o.params) o.moment
+held_by_opening o = opened (profile_of o.profile) (elements_of o.choices) o.params o.moment
 
 abbrev pub opened_by : PieOpening → Opened
-opened_by o = record { profile = profile_of o.profile; elements = elements_of o.choices; params = raw_of o.params; moment = o.moment }
+opened_by o = record { profile = profile_of o.profile; elements = elements_of o.choices; params = o.params; moment = o.moment }

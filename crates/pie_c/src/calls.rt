@@ -2,7 +2,7 @@
 //! refuse an unsound state. Each call refuses arguments out of range, executes the step of the controller, and writes
 //! the changed numbers back.
 ghost use Rattle.std.specs.Prelude.{◌≡◌, ◌<◌, ◌+◌, ◌-◌, ◌^◌, ◌≤◌, ℕ, if◌then◌else◌, min, true};
-ghost use Rattle.pie_c.specs.{Change, Depart, Restart, arrived, capped, cause, departed, verdict, raw_of, elements_of, held_in, is_sound};
+ghost use Rattle.pie_c.specs.{Change, Depart, Restart, arrived, capped, cause, departed, verdict, elements_of, held_in, is_sound};
 ghost use Rattle.pie_c.specs.{takes_stamps, with_departure, with_rate, KeepsSound, LooksBack, Arrives, Departs, Makes, Passes, Steps, Takes};
 ghost use Rattle.pie_c.specs.{arrival_of, arrival_refusal, departure_refusal, moment_refusal, params_refusal, reset_refusal, state_refusal};
 ghost use Rattle.pie_c.specs.{update_refusal, updated_by, waited_refusal};
@@ -11,7 +11,6 @@ ghost use Rattle.pie_event.specs.CauseName.{name_of, place_of_cause};
 
 use crate::checked::{is_sound, raw, raw_with, takes_stamps, usual_but_delay};
 use crate::state::{PieState, PieUpdated};
-use pie_abi::PieParams;
 use pie_abi::choices::elements;
 use pie_abi::code::{
     BAD_ARRIVED, BAD_ECN, BAD_MOMENT, BAD_PARAMS, BAD_QUEUE, BAD_SIZE, BAD_STATE, DONE, NOT_WAITED,
@@ -21,7 +20,7 @@ use pie_abi::packet::{ecn, is_bad_size};
 use pie_abi::params::are_in_range;
 use pie_aqm::{ArrivingPacket, calls_keep_it_sound, calls_look_back};
 use pie_fixed::MAX_NANOS;
-use pie_params::Elements;
+use pie_params::{Elements, RawParams};
 
 /// The greatest number of bytes in a queue, which is the greatest byte limit.
 const MAX_QUEUED: u64 = 1 << 30;
@@ -352,9 +351,9 @@ pub extern "C" fn pie_reset(state: &mut PieState, moment: u64) -> u32
 #[inline(always)]
 #[tactic(auto, unfolding(crate::specs::Calls::params_refusal))]
 #[unsafe(no_mangle)]
-pub extern "C" fn pie_set_params(state: &mut PieState, params: &PieParams, moment: u64) -> u32
+pub extern "C" fn pie_set_params(state: &mut PieState, params: &RawParams, moment: u64) -> u32
     ensures answer { result ≡ params_refusal state.old params.now moment }
-    ensures made { Makes state.old (Change (raw_of params.now) moment) (params_refusal state.old params.now moment) state.new }
+    ensures made { Makes state.old (Change params.now moment) (params_refusal state.old params.now moment) state.new }
 {
     if !is_sound(state) {
         return BAD_STATE;
@@ -366,7 +365,7 @@ pub extern "C" fn pie_set_params(state: &mut PieState, params: &PieParams, momen
         return BAD_MOMENT;
     }
     let mut held = raw(state);
-    held.set_params(params.raw(), moment);
+    held.set_params(*params, moment);
     state.params = *params;
     state.keep_departed(&held);
     laws();

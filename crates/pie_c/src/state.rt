@@ -1,8 +1,8 @@
 ghost use Rattle.std.specs.Prelude.{◌≡◌, max, true};
 ghost use Rattle.pie_c.specs.{held_in, is_sound, state_of, with_arrival, with_rate, with_registers, IsSound, nothing_updated, updated_with};
 
-use pie_abi::PieParams;
 use pie_aqm::RawController;
+use pie_params::RawParams;
 
 /// The controller's state, which its caller owns: the parameters in force, the numbers of the rules, the profile and
 /// the activity. Times are in nanoseconds, probabilities in units of `10^-12` (RFC 8033, sections 4.2, 4.4, 5.2, 5.3
@@ -11,7 +11,7 @@ use pie_aqm::RawController;
 #[derive(Clone, Copy)]
 pub struct PieState {
     /// The parameters in force.
-    pub params: PieParams,
+    pub params: RawParams,
     /// The effective moment: the greatest of all moments up to now, at most `2^60 - 1`.
     pub moment: u64,
     /// The probability of a drop or mark, 0 to 10^12.

@@ -4,6 +4,7 @@ use std::fmt;
 use thiserror::Error;
 
 /// Parameters that are not yet checked.
+#[repr(C)]
 #[derive(Clone, Copy, Debug, PartialEq, Eq)]
 pub struct RawParams {
     /// The reference queueing delay, in nanoseconds, 2 to 10^10 (RFC 8033, section 4.2).

@@ -1,8 +1,8 @@
 -- Promises of the calls at a port. In contracts an open port is its caller.
 use Rattle.std.specs.Prelude.{ℕ, ◌≡◌, ◌≢◌, ◌==◌, ◌+◌, ◌⊎◌, ◌↔◌, Bool, true, false, Option, Some, None, Result, Ok, Err, if◌then◌else◌}
 use Rattle.pie_port.specs.Names.{first_pass, without_highest, highest_alone, IsBeside, IsBothOf, Answer, Command, SetParams, Refusal, number_of}
-use Rattle.pie_port.specs.Names.{Told, TriesToAnswer, CallerView, LinkView, StaysOne, Tried, Busy, Refused, PieEvent, PieOpening, PieParams}
-use Rattle.pie_port.specs.Names.{bare_event, opening_in, opening_refusal, are_in_range, raw_of, EventCall}
+use Rattle.pie_port.specs.Names.{Told, TriesToAnswer, CallerView, LinkView, StaysOne, Tried, Busy, Refused, PieEvent, PieOpening, RawParams}
+use Rattle.pie_port.specs.Names.{bare_event, opening_in, opening_refusal, are_in_range, EventCall}
 use Rattle.pie_port.specs.Events.{answer_number, code_of, refusal_number, command_in, filled, has_bad_ecn, numbered_event, under}
 
 -- ---- opening
@@ -56,11 +56,11 @@ set_event caller e (Err Busy) = e
 set_event caller e (Err (Refused why)) = under caller (bare_event 5 e (refusal_number why))
 
 -- parameters out of their ranges are refused before the call
-abbrev pub IsSetUnless : Bool → PieParams → CallerView → PieEvent → ℕ → PieEvent → CallerView → Type 0
+abbrev pub IsSetUnless : Bool → RawParams → CallerView → PieEvent → ℕ → PieEvent → CallerView → Type 0
 IsSetUnless false params before e code written after = (code ≡ 107) × (written ≡ under before.first (bare_event 5 e 107)) × (after ≡ before)
-IsSetUnless true params before e code written after = IsTried (SetParams e.moment (raw_of params)) (set_event before.first e) before code written after
+IsSetUnless true params before e code written after = IsTried (SetParams e.moment params) (set_event before.first e) before code written after
 
-abbrev pub TriesToSet : PieParams → Option CallerView → PieEvent → ℕ → PieEvent → Option CallerView → Type 0
+abbrev pub TriesToSet : RawParams → Option CallerView → PieEvent → ℕ → PieEvent → Option CallerView → Type 0
 TriesToSet params port e code written after =
     AtPort port code after (written ≡ e) (λ before now. IsSetUnless (are_in_range params) params before e code written now)
 

@@ -1,7 +1,7 @@
 -- Promises of a fold at a port, and the form of an event of the history in a caller's struct.
 use Rattle.std.specs.Prelude.{ℕ, ◌≡◌, List, [], ◌∷◌, ◌++◌, Option, Result, Ok, Err, drop, length, map, min}
 use Rattle.pie_port.specs.Names.{bits_of, Answer, Command, SetParams, Event, Refusal, TriesToFoldInto, CallerView, StaysOne, Tried, PieEvent}
-use Rattle.pie_port.specs.Names.{PieParams, Told, arrived_event, bare_event, params_of}
+use Rattle.pie_port.specs.Names.{RawParams, Told, arrived_event, bare_event}
 use Rattle.pie_event.specs.declared.command.Command.TheVariants.{Arrive, Depart, Update, Reset}
 use Rattle.pie_port.specs.declared.filling.EventCall.TheVariants as asked
 use Rattle.pie_port.specs.Calls.{AtPort}
@@ -39,8 +39,8 @@ abbrev pub struct_of : Event → PieEvent
 struct_of event = struct_with event.caller event.answer event.command
 
 -- the parameters that the command sets, otherwise p
-abbrev pub params_in : PieParams → Command → PieParams
-params_in p (SetParams moment params) = params_of params
+abbrev pub params_in : RawParams → Command → RawParams
+params_in p (SetParams moment params) = params
 params_in p _ = p
 
 -- ---- a fold
@@ -50,7 +50,7 @@ abbrev pub written_events : List PieEvent → List Event → List PieEvent
 written_events structs events = map struct_of events ++ drop (length events) structs
 
 -- the parameters that the last of these events with parameters sets, otherwise p
-abbrev pub params_after : PieParams → List Event → PieParams
+abbrev pub params_after : RawParams → List Event → RawParams
 params_after p [] = p
 params_after p (event ∷ events) = params_after (params_in p event.command) events
 
@@ -66,8 +66,8 @@ last_after before (Ok told) = told.number
 last_after before (Err why) = before
 
 -- the fold of an open port's caller: at most 64 events, and at most as many as there are structs; or the link was busy
-pub record IsFolded (before : CallerView) (structs : List PieEvent) (l : ℕ) (p : PieParams) (code : ℕ) (written : List PieEvent) (folded last : ℕ)
-    (params : PieParams) (after : CallerView) : Type 0 where
+pub record IsFolded (before : CallerView) (structs : List PieEvent) (l : ℕ) (p : RawParams) (code : ℕ) (written : List PieEvent) (folded last : ℕ)
+    (params : RawParams) (after : CallerView) : Type 0 where
   pub reply : Result (Told ℕ) (Tried Refusal)
   pub events : List Event
   pub tried : TriesToFoldInto before.lock before (min (length structs) 64) reply [] events after
@@ -78,7 +78,7 @@ pub record IsFolded (before : CallerView) (structs : List PieEvent) (l : ℕ) (p
   pub filled : written ≡ written_events structs events
   pub set : params ≡ params_after p events
 
-abbrev pub TriesToFoldAll : Option CallerView → List PieEvent → ℕ → PieParams → ℕ → List PieEvent → ℕ → ℕ → PieParams → Option CallerView → Type 0
+abbrev pub TriesToFoldAll : Option CallerView → List PieEvent → ℕ → RawParams → ℕ → List PieEvent → ℕ → ℕ → RawParams → Option CallerView → Type 0
 TriesToFoldAll port structs l p code written folded last params after =
     AtPort port code after ((written ≡ structs) × (folded ≡ 0) × (last ≡ l) × (params ≡ p))
     (λ before now. IsFolded before structs l p code written folded last params now)

@@ -5,12 +5,11 @@ pub use Rattle.std.specs.declared.alloc.Global.{Global}
 pub use Rattle.pie_abi.specs.Events.{arrived_event, bare_event}
 pub use Rattle.pie_abi.specs.Opening.{opening_in}
 unfoldable pub use Rattle.pie_abi.specs.Opening.{opening_refusal}
-pub use Rattle.pie_abi.specs.Params.{params_of, raw_of}
 unfoldable pub use Rattle.pie_abi.specs.Params.{are_in_range}
 pub use Rattle.pie_abi.specs.Writing.{after_writing, count_written}
 pub use Rattle.pie_abi.specs.declared.event.PieEvent.{PieEvent}
 pub use Rattle.pie_abi.specs.declared.opening.PieOpening.{PieOpening}
-pub use Rattle.pie_abi.specs.declared.params.PieParams.{PieParams}
+pub use Rattle.pie_params.specs.declared.raw.RawParams.{RawParams}
 pub use Rattle.pie_book.specs.Excerpt.{Ends, ExcerptView, has_room}
 pub use Rattle.pie_event.specs.declared.command.Answer.{Answer}
 pub use Rattle.pie_event.specs.declared.command.Answer.TheVariants.{Done, DroppedBytes, DroppedEarly, DroppedPackets, Empty, Enqueued, Left, Marked}

@@ -1,6 +1,6 @@
 -- Promises of a reading at a port, and the form of registers and statistics in a caller's struct.
 use Rattle.std.specs.Prelude.{ℕ, ◌≡◌, ◌+◌, ◌-◌, ◌^◌, Bool, true, false, List, Option, Result, Ok, Err, min}
-use Rattle.pie_port.specs.Names.{Event, Opening, Refusal, Told, CallerView, StaysOne, Tried, params_of}
+use Rattle.pie_port.specs.Names.{Event, Opening, Refusal, Told, CallerView, StaysOne, Tried}
 use Rattle.pie_event.specs.declared.registers.Registers.{Registers}
 use Rattle.pie_event.specs.declared.stats.Stats.{Stats}
 use Rattle.pie_link.specs.CallerReadings.{TriesToRead}
@@ -31,7 +31,7 @@ registers_of told = record {
   average = told.answer.average;
   measuring = bit told.answer.measuring;
   active = bit told.answer.active;
-  params = params_of told.answer.params;
+  params = told.answer.params;
 }
 
 -- the statistics, with the number of events

@@ -4,7 +4,8 @@ ghost use Rattle.pie_port.specs.{Tries, TriesToSet};
 use crate::code::CLOSED;
 use crate::filling::EventCall;
 use crate::handle::PiePort;
-use pie_abi::{PieEvent, PieParams};
+use pie_abi::PieEvent;
+use pie_params::RawParams;
 use std::alloc::Global;
 
 /// Makes the call `asked` of `event`, if the port is open.
@@ -27,7 +28,7 @@ pub fn try_event(alloc: Global, port: &mut PiePort, asked: EventCall, event: &mu
 pub fn try_set_params(
     alloc: Global,
     port: &mut PiePort,
-    params: &PieParams,
+    params: &RawParams,
     event: &mut PieEvent,
 ) -> u32
     ensures { TriesToSet params.now port.old.port event.old result event.new port.new.port }

@@ -8,15 +8,15 @@ use crate::excerpt::ExcerptText;
 use crate::filling::{EventCall, fill, fill_number, fill_set};
 use crate::folding::{MOST, room, write_folded};
 use atomic_table::TableRule;
+use pie_abi::PieEvent;
 use pie_abi::code::{BAD_ECN, BAD_PARAMS};
 use pie_abi::event::PARAMS;
 use pie_abi::packet::ecn;
-use pie_abi::{PieEvent, PieParams};
 use pie_book::Recorded;
 use pie_event::{Answer, Opening, Refusal};
 use pie_link::{Caller, Entry, KeptBook, Link, Told, Tried};
 use pie_lock::{LockOpening, LockRule, Place};
-use pie_params::Params;
+use pie_params::{Params, RawParams};
 use pie_queue::Packet;
 use std::alloc::{AllocFailed, Global};
 use std::marker::Model;
@@ -128,11 +128,11 @@ impl Port {
 
     /// Sets the parameters, and writes the result to `event`.
     #[tactic(auto, unfolding(pie_abi::specs::Params::are_in_range))]
-    pub(crate) fn try_set_params(&mut self, params: &PieParams, event: &mut PieEvent) -> u32
+    pub(crate) fn try_set_params(&mut self, params: &RawParams, event: &mut PieEvent) -> u32
         ensures { IsSetUnless (are_in_range params.now) params.now self.old event.old result event.new self.new }
     {
         let caller = self.caller.first();
-        let Some(params) = Params::from_raw(params.raw()) else {
+        let Some(params) = Params::from_raw(*params) else {
             event.keep_bare(PARAMS, BAD_PARAMS);
             event.caller = caller;
             return BAD_PARAMS;
@@ -149,7 +149,7 @@ impl Port {
         events: &mut [PieEvent],
         count: &mut usize,
         last: &mut u64,
-        params: &mut PieParams,
+        params: &mut RawParams,
     ) -> u32
         ensures { IsFolded self.old events.old last.old params.old result events.new count.new last.new params.new self.new }
     {

@@ -8,10 +8,11 @@ ghost use Rattle.pie_port.specs.Readings.{IsReadInto};
 use crate::code::{BUSY, CLOSED};
 use crate::handle::PiePort;
 use crate::port::Port;
+use pie_abi::PieStats;
 use pie_abi::code::DONE;
-use pie_abi::{PieParams, PieStats};
 use pie_event::{Refusal, Registers, Stats};
 use pie_link::{Told, Tried};
+use pie_params::RawParams;
 use std::alloc::Global;
 
 /// The registers. Times are in nanoseconds, probabilities in units of `10^-12` (RFC 8033, sections 4.2, 4.4, 5.2 and
@@ -46,7 +47,7 @@ pub struct PieRegisters {
     /// 1 while the controller is active, otherwise 0; always 1 in profile one.
     pub active: u64,
     /// The parameters in force.
-    pub params: PieParams,
+    pub params: RawParams,
 }
 
 /// The statistics of all events.
@@ -79,7 +80,7 @@ fn registers(told: &Told<Registers>) -> PieRegisters
         average: r.average,
         measuring: u64::from(r.measuring),
         active: u64::from(r.active),
-        params: PieParams::from_raw(params),
+        params,
     }
 }
 

@@ -1,4 +1,4 @@
-use Rattle.pie_c.proofs.Names.{◌≡◌, ◌∙◌, sym, opening_refusal, held_by_opening, raw_of, elements_of, profile_of}
+use Rattle.pie_c.proofs.Names.{◌≡◌, ◌∙◌, sym, opening_refusal, held_by_opening, elements_of, profile_of}
 use Rattle.pie_c.proofs.Packets.{opened-state, opening-free, opening-taken}
 use Rattle.pie_c.proofs.Sound.{held-state, params-from, state-sound}
 use Rattle.pie_c.proofs.opening.pie_open.Goals as goal
@@ -18,11 +18,11 @@ returns-clause-sound c taken =
     let o = c.args.opening.now in
     let opens = opening-taken o taken in
     rw (returns-clause-after c, taken)
-    (state-sound _ (c.calls_keep_it_sound.ensures.opens (profile_of o.profile) (elements_of o.choices) (raw_of o.params) o.moment
+    (state-sound _ (c.calls_keep_it_sound.ensures.opens (profile_of o.profile) (elements_of o.choices) o.params o.moment
     (params-from o.params opens.0) opens.1))
 
 pub returns-clause-represents : goal.returns-clause-represents
 returns-clause-represents c taken =
     let o = c.args.opening.now in
     rw (returns-clause-after c, taken, held-state (held_by_opening o))
-    (c.calls_look_back.ensures.opens (profile_of o.profile) (elements_of o.choices) (raw_of o.params) o.moment)
+    (c.calls_look_back.ensures.opens (profile_of o.profile) (elements_of o.choices) o.params o.moment)

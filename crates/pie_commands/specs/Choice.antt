@@ -17,11 +17,11 @@ use Rattle.pie_units.specs.When.{when_in}
 use Rattle.pie_units.specs.declared.when.When.{When}
 use Rattle.pie_units.specs.declared.when.When.TheVariants as when
 use Rattle.pie_units.specs.declared.when.WhenFault.{WhenFault}
-use Rattle.pie_explain.specs.Output.{pages}
+use Rattle.pie_explain.specs.Output.{as_records, in_words, pages}
 use Rattle.pie_summary.specs.ByFlow.{flows_whole}
-use Rattle.pie_summary.specs.Summary.{summary_of}
+use Rattle.pie_summary.specs.Summary.{alone, summary_of}
 use Rattle.pie_commands.specs.declared.explain.OutputKind.{OutputKind}
-use Rattle.pie_commands.specs.declared.explain.OutputKind.TheVariants.{Each, Flows, Sums}
+use Rattle.pie_commands.specs.declared.explain.OutputKind.TheVariants.{Digest, Flows, Records, Sums, Words}
 
 -- ---- moments
 
@@ -108,18 +108,25 @@ choice_of options =
 abbrev pub form_of : List Row → Form
 form_of options = record { csv = flag_given (codes "csv") options; by_wall = flag_given (codes "wall") options }
 
+-- the kind of output that has each event by itself: as a CSV record, or in words
+abbrev pub each_kind : Form → OutputKind
+each_kind form = if form.csv then Records (record { by_wall = form.by_wall }) else Words (record { by_wall = form.by_wall })
+
 -- the kind of output about the chosen events: each event; sums by flow; or summaries, with or without a digest of
 -- lost and marked packets. Sums and summaries cover all events or each interval
 abbrev pub output_kind_by : Bool → Bool → Option ℕ → Option ℕ → Form → OutputKind
 output_kind_by true packets (Some most) every form = Flows (record { form = form; every = every; most = most })
-output_kind_by true packets None every form = Sums (record { form = form; every = every; packets = packets })
-output_kind_by false packets flows every form = Each form
+output_kind_by true true None every form = Digest (record { form = form; every = every; packets = true })
+output_kind_by true false None every form = Sums (record { form = form; every = every })
+output_kind_by false packets flows every form = each_kind form
 
 abbrev pub output_kind_of : List Row → OutputKind
 output_kind_of options = output_kind_by (is_summary options) (is_digest options) (flows_of options) (every_of options) (form_of options)
 
 -- the output of a kind for these explained events
 abbrev pub output_text : OutputKind → List Explained → List ℕ
-output_text (Each form) = pages form
-output_text (Sums summaries) = summary_of summaries
+output_text (Records records) = pages (as_records records.by_wall)
+output_text (Words words) = pages (in_words words.by_wall)
+output_text (Sums sums) = summary_of (alone sums)
+output_text (Digest summaries) = summary_of summaries
 output_text (Flows by_flow) = flows_whole by_flow

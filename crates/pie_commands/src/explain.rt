@@ -3,7 +3,7 @@ ghost use Rattle.std.specs.Prelude.{◌≡◌, IfSome};
 ghost use Rattle.clap.specs.Words.{found_of, rows_of};
 ghost use Rattle.pie_record.specs.Text.{records_of};
 ghost use Rattle.pie_explain.specs.Either.{ExplainsEither};
-ghost use Rattle.pie_commands.specs.Choice.{choice_of, chosen, every_of, form_of, is_either, is_summary, lasts, output_kind_by, output_kind_of, output_text, which_of};
+ghost use Rattle.pie_commands.specs.Choice.{choice_of, chosen, each_kind, every_of, form_of, is_either, is_summary, lasts, output_kind_by, output_kind_of, output_text, which_of};
 ghost use Rattle.pie_commands.specs.ExplainEnds.{EndsExplain, end_of_explain};
 
 use crate::end::{End, failed, faulted};
@@ -12,8 +12,8 @@ use crate::moments::{NO_ORDER, bound, in_order, moment, parsed};
 use crate::options::{flag, number};
 use crate::watched::Watched;
 use clap::ArgMatches;
-use pie_explain::{ExplainFault, Form, Selection, Which};
-use pie_summary::{ByFlow, Summary};
+use pie_explain::{ExplainFault, Form, Records, Selection, Which, Words};
+use pie_summary::{ByFlow, Summary, SumsAlone};
 use std::alloc::Global;
 use std::io::{Read, Write};
 use std::time::Clock;
@@ -136,12 +136,28 @@ fn form_of(options: &ArgMatches<'_>) -> Form
 
 /// The kind of output about the chosen events.
 pub(crate) enum OutputKind {
-    /// Each of them.
-    Each(Form),
-    /// Summaries, of all or of each period, with what there is to say of lost and marked packets between them or without.
-    Sums(Summary),
+    /// A CSV record for each event.
+    Records(Records),
+    /// Each event in words.
+    Words(Words),
+    /// Summaries, of all events or of each interval.
+    Sums(SumsAlone),
+    /// Summaries, and between them the words for lost and marked packets.
+    Digest(Summary),
     /// Sums by flow, with rows for a limited number of flows.
     Flows(ByFlow),
+}
+
+/// Returns the kind of output that has each event by itself.
+fn each_kind(form: Form) -> OutputKind
+    ensures { result ≡ each_kind form }
+{
+    let by_wall = form.by_wall;
+    if form.csv {
+        OutputKind::Records(Records { by_wall })
+    } else {
+        OutputKind::Words(Words { by_wall })
+    }
 }
 
 /// Each event, or with these choices sums over them.
@@ -154,14 +170,15 @@ fn output_kind_by(
 ) -> OutputKind
     ensures { result ≡ output_kind_by summary packets flows every form }
 {
-    match (summary, flows) {
-        (true, Some(most)) => OutputKind::Flows(ByFlow { form, every, most }),
-        (true, None) => OutputKind::Sums(Summary {
+    match (summary, packets, flows) {
+        (true, _, Some(most)) => OutputKind::Flows(ByFlow { form, every, most }),
+        (true, true, None) => OutputKind::Digest(Summary {
             form,
             every,
-            packets,
+            packets: true,
         }),
-        (false, _) => OutputKind::Each(form),
+        (true, false, None) => OutputKind::Sums(SumsAlone { form, every }),
+        (false, _, _) => each_kind(form),
     }
 }
 
@@ -186,10 +203,10 @@ fn tell<R: Read + Drop, W: Write>(
         (W.contents output.new)) }
 {
     match tale {
-        OutputKind::Each(form) => pie_explain::explain(alloc, input, output, choice, form),
-        OutputKind::Sums(summaries) => pie_explain::explain(
-            alloc, input, output, choice, summaries,
-        ),
+        OutputKind::Records(each) => pie_explain::explain(alloc, input, output, choice, each),
+        OutputKind::Words(each) => pie_explain::explain(alloc, input, output, choice, each),
+        OutputKind::Sums(sums) => pie_explain::explain(alloc, input, output, choice, sums),
+        OutputKind::Digest(digest) => pie_explain::explain(alloc, input, output, choice, digest),
         OutputKind::Flows(by_flow) => pie_explain::explain(alloc, input, output, choice, by_flow),
     }
 }

@@ -1,5 +1,5 @@
 -- The output of explanations.
-use Rattle.std.specs.Prelude.{ℕ, List, [], ◌∷◌, ◌++◌, codes, Option, None, if◌then◌else◌}
+use Rattle.std.specs.Prelude.{ℕ, Bool, true, false, List, [], ◌∷◌, ◌++◌, codes, Option, None, if◌then◌else◌}
 use Rattle.std.specs.List.{flat_map}
 use Rattle.pie_explain.specs.declared.form.Form.{Form}
 use Rattle.pie_explain.specs.declared.explanation.Explained.{Explained}
@@ -39,3 +39,10 @@ explanation_texts form all = flat_map (explanation_text form) all
 -- the whole report: the text before the first explanation, and the explanations
 abbrev pub pages : Form → List Explained → List ℕ
 pages form all = header form ++ explanation_texts form all
+
+-- the forms of the two reports: CSV records, and words
+abbrev pub as_records : Bool → Form
+as_records by_wall = record { csv = true; by_wall = by_wall }
+
+abbrev pub in_words : Bool → Form
+in_words by_wall = record { csv = false; by_wall = by_wall }

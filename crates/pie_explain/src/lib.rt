@@ -31,7 +31,7 @@ pub use fault::ExplainFault;
 pub use form::Form;
 pub use law::{excerpts_are_explained_as_the_whole, explaining_is_auditing};
 pub use pie_event::Setter;
-pub use report::{Report, push_header, push_words};
+pub use report::{Records, Report, Words, push_header, push_words};
 pub use selection::{Selection, is_from, is_to, time_of};
 pub use units::{Millis, PerCent, Share};
 pub use which::Which;

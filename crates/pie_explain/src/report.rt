@@ -1,7 +1,7 @@
 //! The interface of reports about explained events.
 ghost use Rattle.std.specs.Prelude.{◌≡◌, ◌++◌, ◌∷◌, [], ℕ, List, IfOk, OnOk, codes};
 ghost use Rattle.pie_explain.specs.declared.explanation.Explained.{Explained};
-ghost use Rattle.pie_explain.specs.Output.{header_of, explanation_text};
+ghost use Rattle.pie_explain.specs.Output.{header_of};
 ghost use Rattle.pie_explain.specs.Record.{line_of};
 ghost use Rattle.pie_explain.specs.Report.{Grows};
 ghost use Rattle.pie_explain.specs.Words.{words_by};
@@ -88,44 +88,71 @@ pub fn push_words(page: &mut Page, clock: Option<Clock>, told: &Explained) -> Re
     page.put(text)
 }
 
-/// Writes an explanation onto the page.
-#[tactic(auto, unfolding(crate::specs::Output::explanation_text))]
-fn push_explanation(
-    page: &mut Page,
-    records: &mut RecordWriter,
-    form: Form,
-    told: &Explained,
-) -> Written
-    ensures { OnOk result (page.new ≡ page.old ++ explanation_text form told.now) }
-{
-    if form.csv {
-        return records.push(page, form.by_wall, told);
-    }
-    push_words(page, form.clock(told.told.clock), told)
+/// The report of explanations as CSV: a header row, and one record for each event.
+#[derive(Clone, Copy)]
+pub struct Records {
+    /// With wall-clock times: each record has that of the effective moment as an additional last field.
+    pub by_wall: bool,
 }
 
-impl Report for Form {
+/// The report of explanations in words.
+#[derive(Clone, Copy)]
+pub struct Words {
+    /// With wall-clock times, which replace the moments after a clock record.
+    pub by_wall: bool,
+}
+
+impl Report for Records {
     type State = RecordWriter;
 
     ghost use Rattle.std.specs.Prelude.{⊤};
-    ghost use Rattle.pie_explain.specs.Output.{pages};
+    ghost use Rattle.pie_explain.specs.Output.{as_records, pages};
 
-    ghost shows = { λ form state all. ⊤ };
+    ghost shows = { λ it state all. ⊤ };
 
-    ghost so_far = { pages };
+    ghost so_far = { λ it. pages (as_records it.by_wall) };
 
-    ghost whole = { pages };
+    ghost whole = { λ it. pages (as_records it.by_wall) };
 
     fn begin(&self, page: &mut Page) -> Result<RecordWriter, AllocError> {
-        push_header(page, NAMES, *self)?;
+        let (csv, by_wall) = (true, self.by_wall);
+        push_header(page, NAMES, Form { csv, by_wall })?;
         Ok(RecordWriter::new())
     }
 
+    #[inline(always)]
     fn tell(&self, state: &mut RecordWriter, told: &Explained, page: &mut Page) -> Written {
-        push_explanation(page, state, *self, told)
+        state.push(page, self.by_wall, told)
     }
 
     fn end(&self, state: &RecordWriter, page: &mut Page) -> Written {
+        Ok(())
+    }
+}
+
+impl Report for Words {
+    type State = ();
+
+    ghost use Rattle.std.specs.Prelude.{⊤};
+    ghost use Rattle.pie_explain.specs.Output.{in_words, pages};
+
+    ghost shows = { λ it state all. ⊤ };
+
+    ghost so_far = { λ it. pages (in_words it.by_wall) };
+
+    ghost whole = { λ it. pages (in_words it.by_wall) };
+
+    fn begin(&self, page: &mut Page) -> Written {
+        Ok(())
+    }
+
+    fn tell(&self, state: &mut (), told: &Explained, page: &mut Page) -> Written {
+        let (csv, by_wall) = (false, self.by_wall);
+        let form = Form { csv, by_wall };
+        push_words(page, form.clock(told.told.clock), told)
+    }
+
+    fn end(&self, state: &(), page: &mut Page) -> Written {
         Ok(())
     }
 }

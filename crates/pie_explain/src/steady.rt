@@ -44,6 +44,7 @@ impl Steady {
     }
 
     /// Replaces the stored numbers. Returns true if they are unchanged.
+    #[inline(always)]
     fn take(&mut self, held: &Registers) -> bool
         ensures text { self.new ≡ onto (steady_fields held.now.prob held.now.accu held.now.burst) [] }
         ensures same { result ≡ true → self.new ≡ self.old }
@@ -103,6 +104,7 @@ impl Held {
     }
 
     /// Takes these numbers in place of the earlier ones.
+    #[inline(always)]
     pub(crate) fn take(&mut self, held: &Registers, delay: u64)
         ensures { self.new ≡ onto (held_fields held.now delay) [] }
     {

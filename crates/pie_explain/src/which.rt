@@ -21,6 +21,7 @@ pub enum Which {
 }
 
 /// The packet that an event is about: the one that arrived, or the one that left.
+#[inline(always)]
 pub(crate) fn packet_of(event: &Event) -> Option<Packet>
     ensures { result ≡ packet_of event.now }
 {

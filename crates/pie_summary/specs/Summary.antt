@@ -1,5 +1,5 @@
 -- The output of summaries of the explained events, and between them of lost and marked packets.
-use Rattle.std.specs.Prelude.{ℕ, ◌≡◌, Bool, ◌&&◌, ◌||◌, if◌then◌else◌, List, [], ◌++◌}
+use Rattle.std.specs.Prelude.{ℕ, ◌≡◌, Bool, false, ◌&&◌, ◌||◌, if◌then◌else◌, List, [], ◌++◌}
 use Rattle.std.specs.List.{flat_map}
 use Rattle.pie_aqm.specs.Places.{Place, places}
 use Rattle.pie_explain.specs.declared.form.Form.{Form}
@@ -10,6 +10,7 @@ use Rattle.pie_explain.specs.Which.{chooses}
 use Rattle.pie_explain.specs.Words.{words_by}
 use Rattle.pie_summary.specs.declared.period.Period.{Period}
 use Rattle.pie_summary.specs.declared.summary.Summary.{Summary}
+use Rattle.pie_summary.specs.declared.alone.SumsAlone.{SumsAlone}
 use Rattle.pie_summary.specs.declared.sums.Sums.{Sums}
 use Rattle.pie_summary.specs.Period.{Keeps, at_end, at_last}
 use Rattle.pie_summary.specs.Record.{field_names, record_of}
@@ -52,6 +53,10 @@ summaries summary all = header summary.form ++ flat_map (written_at summary) (pl
 -- the whole output: the output before the end, and a summary of the last interval
 abbrev pub summary_of : Summary → List Explained → List ℕ
 summary_of summary all = summaries summary all ++ at_last summary.every (summary_text_of summary.form) all
+
+-- a summary that explains no packets, as a `Summary`
+abbrev pub alone : SumsAlone → Summary
+alone it = record { form = it.form; every = it.every; packets = false }
 
 -- what a period has of these events: their numbers, and their waits
 pub record HoldsSums (period : Period) (all : List Explained) : Type 0 where

@@ -176,6 +176,7 @@ pub(crate) fn raise(most: &mut u64, number: u64)
 
 impl Span {
     /// Takes one more event.
+    #[inline(always)]
     pub(crate) fn take(&mut self, all: &Explained)
         ensures { (shown : List Explained) → self.old ≡ span_of shown → self.new ≡ span_of (shown ++ all.now ∷ []) }
     {

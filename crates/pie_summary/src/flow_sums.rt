@@ -3,7 +3,9 @@ ghost use Rattle.std.specs.Prelude.{◌≡◌, ◌*◌, ◌/◌, ◌++◌, ◌�
 ghost use Rattle.pie_explain.specs.declared.explanation.Explained.{Explained};
 ghost use Rattle.pie_summary.specs.FlowSums.{added_up, flow_by, flow_sums, numbers_of};
 
-use crate::meter_input::{MeterInput, meter_input_of};
+use crate::meter_input::{
+    EARLY, LEFT, MARKED, MeterInput, NO_BYTES, NO_PACKETS, QUEUED, meter_input_of,
+};
 use pie_book::{Answer, Command};
 use pie_explain::Explained;
 
@@ -58,12 +60,12 @@ fn numbers_of(one: &MeterInput) -> FlowSums
     FlowSums {
         arrivals: u64::from(one.arrived.is_some()),
         bytes: one.arrived.unwrap_or(0),
-        queued: u64::from(one.answer == 0),
-        marked: u64::from(one.answer == 1),
-        early: u64::from(one.answer == 2),
-        no_bytes: u64::from(one.answer == 3),
-        no_packets: u64::from(one.answer == 4),
-        left: u64::from(one.answer == 5),
+        queued: u64::from(one.answer == QUEUED),
+        marked: u64::from(one.answer == MARKED),
+        early: u64::from(one.answer == EARLY),
+        no_bytes: u64::from(one.answer == NO_BYTES),
+        no_packets: u64::from(one.answer == NO_PACKETS),
+        left: u64::from(one.answer == LEFT),
         carried: one.carried,
         waited: u128::from(waited),
         greatest_wait: waited,

@@ -9,7 +9,7 @@ ghost use Rattle.pie_summary.specs.Sums.{awaiting, excess_within, meter_of, time
 ghost use Rattle.pie_summary.specs.Words.{wait_99};
 
 use crate::aggregates::{Bounds, Peak, Total, raise};
-use crate::meter_input::MeterInput;
+use crate::meter_input::{LEFT, MeterInput};
 use crate::ranges::{RANGES, end_within, first_up_to};
 
 /// The numbers of a record, each over all events of an interval. `answers` also gives the number of events and of
@@ -139,7 +139,7 @@ impl Meter {
     pub(crate) fn wait_99(&self, waits: &[u64; RANGES]) -> u64
         ensures { result ≡ wait_99 waits.now self.now }
     {
-        let left = self.answers[5];
+        let left = self.answers[LEFT];
         match first_up_to(waits, left - left / 100) {
             Some(range) => end_within(range, self.greatest_wait),
             None => self.greatest_wait,

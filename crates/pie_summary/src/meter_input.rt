@@ -11,6 +11,28 @@ use pie_book::{Answer, Cause, Command};
 use pie_explain::Explained;
 use pie_queue::{Ecn, Packet};
 
+// The places of the counts of answers.
+pub(crate) const QUEUED: usize = 0;
+
+pub(crate) const MARKED: usize = 1;
+
+pub(crate) const EARLY: usize = 2;
+
+pub(crate) const NO_BYTES: usize = 3;
+
+pub(crate) const NO_PACKETS: usize = 4;
+
+pub(crate) const LEFT: usize = 5;
+
+pub(crate) const EMPTY: usize = 6;
+
+pub(crate) const UPDATED: usize = 7;
+
+pub(crate) const DONE: usize = 8;
+
+// The place of the cause of an event that is no arrival.
+const NO_CAUSE: usize = 15;
+
 /// The meter's input for an event. A field that its kind does not have is `None` or 0.
 #[derive(Clone, Copy)]
 pub struct MeterInput {
@@ -77,15 +99,15 @@ fn answer_place(answer: Answer) -> usize
     ensures within { result < 9 }
 {
     match answer {
-        Answer::Enqueued => 0,
-        Answer::Marked => 1,
-        Answer::DroppedEarly => 2,
-        Answer::DroppedBytes => 3,
-        Answer::DroppedPackets => 4,
-        Answer::Left(_) => 5,
-        Answer::Empty => 6,
-        Answer::Updated { .. } => 7,
-        Answer::Done => 8,
+        Answer::Enqueued => QUEUED,
+        Answer::Marked => MARKED,
+        Answer::DroppedEarly => EARLY,
+        Answer::DroppedBytes => NO_BYTES,
+        Answer::DroppedPackets => NO_PACKETS,
+        Answer::Left(_) => LEFT,
+        Answer::Empty => EMPTY,
+        Answer::Updated { .. } => UPDATED,
+        Answer::Done => DONE,
     }
 }
 
@@ -96,7 +118,7 @@ fn cause_place(cause: Option<Cause>) -> usize
 {
     match cause {
         Some(cause) => cause.name().place(),
-        None => 15,
+        None => NO_CAUSE,
     }
 }
 
@@ -203,7 +225,7 @@ impl Conditions {
     {
         let (tag, ecn) = (0, Ecn::NotEct);
         let packet = Packet { tag, size, ecn };
-        self.noted(Answer::Left(packet), 15, None, waited)
+        self.noted(Answer::Left(packet), NO_CAUSE, None, waited)
     }
 
     /// A departure that found no packet.
@@ -214,7 +236,7 @@ impl Conditions {
         ensures noted { (one : Explained) → HasConditions self.now one → one.told.event.answer ≡ Empty → one.told.cause ≡ None → size_in one ≡ None
             → result ≡ meter_input_of one }
     {
-        self.noted(Answer::Empty, 15, None, 0)
+        self.noted(Answer::Empty, NO_CAUSE, None, 0)
     }
 
     /// An update that took this delay.
@@ -226,7 +248,7 @@ impl Conditions {
             → one.told.cause ≡ None → size_in one ≡ None → result ≡ meter_input_of one }
     {
         let (prob, burst) = (0, 0);
-        self.noted(Answer::Updated { delay, prob, burst }, 15, None, 0)
+        self.noted(Answer::Updated { delay, prob, burst }, NO_CAUSE, None, 0)
     }
 
     /// A reset, or new parameters.
@@ -237,11 +259,12 @@ impl Conditions {
         ensures noted { (one : Explained) → HasConditions self.now one → one.told.event.answer ≡ Done → one.told.cause ≡ None → size_in one ≡ None
             → result ≡ meter_input_of one }
     {
-        self.noted(Answer::Done, 15, None, 0)
+        self.noted(Answer::Done, NO_CAUSE, None, 0)
     }
 }
 
 /// Returns the meter's input for an explained event.
+#[inline(always)]
 pub(crate) fn meter_input_of(all: &Explained) -> MeterInput
     ensures noted { result ≡ meter_input_of all.now }
     ensures within { result.answer < 9 }

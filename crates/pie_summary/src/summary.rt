@@ -31,6 +31,7 @@ pub struct Summary {
 }
 
 /// Writes these numbers in words onto the page.
+#[inline(never)]
 fn push_in_words(page: &mut Page, by_wall: bool, sums: &Sums, most: u64) -> Written
     ensures { OnOk result (page.new ≡ page.old ++ words by_wall sums.now most) }
 {
@@ -40,6 +41,7 @@ fn push_in_words(page: &mut Page, by_wall: bool, sums: &Sums, most: u64) -> Writ
 }
 
 /// Writes these numbers as a record onto the page.
+#[inline(never)]
 fn push_as_record(page: &mut Page, by_wall: bool, meter: &Meter, most: u64) -> Written
     ensures { OnOk result (page.new ≡ page.old ++ record_of by_wall meter.now most) }
 {
@@ -49,7 +51,8 @@ fn push_as_record(page: &mut Page, by_wall: bool, meter: &Meter, most: u64) -> W
 }
 
 /// Writes the summary of an interval onto `page` if the interval `ends`.
-fn push_ended(page: &mut Page, form: Form, period: &Period, ends: bool) -> Written
+#[inline(always)]
+pub(crate) fn push_ended(page: &mut Page, form: Form, period: &Period, ends: bool) -> Written
     ensures { OnOk result (page.new ≡ page.old ++ (if ends then summary_text form period.now.sums period.now.waits.value else [])) }
 {
     if !ends {

@@ -44,6 +44,7 @@ impl Sums {
     }
 
     /// Adds one more event. `noted` is the meter's input for it.
+    #[inline(always)]
     pub(crate) fn take(&mut self, all: &Explained, noted: &MeterInput)
         requires { noted.now.answer < 9 }
         ensures { (shown : List Explained) → noted.now ≡ meter_input_of all.now → self.old ≡ sums_of shown → self.new ≡ sums_of (shown ++ all.now ∷ []) }

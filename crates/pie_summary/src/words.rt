@@ -5,6 +5,7 @@ ghost use Rattle.pie_summary.specs.Words.{row_words, time_words, turned_words, t
 
 use crate::aggregates::Bounds;
 use crate::meter::Meter;
+use crate::meter_input::{EARLY, LEFT, MARKED, NO_BYTES, NO_PACKETS, QUEUED, UPDATED};
 use crate::sums::Sums;
 use pie_aqm::CauseName;
 use pie_explain::{Millis, PerCent, Share};
@@ -99,7 +100,7 @@ pub(crate) fn push_times(page: &mut String, by_wall: bool, spaces: &str, times: 
 fn push_updates(page: &mut String, meter: &Meter) -> Written
     ensures { OnOk result (string_bytes page.new ≡ string_bytes page.old ++ update_words meter.now) }
 {
-    let (delays, probs, updates) = (&meter.delays, &meter.probs, meter.answers[7]);
+    let (delays, probs, updates) = (&meter.delays, &meter.probs, meter.answers[UPDATED]);
     let (greatest, last) = (Millis(delays.greatest), Millis(delays.last));
     let (most, now) = (PerCent(probs.greatest), PerCent(probs.last));
     write!(
@@ -134,7 +135,7 @@ fn push_above(page: &mut String, meter: &Meter) -> Written
     let (target, burst, longer) = (Millis(meter.target), Millis(meter.burst), meter.longer);
     let share = Share {
         count: longer,
-        all: meter.answers[5],
+        all: meter.answers[LEFT],
     };
     write!(
         page,
@@ -154,7 +155,7 @@ fn push_above(page: &mut String, meter: &Meter) -> Written
 fn push_later(page: &mut String, meter: &Meter, most: u64) -> Written
     ensures { OnOk result (string_bytes page.new ≡ string_bytes page.old ++ later_words meter.now most) }
 {
-    let (left, carried) = (meter.answers[5], meter.carried);
+    let (left, carried) = (meter.answers[LEFT], meter.carried);
     let (greatest, mean) = (Millis(meter.greatest_wait), Millis(meter.waits.mean(left)));
     let most = Millis(most);
     write!(
@@ -186,11 +187,16 @@ fn push_turned(page: &mut String, way: &str, turned: &Bounds) -> Written
 fn push_verdicts(page: &mut String, answers: &[u64; 9], all: u64) -> Written
     ensures { OnOk result (string_bytes page.new ≡ string_bytes page.old ++ verdict_words answers.now all) }
 {
-    push_row(page, "queued", answers[0], all)?;
-    push_row(page, "queued and marked", answers[1], all)?;
-    push_row(page, "dropped early", answers[2], all)?;
-    push_row(page, "dropped, no room in bytes", answers[3], all)?;
-    push_row(page, "dropped, no room in packets", answers[4], all)
+    push_row(page, "queued", answers[QUEUED], all)?;
+    push_row(page, "queued and marked", answers[MARKED], all)?;
+    push_row(page, "dropped early", answers[EARLY], all)?;
+    push_row(page, "dropped, no room in bytes", answers[NO_BYTES], all)?;
+    push_row(
+        page,
+        "dropped, no room in packets",
+        answers[NO_PACKETS],
+        all,
+    )
 }
 
 /// Writes the number of arrivals, and their numbers by verdict and by cause.

@@ -1,7 +1,6 @@
-use Rattle.pie_summary.proofs.Names.{ℕ, ◌∙◌, ap, subst, sym, period_at, since, HoldsSums, MeterInput, sums_of, waits_of}
+use Rattle.pie_summary.proofs.Names.{ℕ, ◌∙◌, ap, subst, sym, period_at, since, HoldsSums, sums_of, waits_of}
 use Rattle.std.proofs.Common.{Some}
 use Rattle.pie_summary.proofs.PeriodFacts.{last_events-push, last_period-push}
-use Rattle.pie_summary.proofs.SumsFacts.{waits-push}
 use Rattle.pie_summary.proofs.period.Period.take.Goals as goal
 
 pub returns : goal.returns
@@ -12,12 +11,8 @@ returns c = λ shown keeps.
     let begun : HoldsSums c.begin.new.self before =
     subst (λ (p : ℕ). HoldsSums c.begin.new.self (since every (Some p) shown)) c.period_of-number.ensures (c.begin.ensures shown every keeps) in
     let last = sym (last_events-push every shown one) in
+    let added = c.add_by_kind.ensures.adds before (record { sums = begun.sums; waits = begun.waits }) in
     record {
-      last = ap Some c.period_of-number.ensures ∙ sym (last_period-push every shown one);
-      kept = record {
-        sums = c.take.ensures before c.meter_input_of-noted.ensures.noted begun.sums ∙ ap sums_of last;
-        waits = waits-push before one (λ numbers held. c.count_some.ensures numbers (c.deref_mut.ensures.value ∙ held))
-            (ap (λ (n : MeterInput). n.wait) c.meter_input_of-noted.ensures.noted)
-            begun.waits ∙ ap waits_of last;
-      };
+      last = c.add_by_kind.ensures.number ∙ ap Some c.period_of-number.ensures ∙ sym (last_period-push every shown one);
+      kept = record { sums = added.sums ∙ ap sums_of last; waits = added.waits ∙ ap waits_of last };
     }

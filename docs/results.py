@@ -22,9 +22,10 @@ from scenarios import FIVE, SCENARIOS, queues_of  # noqa: E402
 
 # decimal numbers of RESULTS.in that are settings of a scenario, or of RFC 8033
 SETTINGS = {"0.5", "0.85", "1.85", "1.5", "4.4", "5.1"}
+UNITS = {"goodput": "Mbit/s"}
 DIGITS = {"goodput": 2, "jain": 2, "early": 0, "tail": 0, "marks": 0, "lost": 0, "probes": 0}
-NAMES = {"tail": "tail drop, here", "stamp": "PIE, here", "wide": "the same, target 20 ms", "half": "the same, `--decay half`",
-         "rate": "PIE by rate, here",
+NAMES = {"tail": "tail drop, here", "stamp": "PIE, here", "wide": "PIE, here, target 20 ms", "half": "PIE, here, `--decay half`",
+         "rate": "PIE, here, departure rate",
          "mtu": "PIE, here, `--mean_pkt 1514b`", "marks": "PIE, here, `--mark_ecnth 100%`", "slowwide": "PIE, here, target 30 ms", "pfifo": "`pfifo`", "pie": "`pie`",
          "pie-rate": "`pie dq_rate_estimator`", "fq_codel": "`fq_codel`", "cake": "`cake`"}
 
@@ -151,7 +152,7 @@ def interval(found, field, digits=None):
 def difference(scenario, one, other, field, part="after", other_scenario=None, digits=None):
     """The difference, its interval and the verdict, in words."""
     found = test(scenario, one, other, field, part, other_scenario)
-    return f"{interval(found, field, digits)}, {found[3]}"
+    return f"{interval(found, field, digits)} {UNITS.get(field, 'ms')}, `{found[3]}`"
 
 
 def add(scenario, queue, *fields):
@@ -168,8 +169,8 @@ def payload(scenario, queue):
 
 def verdict_sentence(scenario):
     goodput, wait = (test(scenario, "stamp", "pie", field) for field in ("goodput", "probe"))
-    return (f"The goodput differs by {interval(goodput, 'goodput')}, which is `{goodput[3]}`, and the wait by {interval(wait, 'probe')}, "
-            f"which is `{wait[3]}`")
+    return (f"the goodput differs by {interval(goodput, 'goodput')} Mbit/s, `{goodput[3]}`, and the wait by {interval(wait, 'probe')} ms, "
+            f"`{wait[3]}`")
 
 
 def table(heads, lines):
@@ -204,7 +205,7 @@ def scenarios_table():
 def not_run():
     """Names the scenarios that have no stored run."""
     found = [f"{it['words']} (`{name}`)" for name, it in SCENARIOS.items() if not was_run(name)]
-    return f"These have scenarios and no stored run: {'; '.join(found)}." if found else ""
+    return f"The following scenarios are defined, but have no stored run: {'; '.join(found)}." if found else ""
 
 
 def split_parts(scenario):
@@ -253,7 +254,8 @@ def longer():
     found = later_differences()
     most, count = sum(it > 0 for it in found), len(found)
     chance = sum(math.comb(count, it) for it in range(most, count + 1)) / 2 ** count
-    return f"{most} of {count} parts; by chance alone so many or more are longer in {100 * chance:.0f} % of all draws"
+    return (f"{most} of {count} parts. If longer and shorter were equally likely, at least {most} would be longer with a probability of "
+            f"{100 * chance:.0f} %")
 
 
 def pooled():
@@ -294,7 +296,7 @@ def same_calibration_table():
             found = test(name, one, other, field)
             lines.append([SCENARIOS[name]["words"], f"{'wait' if field == 'probe' else 'goodput'}, {unit}", shown(fmean(ours), field, 3),
                           shown(fmean(theirs), field, 3), interval(found, field, 3), found[3]])
-    return table(["traffic", "of", "tail drop, here", "`pfifo`", "difference", "verdict"], lines)
+    return table(["traffic", "measure", "tail drop, here", "`pfifo`", "difference", "verdict"], lines)
 
 
 @functools.cache
@@ -333,10 +335,10 @@ def control_table():
     for name, one, other, field in (("four", "wide", "stamp", "probe"), ("far", "wide", "stamp", "probe"), ("slow", "slowwide", "stamp", "probe"),
                                     ("four", "tail", "stamp", "probe"), ("udp", "fq_codel", "stamp", "probe")):
         found = test(name, one, other, field)
-        lines.append([SCENARIOS[name]["words"], f"{NAMES[one]}, beside PIE, here", interval(found, field), found[3]])
+        lines.append([SCENARIOS[name]["words"], f"{NAMES[one]}, beside PIE, here: wait", interval(found, field), found[3]])
     ours, theirs = (list(RUNS.values(name, "stamp", "goodput").values()) for name in ("tight", "four"))
     found = compare(ours, theirs, margin_of("goodput", theirs))
-    lines.append(["4 CUBIC", "a limit of 10 ms beside 200: goodput", interval(found, "goodput"), found[3]])
+    lines.append(["4 CUBIC", "PIE, here, limit 10 ms, beside PIE, here, limit 200 ms: goodput", interval(found, "goodput"), found[3]])
     return table(["traffic", "queues", "difference", "verdict"], lines)
 
 
@@ -348,7 +350,7 @@ def base_text():
         found = [1e3 * float(row["base"]) for row in rows if (row["audit"] != "-") == is_ours]
         least, most = f"{min(found):.0f}", f"{max(found):.0f}"
         parts.append(f"{least} µs" if least == most else f"{least} to {most} µs")
-    return f"{parts[0]} here and {parts[1]}"
+    return f"{parts[0]} at the link, and by {parts[1]}"
 
 
 def queues_table(scenario, queues, more=()):
@@ -360,7 +362,8 @@ def queues_table(scenario, queues, more=()):
             start = [value(it, queue, field, "start") for field in ("goodput", "probe")]
             lines.append([NAMES[queue], *start, value(it, queue, "goodput"), value(it, queue, "wait"), spread(it, queue, "probe"),
                           value(it, queue, "probe99", digits=0), value(it, queue, "early"), value(it, queue, "tail")])
-    return table(["queue", "goodput, start", "wait, start", "goodput after", "packets' wait", "wait", "its 99th", "early drops", "tail drops"], lines)
+    heads = ["queue", "goodput, start", "wait, start", "goodput, later", "packets' wait, later", "wait, later", "wait, 99th percentile", "early drops"]
+    return table([*heads, "tail drops"], lines)
 
 
 def probes_table():
@@ -372,7 +375,7 @@ def probes_table():
                 found = value(scenario, queue, "probe") if was_run(scenario) else ""
                 cells.append(f"{found} ({share(scenario)} %)" if found else "")
             lines.append(cells)
-    return table(["queue", "traffic", "each 20 ms", "each 100 ms", "each 200 ms"], lines)
+    return table(["queue", "traffic", "a probe every 20 ms", "every 100 ms", "every 200 ms"], lines)
 
 
 def took(scenario, queue, size):
@@ -403,7 +406,7 @@ def step_table():
             cells = [value("step", queue, "goodput", "8-18"), spread("step", queue, "probe", "8-18"), value("step", queue, "goodput", "18-32"),
                      value("step", queue, "wait", "18-32"), spread("step", queue, "probe", "18-32"), percent("step", queue, "prob", "18-32")]
             lines.append([NAMES[queue], *cells])
-    return table(["queue", "at 2: goodput", "wait", "at 10 again: goodput", "packets' wait", "wait", "probability, %"], lines)
+    return table(["queue", "at 2 Mbit/s: goodput", "wait", "at 10 Mbit/s again: goodput", "packets' wait", "wait", "probability, %"], lines)
 
 
 def shares_table():
@@ -416,7 +419,7 @@ def shares_table():
                 count = len(next(iter(rows.values()))["groups"].split("/"))
                 lines.append([groups, NAMES[queue], " / ".join(group(name, queue, it) for it in range(count)), value(name, queue, "jain"),
                               value(name, queue, "probe"), value(name, queue, "probe99", digits=0)])
-    return table(["flows", "queue", "goodput of each group", "Jain's index of TCP", "wait", "its 99th"], lines)
+    return table(["flows", "queue", "goodput of each group", "Jain's index of TCP", "wait", "wait, 99th percentile"], lines)
 
 
 def mixed_table():
@@ -426,7 +429,8 @@ def mixed_table():
             voice = [value("mixed", queue, "voice"), value("mixed", queue, "voice99", digits=0), value("mixed", queue, "voice_lost")]
             web = [f"{median(took('mixed', queue, size)):.0f}" for size in (14600, 146000)]
             lines.append([NAMES[queue], group("mixed", queue, 0), *voice, value("mixed", queue, "dns"), *web])
-    return table(["queue", "2 CUBIC", "voice: wait", "its 99th", "lost", "DNS: wait", "14,600 bytes", "146,000 bytes"], lines)
+    heads = ["voice: wait", "voice: 99th percentile", "voice: packets lost", "DNS: wait", "web, 14,600 bytes", "web, 146,000 bytes"]
+    return table(["queue", "goodput of 2 CUBIC", *heads], lines)
 
 
 def ecn_table():
@@ -445,7 +449,8 @@ def ns3_rows(queue, mbit, flows, ecn):
 
 
 def ns3_table():
-    others = {"pie-stamp": "`PieQueueDisc`", "pie-mark-stamp": "its marks changed", "pie-mark-burst-stamp": "its marks and bursts changed"}
+    others = {"pie-stamp": "`PieQueueDisc`", "pie-mark-stamp": "`PieQueueDisc`, marks changed",
+              "pie-mark-burst-stamp": "`PieQueueDisc`, marks and bursts changed"}
     lines = []
     for mbit, flows, ecn in sorted({(row["mbit"], row["flows"], row["ecn"]) for row in NS3}, key=lambda it: (int(it[0]), int(it[1]), it[2])):
         for queue, name in others.items():
@@ -458,7 +463,8 @@ def ns3_table():
                 found = compare(one, other, least * fmean(other) if least else margin("probe"))
                 cells += [f"{fmean(one):.1f}, {fmean(other):.1f}", f"{interval(found, field, 2 if least else 1)} {found[3]}"]
             lines.append(cells)
-    return table(["traffic", "beside", "seeds", "link, here and there", "difference", "wait, here and there", "difference"], lines)
+    heads = ["traffic", "other queue", "seeds, here and other", "link's rate, here and other", "difference", "wait, here and other", "difference"]
+    return table(heads, lines)
 
 
 def burst_sentence():
@@ -469,7 +475,7 @@ def burst_sentence():
         rows = [row for mbit in ("10", "50") for row in ns3_rows(queue, mbit, "4", "0").values()]
         if rows:
             parts.append(f"{sum(float(row['wait_mean_ms']) > 20 for row in rows)} of {len(rows)} with {name}")
-    return f"Some runs of four flows wait above 20 ms on average: {', '.join(parts)}."
+    return f"In some runs of four flows without ECN the mean wait is above 20 ms: {', '.join(parts)}."
 
 
 # ---- the picture ----
@@ -532,9 +538,10 @@ def wrapped(block):
     """A paragraph, or the items of a list, in lines of 100 columns. Tables, headings, pictures and commands stay as they are."""
     if re.search(r"^(\||#|!|    )", block, re.M) and not re.match(r"\d+\. ", block):
         return block
-    items = re.split(r"\n(?=\d+\. )", block)
-    return "\n".join(textwrap.fill(" ".join(item.split()), 100, subsequent_indent="   " if re.match(r"\d+\. ", item) else "", break_long_words=False,
-                                   break_on_hyphens=False) for item in items)
+    items = re.split(r"\n(?=\d+\. |- )", block)
+    indents = [re.match(r"(?:\d+\. |- |)", item)[0] for item in items]
+    return "\n".join(textwrap.fill(" ".join(item.split()), 100, subsequent_indent=" " * len(indent), break_long_words=False, break_on_hyphens=False)
+                     for item, indent in zip(items, indents))
 
 
 @functools.cache

@@ -1,8 +1,8 @@
 	.file	"rattle"
-	.section	".text.pie_summary::live::LivePeriod::turn","ax",@progbits
+	.section	".text.pie_summary::live_period::LivePeriod::turn","ax",@progbits
 	.p2align	4
-	.type	"pie_summary::live::LivePeriod::turn",@function
-"pie_summary::live::LivePeriod::turn":
+	.type	"pie_summary::live_period::LivePeriod::turn",@function
+"pie_summary::live_period::LivePeriod::turn":
 	movq	(%rdi), %rcx
 	cmpq	$1, %rcx
 	adcq	$0, %rcx
@@ -60,12 +60,12 @@
 	xorl	%esi, %esi
 	jmp	memset@PLT
 .Lfunc_end0:
-	.size	"pie_summary::live::LivePeriod::turn", .Lfunc_end0-"pie_summary::live::LivePeriod::turn"
+	.size	"pie_summary::live_period::LivePeriod::turn", .Lfunc_end0-"pie_summary::live_period::LivePeriod::turn"
 
-	.section	".text.unlikely.pie_summary::live::LivePeriod::note_first_time","ax",@progbits
+	.section	".text.unlikely.pie_summary::live_period::LivePeriod::note_first_time","ax",@progbits
 	.p2align	4
-	.type	"pie_summary::live::LivePeriod::note_first_time",@function
-"pie_summary::live::LivePeriod::note_first_time":
+	.type	"pie_summary::live_period::LivePeriod::note_first_time",@function
+"pie_summary::live_period::LivePeriod::note_first_time":
 	cmpq	$1, 48(%rdi)
 	jne	.LBB1_6
 	movq	56(%rdi), %rdx
@@ -93,12 +93,12 @@
 	movq	%rax, 424(%rdi)
 	retq
 .Lfunc_end1:
-	.size	"pie_summary::live::LivePeriod::note_first_time", .Lfunc_end1-"pie_summary::live::LivePeriod::note_first_time"
+	.size	"pie_summary::live_period::LivePeriod::note_first_time", .Lfunc_end1-"pie_summary::live_period::LivePeriod::note_first_time"
 
-	.section	".text.unlikely.pie_summary::spans::Total::carry","ax",@progbits
+	.section	".text.unlikely.pie_summary::aggregates::Total::carry","ax",@progbits
 	.p2align	4
-	.type	"pie_summary::spans::Total::carry",@function
-"pie_summary::spans::Total::carry":
+	.type	"pie_summary::aggregates::Total::carry",@function
+"pie_summary::aggregates::Total::carry":
 	movq	(%rdi), %rax
 	cmpq	$-1, %rax
 	je	.LBB2_1
@@ -109,12 +109,12 @@
 	movq	$-1, 8(%rdi)
 	retq
 .Lfunc_end2:
-	.size	"pie_summary::spans::Total::carry", .Lfunc_end2-"pie_summary::spans::Total::carry"
+	.size	"pie_summary::aggregates::Total::carry", .Lfunc_end2-"pie_summary::aggregates::Total::carry"
 
-	.section	".text.pie_summary::spans::Bounds::take","ax",@progbits
+	.section	".text.pie_summary::aggregates::Bounds::take","ax",@progbits
 	.p2align	4
-	.type	"pie_summary::spans::Bounds::take",@function
-"pie_summary::spans::Bounds::take":
+	.type	"pie_summary::aggregates::Bounds::take",@function
+"pie_summary::aggregates::Bounds::take":
 	movq	(%rdi), %rdx
 	movq	%rdx, %rcx
 	incq	%rcx
@@ -130,7 +130,7 @@
 	movq	%rsi, 16(%rdi)
 	retq
 .Lfunc_end3:
-	.size	"pie_summary::spans::Bounds::take", .Lfunc_end3-"pie_summary::spans::Bounds::take"
+	.size	"pie_summary::aggregates::Bounds::take", .Lfunc_end3-"pie_summary::aggregates::Bounds::take"
 
 	.section	".text.pie_summary::ranges::range_apart","ax",@progbits
 	.p2align	4
@@ -364,10 +364,10 @@
 .Lfunc_end5:
 	.size	"pie_abi::opening::checked", .Lfunc_end5-"pie_abi::opening::checked"
 
-	.section	".text.pie_units::written::read","ax",@progbits
+	.section	".text.pie_units::number::read","ax",@progbits
 	.p2align	4
-	.type	"pie_units::written::read",@function
-"pie_units::written::read":
+	.type	"pie_units::number::read",@function
+"pie_units::number::read":
 	pushq	%rbp
 	pushq	%r15
 	pushq	%r14
@@ -1300,8 +1300,8 @@
 	movq	%rcx, %rsi
 	jmp	.LBB6_147
 .Lfunc_end6:
-	.size	"pie_units::written::read", .Lfunc_end6-"pie_units::written::read"
-	.section	".rodata.pie_units::written::read","a",@progbits
+	.size	"pie_units::number::read", .Lfunc_end6-"pie_units::number::read"
+	.section	".rodata.pie_units::number::read","a",@progbits
 	.p2align	2, 0x0
 .LJTI6_0:
 	.long	.LBB6_12-.LJTI6_0
@@ -2644,6 +2644,7 @@
 	setne	%dl
 	orb	%al, %dl
 	movzbl	%dl, %eax
+	andl	$1, %eax
 	movq	%rcx, %rbx
 .LBB17_57:
 	movq	24(%rsp), %rdx
@@ -2677,19 +2678,19 @@
 	movq	%rax, %rcx
 	jmp	"pie_c::calls::depart"
 .LBB18_1:
-	movq	64(%rdi), %rsi
-	cmpq	$65536, %rsi
-	movl	$65536, %r8d
-	cmovbq	%rsi, %r8
-	cmpq	%r8, %rcx
-	jae	.LBB18_6
+	movq	64(%rdi), %r8
+	cmpq	$65536, %r8
+	movl	$65536, %esi
+	cmovbq	%r8, %rsi
 	cmpq	$1, 128(%rdi)
 	je	.LBB18_6
-	movq	168(%rdi), %rsi
-	andl	$1, %esi
+	movq	168(%rdi), %r8
+	andl	$1, %r8d
 	jne	.LBB18_6
 	cmpq	$1, 160(%rdi)
 	jne	.LBB18_6
+	cmpq	%rsi, %rcx
+	jae	.LBB18_6
 	leaq	128(%rdi), %rcx
 	xorps	%xmm0, %xmm0
 	movups	%xmm0, (%rcx)
@@ -3238,7 +3239,7 @@
 	movq	%r8, %r12
 	movl	%r9d, %r14d
 	movq	%r10, %r13
-	callq	"pie_summary::live::LivePeriod::turn"
+	callq	"pie_summary::live_period::LivePeriod::turn"
 	movq	32(%rsp), %rsi
 	movq	%r13, %r10
 	movl	%r14d, %r9d
@@ -3286,14 +3287,14 @@
 	leaq	368(%rbx), %rdi
 	movq	%r8, %rsi
 	movq	%r8, %r15
-	callq	"pie_summary::spans::Bounds::take"
+	callq	"pie_summary::aggregates::Bounds::take"
 	movq	%r15, %r8
 .LBB23_44:
 	testb	%r12b, %r12b
 	jne	.LBB23_46
 	leaq	392(%rbx), %rdi
 	movq	%r8, %rsi
-	callq	"pie_summary::spans::Bounds::take"
+	callq	"pie_summary::aggregates::Bounds::take"
 .LBB23_46:
 	movq	%r13, 464(%rbx)
 	movq	%r14, 472(%rbx)
@@ -3319,7 +3320,7 @@
 	movq	%r8, %r12
 	movl	%r9d, %r14d
 	movq	%r10, %r13
-	callq	"pie_summary::live::LivePeriod::note_first_time"
+	callq	"pie_summary::live_period::LivePeriod::note_first_time"
 	movq	32(%rsp), %rsi
 	movq	%r13, %r10
 	movl	%r14d, %r9d
@@ -3335,7 +3336,7 @@
 	movq	%r8, 8(%rsp)
 	movl	%r9d, %r15d
 	movq	%r10, (%rsp)
-	callq	"pie_summary::spans::Total::carry"
+	callq	"pie_summary::aggregates::Total::carry"
 	movq	(%rsp), %r10
 	movl	%r15d, %r9d
 	movq	8(%rsp), %r8
@@ -4146,6 +4147,8 @@ pie_check_params:
 	pushq	%r15
 	pushq	%r14
 	pushq	%rbx
+	movq	40(%rdi), %r8
+	movq	48(%rdi), %rsi
 	movq	64(%rdi), %rcx
 	popcntq	%rcx, %rax
 	cmpl	$1, %eax
@@ -4154,59 +4157,56 @@ pie_check_params:
 	addq	$-17, %rcx
 	cmpq	$-7, %rcx
 	setb	%cl
-	movabsq	$1000000000000, %r9
-	cmpq	%r9, 56(%rdi)
+	movabsq	$1000000000000, %r11
+	cmpq	%r11, 56(%rdi)
 	seta	%dl
-	movq	$-1073741825, %rsi
-	addq	48(%rdi), %rsi
+	addq	$-1073741825, %rsi
 	cmpq	$-1073741824, %rsi
 	setb	%sil
-	movq	$-65536, %r8
-	addq	40(%rdi), %r8
+	addq	$-65536, %r8
 	cmpq	$-65535, %r8
-	setb	%r11b
+	setb	%r8b
 	cmpq	$1000001, 32(%rdi)
-	setae	%r8b
-	movabsq	$-10000000001, %rbx
-	movq	8(%rdi), %r10
-	addq	%rbx, %r10
-	leaq	1(%rbx), %r14
-	cmpq	%r14, %r10
-	setb	%bpl
-	movq	(%rdi), %r14
-	addq	%rbx, %r14
-	addq	$2, %rbx
-	xorl	%r10d, %r10d
-	cmpq	%rbx, %r14
-	setae	%r10b
-	setb	%bl
-	orb	%bpl, %bl
-	movl	%r8d, %ebp
-	xorb	$5, %bpl
+	setae	%r9b
 	cmpq	$1000001, 24(%rdi)
+	setae	%r10b
+	cmpq	%r11, 16(%rdi)
+	seta	%r11b
+	movabsq	$-10000000001, %rbx
+	movq	8(%rdi), %r14
+	addq	%rbx, %r14
+	leaq	1(%rbx), %r15
+	cmpq	%r15, %r14
+	setb	%bpl
+	movq	(%rdi), %rdi
+	addq	%rbx, %rdi
+	addq	$2, %rbx
+	xorl	%r14d, %r14d
+	cmpq	%rbx, %rdi
 	setae	%r14b
-	movzbl	%bpl, %ebp
-	movl	$3, %r15d
-	cmovbl	%ebp, %r15d
-	cmpq	%r9, 16(%rdi)
-	seta	%dil
-	movl	$2, %r9d
-	cmovbel	%r15d, %r9d
-	orb	%r14b, %dil
-	orb	%r11b, %dil
-	orb	%bl, %r8b
-	orb	%dil, %r8b
-	testb	%bl, %bl
-	cmovel	%r9d, %r10d
+	setb	%dil
+	orb	%bpl, %dil
+	orb	%r11b, %r10b
+	orb	%dil, %r10b
+	xorb	$3, %r11b
+	movzbl	%r11b, %r11d
+	testb	%dil, %dil
+	cmovnel	%r14d, %r11d
+	orb	%r9b, %r8b
+	orb	%r10b, %r8b
+	xorb	$5, %r9b
+	movzbl	%r9b, %edi
+	testb	%r10b, %r10b
+	cmovnel	%r11d, %edi
 	orb	%sil, %dl
 	orb	%r8b, %dl
 	xorb	$7, %sil
 	movzbl	%sil, %esi
 	testb	%r8b, %r8b
-	cmovnel	%r10d, %esi
+	cmovnel	%edi, %esi
 	orb	%al, %cl
 	movzbl	%cl, %eax
-	testb	%dl, %dl
+	testb	$1, %dl
 	movl	$1, %edi
 	cmovel	%eax, %edi
 	movzbl	%dil, %eax
@@ -4217,7 +4217,7 @@ pie_check_params:
 	shlb	$3, %cl
 	movzbl	%sil, %eax
 	movzbl	%cl, %ecx
-	testb	%dl, %dl
+	testb	$1, %dl
 	cmovnel	%eax, %ecx
 	incb	%cl
 	movzbl	%cl, %eax
@@ -4527,7 +4527,7 @@ pie_empty_summed:
 .LBB36_5:
 	movq	%rbx, %rdi
 	movq	%r14, %rsi
-	callq	"pie_summary::live::LivePeriod::turn"
+	callq	"pie_summary::live_period::LivePeriod::turn"
 .LBB36_6:
 	movq	48(%rbx), %rax
 	cmpq	416(%rbx), %rax
@@ -4554,13 +4554,13 @@ pie_empty_summed:
 	je	.LBB36_13
 	leaq	368(%rbx), %rdi
 	movq	%r14, %rsi
-	callq	"pie_summary::spans::Bounds::take"
+	callq	"pie_summary::aggregates::Bounds::take"
 .LBB36_13:
 	testb	%r15b, %r15b
 	jne	.LBB36_15
 	leaq	392(%rbx), %rdi
 	movq	%r14, %rsi
-	callq	"pie_summary::spans::Bounds::take"
+	callq	"pie_summary::aggregates::Bounds::take"
 .LBB36_15:
 	movq	16(%rsp), %rax
 	movq	%rax, 464(%rbx)
@@ -4579,7 +4579,7 @@ pie_empty_summed:
 .LBB36_7:
 	movq	%rbx, %rdi
 	movq	%r14, %rsi
-	callq	"pie_summary::live::LivePeriod::note_first_time"
+	callq	"pie_summary::live_period::LivePeriod::note_first_time"
 	jmp	.LBB36_8
 .Lfunc_end36:
 	.size	pie_empty_summed, .Lfunc_end36-pie_empty_summed
@@ -4609,16 +4609,16 @@ pie_open:
 	xorl	%edx, %edx
 	cmpb	$0, 81(%rsp)
 	sete	%dl
+	movq	64(%r14), %rsi
 	movups	(%r14), %xmm0
 	movups	16(%r14), %xmm1
 	movups	32(%r14), %xmm2
 	movups	48(%r14), %xmm3
-	movq	64(%r14), %rsi
-	movq	%rsi, 64(%rbx)
-	movups	%xmm3, 48(%rbx)
-	movups	%xmm2, 32(%rbx)
-	movups	%xmm1, 16(%rbx)
 	movups	%xmm0, (%rbx)
+	movups	%xmm1, 16(%rbx)
+	movups	%xmm2, 32(%rbx)
+	movups	%xmm3, 48(%rbx)
+	movq	%rsi, 64(%rbx)
 	movq	80(%r14), %rsi
 	movq	%rsi, 152(%rbx)
 	movq	88(%r14), %rsi
@@ -4741,7 +4741,7 @@ pie_read_packets:
 	movaps	%xmm0, (%rsp)
 	movq	%rsp, %rdi
 	movl	$4, %esi
-	callq	"pie_units::written::read"
+	callq	"pie_units::number::read"
 	cmpb	$0, (%rsp)
 	je	.LBB41_1
 	movzbl	1(%rsp), %eax
@@ -4777,7 +4777,7 @@ pie_read_rate:
 	movaps	%xmm0, (%rsp)
 	movq	%rsp, %rdi
 	movl	$2, %esi
-	callq	"pie_units::written::read"
+	callq	"pie_units::number::read"
 	cmpb	$0, (%rsp)
 	je	.LBB42_1
 	movzbl	1(%rsp), %eax
@@ -4813,7 +4813,7 @@ pie_read_size:
 	movaps	%xmm0, (%rsp)
 	movq	%rsp, %rdi
 	movl	$3, %esi
-	callq	"pie_units::written::read"
+	callq	"pie_units::number::read"
 	cmpb	$0, (%rsp)
 	je	.LBB43_1
 	movzbl	1(%rsp), %eax
@@ -4849,7 +4849,7 @@ pie_read_time:
 	movaps	%xmm0, (%rsp)
 	movq	%rsp, %rdi
 	movl	$1, %esi
-	callq	"pie_units::written::read"
+	callq	"pie_units::number::read"
 	cmpb	$0, (%rsp)
 	je	.LBB44_1
 	movzbl	1(%rsp), %eax
@@ -6905,120 +6905,110 @@ pie_write_params:
 	movq	%rcx, %r15
 	movq	%rdx, %r14
 	movq	%rsi, 8(%rsp)
-	movq	%rdi, %r12
+	movq	%rdi, %r13
 	xorl	%ebp, %ebp
 	testq	%rdx, %rdx
-	sete	%r13b
+	sete	%r12b
 	leaq	96(%rsp), %rdi
 	movl	$512, %ebx
 	movl	$512, %edx
 	xorl	%esi, %esi
 	callq	memset@PLT
 	movq	$512, 608(%rsp)
-	movq	(%r12), %rdx
+	movq	(%r13), %rdx
 	movq	%rdx, %rax
 	shrq	$60, %rax
-	movl	$512, %ecx
+	movl	$512, %eax
 	jne	.LBB52_14
-	cmpl	$0, 60(%r12)
+	cmpl	$0, 60(%r13)
 	jne	.LBB52_14
-	cmpb	$5, 58(%r12)
+	cmpb	$5, 58(%r13)
 	jne	.LBB52_14
-	cmpq	$0, 8(%r12)
+	cmpq	$0, 8(%r13)
 	jne	.LBB52_14
-	cmpq	$0, 16(%r12)
+	cmpq	$0, 16(%r13)
 	jne	.LBB52_14
-	cmpl	$0, 48(%r12)
+	cmpl	$0, 48(%r13)
 	jne	.LBB52_14
-	cmpb	$0, 59(%r12)
+	cmpb	$0, 59(%r13)
 	jne	.LBB52_14
-	cmpq	$0, 24(%r12)
+	cmpq	$0, 24(%r13)
 	jne	.LBB52_14
-	cmpq	$0, 32(%r12)
+	cmpq	$0, 32(%r13)
 	jne	.LBB52_14
-	cmpq	$0, 40(%r12)
+	cmpq	$0, 40(%r13)
 	jne	.LBB52_14
-	cmpl	$0, 52(%r12)
+	cmpl	$0, 52(%r13)
 	jne	.LBB52_14
-	movq	8(%rsp), %rcx
-	movq	64(%rcx), %rax
-	movdqu	16(%rcx), %xmm0
-	movdqu	(%rcx), %xmm1
-	movdqu	32(%rcx), %xmm3
-	movdqu	48(%rcx), %xmm4
+	movq	8(%rsp), %rax
+	movq	64(%rax), %rcx
+	movdqu	(%rax), %xmm0
+	movdqu	16(%rax), %xmm1
+	movdqu	32(%rax), %xmm3
+	movdqu	48(%rax), %xmm4
 	movdqa	%xmm4, %xmm5
 	palignr	$8, %xmm3, %xmm5
 	pcmpeqd	%xmm2, %xmm2
 	paddq	%xmm5, %xmm2
-	paddq	.LCPI52_0(%rip), %xmm1
+	paddq	.LCPI52_0(%rip), %xmm0
 	pblendw	$240, %xmm4, %xmm3
-	xorl	%ecx, %ecx
-	popcntq	%rax, %rcx
+	xorl	%eax, %eax
+	popcntq	%rcx, %rax
 	movdqa	.LCPI52_1(%rip), %xmm4
-	pxor	%xmm4, %xmm0
-	pcmpgtq	.LCPI52_2(%rip), %xmm0
-	cmpl	$1, %ecx
+	pxor	%xmm4, %xmm1
+	pcmpgtq	.LCPI52_2(%rip), %xmm1
+	cmpl	$1, %eax
 	pxor	%xmm4, %xmm3
 	pcmpgtq	.LCPI52_3(%rip), %xmm3
-	sete	%cl
-	pxor	%xmm4, %xmm1
-	pcmpgtq	.LCPI52_4(%rip), %xmm1
-	packssdw	%xmm3, %xmm0
+	sete	%al
+	pxor	%xmm4, %xmm0
+	pcmpgtq	.LCPI52_4(%rip), %xmm0
+	packssdw	%xmm3, %xmm1
 	pxor	%xmm4, %xmm2
 	pcmpgtq	.LCPI52_5(%rip), %xmm2
-	packssdw	%xmm2, %xmm1
-	packssdw	%xmm0, %xmm1
-	pmovmskb	%xmm1, %esi
+	packssdw	%xmm2, %xmm0
+	packssdw	%xmm1, %xmm0
+	pmovmskb	%xmm0, %esi
 	testl	%esi, %esi
 	sete	%sil
-	andb	%cl, %sil
-	movl	$512, %ecx
+	andb	%al, %sil
+	movl	$512, %eax
 	cmpb	$1, %sil
 	jne	.LBB52_14
-	rep		bsfq	%rax, %rsi
-	addl	$-10, %esi
-	cmpl	$6, %esi
+	rep		bsfq	%rcx, %rcx
+	addl	$-10, %ecx
+	cmpl	$6, %ecx
 	ja	.LBB52_14
-	movq	8(%rsp), %rsi
-	movq	56(%rsi), %rcx
-	movq	%rcx, 16(%rsp)
-	movq	48(%rsi), %rdi
-	movq	40(%rsi), %r8
-	movq	32(%rsi), %r9
-	movq	24(%rsi), %r10
-	movq	16(%rsi), %r11
-	movq	(%rsi), %rcx
-	movq	8(%rsi), %rsi
-	movzwl	56(%r12), %r12d
-	movq	%rcx, 24(%rsp)
-	movq	%rsi, 32(%rsp)
-	movq	%r11, 40(%rsp)
-	movq	%r10, 48(%rsp)
-	movq	%r9, 56(%rsp)
-	movq	%r8, 64(%rsp)
-	movq	%rdi, 72(%rsp)
-	movq	16(%rsp), %rcx
-	movq	%rcx, 80(%rsp)
-	movq	%rax, 88(%rsp)
+	movzwl	56(%r13), %esi
+	movq	8(%rsp), %rcx
+	movq	64(%rcx), %rax
+	movq	%rax, 80(%rsp)
+	movdqu	(%rcx), %xmm0
+	movdqu	16(%rcx), %xmm1
+	movdqu	32(%rcx), %xmm2
+	movdqu	48(%rcx), %xmm3
+	movdqa	%xmm3, 64(%rsp)
+	movdqa	%xmm2, 48(%rsp)
+	movdqa	%xmm1, 32(%rsp)
+	movdqa	%xmm0, 16(%rsp)
 	movb	$10, 607(%rsp)
 	movq	$507, 608(%rsp)
 	movl	$1701736292, 603(%rsp)
 	leaq	96(%rsp), %rdi
-	leaq	24(%rsp), %rcx
-	movl	%r12d, %esi
+	leaq	16(%rsp), %rcx
 	callq	"pie_text::params::put_change"
-	movq	608(%rsp), %rcx
+	movq	608(%rsp), %rax
 .LBB52_14:
-	subq	%rcx, %rbx
+	subq	%rax, %rbx
 	cmpq	%rbx, %r15
 	jae	.LBB52_16
 	xorl	%ebx, %ebx
 	jmp	.LBB52_17
 .LBB52_16:
-	movb	%r13b, %bpl
+	movb	%r12b, %bpl
 	shll	$12, %ebp
 	addq	%rbp, %r14
-	leaq	(%rsp,%rcx), %rsi
+	leaq	(%rsp,%rax), %rsi
 	addq	$96, %rsi
 	movq	%r14, %rdi
 	movq	%rbx, %rdx
@@ -7219,7 +7209,7 @@ pie_reset_summed:
 .LBB55_3:
 	movq	%rbx, %rdi
 	movq	%r14, %rsi
-	callq	"pie_summary::live::LivePeriod::turn"
+	callq	"pie_summary::live_period::LivePeriod::turn"
 	movl	%r15d, %eax
 .LBB55_4:
 	movq	48(%rbx), %rcx
@@ -7247,14 +7237,14 @@ pie_reset_summed:
 	je	.LBB55_11
 	leaq	368(%rbx), %rdi
 	movq	%r14, %rsi
-	callq	"pie_summary::spans::Bounds::take"
+	callq	"pie_summary::aggregates::Bounds::take"
 	movl	%r15d, %eax
 .LBB55_11:
 	testb	%bpl, %bpl
 	jne	.LBB55_13
 	leaq	392(%rbx), %rdi
 	movq	%r14, %rsi
-	callq	"pie_summary::spans::Bounds::take"
+	callq	"pie_summary::aggregates::Bounds::take"
 	movl	%r15d, %eax
 .LBB55_13:
 	movq	16(%rsp), %rcx
@@ -7273,7 +7263,7 @@ pie_reset_summed:
 .LBB55_5:
 	movq	%rbx, %rdi
 	movq	%r14, %rsi
-	callq	"pie_summary::live::LivePeriod::note_first_time"
+	callq	"pie_summary::live_period::LivePeriod::note_first_time"
 	movl	%r15d, %eax
 	jmp	.LBB55_6
 .Lfunc_end55:
@@ -7499,7 +7489,7 @@ pie_set_params_summed:
 .LBB58_3:
 	movq	%rbx, %rdi
 	movq	%r14, %rsi
-	callq	"pie_summary::live::LivePeriod::turn"
+	callq	"pie_summary::live_period::LivePeriod::turn"
 	movl	%r15d, %eax
 .LBB58_4:
 	movq	48(%rbx), %rcx
@@ -7527,14 +7517,14 @@ pie_set_params_summed:
 	je	.LBB58_11
 	leaq	368(%rbx), %rdi
 	movq	%r14, %rsi
-	callq	"pie_summary::spans::Bounds::take"
+	callq	"pie_summary::aggregates::Bounds::take"
 	movl	%r15d, %eax
 .LBB58_11:
 	testb	%bpl, %bpl
 	jne	.LBB58_13
 	leaq	392(%rbx), %rdi
 	movq	%r14, %rsi
-	callq	"pie_summary::spans::Bounds::take"
+	callq	"pie_summary::aggregates::Bounds::take"
 	movl	%r15d, %eax
 .LBB58_13:
 	movq	16(%rsp), %rcx
@@ -7553,7 +7543,7 @@ pie_set_params_summed:
 .LBB58_5:
 	movq	%rbx, %rdi
 	movq	%r14, %rsi
-	callq	"pie_summary::live::LivePeriod::note_first_time"
+	callq	"pie_summary::live_period::LivePeriod::note_first_time"
 	movl	%r15d, %eax
 	jmp	.LBB58_6
 .Lfunc_end58:
@@ -7886,6 +7876,7 @@ pie_update:
 	setne	%cl
 	orb	%al, %cl
 	movzbl	%cl, %eax
+	andl	$1, %eax
 	movq	%rdi, %rcx
 .LBB59_56:
 	movq	40(%rsp), %rdx
@@ -7995,7 +7986,7 @@ pie_update_summed:
 	movq	%r9, 32(%rsp)
 	movq	%r10, %r15
 	movq	%r11, 16(%rsp)
-	callq	"pie_summary::live::LivePeriod::turn"
+	callq	"pie_summary::live_period::LivePeriod::turn"
 	movq	16(%rsp), %r11
 	movq	%r15, %r10
 	movq	32(%rsp), %r9
@@ -8037,7 +8028,7 @@ pie_update_summed:
 	leaq	368(%rbx), %rdi
 	movq	%rsi, %r15
 	movq	%r10, %rsi
-	callq	"pie_summary::spans::Bounds::take"
+	callq	"pie_summary::aggregates::Bounds::take"
 	movq	%r12, %rdi
 	movq	%r15, %rsi
 	movl	8(%rsp), %eax
@@ -8045,7 +8036,7 @@ pie_update_summed:
 	testb	%dil, %dil
 	je	.LBB61_22
 	leaq	392(%rbx), %rdi
-	callq	"pie_summary::spans::Bounds::take"
+	callq	"pie_summary::aggregates::Bounds::take"
 	movl	8(%rsp), %eax
 .LBB61_22:
 	movq	440(%rbx), %rcx
@@ -8077,7 +8068,7 @@ pie_update_summed:
 	movq	%r9, 32(%rsp)
 	movq	%r10, %r15
 	movq	%r11, 16(%rsp)
-	callq	"pie_summary::live::LivePeriod::note_first_time"
+	callq	"pie_summary::live_period::LivePeriod::note_first_time"
 	movq	16(%rsp), %r11
 	movq	%r15, %r10
 	movq	32(%rsp), %r9
@@ -8428,7 +8419,7 @@ pie_depart_summed:
 	movq	%r8, %r14
 	movq	%r9, 16(%rsp)
 	movq	%r10, %r15
-	callq	"pie_summary::live::LivePeriod::turn"
+	callq	"pie_summary::live_period::LivePeriod::turn"
 	movq	%r15, %r10
 	movq	16(%rsp), %r9
 	movq	%r14, %r8
@@ -8481,7 +8472,7 @@ pie_depart_summed:
 	movq	%r8, %r14
 	movq	%r9, %r13
 	movq	%r10, %r12
-	callq	"pie_summary::spans::Total::carry"
+	callq	"pie_summary::aggregates::Total::carry"
 	movq	%r12, %r10
 	movq	%r13, %r9
 	movq	%r14, %r8
@@ -8569,7 +8560,7 @@ pie_depart_summed:
 	movq	%r8, %r14
 	movq	%r9, 16(%rsp)
 	movq	%r10, %r15
-	callq	"pie_summary::live::LivePeriod::note_first_time"
+	callq	"pie_summary::live_period::LivePeriod::note_first_time"
 	movq	%r15, %r10
 	movq	16(%rsp), %r9
 	movq	%r14, %r8
@@ -9761,7 +9752,7 @@ pie_arrive_summed:
 	movq	%r15, %r13
 	movq	%r8, %r15
 	movq	%r9, %r14
-	callq	"pie_summary::live::LivePeriod::turn"
+	callq	"pie_summary::live_period::LivePeriod::turn"
 	movq	16(%rsp), %rdi
 	movq	%r14, %r9
 	movq	32(%rsp), %rsi
@@ -9806,7 +9797,7 @@ pie_arrive_summed:
 	leaq	392(%r8), %rdi
 	movq	%r14, %rsi
 	movq	%r8, %r14
-	callq	"pie_summary::spans::Bounds::take"
+	callq	"pie_summary::aggregates::Bounds::take"
 	movq	%r14, %r8
 .LBB69_43:
 	movq	%r13, 464(%r8)
@@ -9833,7 +9824,7 @@ pie_arrive_summed:
 	movq	%r15, %r13
 	movq	%r8, %r15
 	movq	%r9, %r14
-	callq	"pie_summary::live::LivePeriod::note_first_time"
+	callq	"pie_summary::live_period::LivePeriod::note_first_time"
 	movq	16(%rsp), %rdi
 	movq	%r14, %r9
 	movq	32(%rsp), %rsi
@@ -9849,7 +9840,7 @@ pie_arrive_summed:
 	movq	%r8, %r15
 	movq	%rsi, %rbp
 	movq	%r9, 8(%rsp)
-	callq	"pie_summary::spans::Total::carry"
+	callq	"pie_summary::aggregates::Total::carry"
 	movq	8(%rsp), %r9
 	movq	%rbp, %rsi
 	movq	%r15, %r8

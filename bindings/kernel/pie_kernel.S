@@ -630,6 +630,8 @@ pie_check_params:
 	pushq	%r15
 	pushq	%r14
 	pushq	%rbx
+	movq	40(%rdi), %r8
+	movq	48(%rdi), %rsi
 	movq	64(%rdi), %rax
 	leaq	-1(%rax), %rcx
 	rep		bsfq	%rax, %rdx
@@ -639,59 +641,56 @@ pie_check_params:
 	addq	$-17, %rdx
 	cmpq	$-7, %rdx
 	setb	%cl
-	movabsq	$1000000000000, %r9
-	cmpq	%r9, 56(%rdi)
+	movabsq	$1000000000000, %r11
+	cmpq	%r11, 56(%rdi)
 	seta	%dl
-	movq	$-1073741825, %rsi
-	addq	48(%rdi), %rsi
+	addq	$-1073741825, %rsi
 	cmpq	$-1073741824, %rsi
 	setb	%sil
-	movq	$-65536, %r8
-	addq	40(%rdi), %r8
+	addq	$-65536, %r8
 	cmpq	$-65535, %r8
-	setb	%r11b
+	setb	%r8b
 	cmpq	$1000001, 32(%rdi)
-	setae	%r8b
-	movabsq	$-10000000001, %rbx
-	movq	8(%rdi), %r10
-	addq	%rbx, %r10
-	leaq	1(%rbx), %r14
-	cmpq	%r14, %r10
-	setb	%bpl
-	movq	(%rdi), %r14
-	addq	%rbx, %r14
-	addq	$2, %rbx
-	xorl	%r10d, %r10d
-	cmpq	%rbx, %r14
-	setae	%r10b
-	setb	%bl
-	orb	%bpl, %bl
-	movl	%r8d, %ebp
-	xorb	$5, %bpl
+	setae	%r9b
 	cmpq	$1000001, 24(%rdi)
+	setae	%r10b
+	cmpq	%r11, 16(%rdi)
+	seta	%r11b
+	movabsq	$-10000000001, %rbx
+	movq	8(%rdi), %r14
+	addq	%rbx, %r14
+	leaq	1(%rbx), %r15
+	cmpq	%r15, %r14
+	setb	%bpl
+	movq	(%rdi), %rdi
+	addq	%rbx, %rdi
+	addq	$2, %rbx
+	xorl	%r14d, %r14d
+	cmpq	%rbx, %rdi
 	setae	%r14b
-	movzbl	%bpl, %ebp
-	movl	$3, %r15d
-	cmovbl	%ebp, %r15d
-	cmpq	%r9, 16(%rdi)
-	seta	%dil
-	movl	$2, %r9d
-	cmovbel	%r15d, %r9d
-	orb	%r14b, %dil
-	orb	%r11b, %dil
-	orb	%bl, %r8b
-	orb	%dil, %r8b
-	testb	%bl, %bl
-	cmovel	%r9d, %r10d
+	setb	%dil
+	orb	%bpl, %dil
+	orb	%r11b, %r10b
+	orb	%dil, %r10b
+	xorb	$3, %r11b
+	movzbl	%r11b, %r11d
+	testb	%dil, %dil
+	cmovnel	%r14d, %r11d
+	orb	%r9b, %r8b
+	orb	%r10b, %r8b
+	xorb	$5, %r9b
+	movzbl	%r9b, %edi
+	testb	%r10b, %r10b
+	cmovnel	%r11d, %edi
 	orb	%sil, %dl
 	orb	%r8b, %dl
 	xorb	$7, %sil
 	movzbl	%sil, %esi
 	testb	%r8b, %r8b
-	cmovnel	%r10d, %esi
+	cmovnel	%edi, %esi
 	orb	%al, %cl
 	movzbl	%cl, %eax
-	testb	%dl, %dl
+	testb	$1, %dl
 	movl	$1, %edi
 	cmovel	%eax, %edi
 	movzbl	%dil, %eax
@@ -702,7 +701,7 @@ pie_check_params:
 	shlb	$3, %cl
 	movzbl	%sil, %eax
 	movzbl	%cl, %ecx
-	testb	%dl, %dl
+	testb	$1, %dl
 	cmovnel	%eax, %ecx
 	incb	%cl
 	movzbl	%cl, %eax
@@ -776,59 +775,64 @@ pie_due:
 	.p2align	4
 	.type	pie_open,@function
 pie_open:
-	movabsq	$1000000000001, %rcx
+	movq	(%rsi), %rdx
+	leaq	-2(%rdx), %r8
+	movabsq	$9999999999, %rcx
 	movl	$107, %eax
-	cmpq	%rcx, 56(%rsi)
+	cmpq	%rcx, %r8
 	jae	.LBB9_21
-	cmpq	$1000000, 32(%rsi)
-	ja	.LBB9_21
-	cmpq	$1000000, 24(%rsi)
-	ja	.LBB9_21
+	movq	8(%rsi), %r8
+	leaq	-1(%r8), %r9
+	incq	%rcx
+	cmpq	%rcx, %r9
+	jae	.LBB9_21
+	pushq	%rbp
 	pushq	%r15
 	pushq	%r14
 	pushq	%r13
 	pushq	%r12
 	pushq	%rbx
-	movq	16(%rsi), %r15
-	cmpq	%rcx, %r15
+	subq	$16, %rsp
+	movq	16(%rsi), %rcx
+	movabsq	$1000000000001, %r15
+	cmpq	%r15, %rcx
 	jae	.LBB9_20
-	movq	(%rsi), %rdx
-	addq	$-2, %rdx
-	movabsq	$9999999999, %rcx
-	cmpq	%rcx, %rdx
-	jae	.LBB9_20
-	movq	8(%rsi), %rdx
-	decq	%rdx
-	incq	%rcx
-	cmpq	%rcx, %rdx
-	jae	.LBB9_20
-	movq	40(%rsi), %rcx
-	decq	%rcx
-	cmpq	$65534, %rcx
+	movq	24(%rsi), %r9
+	cmpq	$1000000, %r9
 	ja	.LBB9_20
-	movq	48(%rsi), %rcx
-	decq	%rcx
-	cmpq	$1073741823, %rcx
+	movq	32(%rsi), %r10
+	cmpq	$1000000, %r10
 	ja	.LBB9_20
-	movq	64(%rsi), %rcx
-	leaq	-1(%rcx), %rdx
-	movq	%rcx, %r8
-	xorq	%rdx, %r8
-	cmpq	%rdx, %r8
+	movq	40(%rsi), %r11
+	leaq	-1(%r11), %rbx
+	cmpq	$65534, %rbx
+	ja	.LBB9_20
+	movq	48(%rsi), %rbx
+	leaq	-1(%rbx), %r14
+	cmpq	$1073741823, %r14
+	ja	.LBB9_20
+	movq	56(%rsi), %r14
+	cmpq	%r15, %r14
+	jae	.LBB9_20
+	movq	64(%rsi), %r15
+	leaq	-1(%r15), %r12
+	movq	%r15, %r13
+	xorq	%r12, %r13
+	cmpq	%r12, %r13
 	jbe	.LBB9_20
-	rep		bsfq	%rcx, %rcx
-	addl	$-10, %ecx
-	cmpl	$6, %ecx
+	rep		bsfq	%r15, %r12
+	addl	$-10, %r12d
+	cmpl	$6, %r12d
 	ja	.LBB9_20
 	movq	72(%rsi), %r12
 	movq	%r12, %rax
 	shrq	$60, %rax
 	movl	$101, %eax
 	jne	.LBB9_20
-	movq	80(%rsi), %rcx
-	leaq	-1(%rcx), %rdx
+	movq	80(%rsi), %r13
+	leaq	-1(%r13), %rbp
 	movl	$113, %eax
-	cmpq	$1, %rdx
+	cmpq	$1, %rbp
 	ja	.LBB9_20
 	movl	$117, %eax
 	cmpq	$31, 88(%rsi)
@@ -836,50 +840,59 @@ pie_open:
 	movl	$120, %eax
 	cmpq	$1, 96(%rsi)
 	ja	.LBB9_20
-	movq	104(%rsi), %rdx
-	cmpq	$1048576, %rdx
+	movq	104(%rsi), %rbp
+	cmpq	$1048576, %rbp
 	ja	.LBB9_20
-	movq	112(%rsi), %r8
-	cmpq	$1048576, %r8
+	movq	%rbp, 8(%rsp)
+	movq	112(%rsi), %rbp
+	movq	%rbp, (%rsp)
+	cmpq	$1048576, (%rsp)
 	ja	.LBB9_20
-	testq	%rdx, %rdx
+	cmpq	$0, 8(%rsp)
 	je	.LBB9_20
-	testq	%r8, %r8
+	cmpq	$0, (%rsp)
 	je	.LBB9_20
-	movq	120(%rsi), %rdx
-	decq	%rdx
-	shrq	$47, %rdx
+	movq	120(%rsi), %rbp
+	decq	%rbp
+	shrq	$47, %rbp
 	jne	.LBB9_20
-	xorl	%r13d, %r13d
-	cmpq	$2, %rcx
-	setne	%r13b
-	movl	$72, %edx
-	movq	%rdi, %rbx
-	movq	%rsi, %r14
-	callq	memmove@PLT
-	movq	80(%r14), %rax
-	movq	%rax, 152(%rbx)
-	movq	88(%r14), %rax
-	movq	%rax, 168(%rbx)
-	movq	%r12, 72(%rbx)
-	movq	$0, 88(%rbx)
-	movq	$0, 80(%rbx)
-	movq	$0, 144(%rbx)
-	movq	$0, 136(%rbx)
-	movq	$0, 128(%rbx)
-	movq	$0, 120(%rbx)
-	movq	%r15, 96(%rbx)
-	movq	%r12, 104(%rbx)
-	movq	$0, 112(%rbx)
-	movq	%r13, 160(%rbx)
-	movq	$0, 176(%rbx)
+	xorl	%eax, %eax
+	cmpq	$2, %r13
+	setne	%al
+	movq	%rdx, (%rdi)
+	movq	%r8, 8(%rdi)
+	movq	%rcx, 16(%rdi)
+	movq	%r9, 24(%rdi)
+	movq	%r10, 32(%rdi)
+	movq	%r11, 40(%rdi)
+	movq	%rbx, 48(%rdi)
+	movq	%r14, 56(%rdi)
+	movq	%r15, 64(%rdi)
+	movq	80(%rsi), %rdx
+	movq	%rdx, 152(%rdi)
+	movq	88(%rsi), %rdx
+	movq	%rdx, 168(%rdi)
+	movq	%r12, 72(%rdi)
+	movq	$0, 80(%rdi)
+	movq	$0, 88(%rdi)
+	movq	$0, 120(%rdi)
+	movq	$0, 128(%rdi)
+	movq	$0, 136(%rdi)
+	movq	$0, 144(%rdi)
+	movq	%rcx, 96(%rdi)
+	movq	%r12, 104(%rdi)
+	movq	$0, 112(%rdi)
+	movq	%rax, 160(%rdi)
+	movq	$0, 176(%rdi)
 	xorl	%eax, %eax
 .LBB9_20:
+	addq	$16, %rsp
 	popq	%rbx
 	popq	%r12
 	popq	%r13
 	popq	%r14
 	popq	%r15
+	popq	%rbp
 .LBB9_21:
 	RET
 .Lfunc_end9:
@@ -895,26 +908,24 @@ pie_reset_event:
 	movabsq	$1099511627777, %r9
 	cmpq	%r9, 176(%rdi)
 	jae	.LBB10_31
-	movabsq	$1000000000001, %r10
-	cmpq	%r10, 56(%rdi)
+	movq	(%rdi), %rdx
+	addq	$-2, %rdx
+	movabsq	$9999999999, %rcx
+	cmpq	%rcx, %rdx
 	jae	.LBB10_31
-	cmpq	$1000000, 32(%rdi)
-	ja	.LBB10_31
-	cmpq	$1000000, 24(%rdi)
-	ja	.LBB10_31
+	movq	8(%rdi), %rdx
+	decq	%rdx
+	incq	%rcx
+	cmpq	%rcx, %rdx
+	jae	.LBB10_31
+	movabsq	$1000000000001, %r10
 	movq	16(%rdi), %rcx
 	cmpq	%r10, %rcx
 	jae	.LBB10_31
-	movq	(%rdi), %r8
-	addq	$-2, %r8
-	movabsq	$9999999999, %rdx
-	cmpq	%rdx, %r8
-	jae	.LBB10_31
-	movq	8(%rdi), %r8
-	decq	%r8
-	incq	%rdx
-	cmpq	%rdx, %r8
-	jae	.LBB10_31
+	cmpq	$1000000, 24(%rdi)
+	ja	.LBB10_31
+	cmpq	$1000000, 32(%rdi)
+	ja	.LBB10_31
 	movq	40(%rdi), %rdx
 	decq	%rdx
 	cmpq	$65534, %rdx
@@ -923,6 +934,8 @@ pie_reset_event:
 	decq	%rdx
 	cmpq	$1073741823, %rdx
 	ja	.LBB10_31
+	cmpq	%r10, 56(%rdi)
+	jae	.LBB10_31
 	movq	64(%rdi), %r11
 	leaq	-1(%r11), %rdx
 	movq	%r11, %r8
@@ -1027,25 +1040,23 @@ pie_set_params_event:
 	movabsq	$1099511627777, %r11
 	cmpq	%r11, 176(%rdi)
 	jae	.LBB11_52
-	movabsq	$1000000000001, %rcx
-	cmpq	%rcx, 56(%rdi)
+	movabsq	$9999999999, %r8
+	movq	(%rdi), %rcx
+	addq	$-2, %rcx
+	cmpq	%r8, %rcx
 	jae	.LBB11_52
-	cmpq	$1000000, 32(%rdi)
-	ja	.LBB11_52
-	cmpq	$1000000, 24(%rdi)
-	ja	.LBB11_52
+	movq	8(%rdi), %rcx
+	decq	%rcx
+	leaq	1(%r8), %r10
+	cmpq	%r10, %rcx
+	jae	.LBB11_52
+	movabsq	$1000000000001, %rcx
 	cmpq	%rcx, 16(%rdi)
 	jae	.LBB11_52
-	movabsq	$9999999999, %r8
-	movq	(%rdi), %r9
-	addq	$-2, %r9
-	cmpq	%r8, %r9
-	jae	.LBB11_52
-	movq	8(%rdi), %r9
-	decq	%r9
-	leaq	1(%r8), %r10
-	cmpq	%r10, %r9
-	jae	.LBB11_52
+	cmpq	$1000000, 24(%rdi)
+	ja	.LBB11_52
+	cmpq	$1000000, 32(%rdi)
+	ja	.LBB11_52
 	movq	40(%rdi), %r9
 	decq	%r9
 	cmpq	$65534, %r9
@@ -1054,6 +1065,8 @@ pie_set_params_event:
 	decq	%r9
 	cmpq	$1073741823, %r9
 	ja	.LBB11_52
+	cmpq	%rcx, 56(%rdi)
+	jae	.LBB11_52
 	pushq	%r15
 	pushq	%r14
 	pushq	%r12
@@ -1120,31 +1133,31 @@ pie_set_params_event:
 	movq	%r15, %rdx
 	jne	.LBB11_51
 .LBB11_29:
+	movq	(%rsi), %rdx
+	addq	$-2, %rdx
 	movl	$107, %eax
-	cmpq	%rcx, 56(%rsi)
+	cmpq	%r8, %rdx
 	jae	.LBB11_50
-	cmpq	$1000000, 32(%rsi)
-	ja	.LBB11_50
-	cmpq	$1000000, 24(%rsi)
-	ja	.LBB11_50
+	movq	8(%rsi), %rdx
+	decq	%rdx
+	cmpq	%r10, %rdx
+	jae	.LBB11_50
 	cmpq	%rcx, 16(%rsi)
 	jae	.LBB11_50
-	movq	(%rsi), %rcx
-	addq	$-2, %rcx
-	cmpq	%r8, %rcx
-	jae	.LBB11_50
-	movq	8(%rsi), %rcx
-	decq	%rcx
-	cmpq	%r10, %rcx
-	jae	.LBB11_50
-	movq	40(%rsi), %rcx
-	decq	%rcx
-	cmpq	$65534, %rcx
+	cmpq	$1000000, 24(%rsi)
 	ja	.LBB11_50
-	movq	48(%rsi), %rcx
-	decq	%rcx
-	cmpq	$1073741823, %rcx
+	cmpq	$1000000, 32(%rsi)
 	ja	.LBB11_50
+	movq	40(%rsi), %rdx
+	decq	%rdx
+	cmpq	$65534, %rdx
+	ja	.LBB11_50
+	movq	48(%rsi), %rdx
+	decq	%rdx
+	cmpq	$1073741823, %rdx
+	ja	.LBB11_50
+	cmpq	%rcx, 56(%rsi)
+	jae	.LBB11_50
 	movq	64(%rsi), %rcx
 	leaq	-1(%rcx), %rdx
 	movq	%rcx, %rdi
@@ -1206,38 +1219,35 @@ pie_update_event:
 	pushq	%r12
 	pushq	%rbx
 	subq	$72, %rsp
-	movq	168(%rdi), %r13
+	movq	168(%rdi), %rbp
 	movl	$110, %eax
-	cmpq	$31, %r13
+	cmpq	$31, %rbp
 	ja	.LBB12_1
 	movabsq	$1099511627777, %r9
 	movq	176(%rdi), %rcx
 	cmpq	%r9, %rcx
 	jae	.LBB12_1
-	movabsq	$1000000000001, %r10
-	xorl	%ebx, %ebx
-	cmpq	%r10, 56(%rdi)
-	jae	.LBB12_4
-	movq	32(%rdi), %r8
-	cmpq	$1000000, %r8
-	ja	.LBB12_4
-	movq	24(%rdi), %rbp
-	cmpq	$1000000, %rbp
-	ja	.LBB12_4
-	movq	16(%rdi), %r15
-	cmpq	%r10, %r15
-	jae	.LBB12_4
-	movq	%r8, 64(%rsp)
-	movabsq	$10000000000, %r12
+	movabsq	$10000000000, %r11
 	movq	(%rdi), %r14
 	leaq	-2(%r14), %r8
-	leaq	-1(%r12), %r11
+	leaq	-1(%r11), %r10
+	xorl	%ebx, %ebx
+	cmpq	%r10, %r8
+	jae	.LBB12_4
+	movq	8(%rdi), %r15
+	leaq	-1(%r15), %r8
 	cmpq	%r11, %r8
 	jae	.LBB12_4
-	movq	8(%rdi), %r11
-	leaq	-1(%r11), %r8
-	cmpq	%r12, %r8
+	movabsq	$1000000000001, %r11
+	movq	16(%rdi), %r10
+	cmpq	%r11, %r10
 	jae	.LBB12_4
+	movq	24(%rdi), %r12
+	cmpq	$1000000, %r12
+	ja	.LBB12_4
+	movq	32(%rdi), %r13
+	cmpq	$1000000, %r13
+	ja	.LBB12_4
 	movq	40(%rdi), %r8
 	decq	%r8
 	cmpq	$65534, %r8
@@ -1246,43 +1256,46 @@ pie_update_event:
 	decq	%r8
 	cmpq	$1073741823, %r8
 	ja	.LBB12_4
+	cmpq	%r11, 56(%rdi)
+	jae	.LBB12_4
+	movq	%r10, 64(%rsp)
 	movq	%r14, 16(%rsp)
-	movq	%r11, 32(%rsp)
 	movq	64(%rdi), %r8
-	leaq	-1(%r8), %r11
+	leaq	-1(%r8), %r10
 	movq	%r8, %r14
-	xorq	%r11, %r14
-	cmpq	%r11, %r14
+	xorq	%r10, %r14
+	cmpq	%r10, %r14
 	jbe	.LBB12_4
-	rep		bsfq	%r8, %r11
-	addl	$-10, %r11d
-	cmpl	$6, %r11d
+	rep		bsfq	%r8, %r10
+	addl	$-10, %r10d
+	cmpl	$6, %r10d
 	ja	.LBB12_1
-	movq	%r15, 56(%rsp)
-	movabsq	$1152921504606846975, %r11
+	movq	%r15, 32(%rsp)
+	movabsq	$1152921504606846975, %r10
 	movq	72(%rdi), %r15
-	leaq	1(%r11), %rbx
+	leaq	1(%r10), %rbx
 	cmpq	%rbx, %r15
 	jae	.LBB12_1
 	movq	80(%rdi), %r14
-	cmpq	%r10, %r14
+	cmpq	%r11, %r14
 	jae	.LBB12_1
 	movq	88(%rdi), %rbx
 	cmpq	%r9, %rbx
 	jae	.LBB12_1
 	movq	%r15, 8(%rsp)
 	movq	96(%rdi), %r15
-	cmpq	%r10, %r15
+	cmpq	%r11, %r15
 	jae	.LBB12_1
-	movq	104(%rdi), %r10
-	cmpq	8(%rsp), %r10
+	movq	104(%rdi), %r11
+	cmpq	8(%rsp), %r11
 	ja	.LBB12_1
 	movabsq	$8499999999999, %r9
 	cmpq	%r9, 112(%rdi)
 	ja	.LBB12_1
-	movq	120(%rdi), %r12
-	cmpq	%r11, %r12
+	movq	120(%rdi), %r9
+	cmpq	%r10, %r9
 	ja	.LBB12_1
+	movq	%r9, 56(%rsp)
 	movq	(%rdx), %r9
 	movq	%r9, 48(%rsp)
 	movq	128(%rdi), %r9
@@ -1338,7 +1351,7 @@ pie_update_event:
 	cmpq	$2, %rax
 	jae	.LBB12_29
 .LBB12_32:
-	cmpq	%r11, 48(%rsp)
+	cmpq	%r10, 48(%rsp)
 	jbe	.LBB12_35
 	movl	$101, %eax
 	jmp	.LBB12_34
@@ -1369,9 +1382,9 @@ pie_update_event:
 	movq	48(%rsp), %rdi
 	cmpq	%rdx, %rdi
 	cmovaq	%rdi, %rdx
-	addq	32(%rsp), %r10
+	addq	32(%rsp), %r11
 	movq	%rdx, 8(%rsp)
-	cmpq	%r10, %rdx
+	cmpq	%r11, %rdx
 	jae	.LBB12_39
 	movq	(%rsp), %rdx
 	movl	$103, %eax
@@ -1379,20 +1392,20 @@ pie_update_event:
 .LBB12_39:
 	testq	%rax, %rax
 	je	.LBB12_40
-	testb	$1, %r13b
+	testb	$1, %bpl
 	jne	.LBB12_43
 	movq	%rsi, %rdi
-	movq	%r12, %rsi
+	movq	56(%rsp), %rsi
 	movq	%r8, %rdx
 	callq	"pie_control::update::delay"
 	movq	%rax, %rcx
 .LBB12_43:
 	movq	%rcx, %rax
 	subq	16(%rsp), %rax
-	imulq	%rbp, %rax
+	imulq	%r12, %rax
 	movq	%rcx, %rdx
 	subq	%rbx, %rdx
-	imulq	64(%rsp), %rdx
+	imulq	%r13, %rdx
 	addq	%rax, %rdx
 	cmpq	$999999, %r14
 	ja	.LBB12_45
@@ -1456,13 +1469,13 @@ pie_update_event:
 	movq	%rax, %rdx
 	jmp	.LBB12_57
 .LBB12_55:
-	testb	$4, %r13b
+	testb	$4, %bpl
 	jne	.LBB12_57
 	movabsq	$20000000000, %rax
 	cmpq	%rax, %rdx
 	cmovgeq	%rax, %rdx
 .LBB12_57:
-	cmpq	$15, %r13
+	cmpq	$15, %rbp
 	ja	.LBB12_59
 	addq	%r14, %rdx
 	movq	%rcx, %rax
@@ -1514,13 +1527,14 @@ pie_update_event:
 	subq	32(%rsp), %r15
 	cmovaeq	%r15, %rdx
 	testb	%al, %al
-	movq	56(%rsp), %r15
+	movq	64(%rsp), %r15
 	cmovneq	%rdx, %r15
 .LBB12_65:
 	cmpq	$2, 40(%rsp)
 	setne	%dl
 	orb	%al, %dl
 	movzbl	%dl, %eax
+	andl	$1, %eax
 	movq	%rcx, %rbx
 .LBB12_66:
 	movq	24(%rsp), %rdx

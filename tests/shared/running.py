@@ -44,11 +44,11 @@ params,5,1001004,1,1,50,850000,0,1,100000,1000000000000,1024
 
 
 def hold_readers():
-    """Compares READERS with the program's help, which states in one line what each command reads.
-    Each command must have its own help."""
+    """Compares READERS with the program's help, which states in one line what each command does. A command whose
+    line names a history, other than the one that it writes, reads it. Each command must have its own help."""
     told = run(["--help"], b"")[1].decode().partition("Commands:")[2].partition("Options:")[0]
     commands = dict(re.findall(r"^  (\w+) +(.+)$", told, re.M))
-    readers = {name for name, does in commands.items() if re.search(r"[Rr]eads? (a )?histor|from (a )?histor", does)}
+    readers = {name for name, does in commands.items() if "histor" in does.replace("writes its history", "")}
     check(readers == {words[0] for words in READERS.values()}, "by the program's help these read a history:", *sorted(readers))
     for name in ["run", "storm", *readers]:
         check(run([name, "--help"], b"")[0] == 0, "there is no", name)

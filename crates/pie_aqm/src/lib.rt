@@ -13,12 +13,12 @@
 mod controller;
 mod law;
 mod raw;
-mod register;
+mod soundness;
 mod verdict;
 
 pub use controller::Controller;
 pub use law::{calls_keep_it_sound, calls_look_back};
 pub use pie_event::{Cause, CauseName, Fate, Profile};
 pub use raw::RawController;
-pub use register::Register;
+pub use soundness::Register;
 pub use verdict::{ArrivingPacket, Verdict};

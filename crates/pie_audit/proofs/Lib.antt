@@ -1,5 +1,5 @@
 mod Names
 pub mod LegalFacts
 pub mod AuditorFacts
-pub mod ToldFacts
+pub mod ProcessorFacts
 pub mod LiftFacts

@@ -1,14 +1,14 @@
 pub mod Names
-pub mod Agreeing
+pub mod Agreement
 pub mod Origin
 pub mod Finding
 pub mod Auditor
 pub mod Text
 pub mod Legal
-pub mod Begun
+pub mod TextBegun
 pub mod Setters
 pub mod Start
-pub mod Following
+pub mod Follower
 pub mod Lines
 pub mod Preambles
 unfoldable pub use Names.*

@@ -28,7 +28,7 @@ pub use Rattle.pie_excerpt.specs.Written.{IsWritten, excerpt_rows, resumed_rows}
 pub use Rattle.pie_params.specs.Range.{first_bad}
 pub use Rattle.pie_record.specs.Fault.{IsOfInput, IsWrite, is_device}
 unfoldable pub use Rattle.pie_record.specs.FirstRecord.{version_of, opening_of}
-pub use Rattle.pie_record.specs.HistoryLines.{Coming, LinesView, coming_after, coming_from}
+pub use Rattle.pie_record.specs.HistoryLines.{RemainingLines, LinesView, remaining_after_opening, remaining_from}
 unfoldable pub use Rattle.pie_record.specs.HistoryLines.{event_count, fault_from, history_opening, latest_clock, lines_from}
 pub use Rattle.pie_record.specs.ReadBack.{EventFits, IsHistoryText}
 unfoldable pub use Rattle.pie_record.specs.ReadBack.{AreLinesOf}
@@ -36,7 +36,7 @@ pub use Rattle.pie_record.specs.Text.{TakesRow, HasField, Row, records_of}
 unfoldable pub use Rattle.pie_record.specs.Text.{rows_text}
 pub use Rattle.pie_record.specs.Write.{event_row, written_rows}
 pub use Rattle.pie_record.specs.declared.fault.TraceFault.{TraceFault}
-pub use Rattle.pie_record.specs.declared.history_reader.Course.TheVariants.{Faulted, Going}
+pub use Rattle.pie_record.specs.declared.history_reader.ReaderState.TheVariants.{Faulted, Going}
 pub use Rattle.pie_record.specs.declared.history_record.Line.{Line}
 pub use Rattle.pie_record.specs.declared.history_record.Line.TheVariants.{Made, Note, Unmakeable}
 pub use Rattle.pie_record.specs.declared.version.Version.TheVariants.{Three}

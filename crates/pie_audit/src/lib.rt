@@ -13,20 +13,20 @@
 #![tactic(auto)]
 
 pub mod auditor;
-pub mod begun;
-pub mod following;
+pub mod follower;
 pub mod law;
 pub mod processor;
 pub mod text;
+pub mod text_begun;
 pub mod visitor;
 
 pub use auditor::{Auditor, Finding};
-pub use begun::{TextBegun, begin};
-pub use following::{Follower, lines_that_agree_have_few_events};
+pub use follower::{Follower, lines_that_agree_have_few_events};
 pub use law::{
     clean_excerpts_are_legal, clean_is_legal, events_are_lines, findings_look_back,
     recorded_calls_are_clean, written_excerpts_are_read,
 };
 pub use processor::{TextProcessor, preambles_determine, process_text};
 pub use text::{audit, write_finding};
+pub use text_begun::{TextBegun, begin};
 pub use visitor::{Auditing, LineVisitor, visit_lines};

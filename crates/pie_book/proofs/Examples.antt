@@ -26,7 +26,7 @@ use Rattle.pie_book.specs.{IsNotContinued, Profile, Two, Elements}
 use Rattle.pie_params.specs.declared.elements.Delay.{Delay}
 use Rattle.pie_params.specs.declared.elements.Delay.TheVariants.{Rate, Stamp}
 use Rattle.pie_book.specs.declared.book.ContinueRefusal.TheVariants as continue
-use Rattle.pie_book.specs.{happened_in, has_room, most_kept, apply_in, cause_in, core_along, no_stats, step_in, are_balanced, Held}
+use Rattle.pie_book.specs.{recorded_event_in, has_room, most_kept, apply_in, cause_in, core_along, no_stats, step_in, are_balanced, Held}
 use Rattle.pie_params.specs.declared.elements.Picking.TheVariants.{Random}
 use Rattle.pie_aqm.specs.Steps.{cause}
 use Rattle.pie_event.specs.declared.cause.Cause.TheVariants as causes
@@ -151,7 +151,7 @@ tails = (refl, refl, refl, refl)
 
 -- the event of an entry of the tail is the recorded one, for any event; an answer that the command cannot have is
 -- stored as no effect
-entries : let told = λ (events : List Event). map (λ e. event_of_entry (happened_in e)) events in
+entries : let told = λ (events : List Event). map (λ e. event_of_entry (recorded_event_in e)) events in
     (told (history 14) ≡ history 14) × (told three ≡ three) × (told (event_of 3 (Depart 4) Marked ∷ []) ≡ event_of 3 (Depart 4) Empty ∷ [])
 unfolding worked
 entries = (refl, refl, refl)

@@ -7,7 +7,7 @@ ghost use Rattle.pie_book.specs.{call_in, arrival_of, departure_call, waiting_ne
 ghost use Rattle.pie_event.specs.Verdict.{is_queued};
 
 use crate::deciding_core::{Core, RawCore};
-use crate::recorded::{Happened, Recorded};
+use crate::recorded::{Recorded, RecordedEvent};
 use crate::{Answer, Command, Refusal};
 use pie_aqm::{ArrivingPacket, Verdict};
 use pie_fixed::Nanos;
@@ -150,7 +150,7 @@ impl RawCore {
         let verdict = self.controller.arrive(arrival, moment);
         self.tally.arrived(verdict);
         self.admit(verdict, packet, now);
-        Recorded::of(Happened::Arrived {
+        Recorded::of(RecordedEvent::Arrived {
             caller,
             verdict,
             moment: moment.units(),
@@ -207,7 +207,7 @@ impl RawCore {
         let Some(oldest) = self.queue.take() else {
             self.controller.pass(moment);
             self.tally.found_none();
-            return Recorded::of(Happened::FoundNone {
+            return Recorded::of(RecordedEvent::FoundNone {
                 caller,
                 moment: moment.units(),
             });
@@ -218,7 +218,7 @@ impl RawCore {
         let now = self.controller.moment();
         let waited = now.units().saturating_sub(oldest.since.units());
         self.tally.departed(packet, waited);
-        Recorded::of(Happened::Departed {
+        Recorded::of(RecordedEvent::Departed {
             caller,
             moment: moment.units(),
             packet,
@@ -235,7 +235,7 @@ impl RawCore {
         let delay = self.controller.update(self.queue.bytes(), moment);
         self.tally.updated(delay);
         let control = self.controller.raw().control;
-        Recorded::of(Happened::Updated {
+        Recorded::of(RecordedEvent::Updated {
             caller,
             moment: moment.units(),
             delay,
@@ -252,7 +252,7 @@ impl RawCore {
     {
         self.controller.reset(moment);
         self.tally.was_reset();
-        Recorded::of(Happened::WasReset {
+        Recorded::of(RecordedEvent::WasReset {
             caller,
             moment: moment.units(),
         })
@@ -266,7 +266,7 @@ impl RawCore {
     {
         self.controller.set_params(params, moment);
         self.tally.changed();
-        Recorded::of(Happened::WasSet {
+        Recorded::of(RecordedEvent::WasSet {
             caller,
             moment: moment.units(),
             params,

@@ -37,8 +37,8 @@ threshold-held s sound = threshold-in s.params (held-sound s sound).params
 -- ---- A sound state after a call stays sound and represents the call
 
 -- the moment of an accepted call is in its range
-pub handed : (moment rest : ℕ) → (if nat_lt last_moment moment then 101 else rest) ≡ 0 → moment < 2 ^ 60
-handed moment rest free = grind (arith, nat_tests)
+pub given_calls : (moment rest : ℕ) → (if nat_lt last_moment moment then 101 else rest) ≡ 0 → moment < 2 ^ 60
+given_calls moment rest free = grind (arith, nat_tests)
 
 pub departed-moment : (size left moment rest : ℕ) → unless_refused (packet_refusal size left moment) rest ≡ 0 → moment < 2 ^ 60
 unfolding packet_refusal
@@ -153,7 +153,7 @@ unfolding moment_refusal held_in state_of
 passes keeps looks s t moment is = record {
   fields = is;
   held = λ sound. let back = state-held s sound in
-      makes keeps looks s t (Pass moment) (moment_refusal moment) sound (grind (arith, nat_tests)) (handed moment _);
+      makes keeps looks s t (Pass moment) (moment_refusal moment) sound (grind (arith, nat_tests)) (given_calls moment _);
 }
 
 -- an arrival at a state that already has its moment

@@ -22,5 +22,5 @@ mod period;
 mod reading;
 mod recording;
 mod state;
-mod summed;
+mod summing;
 mod writing;

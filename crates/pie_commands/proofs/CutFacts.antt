@@ -16,6 +16,6 @@ last-faulted many known why before counts =
 pub last-told : (many number : ℕ) (known : Option (List ℕ)) (end : End) (before now : Option (List ℕ))
     → IfSome known (λ text. LastEither (records_of text) (Ok number)) → EndsBy end_of_cut (CutsEither (last_of number many)) known end before now
     → EndsBy end_of_cut (CutsLast many) known end before now
-last-told many number known end before now counts (inl unable) = inl unable
+last-told many number known end before now counts (inl end_unable) = inl end_unable
 last-told many number known end before now counts (inr (given, is, cuts)) =
     inr (given, is, IfSome_then known (if-all known _ _ _ counts cuts cuts) (λ text both. (Ok number, both.0, both.1)))

@@ -25,4 +25,4 @@ known-kept old new P keeps so = grind (arith, nat_tests)
 
 pub by-kept : {A : Type 0} (end_for : A → End) (tells : List Row → A → Option (List ℕ) → Option (List ℕ) → Type 0) (old new : Option (List ℕ))
     (end : End) (before now : Option (List ℕ)) → IsKept old new → EndsBy end_for tells new end before now → EndsBy end_for tells old end before now
-by-kept end_for tells old new end before now keeps ended = grind (arith, known-kept)
+by-kept end_for tells old new end before now keeps report_end = grind (arith, known-kept)

@@ -1,9 +1,9 @@
 -- Which events the words of `pie explain` and `pie cut` choose, worked out.
 use Rattle.pie_commands.proofs.Names.{◌≡◌, List, [], ◌∷◌, Some, None, codes, refl, Text, Selection, options_in, choice_of, Part, Last, Every, Once}
-use Rattle.pie_commands.proofs.Names.{around, between, wanted_of}
+use Rattle.pie_commands.proofs.Names.{around, between, cut_request_of}
 use Rattle.clap.proofs.OnLiterals.{clap_on_literals}
-use Rattle.pie_explain.specs.declared.which.Which.{Which}
-use Rattle.pie_explain.specs.declared.which.Which.TheVariants.{Number, Lost, All}
+use Rattle.pie_explain.specs.declared.choice.Which.{Which}
+use Rattle.pie_explain.specs.declared.choice.Which.TheVariants.{Number, Lost, All}
 use Rattle.pie_units.specs.declared.when.When.TheVariants.{Moment, Unix}
 use Rattle.pie_units.specs.Date.{day_number}
 use Rattle.pie_units.specs.Utc.{date_part, has_marks, nanos_in, seconds_part, unix_of, utc_in, utc_with}
@@ -29,7 +29,7 @@ from_day-chosen : (name : Text) → choice_of (options_in (name ∷ codes "expla
 unfolding clap_on_literals choice_of digit_count number_after utc_in utc_with unix_of seconds_part date_part has_marks nanos_in day_number
 from_day-chosen name = refl
 
-cut : (name : Text) → let cuts = λ (words : List Text). wanted_of (options_in (name ∷ codes "cut" ∷ words)) in
+cut : (name : Text) → let cuts = λ (words : List Text). cut_request_of (options_in (name ∷ codes "cut" ∷ words)) in
     (cuts (codes "--event" ∷ codes "10" ∷ codes "--around=3" ∷ []) ≡ Some (Once (Part (around 10 3))))
     × (cuts (codes "--from" ∷ codes "2s" ∷ []) ≡ Some (Once (Part (between (Some (Moment 2_000_000_000)) None))))
     × (cuts (codes "--from=2" ∷ codes "--to=1" ∷ []) ≡ None)
@@ -37,5 +37,5 @@ cut : (name : Text) → let cuts = λ (words : List Text). wanted_of (options_in
     × (cuts (codes "--every" ∷ codes "1000" ∷ []) ≡ Some (Once (Every 1000)))
     × (cuts (codes "--around" ∷ codes "3" ∷ []) ≡ None)
     × (cuts (codes "--last=3" ∷ codes "--every=3" ∷ []) ≡ None)
-unfolding clap_on_literals wanted_of digit_count number_after is_word time_scale
+unfolding clap_on_literals cut_request_of digit_count number_after is_word time_scale
 cut name = (refl, refl, refl, refl, refl, refl, refl)

@@ -3,8 +3,8 @@ use Rattle.pie_commands.proofs.Names.{◌≡◌, [], Some, None, Ok, Err, true, 
 use Rattle.std.specs.Fmt.{digits}
 use Rattle.pie_audit.specs.declared.auditor.Finding.TheVariants.{Clean, Differs}
 use Rattle.pie_commands.specs.declared.file_audits.Unaudited.TheVariants.{Unopened}
-use Rattle.pie_cut.specs.declared.joined.Joint.{Joint}
-use Rattle.pie_cut.specs.declared.joined.Joint.TheVariants.{Follows, Gap, Unlike}
+use Rattle.pie_cut.specs.declared.joint_audit.Joint.{Joint}
+use Rattle.pie_cut.specs.declared.joint_audit.Joint.TheVariants.{Follows, Gap, Unlike}
 
 -- a file whose events up to 150 are clean, at this joint
 abbrev clean : Joint → Joined

@@ -74,7 +74,7 @@ audits-none works joined input files before = record {
   in_order = refl;
   outcomes = refl;
   written = Appends-nil before;
-  any_unfound = refl;
+  any_unaudited = refl;
   any_broken = refl;
 }
 
@@ -92,7 +92,7 @@ audits-more works joined input files names unfound broken end after before mid n
       (sym audits.in_order) tells);
   written = rw (lines-more audits.told (name, told)) (Appends-trans before mid now (flat_map outcome_lines audits.told) (lines_of name told)
       audits.written written);
-  any_unfound = any-more (λ (t : FileOutcome). is_unfound t.1) audits.told (name, told) unfound audits.any_unfound;
+  any_unaudited = any-more (λ (t : FileOutcome). is_unfound t.1) audits.told (name, told) unfound audits.any_unaudited;
   any_broken = any-more (λ (t : FileOutcome). is_broken t.1) audits.told (name, told) broken audits.any_broken;
 }
 

@@ -16,25 +16,25 @@ pub use Rattle.pie_commands.proofs.WordFacts.{name-found, options-in, same-word}
 pub use Rattle.pie_commands.specs.Choice.{output_kind_of, output_text, units_of}
 unfoldable pub use Rattle.pie_commands.specs.Choice.{choice_of}
 pub use Rattle.pie_commands.specs.CutEnds.{CutsInto, CutsLast, around, between, cut_ends, end_of_cut, is_named, last_of}
-unfoldable pub use Rattle.pie_commands.specs.CutEnds.{wanted_of}
+unfoldable pub use Rattle.pie_commands.specs.CutEnds.{cut_request_of}
 pub use Rattle.pie_commands.specs.Ends.{EndsBy, Migrates, end_of, status_of}
 pub use Rattle.pie_commands.specs.ExplainEnds.{end_of_explain, explain_ends}
 pub use Rattle.pie_commands.specs.FileAudits.{HaveOutcomes, AuditsFiles, EndsEither, EndsFiles, HasReadOutcome, HasTextOutcome, FileOutcome, is_broken, is_unfound}
 pub use Rattle.pie_commands.specs.FileAudits.{lines_of, outcome_lines, worst}
 pub use Rattle.pie_commands.specs.Files.{Name, ReadsNamed, file_of, text_given}
 pub use Rattle.pie_commands.specs.Output.{Held, IsEmpty, Keeps, Places, Settles}
-pub use Rattle.pie_commands.specs.Outputs.{EndsAt, EndsIn, is_whole, settled}
+pub use Rattle.pie_commands.specs.Outputs.{EndsAt, EndsIn, is_whole, after_output}
 pub use Rattle.pie_commands.specs.StormEnds.{EndsStorm, elements_in, numbers_in, storm_ends}
 pub use Rattle.pie_commands.specs.Subcommands.{Answers, EndsAs, EndsTask, EndsTo, Finds, may_differ, output_for}
 pub use Rattle.pie_commands.specs.Words.{file_in, files_in, is_forced, is_joined, options_in, pie_app, subcommand_in}
 pub use Rattle.pie_commands.specs.declared.cut.Pieces.TheVariants.{Every, Part}
-pub use Rattle.pie_commands.specs.declared.cut.Wanted.TheVariants.{Last, Once}
+pub use Rattle.pie_commands.specs.declared.cut.CutRequest.TheVariants.{Last, Once}
 pub use Rattle.pie_commands.specs.declared.end.End.{End}
 pub use Rattle.pie_commands.specs.declared.end.End.TheVariants.{Done, Failed, Fault, Unable, Unplaced}
 pub use Rattle.pie_commands.specs.declared.options.subcommand.Subcommand.TheVariants.{Audit, Cut, Explain, Migrate, Params, Run, Storm}
 pub use Rattle.pie_cut.specs.Joined.{EndView, JoinsText}
 pub use Rattle.pie_cut.specs.Last.{LastEither}
-pub use Rattle.pie_cut.specs.declared.joined.Joined.{Joined}
+pub use Rattle.pie_cut.specs.declared.joint_audit.Joined.{Joined}
 pub use Rattle.pie_explain.specs.declared.selection.Selection.{Selection}
 pub use Rattle.pie_explain.specs.declared.explanation.Explained.{Explained}
 pub use Rattle.pie_params.specs.declared.elements.Elements.{Elements}

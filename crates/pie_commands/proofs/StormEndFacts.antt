@@ -4,7 +4,7 @@ use Rattle.pie_commands.proofs.Names.{storm_ends, Done, Fault, Failed, TraceFaul
 use Rattle.clap.specs.Words.{Row}
 use Rattle.pie_event.specs.declared.command.Event.{Event}
 use Rattle.pie_book.specs.Decision.{IsLegal}
-use Rattle.pie_storm.specs.declared.numbers.StormNumbers.{StormNumbers}
+use Rattle.pie_storm.specs.declared.plan_numbers.StormNumbers.{StormNumbers}
 use Rattle.pie_storm.specs.declared.plan.Plan.{Plan}
 use Rattle.pie_storm.specs.Plans.{opening_of}
 use Rattle.pie_storm.specs.Storms.{IsStorm}

@@ -85,37 +85,37 @@ all-kept works joined input old new keeps earlier before (one ∷ more) after to
 
 files-kept : (works joined : Bool) (input : Option (List ℕ)) (old new : Held) (names : List Text) (end : End) (before now : Option (List ℕ))
     → Keeps old new → EndsFiles works joined input new names end before now → EndsFiles works joined input old names end before now
-files-kept works joined input old new names end before now keeps ended = grind (arith, all-kept)
+files-kept works joined input old new names end before now keeps report_end = grind (arith, all-kept)
 
 either-kept : (works joined : Bool) (input : Option (List ℕ)) (old new : Held) (names : List Text) (end : End) (before now : Option (List ℕ))
     → Keeps old new → EndsEither works joined input new names end before now → EndsEither works joined input old names end before now
-either-kept works joined input old new [] end before now keeps ended = ended
-either-kept works joined input old new (name ∷ names) end before now keeps ended =
-    files-kept works joined input old new (name ∷ names) end before now keeps ended
+either-kept works joined input old new [] end before now keeps report_end = report_end
+either-kept works joined input old new (name ∷ names) end before now keeps report_end =
+    files-kept works joined input old new (name ∷ names) end before now keeps report_end
 
 -- a subcommand other than an audit reads one text: its promise also holds of the old files
 text-kept : (subcommand : Subcommand) (options : List Row) (works : Bool) (input : Option (List ℕ)) (old new : Held) (end : End) (before now : Option (List ℕ))
     → (subcommand ≡ Audit → ⊥) → Keeps old new → EndsAs subcommand options works input new end before now
     → EndsAs subcommand options works input old end before now
-text-kept subcommand options works input old new end before now other keeps ended = grind (arith, by-kept, given-kept)
+text-kept subcommand options works input old new end before now other keeps report_end = grind (arith, by-kept, given-kept)
 
 pub EndsAs-kept : (subcommand : Subcommand) (options : List Row) (works : Bool) (input : Option (List ℕ)) (old new : Held) (end : End)
     (before now : Option (List ℕ)) → Keeps old new → EndsAs subcommand options works input new end before now
     → EndsAs subcommand options works input old end before now
-EndsAs-kept Audit options works input old new end before now keeps ended =
-    either-kept works (is_joined options) input old new (files_in options) end before now keeps ended
-EndsAs-kept other options works input old new end before now keeps ended =
-    text-kept other options works input old new end before now (λ is. cc) keeps ended
+EndsAs-kept Audit options works input old new end before now keeps report_end =
+    either-kept works (is_joined options) input old new (files_in options) end before now keeps report_end
+EndsAs-kept other options works input old new end before now keeps report_end =
+    text-kept other options works input old new end before now (λ is. cc) keeps report_end
 
 -- ---- an event can differ in three of them
 
 differs-as : (subcommand : Subcommand) (options : List Row) (works : Bool) (input : Option (List ℕ)) (files : Held) (before now : Option (List ℕ))
     → EndsAs subcommand options works input files Differs before now → may_differ subcommand ≡ true
-differs-as subcommand options works input files before now ended = grind (arith, nat_tests)
+differs-as subcommand options works input files before now report_end = grind (arith, nat_tests)
 
 differs-to : (subcommand : Subcommand) (options : List Row) (works : Bool) (input fresh : Option (List ℕ)) (old new : Held) (before now : Option (List ℕ))
     → EndsTo subcommand options works input fresh old new Differs before now → may_differ subcommand ≡ true
-differs-to subcommand options works input fresh old new before now ended = grind (arith, differs-as)
+differs-to subcommand options works input fresh old new before now report_end = grind (arith, differs-as)
 
 -- ---- the program over words
 
@@ -131,27 +131,27 @@ pub answers-performed : (words : List Text) (matches : ArgMatches) (subcommand :
     → Some (word_of subcommand) ≡ subcommand_name_of matches
     → Some rows ≡ option_map (λ (given : Text × List Row). given.1) (subcommand_rows_of matches)
     → EndsTo subcommand rows works input fresh old new end before now → Answers words works input fresh old new end before now
-answers-performed words matches subcommand rows works input fresh old new end before now matched name given ended =
+answers-performed words matches subcommand rows works input fresh old new end before now matched name given report_end =
     let found : subcommand_in words ≡ Some (word_of subcommand) = sym (name ∙ name-found words matches matched) in
     record {
       keeps = λ one. ends-keep works (output_for subcommand rows) (file_in rows) (is_forced rows) fresh old new (EndsAs subcommand rows works input old) end before now
-          one ended;
-      differs = λ is. (subcommand, differs-to subcommand rows works input fresh old new before now (rw is at ended), found);
+          one report_end;
+      differs = λ is. (subcommand, differs-to subcommand rows works input fresh old new before now (rw is at report_end), found);
       ends = λ other asks.
           subst (λ (s : Subcommand). EndsTo s (options_in words) works input fresh old new end before now)
           (same-word subcommand other (sym found ∙ asks.found))
           (subst (λ (options : List Row). EndsTo subcommand options works input fresh old new end before now)
-          (sym (options-in words matches rows matched given)) ended);
+          (sym (options-in words matches rows matched given)) report_end);
     }
 
 -- no subcommand began, for want of memory or since the words ask for none
 pub answers-unable : (words : List Text) (works : Bool) (input fresh : Option (List ℕ)) (held : Held) (end : End) (before now : Option (List ℕ))
     → (end ≡ Differs → ⊥) → (takes pie_app words ≡ true → (end ≡ Unable) × (now ≡ before)) → Answers words works input fresh held held end before now
-answers-unable words works input fresh held end before now same unable = record {
+answers-unable words works input fresh held end before now same end_unable = record {
   keeps = λ one. keeps-same held;
   differs = λ is. absurd (same is);
   ends = λ subcommand asks.
-      let is = unable asks.taken in
+      let is = end_unable asks.taken in
       rw is.0 (EndsTo-unable subcommand (options_in words) works input fresh held before now is.1);
 }
 

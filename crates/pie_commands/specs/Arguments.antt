@@ -3,11 +3,11 @@ use Rattle.std.specs.Prelude.{Some}
 use Rattle.clap.specs.Words.{Rule, Text, new_rule}
 use Rattle.clap.specs.declared.builder.action.ArgAction.TheVariants.{Append}
 use Rattle.pie_commands.specs.declared.options.argument.Argument.{Argument}
-use Rattle.pie_commands.specs.declared.options.argument.Takes.{Takes}
-use Rattle.pie_commands.specs.declared.options.argument.Takes.TheVariants.{Nothing, Number, Value, Lettered, File, Files}
+use Rattle.pie_commands.specs.declared.options.argument.ValueKind.{ValueKind}
+use Rattle.pie_commands.specs.declared.options.argument.ValueKind.TheVariants.{Nothing, Number, Value, Lettered, File, Files}
 use Rattle.pie_commands.specs.Words.{flag_rule, number_rule, text_rule}
 
-abbrev pub rule_taking : Takes → Text → Rule
+abbrev pub rule_taking : ValueKind → Text → Rule
 rule_taking Nothing name = flag_rule name
 rule_taking (Number least most) name = number_rule name least most
 rule_taking (Value value) name = text_rule name

@@ -10,8 +10,8 @@ use Rattle.pie_explain.specs.declared.form.Form.{Form}
 use Rattle.pie_explain.specs.declared.explanation.Explained.{Explained}
 use Rattle.pie_units.specs.declared.moment.Moment.{Moment}
 use Rattle.pie_units.specs.declared.moment.MomentFault.{MomentFault}
-use Rattle.pie_explain.specs.declared.which.Which.{Which}
-use Rattle.pie_explain.specs.declared.which.Which.TheVariants.{Number, Tag, Lost, Marked, All}
+use Rattle.pie_explain.specs.declared.choice.Which.{Which}
+use Rattle.pie_explain.specs.declared.choice.Which.TheVariants.{Number, Tag, Lost, Marked, All}
 use Rattle.pie_units.specs.Moment.{moment_in}
 use Rattle.pie_units.specs.When.{when_in}
 use Rattle.pie_units.specs.declared.when.When.{When}

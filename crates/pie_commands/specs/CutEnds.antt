@@ -19,8 +19,8 @@ use Rattle.pie_commands.specs.declared.end.End.{End}
 use Rattle.pie_commands.specs.declared.end.End.TheVariants.{Done, Differs, Fault, Failed}
 use Rattle.pie_commands.specs.declared.cut.Pieces.{Pieces}
 use Rattle.pie_commands.specs.declared.cut.Pieces.TheVariants.{Every, Part}
-use Rattle.pie_commands.specs.declared.cut.Wanted.{Wanted}
-use Rattle.pie_commands.specs.declared.cut.Wanted.TheVariants.{Last, Once}
+use Rattle.pie_commands.specs.declared.cut.CutRequest.{CutRequest}
+use Rattle.pie_commands.specs.declared.cut.CutRequest.TheVariants.{Last, Once}
 use Rattle.pie_commands.specs.Choice.{bound_given, in_order}
 use Rattle.pie_commands.specs.Ends.{EndsBy, WritesNothing}
 
@@ -44,7 +44,7 @@ within None None = None
 within from to = Some (between from to)
 
 -- what is chosen, where it is in exactly one way: an event, with some around it or none; the last ones; segments; or those within bounds
-abbrev pub chosen : Option ℕ → Option ℕ → Option ℕ → Option ℕ → Option Span → Option Wanted
+abbrev pub chosen : Option ℕ → Option ℕ → Option ℕ → Option ℕ → Option Span → Option CutRequest
 chosen (Some event) more None None None = Some (Once (Part (around event (unwrap_or more 0))))
 chosen None None (Some many) None None = Some (Last many)
 chosen None None None (Some every) None = if every == 0 then None else Some (Once (Every every))
@@ -52,13 +52,13 @@ chosen None None None None (Some span) = Some (Once (Part span))
 chosen _ _ _ _ _ = None
 
 -- the request, if both bounds are valid and in order
-abbrev pub wanted_at : Option ℕ → Option ℕ → Option ℕ → Option ℕ → Option (Option When) → Option (Option When) → Option Wanted
+abbrev pub wanted_at : Option ℕ → Option ℕ → Option ℕ → Option ℕ → Option (Option When) → Option (Option When) → Option CutRequest
 wanted_at event more last every (Some from) (Some to) = if in_order from to then chosen event more last every (within from to) else None
 wanted_at _ _ _ _ _ _ = None
 
 -- what these options choose; nothing where they don't say it as they have to
-unfoldable pub wanted_of : List Row → Option Wanted
-wanted_of options = wanted_at (number_given (codes "event") options) (number_given (codes "around") options) (number_given (codes "last") options)
+unfoldable pub cut_request_of : List Row → Option CutRequest
+cut_request_of options = wanted_at (number_given (codes "event") options) (number_given (codes "around") options) (number_given (codes "last") options)
     (number_given (codes "every") options) (result_ok (bound_given (codes "from") options)) (result_ok (bound_given (codes "to") options))
 
 -- segments have some events each
@@ -66,7 +66,7 @@ abbrev pub HasSome : Pieces → Type 0
 HasSome (Part span) = ⊤
 HasSome (Every every) = 0 < every
 
-abbrev pub WantsSome : Wanted → Type 0
+abbrev pub WantsSome : CutRequest → Type 0
 WantsSome (Once pieces) = HasSome pieces
 WantsSome (Last many) = ⊤
 
@@ -103,11 +103,11 @@ ends_last false many known = WritesNothing
 ends_last true many known = EndsBy end_of_cut (CutsLast many) known
 
 -- a text is cut, and the end is that of the answer; options that choose nothing fail, and nothing is written
-abbrev pub cut_ends : Option Wanted → Bool → Option (List ℕ) → End → Option (List ℕ) → Option (List ℕ) → Type 0
+abbrev pub cut_ends : Option CutRequest → Bool → Option (List ℕ) → End → Option (List ℕ) → Option (List ℕ) → Type 0
 cut_ends None named known = WritesNothing
 cut_ends (Some (Once pieces)) named known = EndsBy end_of_cut (CutsInto pieces) known
 cut_ends (Some (Last many)) named known = ends_last named many known
 
 -- the end of a cut with the request and the file of these options
 abbrev pub EndsCut : List Row → Option Text → Option (List ℕ) → End → Option (List ℕ) → Option (List ℕ) → Type 0
-EndsCut options file = cut_ends (wanted_of options) (is_named file)
+EndsCut options file = cut_ends (cut_request_of options) (is_named file)

@@ -9,9 +9,9 @@ use Rattle.pie_record.specs.Text.{records_of}
 use Rattle.pie_audit.specs.declared.auditor.Finding.{Finding}
 use Rattle.pie_audit.specs.declared.auditor.Finding.TheVariants as finding
 use Rattle.pie_audit.specs.Text.{FindsEither}
-use Rattle.pie_cut.specs.declared.joined.Joined.{Joined}
-use Rattle.pie_cut.specs.declared.joined.Joint.{Joint}
-use Rattle.pie_cut.specs.declared.joined.Joint.TheVariants.{Follows, Gap, Unlike}
+use Rattle.pie_cut.specs.declared.joint_audit.Joined.{Joined}
+use Rattle.pie_cut.specs.declared.joint_audit.Joint.{Joint}
+use Rattle.pie_cut.specs.declared.joint_audit.Joint.TheVariants.{Follows, Gap, Unlike}
 use Rattle.pie_cut.specs.Joined.{EndView, IsLeftBy, JoinsText}
 use Rattle.pie_commands.specs.Files.{opens_after, text_given}
 use Rattle.pie_commands.specs.declared.file_audits.Unaudited.{Unaudited}
@@ -112,7 +112,7 @@ pub record AuditsFiles (works joined : Bool) (input : Option (List ℕ)) (files 
   pub in_order : map (λ t. t.0) told ≡ names
   pub outcomes : HaveOutcomes works joined input files [] None told end
   pub written : Appends before now (flat_map outcome_lines told)
-  pub any_unfound : unfound ≡ list_any (λ t. is_unfound t.1) told
+  pub any_unaudited : unfound ≡ list_any (λ t. is_unfound t.1) told
   pub any_broken : broken ≡ list_any (λ t. is_broken t.1) told
 
 -- the end of an audit of files: the worst end; or a line could not be written; or memory was short and nothing was

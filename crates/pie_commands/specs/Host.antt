@@ -4,7 +4,7 @@ use Rattle.std.specs.IoError.{error_kind}
 use Rattle.std.specs.declared.io.Error.{Error}
 use Rattle.std.specs.declared.io.ErrorKind.{ErrorKind}
 use Rattle.std.specs.declared.io.ErrorKind.TheVariants.{BrokenPipe}
-use Rattle.pie_commands.specs.declared.host.Output.{Output}
+use Rattle.pie_commands.specs.declared.system_files.Output.{Output}
 
 -- nobody reads it any more
 abbrev pub is_closed : Output → Bool

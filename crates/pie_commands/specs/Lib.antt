@@ -13,5 +13,5 @@ pub mod StormEnds
 pub mod SubcommandWords
 pub mod Subcommands
 pub mod Tuning
-pub mod Watched
+pub mod ProgressReader
 pub mod Words

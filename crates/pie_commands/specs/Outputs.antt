@@ -13,8 +13,8 @@ is_whole Differs = true
 is_whole _ = false
 
 -- the end of a subcommand with this end whose output file has its name then (`there`), or has not
-abbrev pub settled : End → Bool → End
-settled end there = if is_whole end && not there then Unplaced else end
+abbrev pub after_output : End → Bool → End
+after_output end there = if is_whole end && not there then Unplaced else end
 
 -- the end of a subcommand that writes to a new file with the known contents `fresh`: empty, or unknown. If the
 -- output is complete, the file has the name; otherwise it has not. The end is `Unplaced` only if something hinders the

@@ -16,7 +16,7 @@ use Rattle.pie_params.specs.declared.elements.Size.{Size}
 use Rattle.pie_params.specs.declared.elements.Size.TheVariants.{Unscaled, Scaled}
 use Rattle.pie_record.specs.FirstRecord.{which_of}
 use Rattle.pie_record.specs.Words.{decay_word, delay_word, picking_word, size_word, step_word}
-use Rattle.pie_storm.specs.declared.numbers.StormNumbers.{StormNumbers}
+use Rattle.pie_storm.specs.declared.plan_numbers.StormNumbers.{StormNumbers}
 use Rattle.pie_storm.specs.declared.plan.Plan.{Plan}
 use Rattle.pie_commands.specs.Words.{number_or}
 use Rattle.pie_storm.specs.StormHistory.{WritesStorm}

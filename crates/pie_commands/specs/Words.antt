@@ -49,13 +49,13 @@ abbrev pub force_rule : Rule
 force_rule = flag_rule (codes "force")
 
 -- a command after each element of a list is added in turn
-abbrev pub with_each : {A : Type 0} → (App → A → App) → App → List A → App
-with_each add app [] = app
-with_each add app (one ∷ more) = with_each add (add app one) more
+abbrev pub with_all_subcommands : {A : Type 0} → (App → A → App) → App → List A → App
+with_all_subcommands add app [] = app
+with_all_subcommands add app (one ∷ more) = with_all_subcommands add (add app one) more
 
 -- a command with these rules
 abbrev pub with_rules : App → List Rule → App
-with_rules = with_each with_rule
+with_rules = with_all_subcommands with_rule
 
 -- what each subcommand takes
 abbrev pub rules_for : Subcommand → List Rule
@@ -87,7 +87,7 @@ abbrev pub adds : App → Subcommand → App
 adds app subcommand = with_subcommand app (app_for subcommand).top
 
 abbrev pub with_subcommands : App → List Subcommand → App
-with_subcommands = with_each adds
+with_subcommands = with_all_subcommands adds
 
 abbrev pub pie_app : App
 pie_app = with_subcommands pie_alone (Run ∷ Audit ∷ Explain ∷ Cut ∷ Migrate ∷ Storm ∷ Params ∷ [])

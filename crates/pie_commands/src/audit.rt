@@ -5,12 +5,12 @@ ghost use Rattle.pie_commands.specs.Ends.{WritesFinding, end_found};
 ghost use Rattle.pie_commands.specs.FileAudits.{EndsEither};
 ghost use Rattle.pie_commands.specs.Words.{files_in, is_joined};
 
-use crate::end::{End, faulted};
+use crate::end::{End, end_with_fault};
 use crate::file_audits::audit_files;
 use crate::files::NamedFiles;
 use crate::options::flag;
-use crate::screen::{Screen, shows_progress};
-use crate::tasks::{Task, perform_over};
+use crate::tasks::{Task, perform_task_on};
+use crate::terminals::{Screen, shows_progress};
 use clap::ArgMatches;
 use either::{Either, Left};
 use pie_audit::{Finding, write_finding};
@@ -30,7 +30,7 @@ fn end_of(found: Finding) -> End
 
 /// Returns the end of an audit with the result `found`. Writes the line of a finding to `output`, or the line of a
 /// fault to `errors`.
-pub(crate) fn ended<W: Write, E: Write>(
+pub(crate) fn report_end<W: Write, E: Write>(
     found: Result<Finding, TraceFault>,
     output: &mut W,
     errors: &mut E,
@@ -40,9 +40,9 @@ pub(crate) fn ended<W: Write, E: Write>(
     match found {
         Ok(found) => match write_finding(found, output) {
             Ok(()) => end_of(found),
-            Err(_) => faulted(errors, TraceFault::Write),
+            Err(_) => end_with_fault(errors, TraceFault::Write),
         },
-        Err(why) => faulted(errors, why),
+        Err(why) => end_with_fault(errors, why),
     }
 }
 
@@ -64,7 +64,7 @@ fn audit_any<H: NamedFiles + Screen, R: Read + Drop, W: Write, E: Write>(
     if names.is_empty() {
         // The type equals the type of a file's reader, so an audit is compiled once.
         let given: Either<R, H::File> = Left(input);
-        return perform_over(
+        return perform_task_on(
             rt,
             alloc,
             Task::Audit,

@@ -7,17 +7,17 @@ ghost use Rattle.pie_cut.specs.Last.{LastEither};
 ghost use Rattle.pie_commands.specs.Files.{text_given};
 ghost use Rattle.pie_commands.specs.Words.{file_in};
 ghost use Rattle.pie_commands.specs.CutEnds.{CutsInto, CutsLast, EndsCut, HasSome, WantsSome, chosen, end_of_cut, ends_last, is_named};
-ghost use Rattle.pie_commands.specs.CutEnds.{wanted_of, within};
+ghost use Rattle.pie_commands.specs.CutEnds.{cut_request_of, within};
 ghost use Rattle.pie_commands.specs.Ends.{EndsBy};
 
-use crate::end::{End, failed, faulted};
+use crate::end::{End, end_failed, end_with_fault};
 use crate::faults::{fault, named_fault};
 use crate::files::NamedFiles;
 use crate::moments::{NO_ORDER, bound, in_order, parsed};
 use crate::options::{file, number};
-use crate::screen::{Screen, shows_progress};
-use crate::tasks::{Task, of_options};
-use crate::watched::Watched;
+use crate::progress_reader::ProgressReader;
+use crate::tasks::{Task, perform_task};
+use crate::terminals::{Screen, shows_progress};
 use clap::ArgMatches;
 use either::{Either, Right};
 use pie_cut::{CutFault, Span, cut_every, last_number};
@@ -38,7 +38,7 @@ pub(crate) enum Pieces {
 
 /// The request of a cut.
 #[derive(Clone, Copy)]
-pub(crate) enum Wanted {
+pub(crate) enum CutRequest {
     /// These pieces of a text, which is read once.
     Once(Pieces),
     /// The last events of a text, this number of them. The text is read twice.
@@ -69,29 +69,29 @@ fn chosen(
     last: Option<u64>,
     every: Option<u64>,
     span: Option<Span>,
-) -> Option<Wanted>
+) -> Option<CutRequest>
     ensures chosen { result ≡ chosen event around last every span }
     ensures some { IfSome result WantsSome }
 {
     match (event, around, last, every, span) {
         (Some(event), more, None, None, None) => {
             let span = Span::around(event, more.unwrap_or(0));
-            Some(Wanted::Once(Pieces::Part(span)))
+            Some(CutRequest::Once(Pieces::Part(span)))
         }
-        (None, None, Some(many), None, None) => Some(Wanted::Last(many)),
+        (None, None, Some(many), None, None) => Some(CutRequest::Last(many)),
         (None, None, None, Some(every), None) if every != 0 => {
-            Some(Wanted::Once(Pieces::Every(every)))
+            Some(CutRequest::Once(Pieces::Every(every)))
         }
-        (None, None, None, None, Some(span)) => Some(Wanted::Once(Pieces::Part(span))),
+        (None, None, None, None, Some(span)) => Some(CutRequest::Once(Pieces::Part(span))),
         _ => None,
     }
 }
 
 /// Returns the request of these options. If they are not valid together, writes a line to `errors` and returns
 /// `None`.
-#[tactic(auto, unfolding(crate::specs::CutEnds::wanted_of))]
-fn wanted_of<E: Write>(options: &ArgMatches<'_>, errors: &mut E) -> Option<Wanted>
-    ensures chosen { result ≡ wanted_of (rows_of (found_of options.now)) }
+#[tactic(auto, unfolding(crate::specs::CutEnds::cut_request_of))]
+fn cut_request_of<E: Write>(options: &ArgMatches<'_>, errors: &mut E) -> Option<CutRequest>
+    ensures chosen { result ≡ cut_request_of (rows_of (found_of options.now)) }
     ensures some { IfSome result WantsSome }
 {
     let from = parsed(bound(options, "from"), "from", errors)?;
@@ -110,17 +110,17 @@ fn wanted_of<E: Write>(options: &ArgMatches<'_>, errors: &mut E) -> Option<Wante
 }
 
 /// The end of a cut with this answer, with a line on `errors` where it is no `Ok`.
-pub(crate) fn ended<E: Write>(errors: &mut E, given: Result<u64, CutFault>) -> End
+pub(crate) fn report_end<E: Write>(errors: &mut E, given: Result<u64, CutFault>) -> End
     ensures { result ≡ end_of_cut given }
 {
     match given {
         Ok(_) => End::Done,
-        Err(CutFault::Trace(why)) => faulted(errors, why),
+        Err(CutFault::Trace(why)) => end_with_fault(errors, why),
         Err(CutFault::Differs { event }) => {
             fault(errors, CutFault::Differs { event });
             End::Differs
         }
-        Err(CutFault::NoEvents) => failed(errors, CutFault::NoEvents),
+        Err(CutFault::NoEvents) => end_failed(errors, CutFault::NoEvents),
     }
 }
 
@@ -155,7 +155,7 @@ fn last_named<H: NamedFiles + Clock, R: Read + Drop, E: Write>(
         Ok(file) => {
             // The type equals the type of the cut's reader, so reading is compiled once.
             let reader: Either<R, H::File> = Right(file);
-            let watched = Watched::new(reader, &mut *errors, rt, is_shown);
+            let watched = ProgressReader::new(reader, &mut *errors, rt, is_shown);
             Some(last_number(alloc, watched))
         }
         Err(why) => {
@@ -182,10 +182,10 @@ fn cut_last<H: NamedFiles + Screen, R: Read + Drop, W: Write, E: Write>(
     let is_shown = shows_progress(rt, options, true);
     match last_named::<H, R, E>(rt, alloc, is_shown, name, errors) {
         None => End::Unable,
-        Some(Err(why)) => faulted(errors, why),
+        Some(Err(why)) => end_with_fault(errors, why),
         Some(Ok(number)) => {
             let pieces = Pieces::Part(Span::last(number, many));
-            of_options(rt, alloc, Task::Cut(pieces), options, input, output, errors)
+            perform_task(rt, alloc, Task::Cut(pieces), options, input, output, errors)
         }
     }
 }
@@ -210,11 +210,11 @@ fn cut_last_of<H: NamedFiles + Screen, R: Read + Drop, W: Write, E: Write>(
     match name {
         Some(name) => {
             if name == "-" {
-                return failed(errors, NO_NAME);
+                return end_failed(errors, NO_NAME);
             }
             cut_last(rt, alloc, options, many, name, input, output, errors)
         }
-        None => failed(errors, NO_NAME),
+        None => end_failed(errors, NO_NAME),
     }
 }
 
@@ -231,11 +231,11 @@ pub(crate) fn cut<H: NamedFiles + Screen, R: Read + Drop, W: Write, E: Write>(
         (text_given (R.remaining input) (H.holds rt.now) (file_in (rows_of (found_of options.now)))) result (W.contents output.old)
         (W.contents output.new) }
 {
-    match wanted_of(options, errors) {
-        Some(Wanted::Once(pieces)) => {
-            of_options(rt, alloc, Task::Cut(pieces), options, input, output, errors)
+    match cut_request_of(options, errors) {
+        Some(CutRequest::Once(pieces)) => {
+            perform_task(rt, alloc, Task::Cut(pieces), options, input, output, errors)
         }
-        Some(Wanted::Last(many)) => {
+        Some(CutRequest::Last(many)) => {
             let name = file(options);
             cut_last_of(rt, alloc, options, many, name, input, output, errors)
         }

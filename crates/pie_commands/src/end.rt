@@ -2,7 +2,7 @@
 ghost use Rattle.std.specs.Prelude.{◌≡◌, [], OnOk};
 ghost use Rattle.std.specs.Io.KnownBytes.{Appends};
 ghost use Rattle.pie_commands.specs.Ends.{end_of, end_report, end_status, is_unwritten};
-ghost use Rattle.pie_commands.specs.Outputs.{is_whole, settled};
+ghost use Rattle.pie_commands.specs.Outputs.{is_whole, after_output};
 
 use crate::faults::fault;
 use pie_trace::TraceFault;
@@ -73,8 +73,8 @@ impl End {
     }
 
     /// Returns the end of a subcommand with this end. `is_there` is true if its output file has its name.
-    pub(crate) fn settled(self, is_there: bool) -> End
-        ensures { result ≡ settled self is_there }
+    pub(crate) fn after_output(self, is_there: bool) -> End
+        ensures { result ≡ after_output self is_there }
     {
         if self.is_whole() && !is_there {
             return End::Unplaced;
@@ -84,18 +84,18 @@ impl End {
 }
 
 /// Returns the end of a run or a migration with this result, and writes the line of a fault to `errors`.
-pub(crate) fn ended<T: Copy, E: Write>(errors: &mut E, given: Result<T, TraceFault>) -> End
+pub(crate) fn report_end<T: Copy, E: Write>(errors: &mut E, given: Result<T, TraceFault>) -> End
     ensures { result ≡ end_of given }
 {
     match given {
         Ok(_) => End::Done,
-        Err(why) => faulted(errors, why),
+        Err(why) => end_with_fault(errors, why),
     }
 }
 
 /// Returns the end for a fault and writes its line to `errors`. A writer's fault has no line here: `End::report`
 /// writes it later.
-pub(crate) fn faulted<E: Write>(errors: &mut E, why: TraceFault) -> End
+pub(crate) fn end_with_fault<E: Write>(errors: &mut E, why: TraceFault) -> End
     ensures { result ≡ End.Fault why }
 {
     let end = End::Fault(why);
@@ -106,7 +106,7 @@ pub(crate) fn faulted<E: Write>(errors: &mut E, why: TraceFault) -> End
 }
 
 /// Returns the end of a subcommand that cannot begin, and writes its line to `errors`.
-pub(crate) fn unable<E: Write, D: Display + Drop>(errors: &mut E, text: D) -> End
+pub(crate) fn end_unable<E: Write, D: Display + Drop>(errors: &mut E, text: D) -> End
     ensures { result ≡ End.Unable }
 {
     fault(errors, text);
@@ -114,7 +114,7 @@ pub(crate) fn unable<E: Write, D: Display + Drop>(errors: &mut E, text: D) -> En
 }
 
 /// Returns the end for a request that selects nothing, and writes its line to `errors`.
-pub(crate) fn failed<E: Write, D: Display + Drop>(errors: &mut E, text: D) -> End
+pub(crate) fn end_failed<E: Write, D: Display + Drop>(errors: &mut E, text: D) -> End
     ensures { result ≡ End.Failed }
 {
     fault(errors, text);

@@ -6,11 +6,11 @@ ghost use Rattle.pie_explain.specs.Either.{ExplainsEither};
 ghost use Rattle.pie_commands.specs.Choice.{choice_of, chosen, each_kind, every_of, form_of, is_either, is_summary, lasts, output_kind_by, output_kind_of, output_text, which_of};
 ghost use Rattle.pie_commands.specs.ExplainEnds.{EndsExplain, end_of_explain};
 
-use crate::end::{End, failed, faulted};
+use crate::end::{End, end_failed, end_with_fault};
 use crate::faults::fault;
 use crate::moments::{NO_ORDER, bound, in_order, moment, parsed};
 use crate::options::{flag, number};
-use crate::watched::Watched;
+use crate::progress_reader::ProgressReader;
 use clap::ArgMatches;
 use pie_explain::{ExplainFault, Form, Records, Selection, Which, Words};
 use pie_summary::{ByFlow, Summary, SumsAlone};
@@ -192,7 +192,7 @@ fn output_kind_of(options: &ArgMatches<'_>) -> OutputKind
 }
 
 /// Writes what there is to say of the chosen events.
-fn tell<R: Read + Drop, W: Write>(
+fn explain_with<R: Read + Drop, W: Write>(
     alloc: Global,
     input: R,
     output: &mut W,
@@ -212,17 +212,17 @@ fn tell<R: Read + Drop, W: Write>(
 }
 
 /// The end of what `explain` answers, with a line on `errors` where it is no `Ok`.
-fn ended<E: Write>(errors: &mut E, given: Result<u64, ExplainFault>) -> End
+fn report_end<E: Write>(errors: &mut E, given: Result<u64, ExplainFault>) -> End
     ensures { result ≡ end_of_explain given }
 {
     match given {
         Ok(_) => End::Done,
-        Err(ExplainFault::Trace(why)) => faulted(errors, why),
+        Err(ExplainFault::Trace(why)) => end_with_fault(errors, why),
         Err(ExplainFault::Differs { event }) => {
             fault(errors, ExplainFault::Differs { event });
             End::Differs
         }
-        Err(why) => failed(errors, why),
+        Err(why) => end_failed(errors, why),
     }
 }
 
@@ -244,9 +244,9 @@ pub(crate) fn explain<H: Clock, R: Read + Drop, W: Write, E: Write>(
 {
     match choice_of(options, errors) {
         Some(choice) => {
-            let watched = Watched::new(input, &mut *errors, rt, is_shown);
-            let given = tell(alloc, watched, output, choice, output_kind_of(options));
-            ended(errors, given)
+            let watched = ProgressReader::new(input, &mut *errors, rt, is_shown);
+            let given = explain_with(alloc, watched, output, choice, output_kind_of(options));
+            report_end(errors, given)
         }
         None => End::Failed,
     }

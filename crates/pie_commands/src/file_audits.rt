@@ -6,11 +6,11 @@ ghost use Rattle.pie_audit.specs.Text.{FindsEither};
 ghost use Rattle.pie_record.specs.Text.{records_of};
 ghost use Rattle.pie_commands.specs.Files.{CanOpen, ReadsNamed, left_for};
 
-use crate::end::{End, faulted};
+use crate::end::{End, end_with_fault};
 use crate::faults::named_fault;
 use crate::files::NamedFiles;
+use crate::progress_reader::ProgressReader;
 use crate::reading::reader_named;
-use crate::watched::Watched;
 use pie_audit::{Finding, audit};
 use pie_cut::{Joined, Joint, TextEnd, audit_joined};
 use pie_trace::TraceFault;
@@ -36,7 +36,7 @@ fn found_in<R: Read + Drop>(
     reader: R,
     end: &mut Option<TextEnd>,
 ) -> Result<Joined, TraceFault>
-    ensures told { IfOk result (λ joined. HasTextOutcome are_joined ⊤ (R.remaining reader) end.old (Ok joined) end.new) }
+    ensures writes_line { IfOk result (λ joined. HasTextOutcome are_joined ⊤ (R.remaining reader) end.old (Ok joined) end.new) }
     ensures fault { IfSome (R.remaining reader) (λ text. IfErr result (λ why. FindsEither (records_of text) (Err why))) }
     ensures none { OnErr result (are_joined ≡ true → end.new ≡ None) }
 {
@@ -63,7 +63,7 @@ fn outcome_of_named<H: NamedFiles + Clock, R: Read + Drop, E: Write>(
     end: &mut Option<TextEnd>,
     errors: &mut E,
 ) -> Result<Joined, Unaudited>
-    ensures told { HasReadOutcome are_joined ((H.works ≡ true) × CanOpen input.old (H.holds rt.now name.now) name.now)
+    ensures writes_line { HasReadOutcome are_joined ((H.works ≡ true) × CanOpen input.old (H.holds rt.now name.now) name.now)
         (ReadsNamed R.remaining input.old (H.holds rt.now) name.now) end.old result end.new }
     ensures input { input.new ≡ left_for name.now input.old }
 {
@@ -71,7 +71,7 @@ fn outcome_of_named<H: NamedFiles + Clock, R: Read + Drop, E: Write>(
         *end = None;
         return Err(Unaudited::Unopened);
     };
-    let watched = Watched::new(reader, &mut *errors, rt, is_shown);
+    let watched = ProgressReader::new(reader, &mut *errors, rt, is_shown);
     match found_in(alloc, are_joined, watched, end) {
         Ok(joined) => Ok(joined),
         Err(why) => {
@@ -124,7 +124,7 @@ fn audit_named<H: NamedFiles + Clock, R: Read + Drop, W: Write, E: Write>(
     output: &mut W,
     errors: &mut E,
 ) -> io::Result<Result<Joined, Unaudited>>
-    ensures told { IfOk result (λ told. HasReadOutcome are_joined ((H.works ≡ true) × CanOpen input.old (H.holds rt.now name.now) name.now)
+    ensures writes_line { IfOk result (λ told. HasReadOutcome are_joined ((H.works ≡ true) × CanOpen input.old (H.holds rt.now name.now) name.now)
         (ReadsNamed R.remaining input.old (H.holds rt.now) name.now) end.old told end.new) }
     ensures written { IfOk result (λ told. Appends (W.contents output.old) (W.contents output.new) (lines_of name.now told)) }
     ensures input { input.new ≡ left_for name.now input.old }
@@ -162,7 +162,7 @@ fn any_broken(before: bool, told: Result<Joined, Unaudited>) -> bool
 }
 
 /// Returns true if one of the files before was not audited, or this one.
-fn any_unfound(before: bool, told: Result<Joined, Unaudited>) -> bool
+fn any_unaudited(before: bool, told: Result<Joined, Unaudited>) -> bool
     ensures { result ≡ (before || is_unfound told) }
 {
     before || told.is_err()
@@ -216,10 +216,10 @@ pub(crate) fn audit_files<H: NamedFiles + Clock, R: Read + Drop, W: Write, E: Wr
             Ok(told) => told,
             Err(_) => {
                 drop(end);
-                return faulted(errors, TraceFault::Write);
+                return end_with_fault(errors, TraceFault::Write);
             }
         };
-        unfound = any_unfound(unfound, told);
+        unfound = any_unaudited(unfound, told);
         broken = any_broken(broken, told);
     }
     drop(end);

@@ -31,7 +31,7 @@ pub trait NamedFiles {
         ensures works { works ≡ true → IsSome (holds self.now name.now) → IsOk result };
 
     /// Returns true if `name` leads to the file `other`, under any name, or to standard input if `other` is `None`.
-    fn is_one(&self, name: &str, other: Option<&str>) -> bool
+    fn is_same_file(&self, name: &str, other: Option<&str>) -> bool
         ensures same { IsSome (holds self.now name.now) → option_map (λ other. other.now) other.entry ≡ Some name.now → result ≡ true }
         ensures works { works ≡ true → result ≡ true → option_map (λ other. other.now) other.entry ≡ Some name.now };
 

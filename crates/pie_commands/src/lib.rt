@@ -3,14 +3,14 @@
 //! program.
 //!
 //! Each subcommand returns an `End`. Contracts relate the end to the text that was read, the text that was written
-//! and the exit status. The output goes to the caller's writer, or to a file that `perform_for` creates. This file
+//! and the exit status. The output goes to the caller's writer, or to a file that `perform_to_file` creates. This file
 //! moves to the name given by `-o` once the output is complete.
 //!
-//! `NamedFiles` opens, creates and moves files; `HostRuntime` implements it for the system's files. `make_for`
-//! creates an output under another name beside its own, and `settle` moves it once the output is complete. Until
+//! `NamedFiles` opens, creates and moves files; `HostRuntime` implements it for the system's files. `create_output`
+//! creates an output under another name beside its own, and `finish_output` moves it once the output is complete. Until
 //! then an existing file of that name is unchanged.
 //!
-//! `Watched` wraps a reader. It returns exactly the bytes of the inner reader: `remaining` is the inner reader's.
+//! `ProgressReader` wraps a reader. It returns exactly the bytes of the inner reader: `remaining` is the inner reader's.
 //! If progress is requested, it counts these bytes. After each 8 megabytes it overwrites its last line with the
 //! number of records and megabytes and the rate in megabytes per second. It clears the line at the end of the
 //! input, or when it is dropped. It ignores failed writes to the error stream and a clock that can't be read.
@@ -23,21 +23,21 @@ mod explain;
 mod faults;
 mod file_audits;
 mod files;
-mod host;
 mod moments;
 mod options;
 mod output;
 mod params;
 mod perform;
 mod program;
+mod progress_reader;
 mod reading;
-mod screen;
 mod storm;
+mod system_files;
 mod tasks;
-mod watched;
+mod terminals;
 
 pub use end::End;
 pub use files::NamedFiles;
-pub use host::Output;
 pub use program::command;
-pub use screen::Screen;
+pub use system_files::Output;
+pub use terminals::Screen;

@@ -10,7 +10,7 @@ use std::io::Write;
 
 /// Creates a file that can be moved onto `name`. If it can't be created, a file of the name must not be replaced, or is
 /// the file that is read, writes a line to `errors` and returns `None`.
-pub(crate) fn make_for<H: NamedFiles, E: Write>(
+pub(crate) fn create_output<H: NamedFiles, E: Write>(
     rt: &mut H,
     name: &str,
     read: Option<&str>,
@@ -25,7 +25,7 @@ pub(crate) fn make_for<H: NamedFiles, E: Write>(
     ensures free { MayHave is_forced (H.holds rt.old name.now) → MayHave is_forced (H.holds rt.new name.now) }
     ensures works { result ≡ None → IsHindered H.works (file_of (option_map (λ other. other.now) read.entry)) is_forced name.now (H.holds rt.old) }
 {
-    if rt.is_one(name, file_of(read)) {
+    if rt.is_same_file(name, file_of(read)) {
         named_fault(errors, name, "the input file cannot be the output file");
         return None;
     }
@@ -73,7 +73,7 @@ fn abandon<H: NamedFiles, E: Write>(rt: &mut H, made: H::Made, errors: &mut E)
 
 /// Moves an output that `is_whole` onto its name, and returns true if it has the name. Otherwise the output is left
 /// under its other name, and a file of its name is unchanged. If it can't be moved, writes a line to `errors`.
-pub(crate) fn settle<H: NamedFiles, E: Write>(
+pub(crate) fn finish_output<H: NamedFiles, E: Write>(
     rt: &mut H,
     made: H::Made,
     name: &str,

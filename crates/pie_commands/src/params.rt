@@ -8,7 +8,7 @@ ghost use Rattle.pie_units.specs.declared.layer.Overhead.{Overhead};
 ghost use Rattle.pie_units.specs.declared.options.TuningOptions.{TuningOptions};
 ghost use Rattle.pie_commands.specs.Tuning.{AsksFor, AsksForLayer, EndsParams, given_or, link_layer_by};
 
-use crate::end::{End, failed, faulted};
+use crate::end::{End, end_failed, end_with_fault};
 use crate::options::{flag, number, number_or, text};
 use crate::storm::decay_of;
 use clap::ArgMatches;
@@ -95,7 +95,7 @@ fn read_of<T: Copy, E: Write>(read: Result<T, OptionFault>, name: &str, errors: 
 
 /// Returns the options of `tc stab`. If a text is not valid, writes a line to `errors` and returns `None`.
 fn layer_in<E: Write>(options: &ArgMatches<'_>, errors: &mut E) -> Option<Layer>
-    ensures asked { IfSome result (AsksForLayer (rows_of (found_of options.now))) }
+    ensures requested { IfSome result (AsksForLayer (rows_of (found_of options.now))) }
     ensures none { result ≡ None → (layer : Layer) → AsksForLayer (rows_of (found_of options.now)) layer → ⊥ }
 {
     let overhead = read_of(overhead_in(options), "overhead", errors)?;
@@ -113,7 +113,7 @@ fn layer_in<E: Write>(options: &ArgMatches<'_>, errors: &mut E) -> Option<Layer>
 /// Returns the values of all options. If a text is not a valid number of its kind or names no choice, writes a line
 /// to `errors` and returns `None`.
 fn tuning_in<E: Write>(options: &ArgMatches<'_>, errors: &mut E) -> Option<TuningOptions>
-    ensures asked { IfSome result (AsksFor (rows_of (found_of options.now))) }
+    ensures requested { IfSome result (AsksFor (rows_of (found_of options.now))) }
     ensures none { result ≡ None → (asked : TuningOptions) → AsksFor (rows_of (found_of options.now)) asked → ⊥ }
 {
     let rate = read_of(rate_in(options), "rate", errors)?;
@@ -190,10 +190,10 @@ pub(crate) fn params<W: Write, E: Write>(
     };
     let params = match Params::check(params_for(&asked)) {
         Ok(params) => params,
-        Err(why) => return failed(errors, why),
+        Err(why) => return end_failed(errors, why),
     };
     if asked.packets == 0 || u64::from(Limits::MOST_PACKETS) < asked.packets {
-        return failed(errors, "--limit must be 1 to 1048576 packets");
+        return end_failed(errors, "--limit must be 1 to 1048576 packets");
     }
     report_rounded(options, errors);
     report_short(&asked, &params.raw(), errors);
@@ -201,6 +201,6 @@ pub(crate) fn params<W: Write, E: Write>(
     let opening = opening_for(asked.packets as u32, elements_for(&asked), params);
     match write_opening(&opening, output) {
         Ok(()) => End::Done,
-        Err(_) => faulted(errors, TraceFault::Write),
+        Err(_) => end_with_fault(errors, TraceFault::Write),
     }
 }

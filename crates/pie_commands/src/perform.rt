@@ -11,11 +11,11 @@ use crate::cut::cut;
 use crate::end::End;
 use crate::files::NamedFiles;
 use crate::options::{Subcommand, file, flag, output};
-use crate::output::{make_for, settle};
+use crate::output::{create_output, finish_output};
 use crate::params::params;
-use crate::screen::Screen;
 use crate::storm::make_storm;
-use crate::tasks::{Task, of_options};
+use crate::tasks::{Task, perform_task};
+use crate::terminals::Screen;
 use clap::ArgMatches;
 use std::alloc::Global;
 use std::io::{Read, Write};
@@ -37,18 +37,34 @@ fn perform<H: Threads + Wait + Sync + NamedFiles + Screen, R: Read + Drop, W: Wr
         (W.contents output.new) }
 {
     match subcommand {
-        Subcommand::Run => of_options(rt, alloc, Task::Run, options, input, output, errors),
+        Subcommand::Run => perform_task(rt, alloc, Task::Run, options, input, output, errors),
         Subcommand::Audit => audit(rt, alloc, options, input, output, errors),
-        Subcommand::Explain => of_options(rt, alloc, Task::Explain, options, input, output, errors),
+        Subcommand::Explain => perform_task(
+            rt,
+            alloc,
+            Task::Explain,
+            options,
+            input,
+            output,
+            errors,
+        ),
         Subcommand::Cut => cut(rt, alloc, options, input, output, errors),
-        Subcommand::Migrate => of_options(rt, alloc, Task::Migrate, options, input, output, errors),
+        Subcommand::Migrate => perform_task(
+            rt,
+            alloc,
+            Task::Migrate,
+            options,
+            input,
+            output,
+            errors,
+        ),
         Subcommand::Storm => make_storm(rt, alloc, options, output, errors),
         Subcommand::Params => params(options, output, errors),
     }
 }
 
 /// Performs a subcommand that writes to a new file, which is moved onto `name` when the output is complete.
-fn perform_for<H: Threads + Wait + Sync + NamedFiles + Screen, R: Read + Drop, E: Write>(
+fn perform_to_file<H: Threads + Wait + Sync + NamedFiles + Screen, R: Read + Drop, E: Write>(
     rt: &mut H,
     alloc: Global,
     subcommand: Subcommand,
@@ -61,12 +77,12 @@ fn perform_for<H: Threads + Wait + Sync + NamedFiles + Screen, R: Read + Drop, E
         (H.holds rt.old) (H.holds rt.new) (EndsAs subcommand (rows_of (found_of options.now)) H.works (R.remaining input) (H.holds rt.old)) result }
 {
     let is_forced = flag(options, "force");
-    let Some(mut made) = make_for(rt, name, file(options), is_forced, errors) else {
+    let Some(mut made) = create_output(rt, name, file(options), is_forced, errors) else {
         return End::Unplaced;
     };
     let end = perform(&*rt, alloc, subcommand, options, input, &mut made, errors);
-    let is_there = settle(rt, made, name, is_forced, end.is_whole(), errors);
-    end.settled(is_there)
+    let is_there = finish_output(rt, made, name, is_forced, end.is_whole(), errors);
+    end.after_output(is_there)
 }
 
 /// Returns the name of the file that a subcommand writes instead of the caller's writer.
@@ -80,7 +96,7 @@ fn output_for<'a>(subcommand: Subcommand, options: &ArgMatches<'a>) -> Option<&'
 }
 
 /// Performs a subcommand with its options, and writes to `output`, or to the output file that the options name.
-pub(crate) fn performed<
+pub(crate) fn perform_subcommand<
     H: Threads + Wait + Sync + NamedFiles + Screen,
     R: Read + Drop,
     W: Write,
@@ -99,6 +115,6 @@ pub(crate) fn performed<
 {
     match output_for(subcommand, options) {
         None => perform(&*rt, alloc, subcommand, options, input, output, errors),
-        Some(name) => perform_for(rt, alloc, subcommand, options, name, input, errors),
+        Some(name) => perform_to_file(rt, alloc, subcommand, options, name, input, errors),
     }
 }

@@ -11,11 +11,11 @@ ghost use Rattle.pie_commands.specs.declared.end.End.{End};
 ghost use Rattle.pie_commands.specs.Ends.{status_of};
 ghost use Rattle.pie_commands.specs.Subcommands.{Answers, EndsTo, Finds, may_differ};
 
-use crate::end::{End, failed, faulted, unable};
+use crate::end::{End, end_failed, end_unable, end_with_fault};
 use crate::files::NamedFiles;
 use crate::options::{Subcommand, options};
-use crate::perform::performed;
-use crate::screen::Screen;
+use crate::perform::perform_subcommand;
+use crate::terminals::Screen;
 use clap::error::ErrorKind;
 use clap::{ArgMatches, Error};
 use pie_trace::TraceFault;
@@ -64,7 +64,7 @@ pub fn command<H: Threads + Wait + Sync + NamedFiles + Screen, R: Read + Drop, W
         (W.contents output.old) (W.contents output.new) }
 {
     let found = matches_of(alloc, words);
-    let end = answer(rt, alloc, &found, input, output, errors);
+    let end = perform_found(rt, alloc, &found, input, output, errors);
     drop(found);
     end
 }
@@ -77,7 +77,12 @@ fn matches_of<'a>(alloc: Global, words: &'a [String]) -> Result<ArgMatches<'a>, 
 }
 
 /// Performs the subcommand of the command line, or writes the help or the message of `clap`.
-fn answer<H: Threads + Wait + Sync + NamedFiles + Screen, R: Read + Drop, W: Write, E: Write>(
+fn perform_found<
+    H: Threads + Wait + Sync + NamedFiles + Screen,
+    R: Read + Drop,
+    W: Write,
+    E: Write,
+>(
     rt: &mut H,
     alloc: Global,
     found: &Result<ArgMatches<'_>, Error>,
@@ -91,9 +96,9 @@ fn answer<H: Threads + Wait + Sync + NamedFiles + Screen, R: Read + Drop, W: Wri
     match found {
         Ok(matches) => match chosen_subcommand(matches) {
             Some((subcommand, options)) => {
-                performed(rt, alloc, subcommand, options, input, output, errors)
+                perform_subcommand(rt, alloc, subcommand, options, input, output, errors)
             }
-            None => failed(errors, "no subcommand"),
+            None => end_failed(errors, "no subcommand"),
         },
         Err(why) => mistake(why, output, errors),
     }
@@ -122,7 +127,7 @@ fn mistake<W: Write, E: Write>(error: &Error, output: &mut W, errors: &mut E) ->
         → (kind_of error.now ≡ ErrorKind.DisplayVersion → ⊥) → (result ≡ End.Failed) × (W.contents output.new ≡ W.contents output.old) }
 {
     if matches!(error.kind(), ErrorKind::OutOfMemory) {
-        return unable(errors, "out of memory");
+        return end_unable(errors, "out of memory");
     }
     if error.use_stderr() {
         let _ = write!(errors, "{error}");
@@ -130,6 +135,6 @@ fn mistake<W: Write, E: Write>(error: &Error, output: &mut W, errors: &mut E) ->
     }
     match write!(output, "{error}") {
         Ok(()) => End::Done,
-        Err(_) => faulted(errors, TraceFault::Write),
+        Err(_) => end_with_fault(errors, TraceFault::Write),
     }
 }

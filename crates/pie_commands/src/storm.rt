@@ -5,7 +5,7 @@ ghost use Rattle.pie_commands.specs.StormEnds.{EndsStorm, choice_by, decay_in, e
 ghost use Rattle.pie_commands.specs.Words.{number_or};
 ghost use Rattle.pie_storm.specs.StormPlan.{HasStormRange};
 
-use crate::end::{End, failed, faulted, unable};
+use crate::end::{End, end_failed, end_unable, end_with_fault};
 use crate::options::{flag, number_or, text};
 use clap::ArgMatches;
 use pie_book::{Event, Profile};
@@ -83,7 +83,7 @@ fn profile_of(options: &ArgMatches<'_>) -> Profile
 
 /// The numbers of the plan that these options ask for, with these elements; each has one that it is where the words name none.
 fn numbers_of(options: &ArgMatches<'_>, elements: Elements) -> StormNumbers
-    ensures asked { result ≡ numbers_in elements (rows_of (found_of options.now)) }
+    ensures requested { result ≡ numbers_in elements (rows_of (found_of options.now)) }
     ensures ranges { HasStormRange result }
 {
     StormNumbers {
@@ -112,11 +112,11 @@ pub(crate) fn make_storm<H: Threads + Wait + Clock + Sync, W: Write, E: Write>(
     ensures { EndsStorm (rows_of (found_of options.now)) result (W.contents output.old) (W.contents output.new) }
 {
     let Some(elements) = elements_of(options) else {
-        return failed(errors, NO_CHOICE);
+        return end_failed(errors, NO_CHOICE);
     };
     let made = match pie_storm::make_storm(rt, alloc, numbers_of(options, elements)) {
         Ok(made) => made,
-        Err(why) => return unable(errors, why),
+        Err(why) => return end_unable(errors, why),
     };
     let events = made.end.events.as_slice();
     report_counts(options, events, errors);
@@ -124,8 +124,8 @@ pub(crate) fn make_storm<H: Threads + Wait + Clock + Sync, W: Write, E: Write>(
     drop(made);
     match written {
         Ok(()) => End::Done,
-        Err(TraceFault::Memory) => faulted(errors, TraceFault::Memory),
-        Err(_) => faulted(errors, TraceFault::Write),
+        Err(TraceFault::Memory) => end_with_fault(errors, TraceFault::Memory),
+        Err(_) => end_with_fault(errors, TraceFault::Write),
     }
 }
 

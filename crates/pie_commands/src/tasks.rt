@@ -8,13 +8,13 @@ ghost use Rattle.pie_commands.specs.Ends.{counts_line};
 ghost use Rattle.pie_commands.specs.Subcommands.{CanDo, EndsTask};
 
 use crate::cut::{Pieces, cut_out};
-use crate::end::{End, ended};
+use crate::end::{End, report_end};
 use crate::explain::explain;
 use crate::files::NamedFiles;
 use crate::options::{file, flag};
+use crate::progress_reader::ProgressReader;
 use crate::reading::reader_of;
-use crate::screen::{Screen, shows_progress};
-use crate::watched::Watched;
+use crate::terminals::{Screen, shows_progress};
 use crate::{audit, cut};
 use clap::ArgMatches;
 use pie_trace::{RunEnd, TraceFault, migrate, run_trace};
@@ -56,7 +56,7 @@ fn report_counts<E: Write>(
 
 /// Performs `task` with the text of `input`. If progress `is_shown`, it is reported on `errors`. After a run
 /// without a fault the numbers of events and refused records are written there, if the options request it.
-pub(crate) fn perform_over<H: Clock, R: Read + Drop, W: Write, E: Write>(
+pub(crate) fn perform_task_on<H: Clock, R: Read + Drop, W: Write, E: Write>(
     rt: &H,
     alloc: Global,
     task: Task,
@@ -71,32 +71,32 @@ pub(crate) fn perform_over<H: Clock, R: Read + Drop, W: Write, E: Write>(
 {
     match task {
         Task::Run => {
-            let watched = Watched::new(input, &mut *errors, rt, is_shown);
+            let watched = ProgressReader::new(input, &mut *errors, rt, is_shown);
             let given = run_trace(alloc, watched, output);
             report_counts(options, &given, errors);
-            ended(errors, given)
+            report_end(errors, given)
         }
         Task::Audit => {
-            let watched = Watched::new(input, &mut *errors, rt, is_shown);
+            let watched = ProgressReader::new(input, &mut *errors, rt, is_shown);
             let found = pie_audit::audit(alloc, watched);
-            audit::ended(found, output, errors)
+            audit::report_end(found, output, errors)
         }
         Task::Explain => explain(rt, alloc, options, is_shown, input, output, errors),
         Task::Cut(pieces) => {
-            let watched = Watched::new(input, &mut *errors, rt, is_shown);
+            let watched = ProgressReader::new(input, &mut *errors, rt, is_shown);
             let given = cut_out(alloc, watched, output, pieces);
-            cut::ended(errors, given)
+            cut::report_end(errors, given)
         }
         Task::Migrate => {
-            let watched = Watched::new(input, &mut *errors, rt, is_shown);
+            let watched = ProgressReader::new(input, &mut *errors, rt, is_shown);
             let given = migrate(alloc, watched, output);
-            ended(errors, given)
+            report_end(errors, given)
         }
     }
 }
 
 /// Performs `task` with the file that the options name, or with `input` if they name none.
-pub(crate) fn of_options<H: NamedFiles + Screen, R: Read + Drop, W: Write, E: Write>(
+pub(crate) fn perform_task<H: NamedFiles + Screen, R: Read + Drop, W: Write, E: Write>(
     rt: &H,
     alloc: Global,
     task: Task,
@@ -112,7 +112,7 @@ pub(crate) fn of_options<H: NamedFiles + Screen, R: Read + Drop, W: Write, E: Wr
 {
     let is_shown = shows_progress(rt, options, true);
     match reader_of(rt, file(options), input, errors) {
-        Some(reader) => perform_over(rt, alloc, task, options, is_shown, reader, output, errors),
+        Some(reader) => perform_task_on(rt, alloc, task, options, is_shown, reader, output, errors),
         None => End::Unable,
     }
 }

@@ -9,7 +9,7 @@ use Rattle.pie_cut.specs.declared.span.Span.{Span}
 use Rattle.pie_cut.specs.Segment.{segment}
 use Rattle.pie_cut.specs.Excerpt.{is_past, is_reached}
 use Rattle.pie_book.specs.Core.{CoreView}
-use Rattle.pie_cut.specs.declared.joined.Joint.TheVariants.{Follows, Gap, Unlike}
+use Rattle.pie_cut.specs.declared.joint_audit.Joint.TheVariants.{Follows, Gap, Unlike}
 use Rattle.pie_cut.specs.Joined.{EndView, JoinsBy}
 use Rattle.std.proofs.Common.{ap, arith}
 

@@ -47,7 +47,7 @@ pub fn preambles_are_resumed()
         → All (λ event. CommandFits event.command) past → IsWritten opening snapshot past set_by
         → resumed_of (resume_row (resume_with opening snapshot set_by) ∷ (map queued_row (waiting_after opening past) ++ more))
         ≡ Ok (begun_at opening snapshot past set_by more) }
-    ensures goes_on { (opening : Opening) (snapshot : CoreSnapshot) (past : List Event) (set_by : Option ℕ) (more : List Row)
+    ensures continues { (opening : Opening) (snapshot : CoreSnapshot) (past : List Event) (set_by : Option ℕ) (more : List Row)
         → All (λ event. CommandFits event.command) past → IsWritten opening snapshot past set_by
         → Resumes (resume_row (resume_with opening snapshot set_by) ∷ (map queued_row (waiting_after opening past) ++ more)) opening past }
 {

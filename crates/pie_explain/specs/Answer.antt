@@ -4,13 +4,13 @@ use Rattle.pie_explain.specs.Names.{ℕ, nat_lt, List, length, Bool, true, false
 use Rattle.pie_explain.specs.Names.{Finding, AuditsFrom, AuditorView, count_after, Explained, Setter, Selection, is_whole, Start, Origin}
 use Rattle.pie_record.specs.Fault.{is_device}
 use Rattle.pie_audit.specs.declared.auditor.Finding.TheVariants.{Clean}
-use Rattle.pie_audit.specs.declared.following.Follower.{Follower}
-use Rattle.pie_audit.specs.Following.{Follows}
+use Rattle.pie_audit.specs.declared.follower.Follower.{Follower}
+use Rattle.pie_audit.specs.Follower.{Follows}
 use Rattle.pie_audit.specs.Finding.{finding_from}
 use Rattle.pie_explain.specs.declared.fault.ExplainFault.{ExplainFault}
 use Rattle.pie_explain.specs.declared.fault.ExplainFault.TheVariants.{Trace, Differs, Earlier, NoEvent, NoTag, NoneWithin}
-use Rattle.pie_explain.specs.declared.which.Which.{Which}
-use Rattle.pie_explain.specs.declared.which.Which.TheVariants.{Number, Tag, Lost, Marked, All}
+use Rattle.pie_explain.specs.declared.choice.Which.{Which}
+use Rattle.pie_explain.specs.declared.choice.Which.TheVariants.{Number, Tag, Lost, Marked, All}
 use Rattle.pie_explain.specs.Explanations.{explanations_since}
 use Rattle.pie_audit.specs.declared.auditor.Finding.TheVariants as finding
 

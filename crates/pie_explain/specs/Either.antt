@@ -2,7 +2,7 @@
 use Rattle.pie_explain.specs.Names.{ℕ, List, Option, Result, Err, Selection, Explained}
 use Rattle.pie_record.specs.Text.{Row}
 use Rattle.pie_excerpt.specs.Preamble.{is_resumed}
-use Rattle.pie_audit.specs.Preambles.{TextToldBy}
+use Rattle.pie_audit.specs.Preambles.{TextProcessedBy}
 use Rattle.pie_explain.specs.declared.fault.ExplainFault.{ExplainFault}
 use Rattle.pie_explain.specs.declared.fault.ExplainFault.TheVariants.{Trace}
 use Rattle.pie_explain.specs.Answer.{IsExplanationText, answer_since}
@@ -13,4 +13,4 @@ use Rattle.pie_explain.specs.Answer.{IsExplanationText, answer_since}
 -- the events of the text
 abbrev pub ExplainsEither : Selection → (List Explained → List ℕ) → List Row → Result ℕ ExplainFault → Option (List ℕ) → Option (List ℕ) → Type 0
 ExplainsEither choice whole rows result old now =
-    TextToldBy (λ why. Err (Trace why)) (answer_since choice) (IsExplanationText choice whole) (is_resumed rows) rows result old now
+    TextProcessedBy (λ why. Err (Trace why)) (answer_since choice) (IsExplanationText choice whole) (is_resumed rows) rows result old now

@@ -1,4 +1,4 @@
-pub mod Which
+pub mod Choice
 pub mod Selection
 pub mod Explanation
 pub mod Record

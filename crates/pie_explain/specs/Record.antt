@@ -19,7 +19,7 @@ use Rattle.pie_explain.specs.declared.explanation.Explained.{Explained}
 use Rattle.pie_explain.specs.declared.explanation.Explanation.{Explanation}
 use Rattle.pie_event.specs.Setter.{setter_number}
 use Rattle.pie_explain.specs.Selection.{time_of}
-use Rattle.pie_explain.specs.Which.{packet_of}
+use Rattle.pie_explain.specs.Choice.{packet_of}
 
 -- ---- words
 

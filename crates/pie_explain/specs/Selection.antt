@@ -6,7 +6,7 @@ use Rattle.pie_record.specs.Clock.{unix_at}
 use Rattle.pie_explain.specs.declared.selection.Selection.{Selection}
 use Rattle.pie_units.specs.declared.when.When.{When}
 use Rattle.pie_units.specs.declared.when.When.TheVariants.{Moment, Unix}
-use Rattle.pie_explain.specs.Which.{chooses}
+use Rattle.pie_explain.specs.Choice.{chooses}
 
 -- the wall-clock time at a moment, by a clock record
 abbrev pub time_of : Option Clock → ℕ → Option ℕ

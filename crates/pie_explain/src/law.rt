@@ -9,14 +9,14 @@ ghost use Rattle.pie_audit.specs.Text.{judged};
 /// the probability before it gives exactly the explanations of the whole history for its own events (`rest`). An
 /// excerpt that doesn't name it gives these explanations, except that the event is unknown until an event of the
 /// excerpt sets the probability (`untold`). The function does nothing: its contract is the law.
-#[tactic(auto, using(crate::proofs::ExplainFacts::since_opening, crate::proofs::ExplainFacts::rest_said, crate::proofs::ExplainFacts::as_untold))]
+#[tactic(auto, using(crate::proofs::ExplainFacts::since_opening, crate::proofs::ExplainFacts::rest_reported, crate::proofs::ExplainFacts::as_unknown))]
 pub fn excerpts_are_explained_as_the_whole()
     ensures whole { (opening : Opening) (choice : Selection) (lines : List Line)
         → explanations_since from_opening (at_opening opening) choice lines ≡ explanations (at_opening opening) choice lines }
     ensures rest { (opening : Opening) (choice : Selection) (past : List Event) (lines : List Line)
         → explanations (at_opening opening) choice (map Made past ++ lines) ≡ explanations (at_opening opening) choice (map Made past)
         ++ explanations_since (record { events = length past; tells = true }) (at_opening opening) choice (map Made past ++ lines) }
-    ensures untold { (opening : Opening) (choice : Selection) (past : List Event) (lines : List Line)
+    ensures unreported { (opening : Opening) (choice : Selection) (past : List Event) (lines : List Line)
         → explanations_since (record { events = length past; tells = false }) (at_opening opening) choice (map Made past ++ lines)
         ≡ map (with_known_setter (record { events = length past; tells = false }))
         (explanations_since (record { events = length past; tells = true }) (at_opening opening) choice (map Made past ++ lines)) }

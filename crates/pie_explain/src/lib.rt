@@ -12,6 +12,7 @@
 //! chosen event, in order. For an excerpt both are those of the whole history from there on (`ExplainsEither`).
 #![tactic(auto)]
 
+pub mod choice;
 pub mod explainer;
 pub mod explanation;
 pub mod fault;
@@ -20,11 +21,11 @@ pub mod law;
 mod record;
 pub mod report;
 pub mod selection;
-mod steady;
 mod text;
+mod text_cache;
 pub mod units;
-pub mod which;
 
+pub use choice::Which;
 pub use explainer::explain;
 pub use explanation::{Explained, Explanation, moment_of};
 pub use fault::ExplainFault;
@@ -34,4 +35,3 @@ pub use pie_event::Setter;
 pub use report::{Records, Report, Words, push_header, push_words};
 pub use selection::{Selection, is_from, is_to, time_of};
 pub use units::{Millis, PerCent, Share};
-pub use which::Which;

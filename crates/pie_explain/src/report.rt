@@ -34,7 +34,7 @@ pub trait Report: Drop {
         ensures written { OnOk result (page.new ≡ page.old ++ so_far self.now []) };
 
     /// Writes onto a page what one more event adds.
-    fn tell(
+    fn report_event(
         &self,
         state: &mut Self::State,
         told: &Explained,
@@ -121,7 +121,7 @@ impl Report for Records {
     }
 
     #[inline(always)]
-    fn tell(&self, state: &mut RecordWriter, told: &Explained, page: &mut Page) -> Written {
+    fn report_event(&self, state: &mut RecordWriter, told: &Explained, page: &mut Page) -> Written {
         state.push(page, self.by_wall, told)
     }
 
@@ -146,7 +146,7 @@ impl Report for Words {
         Ok(())
     }
 
-    fn tell(&self, state: &mut (), told: &Explained, page: &mut Page) -> Written {
+    fn report_event(&self, state: &mut (), told: &Explained, page: &mut Page) -> Written {
         let (csv, by_wall) = (false, self.by_wall);
         let form = Form { csv, by_wall };
         push_words(page, form.clock(told.told.clock), told)

@@ -2,7 +2,7 @@
 ghost use Rattle.std.specs.Prelude.{◌≡◌};
 ghost use Rattle.pie_explain.specs.Selection.{is_from, is_to, time_of};
 
-use crate::which::Which;
+use crate::choice::Which;
 use pie_book::Event;
 use pie_record::Clock;
 use pie_units::When;

@@ -35,8 +35,8 @@ pub record IsSteadyAt (opening : Opening) (history : List Event) : Type 0 where
   pub shows : Represents opening core history
   pub sound : IsSound core.held
 
-stands-first : (opening : Opening) → Opens.opening_refusal opening.limits opening.moment ≡ None → first_bad opening.params ≡ None → IsSteadyAt opening []
-stands-first opening good params = record {
+steady-first : (opening : Opening) → Opens.opening_refusal opening.limits opening.moment ≡ None → first_bad opening.params ≡ None → IsSteadyAt opening []
+steady-first opening good params = record {
   core = first_core opening;
   shows = first_shows opening;
   sound = Sound_opened opening.choices.profile opening.choices.elements opening.params opening.moment params
@@ -48,9 +48,9 @@ stands-first opening good params = record {
 call-taken : (core : CoreView) (command : Command) → caller_moment command < 2 ^ 60 → SetsInRange command → IsTaken (call_in core command)
 call-taken core command handed fit = grind (arith, nat_tests)
 
-stands-next : (opening : Opening) (before : List Event) (event : Event) → IsSteadyAt opening before → IsLegalAt opening (place_of before event)
+steady-next : (opening : Opening) (before : List Event) (event : Event) → IsSteadyAt opening before → IsLegalAt opening (place_of before event)
     → SetsInRange event.command → IsSteadyAt opening (before ++ event ∷ [])
-stands-next opening before event old here fit =
+steady-next opening before event old here fit =
     let core = old.core in
     let handed = (is_free opening before event.command here.taken).moment in
     record {
@@ -80,9 +80,9 @@ at-step opening before event step P so = rw (step.held, step.here.answered) so
 
 step-of : (opening : Opening) (before : List Event) (event : Event) → IsSteadyAt opening before → IsLegalAt opening (place_of before event)
     → SetsInRange event.command → IsStep opening before event
-unfolding stands-next
+unfolding steady-next
 step-of opening before event old here fit =
-    let next = stands-next opening before event old here fit in
+    let next = steady-next opening before event old here fit in
     let core = old.core in
     let is : core.held ≡ held_after opening before = held-is opening core before old.shows in
     record {
@@ -106,26 +106,26 @@ set-after : (before rest : List Event) → All (λ (e : Event). SetsInRange e.co
 set-after before rest all =
     rw (drop-append_seam before rest) at (All-drop (λ (e : Event). SetsInRange e.command) (length before) (before ++ rest) all)
 
-stands-along : (opening : Opening) (before between later : List Event) → IsSteadyAt opening before
+steady-along : (opening : Opening) (before between later : List Event) → IsSteadyAt opening before
     → All (IsLegalAt opening) (places (before ++ between ++ later)) → All (λ event. SetsInRange event.command) (between ++ later)
     → IsSteadyAt opening (before ++ between)
-stands-along opening before [] later old legal fit = rw (append-nil before) old
-stands-along opening before (event ∷ between) later old legal fit =
+steady-along opening before [] later old legal fit = rw (append-nil before) old
+steady-along opening before (event ∷ between) later old legal fit =
     let one : (before ++ event ∷ []) ++ between ≡ before ++ (event ∷ between) = append_assoc before (event ∷ []) between in
     let here = at_place (IsLegalAt opening) before event (between ++ later) (rw (append_assoc before (event ∷ between) later) at legal) in
-    let next = stands-next opening before event old here (All-head (λ (e : Event). SetsInRange e.command) event (between ++ later) fit) in
-    rw (← one) (stands-along opening (before ++ event ∷ []) between later next (rw (← one) at legal)
+    let next = steady-next opening before event old here (All-head (λ (e : Event). SetsInRange e.command) event (between ++ later) fit) in
+    rw (← one) (steady-along opening (before ++ event ∷ []) between later next (rw (← one) at legal)
     (All-tail (λ (e : Event). SetsInRange e.command) event (between ++ later) fit))
 
 -- the events before a place of a lawful history are shown by a core
-pub stands_at : (opening : Opening) (before later : List Event) → IsLawful opening (before ++ later) → IsSteadyAt opening before
-stands_at opening before later lawful =
-    stands-along opening [] before later (stands-first opening lawful.opens lawful.params) lawful.legal lawful.set
+pub steady_at : (opening : Opening) (before later : List Event) → IsLawful opening (before ++ later) → IsSteadyAt opening before
+steady_at opening before later lawful =
+    steady-along opening [] before later (steady-first opening lawful.opens lawful.params) lawful.legal lawful.set
 
 -- each event of a lawful history is a step
 pub step_at : AtEachEvent (λ opening before event. IsStep opening before event)
 step_at opening before event later lawful =
-    step-of opening before event (stands_at opening before (event ∷ later) lawful)
+    step-of opening before event (steady_at opening before (event ∷ later) lawful)
     (at_place (IsLegalAt opening) before event later lawful.legal)
     (All-head (λ (e : Event). SetsInRange e.command) event later (set-after before (event ∷ later) lawful.set))
 
@@ -168,7 +168,7 @@ counted-cons event later = sum_by-cons (λ (e : Event). cond (is_update (deed_of
 pub sound_at : (opening : Opening) (before later : List Event) → IsLawful opening (before ++ later)
     → IsSound (held_after opening before) × ((held_after opening before).moment ≡ effective_moment opening before)
 sound_at opening before later lawful =
-    let it = stands_at opening before later lawful in
+    let it = steady_at opening before later lawful in
     let is : it.core.held ≡ held_after opening before = held-is opening it.core before it.shows in
     (subst (λ (h : Held). IsSound h) is it.sound, sym (ap (λ (h : Held). h.moment) is) ∙ it.shows.moment)
 
@@ -179,7 +179,7 @@ beginning opening before later lawful = record {
   params = lawful.params;
   set = rw (take-append_seam before later) at
       (All-take (λ (e : Event). SetsInRange e.command) (length before) (before ++ later) lawful.set);
-  legal = (stands_at opening before later lawful).shows.legal;
+  legal = (steady_at opening before later lawful).shows.legal;
 }
 
 -- at each place the command is taken and has its answer

@@ -33,7 +33,7 @@ pub use Rattle.pie_guarantees.specs.{IsAllowed, IsWhole, KeepsParams, SetsAllow,
 pub use Rattle.pie_guarantees.specs.{SetsInRange, IsActiveUpdate}
 pub use Rattle.pie_guarantees.specs.{IsSteady, least_rise, old_delay_after, probability_after, untuned_fall, untuned_rise, updates_from}
 pub use Rattle.pie_guarantees.specs.{updates_to_a_tenth, IsArrivalOf, IsEarly, MarksOnlyCapable, OnlyMarks, SparesCapable, is_early, RawParams}
-pub use Rattle.pie_guarantees.specs.{burst_begins, burst_goes_on, burst_opening, first_drop, lowered, lowered_opening, IsBetween, samples_after}
+pub use Rattle.pie_guarantees.specs.{burst_begins, burst_continues, burst_opening, first_drop, lowered, lowered_opening, IsBetween, samples_after}
 pub use Rattle.pie_guarantees.specs.{flows_in_turn, flows_opening, half_is_reached, last_update}
 pub use Rattle.pie_book.specs.Estimates.{average_after, due_after}
 unfoldable pub use Rattle.pie_book.specs.Estimates.{held_after}

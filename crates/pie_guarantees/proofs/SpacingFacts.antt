@@ -224,12 +224,12 @@ not_in_a_row opening before first between second later lawful spaced picked none
     let one = (adds-at opening (b ++ between) second (step_at opening (b ++ between) second later lawful) spaced).at_least in
     grind (arith, nat_tests)
 
-goes-on : (least : ℕ) (opening : Opening) (before between : List Event) → 0 < least → AllAlong (CountsAtLeast least opening) before between
+continues-unpicked : (least : ℕ) (opening : Opening) (before between : List Event) → 0 < least → AllAlong (CountsAtLeast least opening) before between
     → AllAlong (IsUnpicked opening) before between → (picks_in between ≡ 0) × (restarts_in opening before between ≡ 0)
 unfolding sum_along AllAlong
-goes-on least opening before [] some large on = (refl, refl)
-goes-on least opening before (event ∷ between) some large on =
-    let rest = goes-on least opening (before ++ event ∷ []) between some large.1 on.1 in
+continues-unpicked least opening before [] some large on = (refl, refl)
+continues-unpicked least opening before (event ∷ between) some large on =
+    let rest = continues-unpicked least opening (before ++ event ∷ []) between some large.1 on.1 in
     let picks = picks-cons event between in
     let here = on.0 in
     let counts = large.0 in (grind (arith, nat_tests), grind (arith, nat_tests))
@@ -239,6 +239,6 @@ pub not_too_far : (least : ℕ) → BetweenAny (λ opening before between. openi
     → considered_in opening before between * least < 8_500_000_000_000)
 not_too_far least opening before between later lawful spaced some large on =
     let all = (shared opening before between later lawful spaced).1 in
-    let none = goes-on least opening before between some large on in
+    let none = continues-unpicked least opening before between some large on in
     let many = counts-at-least least opening before between large in
     omega (arith, all, none.0, none.1, many)

@@ -10,7 +10,7 @@ use Rattle.pie_record.specs.declared.first_record.FirstKind.{FirstKind}
 use Rattle.pie_record.specs.declared.history_record.Line.{Line}
 use Rattle.pie_record.specs.declared.history_record.Line.TheVariants as line
 use Rattle.pie_record.specs.FirstRecord.{first_fields, first_kind}
-use Rattle.pie_record.specs.HistoryLines.{Coming, after_opening, history_opening, history_version}
+use Rattle.pie_record.specs.HistoryLines.{RemainingLines, after_opening, history_opening, history_version}
 use Rattle.pie_record.specs.FirstRecord.{opening_by, opening_of, opening_read}
 use Rattle.pie_record.specs.ReadBack.{IsHistoryText}
 use Rattle.pie_record.specs.Text.{Row, records_of}
@@ -62,8 +62,8 @@ sets (line.Unmakeable change ∷ lines) all = sets lines (All-tail LineFits (lin
 sets (line.Note ∷ lines) all = sets lines (All-tail LineFits line.Note lines all)
 sets (line.Clock clock ∷ lines) all = sets lines (All-tail LineFits (line.Clock clock) lines all)
 
-pub sets_told : (text : List ℕ) (opening : Opening) (lines : List Line) → IsHistoryText text opening lines
+pub sets_read : (text : List ℕ) (opening : Opening) (lines : List Line) → IsHistoryText text opening lines
     → All (λ event. SetsInRange event.command) (events_of lines)
-sets_told text opening lines told =
-    sets lines (subst (λ (ls : List Line). All LineFits ls) (ap (λ (c : Coming). c.lines) told.tells)
+sets_read text opening lines told =
+    sets lines (subst (λ (ls : List Line). All LineFits ls) (ap (λ (c : RemainingLines). c.lines) told.represents_list)
     (lines-fit (history_version (records_of text)) (2 ^ 32) 2 (after_opening (records_of text))))

@@ -52,8 +52,8 @@ burst_opening = opened (record usual { delay = Stamp; picking = Random }) (limit
 abbrev pub burst_begins : List Event
 burst_begins = happened (Arrive 99 (thousand_bytes 1) 0) Enqueued ∷ []
 
-abbrev pub burst_goes_on : List Event
-burst_goes_on =
+abbrev pub burst_continues : List Event
+burst_continues =
     happened (Arrive 99 (thousand_bytes 2) 0) Enqueued ∷ happened (Arrive 99 (thousand_bytes 3) 0) Enqueued
     ∷ happened (Depart 100) (Left (thousand_bytes 1))
     ∷ happened (Update 100) (Updated 1 0 100) ∷ happened (Depart 199) (Left (thousand_bytes 2)) ∷ happened (Update 200) (Updated 100 96191 0) ∷ []

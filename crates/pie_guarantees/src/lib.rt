@@ -5,33 +5,34 @@
 #![tactic(auto)]
 
 pub mod bursts;
-pub mod clean;
+pub mod clean_histories;
 pub mod clock;
 pub mod counts;
 pub mod deadline;
 pub mod idle;
+pub mod links;
+pub mod low_load;
 pub mod marks;
-pub mod peace;
 pub mod probability;
 pub mod rates;
 pub mod recovery;
 pub mod spacing;
-pub mod threads;
 pub mod worked;
 
 pub use bursts::{allowances_begin_whole, bursts_are_let_in_so_long};
-pub use clean::clean_histories_are_lawful;
+pub use clean_histories::clean_histories_are_lawful;
 pub use clock::a_clock_ahead_delays_updates_by_as_much;
 pub use counts::{
     every_packet_is_accounted_for, queues_stay_within_their_limits, waits_are_bounded,
 };
 pub use deadline::lasting_delays_are_answered;
 pub use idle::the_link_does_not_idle;
-pub use marks::{capable_packets_are_spared, only_capable_packets_are_marked};
-pub use peace::{
+pub use links::links_are_lawful;
+pub use low_load::{
     bursts_are_let_in, inactive_controllers_let_all_in, low_delay_is_left_alone,
     short_queues_are_left_alone,
 };
+pub use marks::{capable_packets_are_spared, only_capable_packets_are_marked};
 pub use probability::{
     how_fast_the_probability_changes, steady_delays_move_the_probability,
     the_probability_follows_the_delay, what_gives_a_higher_probability,
@@ -42,7 +43,6 @@ pub use spacing::{
     picks_are_far_apart, picks_are_not_too_far_apart, picks_never_follow_at_once,
     picks_share_the_probability, picks_start_anew,
 };
-pub use threads::links_are_lawful;
 pub use worked::{
     a_clock_at_its_end_refuses_every_update, bursts_may_meet_an_early_drop_so_soon,
     limits_may_be_lowered_below_the_queue, one_flow_may_receive_every_pick,

@@ -3,7 +3,7 @@ ghost use Rattle.std.specs.Prelude.{◌≡◌, ◌<◌, ◌++◌, ◌∷◌, [],
 ghost use Rattle.pie_book.specs.Decision.{IsLegal, refusal_by_rule};
 ghost use Rattle.pie_event.specs.declared.refusal.Refusal.TheVariants.{TooSoon};
 ghost use Rattle.pie_guarantees.specs.{Update, flows_in_turn, flows_opening, half_is_reached, last_update, picks_of};
-ghost use Rattle.pie_guarantees.specs.{params_after, bytes_after, effective_moment, IsWhole, burst_begins, burst_goes_on, burst_opening, first_drop};
+ghost use Rattle.pie_guarantees.specs.{params_after, bytes_after, effective_moment, IsWhole, burst_begins, burst_continues, burst_opening, first_drop};
 ghost use Rattle.pie_guarantees.specs.{lowered, lowered_opening, IsEarly};
 
 /// More bytes can wait than `limit_bytes` allows: 1000 wait when new parameters lower it to 500.
@@ -17,10 +17,10 @@ pub fn limits_may_be_lowered_below_the_queue()
 /// one nanosecond: with updates 100 apart and an allowance of 200, its first packet arrives at 99, and the first
 /// early drop is at 200. With the defaults' ten updates that is 135 milliseconds, and not 150.
 pub fn bursts_may_meet_an_early_drop_so_soon()
-    ensures legal { IsLegal burst_opening (burst_begins ++ burst_goes_on ++ first_drop ∷ []) }
+    ensures legal { IsLegal burst_opening (burst_begins ++ burst_continues ++ first_drop ∷ []) }
     ensures whole { IsWhole burst_opening burst_begins }
     ensures began { effective_moment burst_opening burst_begins ≡ 99 }
-    ensures dropped { effective_moment burst_opening (burst_begins ++ burst_goes_on) ≡ 200 }
+    ensures dropped { effective_moment burst_opening (burst_begins ++ burst_continues) ≡ 200 }
     ensures early { IsEarly first_drop }
 {}
 

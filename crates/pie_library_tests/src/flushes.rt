@@ -109,17 +109,17 @@ impl Writes {
     }
 
     /// Returns true if the call reports a failed write exactly if the flush fails.
-    fn tells(self, alloc: Global, text: &[u8]) -> bool {
+    fn reports(self, alloc: Global, text: &[u8]) -> bool {
         let fails = self.fails(alloc, text, &mut Sink::new(true));
         fails && !self.fails(alloc, text, &mut Sink::new(false))
     }
 
     /// Tests this for a trace or a history, and for a text that is neither.
-    pub(crate) fn tells_of_its_flush(self, alloc: Global) -> bool {
+    pub(crate) fn reports_its_flush(self, alloc: Global) -> bool {
         let whole = match self {
             Writes::Run | Writes::RunWithin => TRACE,
             _ => HISTORY,
         };
-        self.tells(alloc, whole) && self.tells(alloc, FAULT)
+        self.reports(alloc, whole) && self.reports(alloc, FAULT)
     }
 }

@@ -19,13 +19,13 @@ mod places;
 mod report;
 mod rows;
 mod rules;
-mod seen;
 mod storms;
+mod test_numbers;
 mod words;
 
 use crate::flushes::WRITES;
 use crate::report::Report;
-use crate::seen::{say, tell};
+use crate::test_numbers::{print_numbers, say};
 use std::alloc::Global;
 use std::rt::Clock;
 use std::sync::Wait;
@@ -70,22 +70,22 @@ fn part<R: Threads + Wait + Clock + Print + Sync>(to: &mut Report<R>, alloc: Glo
 fn calls<R: Wait + Clock + Print>(to: &mut Report<R>, alloc: Global) {
     let rt = to.rt;
     let seen = books::fold(rt, alloc, "Book::fold");
-    tell(to, "Book::fold", seen);
+    print_numbers(to, "Book::fold", seen);
     let seen = books::excerpt(rt, alloc, "write_excerpt");
-    tell(to, "write_excerpt", seen);
+    print_numbers(to, "write_excerpt", seen);
     let seen = links::open(rt, alloc, "Link::open_with");
-    tell(to, "Link::open_with", seen);
+    print_numbers(to, "Link::open_with", seen);
     let seen = links::fold(rt, alloc, false, "Link::try_fold");
-    tell(to, "Link::try_fold", seen);
+    print_numbers(to, "Link::try_fold", seen);
     let seen = links::fold(rt, alloc, true, "Link::fold");
-    tell(to, "Link::fold", seen);
+    print_numbers(to, "Link::fold", seen);
 }
 
 /// Says of each test whether it holds.
 fn tests<R: Threads + Wait + Clock + Print + Sync>(to: &mut Report<R>, alloc: Global) {
     for place in 0..WRITES.len() {
         let (writes, name) = WRITES[place];
-        say(to, name, writes.tells_of_its_flush(alloc));
+        say(to, name, writes.reports_its_flush(alloc));
     }
     say(to, "rules_by_worked_rows", rules::are_worked_rows());
     say(to, "refusals_in_words", words::refusals_in_words(alloc));

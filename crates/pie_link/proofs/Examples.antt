@@ -1,6 +1,6 @@
 -- The link's definitions at small values, worked out by hand.
 use Rattle.std.specs.Prelude.{ℕ, ◌≡◌, [], ◌∷◌, Some, None}
-use Rattle.pie_link.proofs.Names.{refl, PassKnowledge, Spent, Waits, Meets, Opening, Entry, Informed, callers_of}
+use Rattle.pie_link.proofs.Names.{refl, PassKnowledge, Spent, Waits, HasTwo, Opening, Entry, CallerKnowledge, callers_of}
 use Rattle.pie_event.specs.declared.opening.Limits.{Limits}
 use Rattle.pie_event.specs.declared.refusal.OpenRefusal.TheVariants as of_book
 use Rattle.pie_link.specs.declared.refusal.LinkRefusal.TheVariants.{Book, NoCallers}
@@ -25,9 +25,9 @@ allowed = refl
 abbrev pass : ℕ → PassKnowledge Entry Opening
 pass first = record { front = []; first = first; limit = first; numbers = 4; origin = None }
 
-abbrev caller : ℕ → Informed
+abbrev caller : ℕ → CallerKnowledge
 caller first = record { front = []; first = first; limit = first }
 
 -- a spent seat has no caller, and a seat with two passes has two
-callers_of_seats : callers_of (Waits (pass 1) ∷ Spent ∷ Meets (pass 2) (pass 3) ∷ []) ≡ caller 1 ∷ caller 2 ∷ caller 3 ∷ []
+callers_of_seats : callers_of (Waits (pass 1) ∷ Spent ∷ HasTwo (pass 2) (pass 3) ∷ []) ≡ caller 1 ∷ caller 2 ∷ caller 3 ∷ []
 callers_of_seats = refl

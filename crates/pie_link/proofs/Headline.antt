@@ -1,6 +1,6 @@
 -- The headline, from the rule of the lock.
-use Rattle.pie_link.proofs.Names.{◌≡◌, ℕ, suc, Option, List, [], ◌∷◌, refl, subst, ⊎_elim, arith, PassKnowledge, Spent, Waits, Holds, Meets, Opening}
-use Rattle.pie_link.proofs.Names.{Entry, number_of, events_in, KeptView, IsKept, Informed, BeginsWith, HasCallsOf, informed, callers_at, callers_of}
+use Rattle.pie_link.proofs.Names.{◌≡◌, ℕ, suc, Option, List, [], ◌∷◌, refl, subst, ⊎_elim, arith, PassKnowledge, Spent, Waits, Holds, HasTwo, Opening}
+use Rattle.pie_link.proofs.Names.{Entry, number_of, events_in, KeptView, IsKept, CallerKnowledge, BeginsWith, HasCallsOf, caller_knowledge, callers_at, callers_of}
 use Rattle.pie_link.proofs.Names.{LockKey, LockState, LiesIn, IsOneHistory, KeepsOneHistory}
 use Rattle.std.specs.List.{All}
 use Rattle.std.proofs.lemmas.List.Elements.{All-nil, All-cons, All-append}
@@ -14,13 +14,13 @@ use Rattle.pie_book.specs.Core.{CoreView, Represents, registers_of}
 use Rattle.pie_book.specs.Registers.{registers_after}
 use Rattle.pie_link.specs.Views.{LinkView}
 
-module _ (P : PassKnowledge Entry Opening → Type 0) (Q : Informed → Type 0) (follows : (p : PassKnowledge Entry Opening) → P p → Q (informed p)) where
+module _ (P : PassKnowledge Entry Opening → Type 0) (Q : CallerKnowledge → Type 0) (follows : (p : PassKnowledge Entry Opening) → P p → Q (caller_knowledge p)) where
   -- a fact about each pass of a seat is one about each of its callers
   at_seat : (seat : Place Entry Opening) → EachPass P seat → All Q (callers_at seat)
   at_seat Spent each = All-nil Q
-  at_seat (Waits p) each = All-cons Q (informed p) [] (follows p each) (All-nil Q)
-  at_seat (Holds p) each = All-cons Q (informed p) [] (follows p each) (All-nil Q)
-  at_seat (Meets p q) each = All-cons Q (informed p) (informed q ∷ []) (follows p each.0) (All-cons Q (informed q) [] (follows q each.1) (All-nil Q))
+  at_seat (Waits p) each = All-cons Q (caller_knowledge p) [] (follows p each) (All-nil Q)
+  at_seat (Holds p) each = All-cons Q (caller_knowledge p) [] (follows p each) (All-nil Q)
+  at_seat (HasTwo p q) each = All-cons Q (caller_knowledge p) (caller_knowledge q ∷ []) (follows p each.0) (All-cons Q (caller_knowledge q) [] (follows q each.1) (All-nil Q))
 
   -- a fact about the passes of all seats is one about all callers
   pub at_all : (seats : List (Place Entry Opening)) → ((seat : ℕ) (view : Place Entry Opening) → get_elem? seats seat ≡ some view → EachPass P view)
@@ -43,8 +43,8 @@ while_free look_back opening numbers lock history holder owner agreed free =
     let follow = λ (seat : ℕ) (view : Place Entry Opening) (at : get_elem? lock.views seat ≡ some view). (agreed.seated seat view at).follows in
     let kept = free.2.0 in
     let book = kept.book in
-    let tells = free.2.3.tells in
-    let told = tells.told in (
+    let represents_list = free.2.3.represents_list in
+    let told = represents_list.told in (
       book,
       (kept.folds, free.2.1),
       (
@@ -56,14 +56,14 @@ while_free look_back opening numbers lock history holder owner agreed free =
           begins = at_all (Follows number_of opening numbers history) (BeginsWith history) (λ p f. f.shown) lock.views follow;
           calls = at_all (Follows number_of opening numbers history) (HasCallsOf history) (λ p f. f.owned) lock.views follow;
           ends = told.tail;
-          tail = tells.tail;
-          nothing_lost = tells.nothing_lost;
+          tail = represents_list.tail;
+          nothing_lost = represents_list.nothing_lost;
           queue = told.running.waiting;
           registers = look_back book.opening book.running (events_in history) told.running;
           stats = told.running.stats;
-          accepted = tells.accepted;
-          in_range = tells.in_range;
-          set = tells.set;
+          accepted = represents_list.accepted;
+          in_range = represents_list.in_range;
+          set = represents_list.set;
         }),
       ),
     )

@@ -29,10 +29,10 @@ unfoldable pub use Rattle.pie_link.specs.CallerBursts.{TriesToAnswerAll}
 pub use Rattle.pie_link.specs.Entries.{events_in, folded_in, folded_events, folded_for, left_in, left_of, left_when_rolling, number_of, tail_in}
 pub use Rattle.pie_link.specs.Excerpts.{IsExcerptOf}
 pub use Rattle.pie_link.specs.Folds.{IsFold, IsFolded, IsFoldedInto}
-pub use Rattle.pie_link.specs.Headline.{BeginsWith, HasCallsOf, Informed, IsOneHistory, LiesIn, LockKey, LockState, callers_at, callers_of, informed}
+pub use Rattle.pie_link.specs.Headline.{BeginsWith, HasCallsOf, CallerKnowledge, IsOneHistory, LiesIn, LockKey, LockState, callers_at, callers_of, caller_knowledge}
 unfoldable pub use Rattle.pie_link.specs.Headline.{KeepsOneHistory}
 pub use Rattle.pie_link.specs.Kept.{IsKept, KeptView, RepresentsEntries}
 pub use Rattle.pie_link.specs.declared.entry.Entry.{Entry}
 pub use Rattle.pie_link.specs.declared.entry.Entry.TheVariants.{Folded, Made}
-pub use Rattle.pie_lock.specs.declared.view.Place.TheVariants.{Holds, Meets, Spent, Waits}
+pub use Rattle.pie_lock.specs.declared.view.Place.TheVariants.{Holds, HasTwo, Spent, Waits}
 pub use Rattle.pie_lock.specs.declared.view.PassKnowledge.{PassKnowledge}

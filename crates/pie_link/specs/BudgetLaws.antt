@@ -7,5 +7,5 @@ use Rattle.pie_link.specs.Bursts.{Reply, departed_bytes, entries_within}
 
 -- the packets that depart in a burst have at most as many bytes as its budget
 abbrev pub BurstsStayWithin : Type 0
-BurstsStayWithin = (bytes : ℕ) (goes_on : Reply → Bool) (opening : Opening) (caller : ℕ) (history : List Entry) (commands : List Command)
-    → departed_bytes (entries_within (Some bytes) goes_on opening caller history [] commands) ≤ bytes
+BurstsStayWithin = (bytes : ℕ) (continues : Reply → Bool) (opening : Opening) (caller : ℕ) (history : List Entry) (commands : List Command)
+    → departed_bytes (entries_within (Some bytes) continues opening caller history [] commands) ≤ bytes

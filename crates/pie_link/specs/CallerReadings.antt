@@ -3,8 +3,8 @@ use Rattle.std.specs.Prelude.{◌≡◌, List, Result, Ok, Err}
 use Rattle.pie_link.specs.Names.{Event, Opening, Refusal, Told, events_in}
 use Rattle.pie_link.specs.Readings.{IsReading}
 use Rattle.pie_link.specs.Views.{LinkView, CallerView, HasTurn, WasBusy}
-use Rattle.pie_link.specs.declared.told.Tried.{Tried}
-use Rattle.pie_link.specs.declared.told.Tried.TheVariants.{Busy}
+use Rattle.pie_link.specs.declared.call_result.Tried.{Tried}
+use Rattle.pie_link.specs.declared.call_result.Tried.TheVariants.{Busy}
 
 module _ {A : Type 0} (value_after : Opening → List Event → A) where
   -- a link returns the look-back over the events of a history, which becomes the caller's front

@@ -9,7 +9,7 @@ use lib.ListN.{get_elem?}
 use Rattle.atomic_table.specs.Table.{State}
 use Rattle.pie_lock.specs.declared.view.PassKnowledge.{PassKnowledge}
 use Rattle.pie_lock.specs.declared.view.Place.{Place}
-use Rattle.pie_lock.specs.declared.view.Place.TheVariants.{Spent, Waits, Holds, Meets}
+use Rattle.pie_lock.specs.declared.view.Place.TheVariants.{Spent, Waits, Holds, HasTwo}
 use Rattle.pie_lock.specs.Own.{own}
 use Rattle.pie_lock.specs.declared.view.LockOpening.{LockOpening}
 use Rattle.pie_event.specs.declared.opening.Mode.TheVariants.{Bounded}
@@ -25,25 +25,25 @@ use Rattle.pie_link.specs.Kept.{KeptView, SetsInRange}
 use Rattle.pie_link.specs.Views.{LinkView}
 
 -- a caller: its front, and its numbers first..limit
-pub record Informed : Type 0 where
+pub record CallerKnowledge : Type 0 where
   pub front : List Entry
   pub first : ℕ
   pub limit : ℕ
 
 -- the calls of a caller: the entries under its numbers, in order
-abbrev pub calls_of : Informed → List Entry → List Entry
+abbrev pub calls_of : CallerKnowledge → List Entry → List Entry
 calls_of caller history = own number_of caller.first caller.limit history
 
 -- the history begins with the caller's front
-abbrev pub BeginsWith : List Entry → Informed → Type 0
+abbrev pub BeginsWith : List Entry → CallerKnowledge → Type 0
 BeginsWith history caller = IsPrefix caller.front history
 
 -- the history has the caller's calls of its front, and no others of the caller
-abbrev pub HasCallsOf : List Entry → Informed → Type 0
+abbrev pub HasCallsOf : List Entry → CallerKnowledge → Type 0
 HasCallsOf history caller = calls_of caller history ≡ calls_of caller caller.front
 
 -- there is one history behind a free book and all callers
-pub record IsOneHistory (opening : Opening) (book : BookView) (callers : List Informed) (history : List Entry) : Type 0 where
+pub record IsOneHistory (opening : Opening) (book : BookView) (callers : List CallerKnowledge) (history : List Entry) : Type 0 where
   -- it is one of one thread: the book, opened as the link was, represents its events, and each command was accepted at
   -- its place with the answer that the rules give there
   pub opened : book.opening ≡ opening
@@ -69,16 +69,16 @@ pub record IsOneHistory (opening : Opening) (book : BookView) (callers : List In
   pub set : All (λ event. SetsInRange event.command) (events_in history)
 
 -- the callers of a seat at the lock; a seat that was joined to another has none
-abbrev pub informed : PassKnowledge Entry Opening → Informed
-informed p = record { front = p.front; first = p.first; limit = p.limit }
+abbrev pub caller_knowledge : PassKnowledge Entry Opening → CallerKnowledge
+caller_knowledge p = record { front = p.front; first = p.first; limit = p.limit }
 
-abbrev pub callers_at : Place Entry Opening → List Informed
+abbrev pub callers_at : Place Entry Opening → List CallerKnowledge
 callers_at Spent = []
-callers_at (Waits p) = informed p ∷ []
-callers_at (Holds p) = informed p ∷ []
-callers_at (Meets p q) = informed p ∷ informed q ∷ []
+callers_at (Waits p) = caller_knowledge p ∷ []
+callers_at (Holds p) = caller_knowledge p ∷ []
+callers_at (HasTwo p q) = caller_knowledge p ∷ caller_knowledge q ∷ []
 
-abbrev pub callers_of : List (Place Entry Opening) → List Informed
+abbrev pub callers_of : List (Place Entry Opening) → List CallerKnowledge
 callers_of [] = []
 callers_of (seat ∷ seats) = callers_at seat ++ callers_of seats
 

@@ -3,8 +3,8 @@ use Rattle.std.specs.Prelude.{◌≡◌, List, Some, Result, Ok, Err}
 use Rattle.pie_lock.specs.Views.{LockView, PassView, HoldsAll}
 use Rattle.pie_lock.specs.Steps.{Extends}
 use Rattle.pie_link.specs.Names.{Opening, IsLegal, Entry, number_of, events_in}
-use Rattle.pie_link.specs.declared.told.Tried.{Tried}
-use Rattle.pie_link.specs.declared.told.Tried.TheVariants.{Busy, Refused}
+use Rattle.pie_link.specs.declared.call_result.Tried.{Tried}
+use Rattle.pie_link.specs.declared.call_result.Tried.TheVariants.{Busy, Refused}
 
 -- a link is its lock: its identity, the opening of its book (`origin`), and its number of callers' numbers
 abbrev pub LinkView : Type 0
@@ -30,20 +30,20 @@ WasBusy before after = (after ≡ before) × (HoldsAll before → ⊥)
 -- answer that the rules give there; it begins with the caller's front, and has no further entry of the caller
 pub record IsHistoryFor (opening : Opening) (caller : CallerView) (history : List Entry) : Type 0 where
   pub legal : IsLegal opening (events_in history)
-  pub goes_on : Extends number_of caller.first caller.limit caller.front history
+  pub continues : Extends number_of caller.first caller.limit caller.front history
 
 -- a call had its turn after this history: its claim holds there, and the caller's front is then the history with the
 -- call's entries
-pub record IsTurn (opening : Opening) (before : CallerView) (says : List Entry → Type 0) (next : List Entry → List Entry) (after : CallerView)
+pub record IsTurn (opening : Opening) (before : CallerView) (result_is : List Entry → Type 0) (next : List Entry → List Entry) (after : CallerView)
     (history : List Entry) : Type 0 where
   pub from : IsHistoryFor opening before history
-  pub said : says history
-  pub seen : after ≡ shown before (next history)
+  pub has_result : result_is history
+  pub has_front : after ≡ shown before (next history)
 
 -- a call of this caller had its turn at a link, whose opening its claim takes
 abbrev pub HasTurn : LinkView → CallerView → (Opening → List Entry → Type 0) → (Opening → List Entry → List Entry) → CallerView → Type 0
-HasTurn link before says next after =
-    (opening : Opening) → link.origin ≡ Some opening → (history : List Entry) × IsTurn opening before (says opening) (next opening) after history
+HasTurn link before result_is next after =
+    (opening : Opening) → link.origin ≡ Some opening → (history : List Entry) × IsTurn opening before (result_is opening) (next opening) after history
 
 -- a call that never blocks had its turn, with this result, or the link was busy
 abbrev pub TriesTo : {A E : Type 0} → (Result A E → Type 0) → Type 0 → Result A (Tried E) → Type 0

@@ -3,7 +3,7 @@ ghost use Rattle.std.specs.Prelude.{◌≡◌, ℕ, ◌+◌, ◌<◌, Bool, List
 ghost use Rattle.pie_event.specs.declared.command.Command.{Command};
 ghost use Rattle.pie_link.specs.Bursts.{Reply};
 
-use crate::told::Told;
+use crate::call_result::Told;
 use pie_book::{Answer, Command, Refusal};
 
 /// The result of a command: the answer with the number of its event, or a refusal.
@@ -15,14 +15,14 @@ pub type Replies = Vec<Reply>;
 /// The commands of a burst and the place of their results (this project's own). The commands of one caller are decided
 /// one after another, until a result ends the burst.
 ///
-/// `commands` are the commands from a place on. `goes_on` is the test of a result after which the burst continues.
+/// `commands` are the commands from a place on. `continues` is the test of a result after which the burst continues.
 /// `shows first burst replies` is a relation: `first` received these results, in order, and became `burst`. `has_room
 /// burst place` means that the results from this place on fit. `room` is a number that never changes, such as the total
 /// number of results that fit.
 pub trait Burst {
     ghost commands: { Self → ℕ → List Command };
 
-    ghost goes_on: { Self → Reply → Bool };
+    ghost continues: { Self → Reply → Bool };
 
     ghost shows: { Self → Self → List Reply → Type 0 };
 
@@ -44,8 +44,8 @@ pub trait Burst {
         requires place { 0 < length (commands self.old place) }
         requires room { has_room self.old place }
         ensures commands { commands self.new (place + 1) ≡ commands self.old (place + 1) }
-        ensures ends { goes_on self.new ≡ goes_on self.old }
-        ensures goes_on { result ≡ goes_on self.old reply }
+        ensures ends { continues self.new ≡ continues self.old }
+        ensures continues { result ≡ continues self.old reply }
         ensures shown { (first : Self) (replies : List Reply) → shows first self.old replies → shows first self.new (replies ++ reply ∷ []) }
         ensures has_room { has_room self.new (place + 1) }
         ensures room { room self.new ≡ room self.old };

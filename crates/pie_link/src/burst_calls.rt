@@ -6,13 +6,13 @@ ghost use Rattle.std.specs.Prelude.{vec_capacity};
 ghost use Rattle.pie_link.specs.Bursts.{Reply, always, arrive, departures, has_left};
 ghost use Rattle.pie_link.specs.CallerBursts.{AnswersAll, AnswersWithin, TriesToAnswerAll, WasNotDone, WasRefused};
 ghost use Rattle.pie_link.specs.Views.{StaysOne, WasBusy};
-ghost use Rattle.pie_link.specs.declared.told.Tried.TheVariants.{Busy};
+ghost use Rattle.pie_link.specs.declared.call_result.Tried.TheVariants.{Busy};
 
 use crate::arrival::Arrival;
 use crate::burst::{Burst, Replies};
+use crate::call_result::{NoRoom, Tried};
 use crate::caller::Caller;
 use crate::link::Link;
-use crate::told::{NoRoom, Tried};
 use crate::turn;
 use crate::vectors::{Arrivals, Departures};
 use core::mem::{replace, replace_with};
@@ -33,7 +33,7 @@ impl Link {
         requires own { caller.old.lock ≡ self.now }
         requires room { B.has_room burst 0 }
         ensures answered { (first : B) (earlier : List Reply) → B.shows first burst earlier → (replies : List Reply) × B.shows first result replies
-            × AnswersWithin None (B.goes_on burst) self.now caller.old (B.commands burst 0) earlier replies caller.new }
+            × AnswersWithin None (B.continues burst) self.now caller.old (B.commands burst 0) earlier replies caller.new }
         ensures room { B.room result ≡ B.room burst }
         ensures stays { StaysOne caller.old caller.new }
     {
@@ -63,7 +63,7 @@ impl Link {
         requires room { B.has_room burst 0 }
         ensures answered { IfOk result (λ after. (first : B) (earlier : List Reply) → B.shows first burst earlier
             → (replies : List Reply) × B.shows first after replies
-            × AnswersWithin budget (B.goes_on burst) self.now caller.old (B.commands burst 0) earlier replies caller.new) }
+            × AnswersWithin budget (B.continues burst) self.now caller.old (B.commands burst 0) earlier replies caller.new) }
         ensures busy { IfErr result (λ back. (back ≡ burst) × WasBusy caller.old caller.new) }
         ensures none { length (B.commands burst 0) ≡ 0 → IsOk result }
         ensures room { IfOk result (λ after. B.room after ≡ B.room burst) }

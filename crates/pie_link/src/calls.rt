@@ -12,9 +12,9 @@ ghost use Rattle.pie_link.specs.CallerReadings.{Reads, TriesToRead};
 ghost use Rattle.pie_link.specs.Views.{StaysOne};
 ghost use Rattle.pie_link.specs.CallerExcerpts.{FillsExcerpt, TriesToFillExcerpt};
 
+use crate::call_result::{Told, Tried};
 use crate::caller::Caller;
 use crate::link::Link;
-use crate::told::{Told, Tried};
 use crate::turn;
 use core::mem::{replace, replace_with};
 use pie_book::{

@@ -43,6 +43,7 @@
 pub mod arrival;
 pub mod burst;
 mod burst_calls;
+pub mod call_result;
 pub mod caller;
 mod calls;
 pub mod entry;
@@ -51,17 +52,16 @@ mod kept_bursts;
 mod law;
 pub mod link;
 pub mod refusal;
-pub mod told;
 mod turn;
 mod vectors;
 
 pub use arrival::Arrival;
 pub use burst::{Burst, Replies, Reply};
+pub use call_result::{NoRoom, Told, Tried};
 pub use caller::Caller;
 pub use entry::Entry;
 pub use kept_book::KeptBook;
 pub use law::{bursts_stay_within_their_bytes, entries_look_back};
 pub use link::Link;
 pub use refusal::LinkRefusal;
-pub use told::{NoRoom, Told, Tried};
 pub use vectors::{Arrivals, Departures};

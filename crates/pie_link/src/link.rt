@@ -173,7 +173,7 @@ impl Link {
     pub fn close(self, caller: Caller) -> Result<Book, (Link, Caller)>
         requires own { caller.lock ≡ self }
         ensures opening { IfOk result (λ book. caller.lock.origin ≡ Some book.opening) }
-        ensures told { IfOk result (λ book. (history : List Entry) × IsHistoryFor book.opening caller history × RepresentsEntries book history) }
+        ensures kept { IfOk result (λ book. (history : List Entry) × IsHistoryFor book.opening caller history × RepresentsEntries book history) }
         ensures alone { HoldsAll caller → IsOk result }
         ensures same { HoldsAll caller → IfOk result (λ book. RepresentsEntries book caller.front) }
         ensures numbered { HoldsAll caller → IfOk result (λ _. All (λ entry. number_of entry < caller.lock.numbers) caller.front) }

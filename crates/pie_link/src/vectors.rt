@@ -30,7 +30,7 @@ pub struct Departures {
 impl Burst for Arrivals<'_> {
     ghost commands = { λ b place. map arrive (drop place b.arrivals.now) };
 
-    ghost goes_on = { λ b. always };
+    ghost continues = { λ b. always };
 
     ghost shows = { λ first b replies. b.replies.items ≡ replies };
 
@@ -59,7 +59,7 @@ impl Burst for Arrivals<'_> {
 impl Burst for Departures {
     ghost commands = { λ b place. departures (b.most - place) b.moment };
 
-    ghost goes_on = { λ b. has_left };
+    ghost continues = { λ b. has_left };
 
     ghost shows = { λ first b replies. b.replies.items ≡ replies };
 
@@ -83,9 +83,9 @@ impl Burst for Departures {
     #[inline(always)]
     fn take(&mut self, place: usize, reply: Reply) -> bool {
         let _ = place;
-        let goes_on = has_left(&reply);
+        let continues = has_left(&reply);
         self.replies.push_reserved(reply);
-        goes_on
+        continues
     }
 }
 

@@ -2,7 +2,7 @@
 use Rattle.pie_lock.proofs.Names.{◌≡◌, ◌≢◌, ℕ, zero, suc, ◌<◌, ◌≤◌, ◌⊎◌, Bool, true, false, cond, Option, List, [], ◌∷◌, ◌++◌, length, get_or, min}
 use Rattle.pie_lock.proofs.Names.{max, set, refl, ap, sym, subst, ◌∙◌, inl, inr, ⊎_elim, arith, append_assoc, nat_tests, append-nil, All-append, All}
 use Rattle.pie_lock.proofs.Names.{at_set, set_else, is_within, Agreed, EachPass, Follows, IsNumberAt, IsNumberOf, IsSeated, AreAdjacent, Extends}
-use Rattle.pie_lock.proofs.Names.{HasAll, longer, made_one, with_front, with_numbers, Place, Holds, Meets, Spent, Waits, PassKnowledge}
+use Rattle.pie_lock.proofs.Names.{HasAll, longer, made_one, with_front, with_numbers, Place, Holds, HasTwo, Spent, Waits, PassKnowledge}
 use Rattle.std.proofs.Math.Dec.{ltb}
 use lib.ListN.{get_elem?}
 use mathlib.Core.Option.{some, some-injective}
@@ -110,7 +110,7 @@ module _ {E O : Type 0} (number : E → ℕ) (origin : O) (numbers : ℕ) where
   each_longer history k Spent added is f not = tt
   each_longer history k (Waits p) added is f not = follows_longer history k p added is f not
   each_longer history k (Holds p) added is f not = follows_longer history k p added is f not
-  each_longer history k (Meets p q) added is f not =
+  each_longer history k (HasTwo p q) added is f not =
       (follows_longer history k p added is f.0 (λ h. not (inl h)), follows_longer history k q added is f.1 (λ h. not (inr h)))
 
   pub below_longer : (history : List E) (k : ℕ) (added : List E) → All (λ e. number e ≡ k) added → k < numbers

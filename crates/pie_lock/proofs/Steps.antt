@@ -4,7 +4,7 @@ use Rattle.pie_lock.proofs.Names.{length, get_or, set, refl, ap, sym, subst, ◌
 use Rattle.pie_lock.proofs.Names.{All-nil, All, at_longer, at_set, exchanged, set_again, set_else, Act, Allows, Joins, Me, Splits, State, Valid}
 use Rattle.pie_lock.proofs.Names.{carried_after, gives, keeps, opening, step, stepped, takes, Agreed, EachPass, Follows, IsSeated, Ruled, WhileFree}
 use Rattle.pie_lock.proofs.Names.{WhileHeld, opened, IsIdle, IsLeaving, AreAdjacent, HasAll, Won, all_but_highest, freed, highest, looked, made_one}
-use Rattle.pie_lock.proofs.Names.{meeting, merged, pass_at, taken, with_front, with_numbers, Place, Holds, Meets, Spent, Waits, PassKnowledge}
+use Rattle.pie_lock.proofs.Names.{meeting, merged, pass_at, taken, with_front, with_numbers, Place, Holds, HasTwo, Spent, Waits, PassKnowledge}
 use lib.ListN.{get_elem?}
 use mathlib.Core.Option.{none, some, some-injective}
 use prog.Atomic.{either}
@@ -32,25 +32,25 @@ given_else : (owner test : ℕ → ℕ) (value new n : ℕ) → (test n ≡ valu
 unfolding given
 given_else owner test value new n other = grind (arith, nat_tests)
 
-module _ {S E O : Type 0} (number : E → ℕ) (origin_of : S → O) (tells : S → List E → Type 0) (origin : O) (numbers : ℕ) where
+module _ {S E O : Type 0} (number : E → ℕ) (origin_of : S → O) (represents_list : S → List E → Type 0) (origin : O) (numbers : ℕ) where
   abbrev Table : Type 0
   Table = State (Option S) (Place E O)
 
   abbrev Rule : Table → Type 0
-  Rule s = Ruled number origin_of tells origin numbers s
+  Rule s = Ruled number origin_of represents_list origin numbers s
 
   abbrev IsFree : List E → Option ℕ → Table → Type 0
-  IsFree history holder s = WhileFree number origin_of tells origin numbers history holder s
+  IsFree history holder s = WhileFree number origin_of represents_list origin numbers history holder s
 
   abbrev IsHeld : Option ℕ → Table → Type 0
-  IsHeld holder s = WhileHeld number origin_of tells origin numbers holder s
+  IsHeld holder s = WhileHeld number origin_of represents_list origin numbers holder s
 
   abbrev Sits : List E → Option ℕ → (ℕ → ℕ) → ℕ → Place E O → Type 0
   Sits history holder owner seat view = IsSeated number origin numbers history holder owner seat view
 
   -- ---- the opening
 
-  pub opens : (first stored : S) (slots : List (Option S)) → slots ≡ Some stored ∷ [] → stored ≡ first → origin_of first ≡ origin → tells first []
+  pub opens : (first stored : S) (slots : List (Option S)) → slots ≡ Some stored ∷ [] → stored ≡ first → origin_of first ≡ origin → represents_list first []
       → numbers ≢ 0 → Rule (opening (0 ∷ []) slots (opened origin numbers))
   opens first stored slots only is from told some_numbers =
       let v : Place E O = opened origin numbers in
@@ -75,7 +75,7 @@ module _ {S E O : Type 0} (number : E → ℕ) (origin_of : S → O) (tells : S 
             });
             entries_below = All-nil (λ e. number e < numbers);
           },
-          inl (refl, refl, (stored, refl, ap origin_of is ∙ from, subst (λ s. tells s []) (sym is) told)),
+          inl (refl, refl, (stored, refl, ap origin_of is ∙ from, subst (λ s. represents_list s []) (sym is) told)),
         ),
       )
 
@@ -83,7 +83,7 @@ module _ {S E O : Type 0} (number : E → ℕ) (origin_of : S → O) (tells : S 
 
   wins : (id : ℕ) (p : PassKnowledge E O) (s : Table) → Rule s → get_elem? s.views id ≡ some (Waits p) → get_or s.words 0 0 ≡ 0
       → (w : Place E O) × (a : Act (Option S)) × Valid s.homes [] a × Rule (stepped s 0 1 id [] w a)
-      × Won number origin_of tells p (w, carried_after [] a)
+      × Won number origin_of represents_list p (w, carried_after [] a)
   wins id p s rule at hit =
       let history : List E = rule.1.0 in
       let agreed : Agreed number origin numbers history rule.1.1 rule.1.2 s.views = rule.1.3 in
@@ -167,19 +167,19 @@ module _ {S E O : Type 0} (number : E → ℕ) (origin_of : S → O) (tells : S 
       (λ s rule sized at wide. (Waits p, keeps, tt, stays id p s rule at, (refl, not_all id p s rule at)))
 
   won_or_lost : (slots id : ℕ) (p : PassKnowledge E O)
-      → Allows Rule slots id (Waits p, []) 0 (λ n. either (n == 0) 1 n) (taken number origin_of tells (step slots 0 0 1 none) (Waits p, []))
+      → Allows Rule slots id (Waits p, []) 0 (λ n. either (n == 0) 1 n) (taken number origin_of represents_list (step slots 0 0 1 none) (Waits p, []))
   won_or_lost slots id p s rule sized at wide =
       let n : ℕ = get_or s.words 0 0 in
       exchanged n 0 1 (λ k. (w : Place E O) × (a : Act (Option S)) × Valid s.homes [] a × Rule (stepped s 0 k id [] w a)
-      × taken number origin_of tells (step slots 0 0 1 none) (Waits p, []) n (w, carried_after [] a))
+      × taken number origin_of represents_list (step slots 0 0 1 none) (Waits p, []) n (w, carried_after [] a))
       (λ hit. let won = wins id p s rule at hit in (won.0, won.1, won.2, won.3, (λ _. won.4, λ ne. absurd (ne hit))))
       (λ miss. (Waits p, keeps, tt, stays id p s rule at, (λ e. absurd (miss e), λ ne. (refl, not_all id p s rule at ne))))
 
   pub takes_keep : (slots id : ℕ) (me : Me (Option S) (Place E O)) → IsIdle me
-      → Allows Rule slots id me 0 (λ n. either (n == 0) 1 n) (taken number origin_of tells (step slots 0 0 1 none) me)
+      → Allows Rule slots id me 0 (λ n. either (n == 0) 1 n) (taken number origin_of represents_list (step slots 0 0 1 none) me)
   takes_keep slots id me idle =
       subst (λ (m : Me (Option S) (Place E O)). Allows Rule slots id m 0 (λ n. either (n == 0) 1 n)
-      (taken number origin_of tells (step slots 0 0 1 none) m))
+      (taken number origin_of represents_list (step slots 0 0 1 none) m))
       (sym idle) (won_or_lost slots id (pass_at me.0))
 
   -- ---- the store of FREE, by the seat that has the state
@@ -189,7 +189,7 @@ module _ {S E O : Type 0} (number : E → ℕ) (origin_of : S → O) (tells : S 
   Frees slots id added me = Allows Rule slots id me 0 (λ _. 0) (λ _. freed added (step slots 0 0 0 none) me 0)
 
   frees : (slots id : ℕ) (p : PassKnowledge E O) (stored : S) (added : List E) → p.origin ≡ Some (origin_of stored)
-      → tells stored (p.front ++ added) → All (λ e. number e ≡ p.first) added → Frees slots id added (Holds p, (0, Some stored) ∷ [])
+      → represents_list stored (p.front ++ added) → All (λ e. number e ≡ p.first) added → Frees slots id added (Holds p, (0, Some stored) ∷ [])
   frees slots id p stored added from told own s rule sized at wide =
       let history : List E = rule.1.0 in
       let agreed : Agreed number origin numbers history rule.1.1 rule.1.2 s.views = rule.1.3 in
@@ -237,7 +237,7 @@ module _ {S E O : Type 0} (number : E → ℕ) (origin_of : S → O) (tells : S 
       )
 
   pub frees_keep : (slots id : ℕ) (me : Me (Option S) (Place E O)) (stored : S) (named added : List E) → named ≡ added
-      → IsLeaving number origin_of tells added stored me → Frees slots id named me
+      → IsLeaving number origin_of represents_list added stored me → Frees slots id named me
   frees_keep slots id me stored named added same leaving =
       subst (λ (l : List E). Frees slots id l me) (sym same) (subst (Frees slots id added) (sym leaving.holds)
       (frees slots id (pass_at me.0) stored added leaving.origin leaving.told leaving.own))
@@ -300,12 +300,12 @@ module _ {S E O : Type 0} (number : E → ℕ) (origin_of : S → O) (tells : S 
   abbrev Merges : ℕ → ℕ → Me (Option S) (Place E O) → Type 0
   Merges slots id me = Allows Rule slots id me 0 (λ n. n) (merged number (step slots 0 0 0 none) me)
 
-  merges : (slots id : ℕ) (p q : PassKnowledge E O) → AreAdjacent p q → Merges slots id (Meets p q, [])
+  merges : (slots id : ℕ) (p q : PassKnowledge E O) → AreAdjacent p q → Merges slots id (HasTwo p q, [])
   merges slots id p q adjacent s rule sized at wide =
       let history : List E = rule.1.0 in
       let agreed : Agreed number origin numbers history rule.1.1 rule.1.2 s.views = rule.1.3 in
-      let mine : Sits history rule.1.1 rule.1.2 id (Meets p q) = agreed.seated id (Meets p q) at in
-      let both : EachPass (Follows number origin numbers history) (Meets p q) = mine.follows in
+      let mine : Sits history rule.1.1 rule.1.2 id (HasTwo p q) = agreed.seated id (HasTwo p q) at in
+      let both : EachPass (Follows number origin numbers history) (HasTwo p q) = mine.follows in
       let w : Place E O = Waits (made_one p q) in
       let facts = follows_both number origin numbers history p q both.0 both.1 adjacent in
       let words : set s.words 0 (get_or s.words 0 0) ≡ s.words = word_again s.words rule.0 in
@@ -328,21 +328,21 @@ module _ {S E O : Type 0} (number : E → ℕ) (origin_of : S → O) (tells : S 
                   holds = λ r h. absurd (cc h);
                 })
                 (λ j u ne e. agreed.seated j u e) agreed.entries_below,
-            same_word s views history rule.1.1 rule.1.4 (λ j r e. set_beside s.views id j w (Meets p q) (Holds r) at e (λ h. cc h)),
+            same_word s views history rule.1.1 rule.1.4 (λ j r e. set_beside s.views id j w (HasTwo p q) (Holds r) at e (λ h. cc h)),
           ),
         ),
         (refl, facts.1, facts.2),
       )
 
   pub merges_keep : (slots id : ℕ) (me : Me (Option S) (Place E O)) (p q : PassKnowledge E O) → AreAdjacent p q
-      → ◌≡◌ {A = Me (Option S) (Place E O)} me (Meets p q, []) → Merges slots id me
+      → ◌≡◌ {A = Me (Option S) (Place E O)} me (HasTwo p q, []) → Merges slots id me
   merges_keep slots id me p q adjacent is = subst (Merges slots id) (sym is) (merges slots id p q adjacent)
 
   joins : (id other : ℕ) (p q : PassKnowledge E O) → Joins Rule id (Waits p) other (Waits q) (meeting (Waits p) (Waits q)) Spent
   joins id other p q s rule at ne there =
       let history : List E = rule.1.0 in
       let agreed : Agreed number origin numbers history rule.1.1 rule.1.2 s.views = rule.1.3 in
-      let both : Place E O = Meets p q in
+      let both : Place E O = HasTwo p q in
       let spent : Place E O = Spent in
       let its_place : get_elem? s.views other ≡ some (Waits q) = sym (set_else s.views id other both ne) ∙ there in
       let mine : Sits history rule.1.1 rule.1.2 id (Waits p) = agreed.seated id (Waits p) at in

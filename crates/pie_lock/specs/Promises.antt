@@ -13,13 +13,13 @@ module _ {S E O : Type 0} where
   pass_after h added = record { lock = h.lock; front = h.front ++ added; first = h.first; limit = h.limit }
 
 -- the promise of a take: the pass has taken the state, which represents the front of the held
-module _ {S E O : Type 0} (number_of : E → ℕ) (origin_of : S → O) (tells : S → List E → Type 0) where
+module _ {S E O : Type 0} (number_of : E → ℕ) (origin_of : S → O) (represents_list : S → List E → Type 0) where
   pub record HasTaken (p : PassView E O) (h : HeldView S E O) : Type 0 where
     pub pass : IsOfPass p h
     -- the new front begins with the front of the pass, and has no further entry under its numbers
     pub front : Extends number_of p.first p.limit p.front h.front
     pub origin : h.lock.origin ≡ Some (origin_of h.state)
-    pub told : tells h.state h.front
+    pub told : represents_list h.state h.front
     pub numbered : All (λ e. number_of e < p.lock.numbers) h.front
     -- for a pass with all numbers the front is unchanged
     pub same : HoldsAll p → h.front ≡ p.front

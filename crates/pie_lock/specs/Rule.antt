@@ -7,7 +7,7 @@ use lib.ListN.{get_elem?}
 use Rattle.atomic_table.specs.Table.{State}
 use Rattle.pie_lock.specs.declared.view.PassKnowledge.{PassKnowledge}
 use Rattle.pie_lock.specs.declared.view.Place.{Place}
-use Rattle.pie_lock.specs.declared.view.Place.TheVariants.{Spent, Waits, Holds, Meets}
+use Rattle.pie_lock.specs.declared.view.Place.TheVariants.{Spent, Waits, Holds, HasTwo}
 use Rattle.pie_lock.specs.Own.{own}
 
 module _ {E O : Type 0} where
@@ -24,14 +24,14 @@ module _ {E O : Type 0} where
   IsNumberAt Spent n = ⊥
   IsNumberAt (Waits p) n = IsNumberOf p n
   IsNumberAt (Holds p) n = IsNumberOf p n
-  IsNumberAt (Meets p q) n = IsNumberOf p n ⊎ IsNumberOf q n
+  IsNumberAt (HasTwo p q) n = IsNumberOf p n ⊎ IsNumberOf q n
 
   -- P holds of each pass of the seat
   abbrev pub EachPass : (PassKnowledge E O → Type 0) → Place E O → Type 0
   EachPass P Spent = Unit {0}
   EachPass P (Waits p) = P p
   EachPass P (Holds p) = P p
-  EachPass P (Meets p q) = P p × P q
+  EachPass P (HasTwo p q) = P p × P q
 
   -- the history begins with the pass's front, and has under its numbers only the entries of its front. The pass knows
   -- the lock's origin and its number of numbers; its own numbers are some of these
@@ -59,13 +59,13 @@ module _ {E O : Type 0} where
     pub seated : (seat : ℕ) (view : Place E O) → get_elem? views seat ≡ some view → IsSeated number origin numbers history holder owner seat view
     pub entries_below : All (λ e. number e < numbers) history
 
-module _ {S E O : Type 0} (number : E → ℕ) (origin_of : S → O) (tells : S → List E → Type 0) (origin : O) (numbers : ℕ) where
+module _ {S E O : Type 0} (number : E → ℕ) (origin_of : S → O) (represents_list : S → List E → Type 0) (origin : O) (numbers : ℕ) where
   -- while the word is FREE: no seat has the state; the slot contains it, it has the lock's origin and represents the
   -- history
   abbrev pub WhileFree : List E → Option ℕ → State (Option S) (Place E O) → Type 0
   WhileFree history holder s =
       (slice_index s.words 0 ≡ 0) × (holder ≡ None)
-      × ((stored : S) × (get_elem? s.homes 0 ≡ some (some (Some stored))) × (origin_of stored ≡ origin) × tells stored history)
+      × ((stored : S) × (get_elem? s.homes 0 ≡ some (some (Some stored))) × (origin_of stored ≡ origin) × represents_list stored history)
 
   -- while the word is HELD: the slot is out, and one seat has the state
   abbrev pub WhileHeld : Option ℕ → State (Option S) (Place E O) → Type 0

@@ -40,11 +40,11 @@ pub record IsHolding {S E O : Type 0} (first limit : ℕ) (me : Me (Option S) (P
 
 -- the seat has a pass and the slot with this state in it. The state has the lock's origin and represents the front with
 -- these entries, each of which has the pass's first number
-pub record IsLeaving {S E O : Type 0} (number : E → ℕ) (origin_of : S → O) (tells : S → List E → Type 0) (added : List E) (state : S)
+pub record IsLeaving {S E O : Type 0} (number : E → ℕ) (origin_of : S → O) (represents_list : S → List E → Type 0) (added : List E) (state : S)
     (me : Me (Option S) (Place E O)) : Type 0 where
   pub holds : ◌≡◌ {A = Me (Option S) (Place E O)} me (Holds (pass_at me.0), (0, Some state) ∷ [])
   pub origin : (pass_at me.0).origin ≡ Some (origin_of state)
-  pub told : tells state ((pass_at me.0).front ++ added)
+  pub told : represents_list state ((pass_at me.0).front ++ added)
   pub own : All (λ e. number e ≡ (pass_at me.0).first) added
 
 -- the seat has a pass, and no slot

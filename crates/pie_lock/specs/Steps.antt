@@ -5,7 +5,7 @@ use mathlib.Core.List.{IsPrefix}
 use Rattle.atomic_table.specs.Table.{Me, Step}
 use Rattle.pie_lock.specs.declared.view.PassKnowledge.{PassKnowledge}
 use Rattle.pie_lock.specs.declared.view.Place.{Place}
-use Rattle.pie_lock.specs.declared.view.Place.TheVariants.{Spent, Waits, Holds, Meets}
+use Rattle.pie_lock.specs.declared.view.Place.TheVariants.{Spent, Waits, Holds, HasTwo}
 use Rattle.pie_lock.specs.Own.{own}
 
 -- the longer of two lists
@@ -24,14 +24,14 @@ module _ {E O : Type 0} where
   pass_at Spent = record { front = []; first = 0; limit = 0; numbers = 0; origin = None }
   pass_at (Waits p) = p
   pass_at (Holds p) = p
-  pass_at (Meets p q) = p
+  pass_at (HasTwo p q) = p
 
   -- the second pass of a seat that has two
   abbrev pub other_at : Place E O → PassKnowledge E O
   other_at Spent = pass_at Spent
   other_at (Waits p) = p
   other_at (Holds p) = p
-  other_at (Meets p q) = q
+  other_at (HasTwo p q) = q
 
   -- the pass has all numbers of the lock
   abbrev pub HasAll : PassKnowledge E O → Type 0
@@ -42,18 +42,18 @@ module _ {E O : Type 0} where
   all_but_highest Spent = Spent
   all_but_highest (Waits p) = Waits (with_numbers p p.first (p.limit - 1))
   all_but_highest (Holds p) = Holds p
-  all_but_highest (Meets p q) = Meets p q
+  all_but_highest (HasTwo p q) = HasTwo p q
 
   -- the new seat after a split: the highest number alone, with the same front
   abbrev pub highest : Place E O → Place E O
   highest Spent = Spent
   highest (Waits p) = Waits (with_numbers p (p.limit - 1) p.limit)
   highest (Holds p) = Spent
-  highest (Meets p q) = Spent
+  highest (HasTwo p q) = Spent
 
   -- the seat with the passes of two joined seats
   abbrev pub meeting : Place E O → Place E O → Place E O
-  meeting v w = Meets (pass_at v) (pass_at w)
+  meeting v w = HasTwo (pass_at v) (pass_at w)
 
   -- one pass of two: the longer front, and both ranges
   abbrev pub made_one : PassKnowledge E O → PassKnowledge E O → PassKnowledge E O
@@ -69,7 +69,7 @@ abbrev pub Extends : {E : Type 0} → (E → ℕ) → ℕ → ℕ → List E →
 Extends number first limit front longer_front =
     IsPrefix front longer_front × (own number first limit longer_front ≡ own number first limit front)
 
-module _ {S E O : Type 0} (number : E → ℕ) (origin_of : S → O) (tells : S → List E → Type 0) where
+module _ {S E O : Type 0} (number : E → ℕ) (origin_of : S → O) (represents_list : S → List E → Type 0) where
   -- the pass p took the lock: its seat has the slot, and its front is the history that the state represents
   abbrev pub Won : PassKnowledge E O → Me (Option S) (Place E O) → Type 0
   Won p after =
@@ -77,7 +77,7 @@ module _ {S E O : Type 0} (number : E → ℕ) (origin_of : S → O) (tells : S 
       × (after ≡ (Holds (with_front p history), (0, Some stored) ∷ []))
       × Extends number p.first p.limit p.front history
       × (p.origin ≡ Some (origin_of stored))
-      × tells stored history
+      × represents_list stored history
       × All (λ e. number e < p.numbers) history
       × (HasAll p → history ≡ p.front)
 

@@ -84,7 +84,7 @@ impl Kept for Counter {
 
     ghost origin_of = { λ _. tt };
 
-    ghost tells = { Represents };
+    ghost represents_list = { Represents };
 
     fn number(entry: &CounterEntry) -> u16 {
         entry.caller

@@ -17,11 +17,11 @@ pub trait Kept: Drop {
 
     ghost origin_of: { Self → Self.Origin };
 
-    ghost tells: { Self → List Self.Entry → Type 0 };
+    ghost represents_list: { Self → List Self.Entry → Type 0 };
 
     /// Returns the caller's number of `entry`.
     fn number(entry: &Self::Entry) -> u16
         ensures { result ≡ number_of entry.now };
 
-    ghost one_length: { (state : Self) (xs ys : List Self.Entry) → tells state xs → tells state ys → length xs ≡ length ys };
+    ghost one_length: { (state : Self) (xs ys : List Self.Entry) → represents_list state xs → represents_list state ys → length xs ≡ length ys };
 }

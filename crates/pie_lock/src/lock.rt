@@ -92,7 +92,7 @@ impl<S: Kept> RuledLock<S> {
         state: S,
         numbers: u16,
     ) -> Result<(RuledLock<S>, Pass<S>), (S, LockRefusal)>
-        requires { S.tells state [] }
+        requires { S.represents_list state [] }
         ensures origin { IfOk result (λ made. made.0.origin ≡ Some (S.origin_of state)) }
         ensures numbers { IfOk result (λ made. made.0.numbers ≡ numbers) }
         ensures pass { IfOk result (λ made. made.1 ≡ first_pass made.0 numbers) }
@@ -159,7 +159,7 @@ impl<S: Kept> RuledLock<S> {
     )
         requires table { seat.old.table_id ≡ self.now.id }
         requires added { J.added ≡ added.now.value }
-        requires slot { (state : S) × IsLeaving S.number_of S.origin_of S.tells added.now.value state seat.old.me }
+        requires slot { (state : S) × IsLeaving S.number_of S.origin_of S.represents_list added.now.value state seat.old.me }
         ensures seat { (seat.new.table_id ≡ seat.old.table_id) × (seat.new.id ≡ seat.old.id) }
         ensures front { seat.new.me ≡ (Waits (with_front (pass_at seat.old.me.0) ((pass_at seat.old.me.0).front ++ added.now.value)), []) }
     {
@@ -169,7 +169,7 @@ impl<S: Kept> RuledLock<S> {
 
     // Returns true if another pass has the state. It is a load: the cache line of the word stays shared, where a failed
     // exchange would take it from the processor that has the state.
-    fn is_out(&self, pass: &mut Pass<S>) -> bool
+    fn is_held(&self, pass: &mut Pass<S>) -> bool
         requires own { pass.old.lock ≡ self.now }
         ensures same { pass.new ≡ pass.old }
         ensures other { IsTrue result → HoldsAll pass.old → ⊥ }
@@ -180,7 +180,7 @@ impl<S: Kept> RuledLock<S> {
     // Takes the state, unless another pass has it.
     fn exchange(&self, pass: Pass<S>) -> Result<Held<S>, Pass<S>>
         requires own { pass.lock ≡ self.now }
-        ensures taken { IfOk result (HasTaken S.number_of S.origin_of S.tells pass) }
+        ensures taken { IfOk result (HasTaken S.number_of S.origin_of S.represents_list pass) }
         ensures alone { HoldsAll pass → IsOk result }
         ensures busy { IfErr result (λ back. back ≡ pass) }
     {
@@ -212,12 +212,12 @@ impl<S: Kept> RuledLock<S> {
     /// If another pass has the state, returns `pass` unchanged. A pass with all numbers always takes the state.
     pub fn try_take(&self, pass: Pass<S>) -> Result<Held<S>, Pass<S>>
         requires own { pass.lock ≡ self.now }
-        ensures taken { IfOk result (HasTaken S.number_of S.origin_of S.tells pass) }
+        ensures taken { IfOk result (HasTaken S.number_of S.origin_of S.represents_list pass) }
         ensures alone { HoldsAll pass → IsOk result }
         ensures busy { IfErr result (λ back. back ≡ pass) }
     {
         let mut pass = pass;
-        if self.is_out(&mut pass) {
+        if self.is_held(&mut pass) {
             return Err(pass);
         }
         self.exchange(pass)
@@ -227,7 +227,7 @@ impl<S: Kept> RuledLock<S> {
     /// [`RuledLock::wake`] after its put.
     pub fn take<R: Wait>(&self, rt: &R, pass: Pass<S>) -> (Held<S>, WakeDue)
         requires own { pass.lock ≡ self.now }
-        ensures { HasTaken S.number_of S.origin_of S.tells pass result.0 }
+        ensures { HasTaken S.number_of S.origin_of S.represents_list pass result.0 }
     {
         self.take_for(rt, pass, 0)
     }
@@ -237,7 +237,7 @@ impl<S: Kept> RuledLock<S> {
     /// history does not depend on `calls`.
     pub fn take_for<R: Wait>(&self, rt: &R, pass: Pass<S>, calls: usize) -> (Held<S>, WakeDue)
         requires own { pass.lock ≡ self.now }
-        ensures { HasTaken S.number_of S.origin_of S.tells pass result.0 }
+        ensures { HasTaken S.number_of S.origin_of S.represents_list pass result.0 }
     {
         match self.exchange(pass) {
             Ok(held) => (held, WakeDue(())),
@@ -250,7 +250,7 @@ impl<S: Kept> RuledLock<S> {
     #[inline(never)]
     fn wait_and_take<R: Wait>(&self, rt: &R, pass: Pass<S>, looks: usize) -> Held<S>
         requires own { pass.lock ≡ self.now }
-        ensures { HasTaken S.number_of S.origin_of S.tells pass result }
+        ensures { HasTaken S.number_of S.origin_of S.represents_list pass result }
     {
         let mut waiting = pass;
         let mut rounds = ROUNDS;
@@ -295,7 +295,7 @@ impl<S: Kept> RuledLock<S> {
         requires own { held.lock ≡ self.now }
         requires number { All (λ e. S.number_of e ≡ held.first) added.value }
         requires origin { held.lock.origin ≡ Some (S.origin_of held.state) }
-        requires told { S.tells held.state (held.front ++ added.value) }
+        requires represents { S.represents_list held.state (held.front ++ added.value) }
         ensures { result ≡ pass_after held added.value }
     {
         let Held {
@@ -398,10 +398,10 @@ impl<S: Kept> RuledLock<S> {
     pub fn close(self, pass: Pass<S>) -> Result<S, StillHeld<S>>
         requires own { pass.lock ≡ self }
         ensures origin { IfOk result (λ state. pass.lock.origin ≡ Some (S.origin_of state)) }
-        ensures told { IfOk result (λ state. (history : List S.Entry) × Extends S.number_of pass.first pass.limit pass.front history
-            × S.tells state history) }
+        ensures represents { IfOk result (λ state. (history : List S.Entry) × Extends S.number_of pass.first pass.limit pass.front history
+            × S.represents_list state history) }
         ensures alone { HoldsAll pass → IsOk result }
-        ensures same { HoldsAll pass → IfOk result (λ state. S.tells state pass.front) }
+        ensures same { HoldsAll pass → IfOk result (λ state. S.represents_list state pass.front) }
         ensures numbered { HoldsAll pass → IfOk result (λ _. All (λ e. S.number_of e < pass.lock.numbers) pass.front) }
         ensures still_held { IfErr result (λ back. (back.lock ≡ self) × (back.pass ≡ pass)) }
     {

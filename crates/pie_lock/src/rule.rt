@@ -14,7 +14,7 @@ pub struct LockRule;
 impl<S: Kept> TableRule<Option<S>, Place<S::Entry, S::Origin>, LockOpening<S>> for LockRule {
     ghost use Rattle.pie_lock.specs.Rule.{Ruled, opened};
 
-    ghost holds = { λ key. Ruled S.number_of S.origin_of S.tells (S.origin_of key.state.value) key.numbers };
+    ghost holds = { λ key. Ruled S.number_of S.origin_of S.represents_list (S.origin_of key.state.value) key.numbers };
 
     ghost first = { λ key. opened (S.origin_of key.state.value) key.numbers };
 }
@@ -30,7 +30,7 @@ impl<S: Kept> Play<Option<S>, Place<S::Entry, S::Origin>> for LookStep {
 pub(crate) struct TakeStep;
 
 impl<S: Kept> Play<Option<S>, Place<S::Entry, S::Origin>> for TakeStep {
-    ghost then = { taken S.number_of S.origin_of S.tells };
+    ghost then = { taken S.number_of S.origin_of S.represents_list };
 }
 
 /// The entries that a put appends to the history, for the prover alone. Each put names its own.

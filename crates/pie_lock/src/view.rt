@@ -21,7 +21,7 @@ pub enum Place<E, O> {
     /// The seat has the state.
     Holds(PassKnowledge<E, O>),
     /// The seat has two passes, which the next load makes one.
-    Meets(PassKnowledge<E, O>, PassKnowledge<E, O>),
+    HasTwo(PassKnowledge<E, O>, PassKnowledge<E, O>),
 }
 
 /// The first state of a lock, and its number of callers' numbers.

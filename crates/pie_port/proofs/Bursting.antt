@@ -14,21 +14,21 @@ is_at asked es i d command some is = grind (arith, drop_more es i d)
 pub is_place : (asked : EventCall) (es : List PieEvent) (i : ℕ) → 0 < length (map (asks asked) (drop i es)) → i < length es
 is_place asked es i some = omega (arith, some, length-map (drop i es) (asks asked), length-drop i es)
 
-none_told : (asked : EventCall) (caller : ℕ) (es : List PieEvent) → events_answered asked caller es [] ≡ es
-none_told asked caller [] = refl
-none_told asked caller (e ∷ es) = refl
+none_answered : (asked : EventCall) (caller : ℕ) (es : List PieEvent) → events_answered asked caller es [] ≡ es
+none_answered asked caller [] = refl
+none_answered asked caller (e ∷ es) = refl
 
-told-more : (asked : EventCall) (caller : ℕ) (es : List PieEvent) (rs : List Reply) (r : Reply) (d : PieEvent) → length rs < length es
+answered-more : (asked : EventCall) (caller : ℕ) (es : List PieEvent) (rs : List Reply) (r : Reply) (d : PieEvent) → length rs < length es
     → events_answered asked caller es (rs ++ r ∷ [])
     ≡ set (events_answered asked caller es rs) (length rs) (event_answered asked caller (get_or (events_answered asked caller es rs) (length rs) d) r)
-told-more asked caller [] rs r d some = absurd (omega (arith, some))
-told-more asked caller (e ∷ es) [] r d some = grind (arith, none_told asked caller es)
-told-more asked caller (e ∷ es) (q ∷ rs) r d some = grind (arith, told-more asked caller es rs r d)
+answered-more asked caller [] rs r d some = absurd (omega (arith, some))
+answered-more asked caller (e ∷ es) [] r d some = grind (arith, none_answered asked caller es)
+answered-more asked caller (e ∷ es) (q ∷ rs) r d some = grind (arith, answered-more asked caller es rs r d)
 
-length-told : (asked : EventCall) (caller : ℕ) (es : List PieEvent) (rs : List Reply) → length (events_answered asked caller es rs) ≡ length es
-length-told asked caller [] rs = refl
-length-told asked caller (e ∷ es) [] = refl
-length-told asked caller (e ∷ es) (r ∷ rs) = omega (arith, length-told asked caller es rs)
+length-answered : (asked : EventCall) (caller : ℕ) (es : List PieEvent) (rs : List Reply) → length (events_answered asked caller es rs) ≡ length es
+length-answered asked caller [] rs = refl
+length-answered asked caller (e ∷ es) [] = refl
+length-answered asked caller (e ∷ es) (r ∷ rs) = omega (arith, length-answered asked caller es rs)
 
 -- a burst took one more result, which was written to the event at its place
 pub took : (asked : EventCall) (caller number : ℕ) (events now next : List PieEvent) (place done : ℕ) (replies : List Reply) (reply : Reply)
@@ -38,8 +38,8 @@ pub took : (asked : EventCall) (caller number : ℕ) (events now next : List Pie
     → Took asked caller number events next (place + 1) (replies ++ reply ∷ [])
 took asked caller number events now next place done replies reply d before at some is =
     let here : place ≡ length replies = sym at ∙ before.so_many in
-    let few : length replies < length events = grind (arith, length-told asked caller events replies) in
-    let said = told-more asked caller events replies reply d few in record {
+    let few : length replies < length events = grind (arith, length-answered asked caller events replies) in
+    let has_result = answered-more asked caller events replies reply d few in record {
       told = grind arith;
       so_many = omega (arith, here, length-append replies (reply ∷ []));
       same = before.same;
@@ -52,4 +52,4 @@ later_stay asked l now i e is = grind (arith, drop-set-lt (i + 1) l i e)
 
 -- a burst begins
 pub begun : (asked : EventCall) (caller : ℕ) (events : List PieEvent) (done : ℕ) → done ≡ 0 → Took asked caller caller events events done []
-begun asked caller events done none = record { told = sym (none_told asked caller events); so_many = none; same = refl }
+begun asked caller events done none = record { told = sym (none_answered asked caller events); so_many = none; same = refl }

@@ -1,4 +1,4 @@
--- The machine values of a `Loose` and of a handle of any type, and the ownership of a closed and of an open handle.
+-- The machine values of a `BoxPointer` and of a handle of any type, and the ownership of a closed and of an open handle.
 -- Assumes `Logic`.
 use Rattle.pie_port.proofs.Names.{Goal, Good, Item, List, Logic, None, Option, Ptr, RattleType, RawPtr, Seq, Some, Step, Ura, Val, Valss, []}
 use Rattle.pie_port.proofs.Names.{and_tt, bare, block_ptr, box_owns, dnil, drop, ent, feq_i, feq_l, fjoin, fpack, fpick, fsep, fsplit, fst∗}
@@ -12,7 +12,7 @@ use denote.Param.Laws.{Laws}
 use denote.Struct.Owning.{shape}
 use Rattle.core.specs.declared.alloc.Allocator.{Ghosts}
 use Rattle.core.proofs.alloc.Calls.{Al}
-use Rattle.pie_port.specs.contracts.handle.Loose as loose
+use Rattle.pie_port.specs.contracts.handle.BoxPointer as loose
 use Rattle.pie_port.specs.{Global}
 use Rattle.pie_port.specs.Owned.{owns_if}
 use base.Fml.{Fml}
@@ -30,8 +30,8 @@ abbrev pub both : Val → Val → Val
 both v w = vstruct (vcons v (vcons w vnil))
 
 module _ (R Z : RattleType) (L : Laws Z) (g : Ghosts Z.Denot) where
-  abbrev pub Loose : RattleType
-  Loose = loose.the_row R Z g
+  abbrev pub BoxPointer : RattleType
+  BoxPointer = loose.the_row R Z g
 
   abbrev pub al : Al
   al = record { row = Z; laws = L; g = g; d = impl [] tnil dnil; drops = impl [] tnil dnil }
@@ -40,10 +40,10 @@ module _ (R Z : RattleType) (L : Laws Z) (g : Ghosts Z.Denot) where
   loose_good b o h fits = (and_tt (has_ty (layout Z) h) fits.0, (tt, (fits.1, tt)))
 
   module _ {M : Type 1} {𝓤 : Ura M} {𝓛 : Logic 𝓤} {K : Type 0} {Γ : List (Item 𝓤)} {G : Goal 𝓤 𝓛.H} where
-    pub loose_out : K → (d : Loose.Denot) (vs : List Val)
+    pub loose_out : K → (d : BoxPointer.Denot) (vs : List Val)
         → ((b o : ℕ) (h : Val) → d.at ≡ block_ptr b o → vs ≡ both (vptr b o) h ∷ [] → Good (layout Z) h
         → Seq K 𝓛 (‵ (box_owns (g.dealloc_token d.alloc) R (block_ptr b o) d.value) ∷ ‵ (Z.own_val d.alloc (h ∷ [])) ∷ Γ) G)
-        → Seq K 𝓛 (‵ (Loose.own_val d vs) ∷ Γ) G
+        → Seq K 𝓛 (‵ (BoxPointer.own_val d vs) ∷ Γ) G
     loose_out t d vs k =
         fsplit t $ fpick t (λ vss. fsplit t $ feq_l t (λ ev. fsplit t $ feq_l t (λ ep. fsplit t $
         handle_tells al t d.alloc vss.1.0 (λ h ea fits. move t (1 ∷ []) $ drop t $ move t (1 ∷ []) $
@@ -54,7 +54,7 @@ module _ (R Z : RattleType) (L : Laws Z) (g : Ghosts Z.Denot) where
         (subst (λ (ps : List Val). vs ≡ vstruct (of_list (ps ++ (vss.1.0 ++ []))) ∷ []) ep ev))) fits)))))
 
     pub loose_in : K → (b o : ℕ) (h : Val) (a : Z.Denot) (x : R.Denot)
-        → Step K 𝓛 (‵ (Loose.own_val (record { at = block_ptr b o; alloc = a; value = x }) (both (vptr b o) h ∷ [])) ∷ Γ) G
+        → Step K 𝓛 (‵ (BoxPointer.own_val (record { at = block_ptr b o; alloc = a; value = x }) (both (vptr b o) h ∷ [])) ∷ Γ) G
         (‵ (box_owns (g.dealloc_token a) R (block_ptr b o) x) ∷ ‵ (Z.own_val a (h ∷ [])) ∷ Γ) G
     loose_in t b o h a x = step (λ s. let v : Val = both (vptr b o) h in
         nothing t $ move t (2 ∷ 0 ∷ []) $ fjoin t $ feq_i t (List Val) (vptr b o ∷ []) (vptr b o ∷ []) refl $ fjoin t $

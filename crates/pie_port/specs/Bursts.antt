@@ -8,17 +8,17 @@ use Rattle.pie_port.specs.Events.{refusal_number, answered_event, command_in, ha
 -- ---- an event of a burst
 
 -- the call of an event of a burst; any burst may contain updates
-abbrev pub riding : EventCall → PieEvent → EventCall
-riding asked e = if e.kind == 3 then Update else asked
+abbrev pub call_of_event : EventCall → PieEvent → EventCall
+call_of_event asked e = if e.kind == 3 then Update else asked
 
 -- the command of an event. For an invalid ECN field it is an arrival of no bytes, which is always refused and changes
 -- nothing
-abbrev pub asks_unless : Bool → EventCall → PieEvent → Command
-asks_unless true asked e = command.Arrive e.moment (record (packet_in e) { size = 0 }) e.word
-asks_unless false asked e = command_in asked e
+abbrev pub command_unless : Bool → EventCall → PieEvent → Command
+command_unless true asked e = command.Arrive e.moment (record (packet_in e) { size = 0 }) e.word
+command_unless false asked e = command_in asked e
 
 abbrev pub asks : EventCall → PieEvent → Command
-asks asked e = asks_unless (has_bad_ecn (riding asked e) e) (riding asked e) e
+asks asked e = command_unless (has_bad_ecn (call_of_event asked e) e) (call_of_event asked e) e
 
 -- the event after a result, with the caller's number
 abbrev pub replied : EventCall → ℕ → PieEvent → Reply → PieEvent
@@ -31,7 +31,7 @@ event_answered_unless true asked caller e reply = under caller (numbered_event a
 event_answered_unless false asked caller e reply = replied asked caller e reply
 
 abbrev pub event_answered : EventCall → ℕ → PieEvent → Reply → PieEvent
-event_answered asked caller e reply = event_answered_unless (has_bad_ecn (riding asked e) e) (riding asked e) caller e reply
+event_answered asked caller e reply = event_answered_unless (has_bad_ecn (call_of_event asked e) e) (call_of_event asked e) caller e reply
 
 -- the events after these results: each has its own, and the events after them are unchanged
 abbrev pub events_answered : EventCall → ℕ → List PieEvent → List Reply → List PieEvent
@@ -49,10 +49,10 @@ pub record Took (asked : EventCall) (caller number : ℕ) (events now : List Pie
 
 -- the burst was decided: each event after those before it, with no event of another caller between; `count` events were
 -- decided
-pub record IsAnswered (asked : EventCall) (budget : Option ℕ) (goes_on : Reply → Bool) (before : CallerView) (events : List PieEvent) (count code : ℕ)
+pub record IsAnswered (asked : EventCall) (budget : Option ℕ) (continues : Reply → Bool) (before : CallerView) (events : List PieEvent) (count code : ℕ)
     (written : List PieEvent) (after : CallerView) : Type 0 where
   pub replies : List Reply
-  pub answered : AnswersWithin budget goes_on before.lock before (map (asks asked) events) [] replies after
+  pub answered : AnswersWithin budget continues before.lock before (map (asks asked) events) [] replies after
   pub stays : StaysOne before after
   pub told : written ≡ events_answered asked before.first events replies
   pub counted : count ≡ length replies
@@ -68,12 +68,12 @@ pub record WasNotTried (before : CallerView) (events : List PieEvent) (count cod
 
 -- the result of a burst at an open port
 abbrev pub IsTriedAll : EventCall → Option ℕ → (Reply → Bool) → CallerView → List PieEvent → ℕ → ℕ → List PieEvent → CallerView → Type 0
-IsTriedAll asked budget goes_on before events count code written after =
-    IsAnswered asked budget goes_on before events count code written after ⊎ WasNotTried before events count code written after
+IsTriedAll asked budget continues before events count code written after =
+    IsAnswered asked budget continues before events count code written after ⊎ WasNotTried before events count code written after
 
 abbrev pub TriesAll : EventCall → Option ℕ → (Reply → Bool) → Option CallerView → List PieEvent → ℕ → ℕ → List PieEvent → Option CallerView → Type 0
-TriesAll asked budget goes_on port events count code written after =
-    AtPort port code after ((written ≡ events) × (count ≡ 0)) (λ before now. IsTriedAll asked budget goes_on before events count code written now)
+TriesAll asked budget continues port events count code written after =
+    AtPort port code after ((written ≡ events) × (count ≡ 0)) (λ before now. IsTriedAll asked budget continues before events count code written now)
 
 -- the budget of a number of bytes; the greatest number is no budget
 abbrev pub budget_of : ℕ → Option ℕ

@@ -3,7 +3,7 @@ use Rattle.std.specs.Prelude.{ℕ, ◌≡◌, List, [], ◌∷◌, ◌++◌, Opt
 use Rattle.pie_port.specs.Names.{bits_of, Answer, Command, SetParams, Event, Refusal, TriesToFoldInto, CallerView, StaysOne, Tried, PieEvent}
 use Rattle.pie_port.specs.Names.{RawParams, Told, arrived_event, bare_event}
 use Rattle.pie_event.specs.declared.command.Command.TheVariants.{Arrive, Depart, Update, Reset}
-use Rattle.pie_port.specs.declared.filling.EventCall.TheVariants as asked
+use Rattle.pie_port.specs.declared.event_results.EventCall.TheVariants as asked
 use Rattle.pie_port.specs.Calls.{AtPort}
 use Rattle.pie_port.specs.Events.{answer_number, answered_event}
 

@@ -21,17 +21,17 @@ pub use Rattle.pie_event.specs.declared.opening.Opening.{Opening}
 pub use Rattle.pie_event.specs.declared.refusal.Refusal.{Refusal}
 pub use Rattle.pie_link.specs.Bursts.{Reply, always, has_left_or_updated}
 pub use Rattle.pie_link.specs.Entries.{number_of}
-pub use Rattle.pie_link.specs.declared.told.Told.{Told}
+pub use Rattle.pie_link.specs.declared.call_result.Told.{Told}
 unfoldable pub use Rattle.pie_link.specs.CallerBursts.{AnswersWithin}
 unfoldable pub use Rattle.pie_link.specs.Commands.{TriesToAnswer}
 unfoldable pub use Rattle.pie_link.specs.CallerFolds.{TriesToFoldInto}
 unfoldable pub use Rattle.pie_link.specs.Headline.{KeepsOneHistory}
 pub use Rattle.pie_link.specs.Views.{CallerView, LinkView, StaysOne, WasBusy}
-pub use Rattle.pie_link.specs.declared.told.Tried.{Tried}
-pub use Rattle.pie_link.specs.declared.told.Tried.TheVariants.{Busy, Refused}
+pub use Rattle.pie_link.specs.declared.call_result.Tried.{Tried}
+pub use Rattle.pie_link.specs.declared.call_result.Tried.TheVariants.{Busy, Refused}
 pub use Rattle.pie_port.specs.declared.excerpt.ExcerptText.{ExcerptText}
-pub use Rattle.pie_port.specs.declared.filling.EventCall.{EventCall}
-pub use Rattle.pie_port.specs.declared.filling.EventCall.TheVariants.{Arrive, Depart, Reset, Update}
+pub use Rattle.pie_port.specs.declared.event_results.EventCall.{EventCall}
+pub use Rattle.pie_port.specs.declared.event_results.EventCall.TheVariants.{Arrive, Depart, Reset, Update}
 pub use Rattle.pie_lock.specs.Promises.{IsBeside, IsBothOf, first_pass, highest_alone, without_highest}
 pub use Rattle.pie_queue.specs.Ecn.{bits_of}
 pub use Rattle.pie_record.specs.Text.{text_of}

@@ -1,10 +1,10 @@
 //! Bursts: several events in one turn, read and written in place in the caller's memory. No call waits or allocates.
 ghost use Rattle.std.specs.Prelude.{◌≡◌, ◌<◌, Bool, drop, length, map, slice_index_or, slice_set, ℕ, None};
-ghost use Rattle.pie_port.specs.{Reply, always, has_left_or_updated, PieEvent, EventCall, Arrive, Depart, asks, asks_unless, riding, event_answered};
+ghost use Rattle.pie_port.specs.{Reply, always, has_left_or_updated, PieEvent, EventCall, Arrive, Depart, asks, command_unless, call_of_event, event_answered};
 ghost use Rattle.pie_port.specs.{has_bad_ecn, IsTriedAll, TriesAll, budget_of};
 
 use crate::code::{BUSY, CLOSED, of_refusal};
-use crate::filling::{EventCall, fill_answer, fill_number};
+use crate::event_results::{EventCall, fill_answer, fill_number};
 use crate::handle::PiePort;
 use crate::port::{Port, has_bad_ecn};
 use pie_abi::PieEvent;
@@ -19,27 +19,27 @@ use std::marker::PhantomData;
 
 /// A kind of burst: the call of its events, apart from updates, and the results after which it continues. Each kind is
 /// compiled on its own.
-pub(crate) trait Kind {
+pub(crate) trait BurstKind {
     ghost asked: { EventCall };
 
-    ghost goes_on: { Reply → Bool };
+    ghost continues: { Reply → Bool };
 
     /// Returns the call of its events.
     fn asks() -> EventCall
         ensures { result ≡ asked };
 
     /// Returns true if the burst continues after `reply`.
-    fn is_to_go_on(reply: &Reply) -> bool
-        ensures { result ≡ goes_on reply.now };
+    fn continues_after(reply: &Reply) -> bool
+        ensures { result ≡ continues reply.now };
 }
 
 /// Bursts of arrivals.
 pub(crate) struct Arrivals;
 
-impl Kind for Arrivals {
+impl BurstKind for Arrivals {
     ghost asked = { Arrive };
 
-    ghost goes_on = { always };
+    ghost continues = { always };
 
     #[inline(always)]
     fn asks() -> EventCall {
@@ -47,7 +47,7 @@ impl Kind for Arrivals {
     }
 
     #[inline(always)]
-    fn is_to_go_on(_: &Reply) -> bool {
+    fn continues_after(_: &Reply) -> bool {
         true
     }
 }
@@ -55,10 +55,10 @@ impl Kind for Arrivals {
 /// Bursts of departures.
 pub(crate) struct Departures;
 
-impl Kind for Departures {
+impl BurstKind for Departures {
     ghost asked = { Depart };
 
-    ghost goes_on = { has_left_or_updated };
+    ghost continues = { has_left_or_updated };
 
     #[inline(always)]
     fn asks() -> EventCall {
@@ -67,7 +67,7 @@ impl Kind for Departures {
 
     // Continue after a departure, after an update, and after an update that is too soon.
     #[inline(always)]
-    fn is_to_go_on(reply: &Reply) -> bool {
+    fn continues_after(reply: &Reply) -> bool {
         match reply {
             Ok(told) => matches!(told.answer, Answer::Left(_) | Answer::Updated { .. }),
             Err(why) => matches!(why, Refusal::TooSoon { .. }),
@@ -77,7 +77,7 @@ impl Kind for Departures {
 
 /// A burst of events of one kind, with updates among them.
 #[derive(Drop)]
-pub(crate) struct Asking<'a, K> {
+pub(crate) struct PortBurst<'a, K> {
     /// The events.
     pub(crate) events: &'a mut [PieEvent],
     /// The number of events that were decided.
@@ -89,8 +89,8 @@ pub(crate) struct Asking<'a, K> {
 
 // Returns the call of an event of a burst.
 #[inline(always)]
-fn riding(asked: EventCall, event: &PieEvent) -> EventCall
-    ensures { result ≡ riding asked event.now }
+fn call_of_event(asked: EventCall, event: &PieEvent) -> EventCall
+    ensures { result ≡ call_of_event asked event.now }
 {
     if event.kind == UPDATE {
         EventCall::Update
@@ -102,7 +102,7 @@ fn riding(asked: EventCall, event: &PieEvent) -> EventCall
 // Returns the arrival of an event. If its ECN field is invalid, the packet has no bytes, so that the book refuses it.
 #[inline(always)]
 fn arrival_of(event: &PieEvent) -> Command
-    ensures { result ≡ asks_unless (has_bad_ecn Arrive event.now) Arrive event.now }
+    ensures { result ≡ command_unless (has_bad_ecn Arrive event.now) Arrive event.now }
 {
     let (size, ecn) = match ecn(u32::from(event.ecn)) {
         Some(ecn) => (event.size, ecn),
@@ -125,7 +125,7 @@ fn command_of(asked: EventCall, event: &PieEvent) -> Command
     ensures { result ≡ asks asked event.now }
 {
     let moment = event.moment;
-    match riding(asked, event) {
+    match call_of_event(asked, event) {
         EventCall::Arrive => arrival_of(event),
         EventCall::Depart => Command::Depart { moment },
         EventCall::Update => Command::Update { moment },
@@ -138,7 +138,7 @@ fn command_of(asked: EventCall, event: &PieEvent) -> Command
 fn fill_event(event: &mut PieEvent, asked: EventCall, caller: u16, reply: &Reply)
     ensures { event.new ≡ event_answered asked caller event.old reply.now }
 {
-    let asked = riding(asked, event);
+    let asked = call_of_event(asked, event);
     if has_bad_ecn(asked, event) {
         fill_number(event, asked, BAD_ECN);
     } else {
@@ -166,12 +166,12 @@ fn fill_event_at(
     fill_event(&mut events[place], asked, caller, reply);
 }
 
-impl<K: Kind> Burst for Asking<'_, K> {
+impl<K: BurstKind> Burst for PortBurst<'_, K> {
     ghost use Rattle.pie_port.specs.{Took};
 
     ghost commands = { λ b place. map (asks K.asked) (drop place b.events.now) };
 
-    ghost goes_on = { λ b. K.goes_on };
+    ghost continues = { λ b. K.continues };
 
     ghost shows = { λ first b replies. (b.events.ghost_name ≡ first.events.ghost_name)
         × Took K.asked first.caller b.caller first.events.now b.events.now b.done replies };
@@ -195,7 +195,7 @@ impl<K: Kind> Burst for Asking<'_, K> {
     fn take(&mut self, place: usize, reply: Reply) -> bool {
         fill_event_at(self.events, place, K::asks(), self.caller, &reply);
         self.done = place + 1;
-        K::is_to_go_on(&reply)
+        K::continues_after(&reply)
     }
 }
 
@@ -208,16 +208,16 @@ fn budget_of(bytes: u64) -> Option<u64>
 
 impl Port {
     // Decides a burst, and writes its code.
-    fn ask_all<'a, K: Kind>(
+    fn decide_burst<'a, K: BurstKind>(
         &mut self,
         budget: Option<u64>,
-        burst: Asking<'a, K>,
+        burst: PortBurst<'a, K>,
         code: &mut u32,
-    ) -> Asking<'a, K>
+    ) -> PortBurst<'a, K>
         requires fresh { burst.done ≡ 0 }
         requires caller { burst.caller ≡ self.old.first }
         ensures same { result.events.ghost_name ≡ burst.entry.events.ghost_name }
-        ensures tried { IsTriedAll K.asked budget K.goes_on self.old burst.entry.events.now result.done code.new result.events.now self.new }
+        ensures tried { IsTriedAll K.asked budget K.continues self.old burst.entry.events.now result.done code.new result.events.now self.new }
     {
         match self.link.try_answer_all(&mut self.caller, budget, burst) {
             Ok(after) => {
@@ -232,32 +232,36 @@ impl Port {
     }
 
     // Makes the burst of `events` and decides it.
-    fn begin_all<'a, K: Kind>(
+    fn decide_events<'a, K: BurstKind>(
         &mut self,
         budget: Option<u64>,
         events: &'a mut [PieEvent],
         code: &mut u32,
-    ) -> Asking<'a, K>
+    ) -> PortBurst<'a, K>
         ensures same { result.events.ghost_name ≡ events.entry.ghost_name }
-        ensures tried { IsTriedAll K.asked budget K.goes_on self.old events.entry.now result.done code.new result.events.now self.new }
+        ensures tried { IsTriedAll K.asked budget K.continues self.old events.entry.now result.done code.new result.events.now self.new }
     {
         let caller = self.caller.first();
-        let burst = Asking {
+        let burst = PortBurst {
             events,
             done: 0,
             caller,
             kind: PhantomData,
         };
-        self.ask_all(budget, burst, code)
+        self.decide_burst(budget, burst, code)
     }
 
     /// Decides events of this kind and updates, one after another, within a budget of bytes. Returns the code and the
     /// number of decided events.
-    fn try_all<K: Kind>(&mut self, budget: Option<u64>, events: &mut [PieEvent]) -> (u32, usize)
-        ensures { IsTriedAll K.asked budget K.goes_on self.old events.old result.1 result.0 events.new self.new }
+    fn try_all<K: BurstKind>(
+        &mut self,
+        budget: Option<u64>,
+        events: &mut [PieEvent],
+    ) -> (u32, usize)
+        ensures { IsTriedAll K.asked budget K.continues self.old events.old result.1 result.0 events.new self.new }
     {
         let mut code = DONE;
-        let after = self.begin_all::<K>(budget, events, &mut code);
+        let after = self.decide_events::<K>(budget, events, &mut code);
         (code, after.done)
     }
 }
@@ -265,13 +269,13 @@ impl Port {
 // Decides a burst at a port of C.
 #[inline(always)]
 #[tactic(auto, unfolding(crate::specs::Calls::AtPort))]
-fn try_all<K: Kind>(
+fn try_all<K: BurstKind>(
     alloc: Global,
     port: &mut PiePort,
     budget: Option<u64>,
     events: &mut [PieEvent],
 ) -> (u32, usize)
-    ensures { TriesAll K.asked budget K.goes_on port.old.port events.old result.1 result.0 events.new port.new.port }
+    ensures { TriesAll K.asked budget K.continues port.old.port events.old result.1 result.0 events.new port.new.port }
 {
     let Some(mut held) = port.take(alloc) else {
         return (CLOSED, 0);

@@ -2,7 +2,7 @@
 ghost use Rattle.pie_port.specs.{Tries, TriesToSet};
 
 use crate::code::CLOSED;
-use crate::filling::EventCall;
+use crate::event_results::EventCall;
 use crate::handle::PiePort;
 use pie_abi::PieEvent;
 use pie_params::RawParams;

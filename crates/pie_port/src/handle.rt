@@ -12,28 +12,28 @@ use std::marker::Model;
 use std::ptr::null_mut;
 
 // A box as its pointer.
-pub(crate) struct Loose<T, A: Allocator> {
+pub(crate) struct BoxPointer<T, A: Allocator> {
     pub(crate) at: *mut T,
     pub(crate) alloc: A,
     pub(crate) ghost value: { T },
 }
 
-impl<T, A: Allocator> Model for Loose<T, A> {
+impl<T, A: Allocator> Model for BoxPointer<T, A> {
     ghost also_owns = { λ l. box_owns (A.dealloc_token l.alloc) T.row l.at l.value };
 }
 
-impl<T: Drop, A: Allocator> Loose<T, A> {
-    pub(crate) fn of(value: Box<T, A>) -> Loose<T, A>
+impl<T: Drop, A: Allocator> BoxPointer<T, A> {
+    pub(crate) fn of(value: Box<T, A>) -> BoxPointer<T, A>
         ensures { result.value ≡ value.value }
     {
         let (at, alloc) = Box::into_raw_with_allocator(value);
-        Loose { at, alloc }
+        BoxPointer { at, alloc }
     }
 
     pub(crate) fn into_box(self) -> Box<T, A>
         ensures { result.value ≡ self.value }
     {
-        let Loose { at, alloc } = self;
+        let BoxPointer { at, alloc } = self;
         unsafe { Box::from_raw(alloc, at) }
     }
 }
@@ -53,7 +53,7 @@ impl Model for PiePort {
 
 impl PiePort {
     /// Returns the pointer of an open port, otherwise `None`.
-    pub(crate) fn into_loose(self) -> Option<Loose<Port, Global>>
+    pub(crate) fn into_pointer(self) -> Option<BoxPointer<Port, Global>>
         ensures { MatchOption result (self.port ≡ None) (λ l. self.port ≡ Some l.value) }
     {
         let PiePort { at, alloc } = self;
@@ -61,15 +61,15 @@ impl PiePort {
             None
         } else {
             let at = at as *mut Port;
-            Some(Loose { at, alloc })
+            Some(BoxPointer { at, alloc })
         }
     }
 
     /// Returns the open port of a pointer.
-    pub(crate) fn of_loose(loose: Loose<Port, Global>) -> PiePort
+    pub(crate) fn of_pointer(loose: BoxPointer<Port, Global>) -> PiePort
         ensures { result.port ≡ Some loose.value }
     {
-        let Loose { at, alloc } = loose;
+        let BoxPointer { at, alloc } = loose;
         let at = at as *mut u8;
         PiePort { at, alloc }
     }
@@ -90,7 +90,7 @@ impl PiePort {
         ensures before { MatchOption result (self.old.port ≡ None) (λ b. self.old.port ≡ Some b.value) }
         ensures after { self.new.port ≡ None }
     {
-        match replace(self, PiePort::none(alloc)).into_loose() {
+        match replace(self, PiePort::none(alloc)).into_pointer() {
             None => None,
             Some(loose) => Some(loose.into_box()),
         }
@@ -101,7 +101,11 @@ impl PiePort {
     pub(crate) fn put(&mut self, held: Box<Port>)
         ensures { self.new.port ≡ Some held.value }
     {
-        if let Some(loose) = replace(self, PiePort::of_loose(Loose::of(held))).into_loose() {
+        if let Some(loose) = replace(
+            self,
+            PiePort::of_pointer(BoxPointer::of(held)),
+        ).into_pointer()
+        {
             drop(loose.into_box());
         }
     }
@@ -122,7 +126,7 @@ impl Model for PieExcerpt {
 
 impl PieExcerpt {
     /// Returns the pointer of an open excerpt, otherwise `None`.
-    pub(crate) fn into_loose(self) -> Option<Loose<ExcerptText, Global>>
+    pub(crate) fn into_pointer(self) -> Option<BoxPointer<ExcerptText, Global>>
         ensures { MatchOption result (self.text ≡ None) (λ l. self.text ≡ Some l.value) }
     {
         let PieExcerpt { at, alloc } = self;
@@ -130,15 +134,15 @@ impl PieExcerpt {
             None
         } else {
             let at = at as *mut ExcerptText;
-            Some(Loose { at, alloc })
+            Some(BoxPointer { at, alloc })
         }
     }
 
     /// Returns the open excerpt of a pointer.
-    pub(crate) fn of_loose(loose: Loose<ExcerptText, Global>) -> PieExcerpt
+    pub(crate) fn of_pointer(loose: BoxPointer<ExcerptText, Global>) -> PieExcerpt
         ensures { result.text ≡ Some loose.value }
     {
-        let Loose { at, alloc } = loose;
+        let BoxPointer { at, alloc } = loose;
         let at = at as *mut u8;
         PieExcerpt { at, alloc }
     }
@@ -158,7 +162,7 @@ impl PieExcerpt {
         ensures before { MatchOption result (self.old.text ≡ None) (λ b. self.old.text ≡ Some b.value) }
         ensures after { self.new.text ≡ None }
     {
-        match replace(self, PieExcerpt::none(alloc)).into_loose() {
+        match replace(self, PieExcerpt::none(alloc)).into_pointer() {
             None => None,
             Some(loose) => Some(loose.into_box()),
         }
@@ -168,7 +172,11 @@ impl PieExcerpt {
     pub(crate) fn put(&mut self, held: Box<ExcerptText>)
         ensures { self.new.text ≡ Some held.value }
     {
-        if let Some(loose) = replace(self, PieExcerpt::of_loose(Loose::of(held))).into_loose() {
+        if let Some(loose) = replace(
+            self,
+            PieExcerpt::of_pointer(BoxPointer::of(held)),
+        ).into_pointer()
+        {
             drop(loose.into_box());
         }
     }

@@ -15,8 +15,8 @@
 mod burst;
 mod calls;
 mod code;
+mod event_results;
 mod excerpt;
-mod filling;
 mod folding;
 mod handle;
 mod opening;
@@ -26,8 +26,8 @@ mod sharing;
 
 pub use burst::{try_arrive_all, try_depart_all};
 pub use calls::{try_event, try_set_params};
+pub use event_results::EventCall;
 pub use excerpt::{close_excerpt, open_excerpt, try_excerpt, write_excerpt};
-pub use filling::EventCall;
 pub use folding::try_fold;
 pub use handle::{PieExcerpt, PiePort};
 pub use opening::open;

@@ -4,8 +4,8 @@ ghost use Rattle.std.specs.Prelude.{vec_capacity};
 ghost use Rattle.pie_port.specs.{arc_value, has_bad_ecn};
 
 use crate::code::{NO_MEMORY, ONE_NUMBER};
+use crate::event_results::{EventCall, fill, fill_number, fill_set};
 use crate::excerpt::ExcerptText;
-use crate::filling::{EventCall, fill, fill_number, fill_set};
 use crate::folding::{MOST, room, write_folded};
 use atomic_table::TableRule;
 use pie_abi::PieEvent;
@@ -260,12 +260,12 @@ fn boxed(alloc: Global, link: &Arc<Link, Global>, caller: Caller) -> Result<Box<
 }
 
 /// Does nothing. It accepts a value that may go to another thread.
-fn goes_to_another_thread<T: Send>(value: &T) {
+fn requires_send<T: Send>(value: &T) {
     let _ = value;
 }
 
 /// Does nothing. Its check shows that a port and an excerpt may go to another thread.
 pub(crate) fn ports_cross_threads(port: &Port, text: &ExcerptText) {
-    goes_to_another_thread(port);
-    goes_to_another_thread(text);
+    requires_send(port);
+    requires_send(text);
 }

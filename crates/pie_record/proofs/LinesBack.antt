@@ -35,14 +35,14 @@ kind_of (Update moment) = kind.Update
 kind_of (Reset moment) = kind.Reset
 kind_of (SetParams moment params) = kind.Params
 
-abbrev pub asked_kind : CommandFields → CommandKind
-asked_kind (asked.Command caller command) = kind_of command
-asked_kind (asked.BadParams change) = kind.Params
+abbrev pub command_row_kind : CommandFields → CommandKind
+command_row_kind (asked.Command caller command) = kind_of command
+command_row_kind (asked.BadParams change) = kind.Params
 
 -- the fields that ask it
-abbrev pub asked_fields : CommandFields → Row
-asked_fields (asked.Command caller command) = command_fields caller command
-asked_fields (asked.BadParams change) = command_fields change.caller (SetParams change.moment change.params)
+abbrev pub command_row_fields : CommandFields → Row
+command_row_fields (asked.Command caller command) = command_fields caller command
+command_row_fields (asked.BadParams change) = command_fields change.caller (SetParams change.moment change.params)
 
 -- new parameters of which one is out of its range, with numbers of their types
 pub record ChangeFits (change : BadChange) : Type 0 where
@@ -52,9 +52,9 @@ pub record ChangeFits (change : BadChange) : Type 0 where
   pub field : Field
   pub bad : first_bad change.params ≡ Some field
 
-abbrev pub AskedFits : CommandFields → Type 0
-AskedFits (asked.Command caller command) = (caller ≤ most_u16) × CommandFits command
-AskedFits (asked.BadParams change) = ChangeFits change
+abbrev pub CommandFieldsFit : CommandFields → Type 0
+CommandFieldsFit (asked.Command caller command) = (caller ≤ most_u16) × CommandFits command
+CommandFieldsFit (asked.BadParams change) = ChangeFits change
 
 pub nine-of-fits : (params : RawParams) → ParamsFit params → NineFit params
 nine-of-fits params fits = search rules
@@ -66,9 +66,9 @@ fits-of-nine params nine good = search rules
 
 -- they are those that ask it, after the word of its kind
 pub record Reads (row : Row) (k : CommandKind) (asks : CommandFields) : Type 0 where
-  pub kind : k ≡ asked_kind asks
-  pub has : HasAll row 1 (drop 1 (asked_fields asks))
-  pub fits : AskedFits asks
+  pub kind : k ≡ command_row_kind asks
+  pub has : HasAll row 1 (drop 1 (command_row_fields asks))
+  pub fits : CommandFieldsFit asks
 
 arrival-read : (row : Row) (caller moment : ℕ) (command : Command) → Has row 1 (decimal caller) → Has row 2 (decimal moment) → caller ≤ most_u16
     → moment < 2 ^ 64 → arrival_at row moment ≡ Ok command → Reads row kind.Arrive (asked.Command caller command)
@@ -104,7 +104,7 @@ command-read row k asks e =
     let a = number-then row 1 most_u16 _ asks (omega arith) e in
     let b = number-then row 2 most_u64 _ asks (omega arith) a.rest in by k a.got b.got a.there b.there a.within (omega (arith, b.within)) b.rest
   where
-    short : (caller : ℕ) (command : Command) → HasAll row 1 (drop 1 (command_fields caller command)) → AskedFits (asked.Command caller command)
+    short : (caller : ℕ) (command : Command) → HasAll row 1 (drop 1 (command_fields caller command)) → CommandFieldsFit (asked.Command caller command)
         → Says (Ok (asked.Command caller command)) asks → Reads row (kind_of command) asks
     short caller command has fits e = read-as (Reads row (kind_of command)) _ asks e (record { kind = refl; has = has; fits = fits })
 
@@ -125,26 +125,26 @@ kind-has row k e =
     word-has row (command_word k) (found (λ kind. is_kind row (command_word kind)) all k e)
 
 -- a record of a command begins with its word, is as long as its kind says, and is of that kind, whatever follows
-pub asked-shape : (asks : CommandFields) (more : Row) → (asked_fields asks ≡ command_word (asked_kind asks) ∷ drop 1 (asked_fields asks))
-    × (command_length (asked_kind asks) ≡ length (asked_fields asks)) × (command_kind (asked_fields asks ++ more) ≡ Some (asked_kind asks))
+pub command-shape : (asks : CommandFields) (more : Row) → (command_row_fields asks ≡ command_word (command_row_kind asks) ∷ drop 1 (command_row_fields asks))
+    × (command_length (command_row_kind asks) ≡ length (command_row_fields asks)) × (command_kind (command_row_fields asks ++ more) ≡ Some (command_row_kind asks))
 unfolding command_kind field_at command_fields
-asked-shape (asked.Command caller (Arrive moment packet word)) more = (refl, refl, refl)
-asked-shape _ more = (refl, refl, refl)
+command-shape (asked.Command caller (Arrive moment packet word)) more = (refl, refl, refl)
+command-shape _ more = (refl, refl, refl)
 
 -- the record of a command alone
 pub record WrittenAs (row : Row) (asks : CommandFields) : Type 0 where
-  pub is : row ≡ asked_fields asks
-  pub fits : AskedFits asks
+  pub is : row ≡ command_row_fields asks
+  pub fits : CommandFieldsFit asks
 
 written-as : (row : Row) (k : CommandKind) (asks : CommandFields) → command_kind row ≡ Some k → length row ≡ command_length k → Says (command_at row k) asks
     → WrittenAs row asks
 written-as row k asks known long says =
     let read = command-read row k asks says in
-    let shape = asked-shape asks [] in
+    let shape = command-shape asks [] in
     let whole = long ∙ ap command_length read.kind ∙ shape.1 ∙ ap length shape.0 in
     record {
-      is = has-all row 0 (command_word k ∷ drop 1 (asked_fields asks)) (omega (arith, whole)) (kind-has row k known, read.has)
-          ∙ ap (λ (o : CommandKind). command_word o ∷ drop 1 (asked_fields asks)) read.kind ∙ sym shape.0;
+      is = has-all row 0 (command_word k ∷ drop 1 (command_row_fields asks)) (omega (arith, whole)) (kind-has row k known, read.has)
+          ∙ ap (λ (o : CommandKind). command_word o ∷ drop 1 (command_row_fields asks)) read.kind ∙ sym shape.0;
       fits = read.fits;
     }
 
@@ -179,10 +179,10 @@ clock-read _ row clock e = cc
 
 -- ---- a record of a trace
 
-pub asked-as-written : (version : Version) (row : Row) (caller : ℕ) (command : Command) → request_of version row ≡ Ok (request.Ask caller command)
+pub command-as-written : (version : Version) (row : Row) (caller : ℕ) (command : Command) → request_of version row ≡ Ok (request.Ask caller command)
     → WrittenAs row (asked.Command caller command)
 unfolding request_of command_request fold_request
-asked-as-written version row caller command e = by (command_kind row) refl e
+command-as-written version row caller command e = by (command_kind row) refl e
   where
     by : (o : Option CommandKind) → command_kind row ≡ o → request_by o version row ≡ Ok (request.Ask caller command)
         → WrittenAs row (asked.Command caller command)
@@ -211,7 +211,7 @@ unfolding params_at numbers_at field_at
 params-behind a b c params more fits = params-back params more fits
 
 -- .. whatever fields follow
-pub command-back : (asks : CommandFields) (more : Row) → AskedFits asks → command_at (asked_fields asks ++ more) (asked_kind asks) ≡ Ok asks
+pub command-back : (asks : CommandFields) (more : Row) → CommandFieldsFit asks → command_at (command_row_fields asks ++ more) (command_row_kind asks) ≡ Ok asks
 unfolding command_at arrival_at change_at packet_at field_at command_fields
 command-back (asked.Command caller (Arrive moment packet word)) more f =
     rw (back_u16 _ f.0, back_u64 _ f.1.0, back_u64 _ f.1.1.tag, back_u32 _ f.1.1.size, back_ecn packet.ecn, back_u64 _ f.1.2) refl
@@ -285,7 +285,7 @@ event-fits row k told e =
     read-as LineFits (line_for a.got b.got) told b.rest (by a.got b.got read.fits
     (subst (λ (kind : CommandKind). Says (answer_at row kind) b.got) read.kind b.is))
   where
-    by : (asks : CommandFields) (answer : Answer) → AskedFits asks → Says (answer_at row (asked_kind asks)) answer → LineFits (line_for asks answer)
+    by : (asks : CommandFields) (answer : Answer) → CommandFieldsFit asks → Says (answer_at row (command_row_kind asks)) answer → LineFits (line_for asks answer)
     by (asked.Command caller command) answer fits e =
         let said = answer-read row command answer e in
         record { kind = said.kind; caller = fits.0; command = fits.1; answer = said.numbers }
@@ -329,7 +329,7 @@ record AnswerBack (row : Row) (kind : CommandKind) (answer : Answer) : Type 0 wh
   reads : answer_at row kind ≡ Ok answer
 
 answer-back : (asks : CommandFields) (answer : Answer) → CanHave asks answer → AnswerFits answer
-    → AnswerBack (asked_fields asks ++ answer_fields answer) (asked_kind asks) answer
+    → AnswerBack (command_row_fields asks ++ answer_fields answer) (command_row_kind asks) answer
 unfolding answer_at verdict_of departure_at update_at packet_at field_at command_fields answer_fields
 answer-back (asked.Command caller (Depart moment)) (Left packet) can f =
     record { long = refl; reads = rw (back_u64 packet.tag f.tag, back_u32 packet.size f.size, back_ecn packet.ecn) refl }
@@ -337,19 +337,19 @@ answer-back (asked.Command caller (Update moment)) (Updated delay prob burst) ca
     record { long = refl; reads = rw (back_u64 delay f.0, back_u64 prob f.1, back_u64 burst f.2) refl }
 answer-back _ answer can f = first_of (search rules, cc)
 
-line-back : (version : Version) (asks : CommandFields) (answer : Answer) → AskedFits asks → CanHave asks answer → AnswerFits answer
-    → line_of version (asked_fields asks ++ answer_fields answer) ≡ Ok (line_for asks answer)
+line-back : (version : Version) (asks : CommandFields) (answer : Answer) → CommandFieldsFit asks → CanHave asks answer → AnswerFits answer
+    → line_of version (command_row_fields asks ++ answer_fields answer) ≡ Ok (line_for asks answer)
 unfolding line_of event_line
 line-back version asks answer fits can numbers =
     let back = answer-back asks answer can numbers in
-    rw ((asked-shape asks (answer_fields answer)).2, back.long, command-back asks (answer_fields answer) fits, back.reads) refl
+    rw ((command-shape asks (answer_fields answer)).2, back.long, command-back asks (answer_fields answer) fits, back.reads) refl
 
 -- the record of a trace that asks a command, with an answer that the command can have
 pub answered-back : (version : Version) (row : Row) (caller : ℕ) (command : Command) (answer : Answer)
     → request_of version row ≡ Ok (request.Ask caller command) → fits command answer ≡ true → AnswerFits answer
     → line_of version (row ++ answer_fields answer) ≡ Ok (made caller command answer)
 answered-back version row caller command answer e can said =
-    let written = asked-as-written version row caller command e in
+    let written = command-as-written version row caller command e in
     ap (λ (r : Row). line_of version (r ++ answer_fields answer)) written.is
     ∙ line-back version (asked.Command caller command) answer written.fits can said
 
@@ -363,9 +363,9 @@ clock-line : (version : Version) (clock : Clock)
 unfolding line_of command_kind field_at clock_row
 clock-line version clock = refl
 
-pub clock-told : (version : Version) (row : Row) (clock : Clock) → request_of version row ≡ Ok (request.Clock clock)
+pub clock-reads : (version : Version) (row : Row) (clock : Clock) → request_of version row ≡ Ok (request.Clock clock)
     → line_of version row ≡ Ok (line.Clock clock)
-clock-told version row clock e =
+clock-reads version row clock e =
     let written = clock-as-written version row clock e in
     ap (line_of version) written.0 ∙ clock-line version clock
     ∙ rw (subst (λ (r : Row). clock_in version r ≡ Ok clock) written.0 written.1.reads) refl

@@ -13,11 +13,11 @@ use Rattle.pie_record.specs.{version_three_fields, version_two_fields, which_of,
 use Rattle.pie_record.specs.{delay_word, mode_word, picking_word, profile_number, size_word, step_word, are_default, are_usual, chosen_row}
 use Rattle.pie_record.specs.{earlier_row, is_earlier, nine_of, opening_row, version_three_row, Decay, Choices, Limits, OpenRefusal, Option, Err}
 use Rattle.pie_record.specs.{Checked, checked_opening, refused_opening, ◌≤◌, length, All, Event, Line, Version, HasField, rows_text, command_kind}
-use Rattle.pie_record.specs.{line_of, kind_word, version_of, Coming, after_opening, coming_after, coming_from, fault_from, history_opening}
+use Rattle.pie_record.specs.{line_of, kind_word, version_of, RemainingLines, after_opening, remaining_after_opening, remaining_from, fault_from, history_opening}
 use Rattle.pie_record.specs.{history_version, lines_from, Begins, EventFits, AreLinesOf, IsHistoryText, event_row, written_rows, drop, numbers_at, ◌==◌}
 use Rattle.pie_record.specs.declared.history_record.Line.TheVariants.{Made}
 use Rattle.pie_record.proofs.FieldFacts.{back_u32, back_u64, params-back}
-use Rattle.pie_record.proofs.HistoryFacts.{told_by-line}
+use Rattle.pie_record.proofs.HistoryFacts.{line_in-line}
 use Rattle.pie_record.proofs.LinesBack.{nine-of-fits, event-back}
 use Rattle.pie_record.proofs.RecordFacts.{records_of-written}
 use Rattle.pie_record.specs.declared.first_record.FirstKind.TheVariants as kinds
@@ -175,53 +175,53 @@ checked kind draft opening e =
 
 -- ---- rows that tell lines
 
-pub coming-told : (version : Version) (most number : ℕ) (rows : List Row) (lines : List Line) → number + length rows ≤ most + 1
+pub remaining-read : (version : Version) (most number : ℕ) (rows : List Row) (lines : List Line) → number + length rows ≤ most + 1
     → AreLinesOf version rows lines
-    → coming_from version most number rows ≡ record { lines = lines; fault = None }
+    → remaining_from version most number rows ≡ record { lines = lines; fault = None }
 unfolding AreLinesOf lines_from fault_from
-coming-told version most number [] [] within tells = refl
-coming-told version most number (row ∷ rows) (line ∷ lines) within tells =
-    rw (told_by-line version most number row line (omega arith) tells.0)
-    (ap (λ (c : Coming). let more : Coming = record { lines = line ∷ c.lines; fault = c.fault } in more)
-    (coming-told version most (number + 1) rows lines (omega arith) tells.1))
-coming-told version most number _ _ within tells = absurd tells
+remaining-read version most number [] [] within tells = refl
+remaining-read version most number (row ∷ rows) (line ∷ lines) within tells =
+    rw (line_in-line version most number row line (omega arith) tells.0)
+    (ap (λ (c : RemainingLines). let more : RemainingLines = record { lines = line ∷ c.lines; fault = c.fault } in more)
+    (remaining-read version most (number + 1) rows lines (omega arith) tells.1))
+remaining-read version most number _ _ within tells = absurd tells
 
 -- a row that tells a line has a field
-pub told-field : (version : Version) (row : Row) (line : Line) → line_of version row ≡ Ok line → HasField row
+pub field-reads : (version : Version) (row : Row) (line : Line) → line_of version row ≡ Ok line → HasField row
 unfolding line_of command_kind field_at
-told-field version [] line e = cc
-told-field version (field ∷ rest) line e = omega arith
+field-reads version [] line e = cc
+field-reads version (field ∷ rest) line e = omega arith
 
-pub told-fields : (version : Version) (rows : List Row) (lines : List Line) → AreLinesOf version rows lines → All HasField rows
+pub fields-read : (version : Version) (rows : List Row) (lines : List Line) → AreLinesOf version rows lines → All HasField rows
 unfolding AreLinesOf
-told-fields version [] lines tells = All-nil HasField
-told-fields version (row ∷ rows) [] tells = absurd tells
-told-fields version (row ∷ rows) (line ∷ lines) tells = All-cons HasField row rows (told-field version row line tells.0)
-    (told-fields version rows lines tells.1)
+fields-read version [] lines tells = All-nil HasField
+fields-read version (row ∷ rows) [] tells = absurd tells
+fields-read version (row ∷ rows) (line ∷ lines) tells = All-cons HasField row rows (field-reads version row line tells.0)
+    (fields-read version rows lines tells.1)
 
 -- ---- a whole text
 
 -- a text of a record that opens so, and then of rows that tell these lines
-pub history-told : (kind : FirstKind) (rest : Row) (rows : List Row) (opening : Opening) (lines : List Line)
+pub history-read : (kind : FirstKind) (rest : Row) (rows : List Row) (opening : Opening) (lines : List Line)
     → opening_of (kind_word kind ∷ rest) ≡ Ok opening
     → All HasField rows → AreLinesOf (version_of (kind_word kind ∷ rest)) rows lines → length rows < 2 ^ 32
     → IsHistoryText (rows_text ((kind_word kind ∷ rest) ∷ rows)) opening lines
 unfolding history_opening history_version after_opening
-history-told kind rest rows opening lines opens some tells few =
+history-read kind rest rows opening lines opens some tells few =
     let records = records_of-written kind rest rows some in
     record {
       opens = ap history_opening records ∙ opens;
-      tells = ap (λ (all : List Row). coming_after (2 ^ 32) all) records
-          ∙ coming-told (version_of (kind_word kind ∷ rest)) (2 ^ 32) 2 rows lines (omega arith) tells;
+      tells = ap (λ (all : List Row). remaining_after_opening (2 ^ 32) all) records
+          ∙ remaining-read (version_of (kind_word kind ∷ rest)) (2 ^ 32) 2 rows lines (omega arith) tells;
     }
 
 -- ---- what a history is written as
 
-pub events-tell : (version : Version) (events : List Event) → All EventFits events → AreLinesOf version (map event_row events) (map Made events)
+pub events-read : (version : Version) (events : List Event) → All EventFits events → AreLinesOf version (map event_row events) (map Made events)
 unfolding AreLinesOf
-events-tell version [] fit = tt
-events-tell version (event ∷ events) fit =
-    (event-back version event (All-head EventFits event events fit), events-tell version events (All-tail EventFits event events fit))
+events-read version [] fit = tt
+events-read version (event ∷ events) fit =
+    (event-back version event (All-head EventFits event events fit), events-read version events (All-tail EventFits event events fit))
 
 opening_row-begins : (o : Opening) → Begins (opening_row o)
 unfolding opening_row
@@ -244,6 +244,6 @@ written-back opening events accepted set fit few =
     let first = opening_row-begins opening in
     let opens : opening_of (kind_word first.kind ∷ first.rest) ≡ Ok opening = ap opening_of (sym first.is) ∙ opening-back opening accepted set in
     let many = length-map events event_row in
-    let tells = events-tell (version_of (kind_word first.kind ∷ first.rest)) events fit in
+    let tells = events-read (version_of (kind_word first.kind ∷ first.rest)) events fit in
     subst (λ (row : Row). IsHistoryText (rows_text (row ∷ map event_row events)) opening (map Made events)) (sym first.is)
-    (history-told first.kind first.rest (map event_row events) opening (map Made events) opens (told-fields _ _ _ tells) tells (omega arith))
+    (history-read first.kind first.rest (map event_row events) opening (map Made events) opens (fields-read _ _ _ tells) tells (omega arith))

@@ -7,7 +7,7 @@ ghost use Rattle.pie_record.specs.Source.{Turns};
 use crate::TraceFault;
 use crate::fault::ReadFailure;
 use crate::input::Input;
-use crate::records::Turn;
+use crate::records::ReadStep;
 use crate::scan::Stop;
 use csv::{ByteRecord, ErrorKind, WriterBuilder};
 use std::alloc::{AllocError, Global};
@@ -311,15 +311,15 @@ impl Record {
     pub(crate) fn read_quoted<R: Read>(
         &mut self,
         reader: &mut csv::Reader<R>,
-    ) -> Result<Turn, ReadFailure>
+    ) -> Result<ReadStep, ReadFailure>
         requires { IsReading reader.old }
         ensures reading { IsReading reader.new }
         ensures turned { IfOk result (λ how. Turns how (rows_left R.remaining reader.old) self.new (rows_left R.remaining reader.new)) }
     {
         self.is_plain = false;
         match reader.read_byte_record(&mut self.quoted) {
-            Ok(true) => Ok(Turn::Taken),
-            Ok(false) => Ok(Turn::Over),
+            Ok(true) => Ok(ReadStep::Taken),
+            Ok(false) => Ok(ReadStep::Over),
             Err(failed) => match failed.kind() {
                 ErrorKind::Io(_) => Err(ReadFailure::Device),
                 _ => Err(ReadFailure::Memory),

@@ -8,7 +8,7 @@ use Rattle.pie_storm.proofs.Names.{own_none, entries_of, Call, IsSound, total, A
 use Rattle.pie_storm.proofs.Names.{◌⊎◌, AreFolded, IsCutShort, None, Some, Ok, Err, Result, Bounded, Opening, IsLegal, folded_events, senders, IsEndOf, IsFor}
 use Rattle.pie_storm.proofs.Names.{drop-append_seam, tail_in, take-append_seam}
 use Rattle.pie_lock.specs.Promises.{IsBothOf}
-use Rattle.pie_lock.proofs.Owns.{goes_on, gone_on}
+use Rattle.pie_lock.proofs.Owns.{continues, gone_on}
 use Rattle.pie_storm.specs.declared.worker.Folding.{Folding}
 use Rattle.pie_storm.specs.Storms.{Begins, IsWorkOf, IsEntryOf, WasPassedOver, refusal_of}
 unfoldable use Rattle.pie_storm.specs.Storms.{HasFault}
@@ -20,10 +20,10 @@ use Rattle.pie_book.specs.Book.{BookView, BookRepresents}
 use Rattle.pie_book.specs.Registers.{registers_after}
 use Rattle.pie_book.specs.Statistics.{stats_after}
 use Rattle.pie_link.specs.Kept.{RepresentsEntries}
-use Rattle.pie_storm.specs.declared.ending.StormEnd.{StormEnd}
-use Rattle.pie_storm.specs.declared.ending.StormFault.{StormFault}
-use Rattle.pie_storm.specs.declared.ending.StormFault.TheVariants as fault
-use Rattle.pie_storm.proofs.Making.{IsRight, few_made, handed_alone, handed_same, made_on, numbered, own_entry, stays}
+use Rattle.pie_storm.specs.declared.storm_end.StormEnd.{StormEnd}
+use Rattle.pie_storm.specs.declared.storm_end.StormFault.{StormFault}
+use Rattle.pie_storm.specs.declared.storm_end.StormFault.TheVariants as fault
+use Rattle.pie_storm.proofs.Making.{IsRight, few_made, folded_alone, folded_same, made_on, numbered, own_entry, stays}
 use Rattle.pie_storm.proofs.PlanFacts.{IsCallOf, calls_are, no_calls}
 
 -- with a sound plan and an open link, a storm fails only for lack of memory or of a thread
@@ -58,7 +58,7 @@ other_below n caller k below out = grind (arith, nat_tests)
 each_below : (caller n : ℕ) (h k : List Entry) → caller < n → Extends number_of 0 n h k → HasNoMore caller h k
 each_below caller n h k below on =
     let all = gone_on number_of 0 n h k on in
-    goes_on number_of caller (caller + 1) h all.0 k all.1
+    continues number_of caller (caller + 1) h all.0 k all.1
     (λ i d within. other_below n caller (number_of (get_or all.0 i d)) below (all.2 i d within))
 
 -- the front of two gathered callers goes on from the front of each
@@ -105,18 +105,18 @@ together law link plan n work last whole both passed soon as_before events well 
           ));
       folds = λ fine all.
           let is : n ≡ folder plan = omega (arith, all) in
-          let handed = its.handed (well fine).1 is in (
+          let folds_split = its.folds_split (well fine).1 is in (
             subst (λ (passed : ℕ). IsOutcomeOf plan (folder plan) r.front passed) (sym passed)
                 (subst (λ (c : ℕ). IsOutcomeOf plan c r.front last.passed) is (mine fine)),
             subst (λ (c : ℕ). WereFolded plan c whole.folding.events.items r.front) is
-                (events ∙ (handed ∙ sym (handed_same law (opening_of plan) n q.front r.front on.1))),
+                (events ∙ (folds_split ∙ sym (folded_same law (opening_of plan) n q.front r.front on.1))),
           );
     }
 
 -- the starter makes no calls
-nothing_asked : (plan : Plan) → IsOutcomeOf plan 0 [] 0
+nothing_requested : (plan : Plan) → IsOutcomeOf plan 0 [] 0
 unfolding IsOutcomeOf calls_of
-nothing_asked plan = inl (stays 0 [], refl)
+nothing_requested plan = inl (stays 0 [], refl)
 
 -- the starter alone has made no entries
 pub starter_alone : (link : LinkView) (plan : Plan) (caller rest : CallerView) (folding : Folding) → Begins link plan caller → caller.first ≡ 0
@@ -130,7 +130,7 @@ starter_alone link plan caller rest folding begins first one same =
       came = λ fine number less.
           let is : 0 ≡ number = omega (arith, one, first, less) in
           subst (λ (c : ℕ). (passed : ℕ) × IsOutcomeOf plan c rest.front passed × (c ≡ updater plan → passed ≡ 0)) is
-          (0, subst (λ (h : List Entry). IsOutcomeOf plan 0 h 0) (sym new) (nothing_asked plan), λ updates. refl);
+          (0, subst (λ (h : List Entry). IsOutcomeOf plan 0 h 0) (sym new) (nothing_requested plan), λ updates. refl);
       folds = λ fine all. absurd (omega (arith, one, first, all));
     }
 
@@ -349,7 +349,7 @@ module _ (plan : Plan) (link : LinkView) (work : Work) (book : BookView) (link_f
   all_handed fine =
       let front = work.caller.front in
       (worked.folds fine (omega arith)).1
-      ∙ handed_alone (opening_of plan) (folder plan) [] front (all_right plan front link_for.sound all_below work.too_soon (all_came fine))
+      ∙ folded_alone (opening_of plan) (folder plan) [] front (all_right plan front link_for.sound all_below work.too_soon (all_came fine))
 
   -- the stored events followed by the log are all events
   whole_history : IsWell work.folding → work.folding.events.items ++ book.tail ≡ events_in work.caller.front
@@ -365,7 +365,7 @@ module _ (plan : Plan) (link : LinkView) (work : Work) (book : BookView) (link_f
       → folded ≡ length work.folding.events.items → AreFolded (opening_of plan) work.caller.front events folded
   all_parted fine events folded are many =
       let own = work.folding.events.items in record {
-        handed = rw (are, many) (sym (all_handed fine) ∙ sym (take-append_seam own book.tail));
+        folds_split = rw (are, many) (sym (all_handed fine) ∙ sym (take-append_seam own book.tail));
         left = rw (are, many) (ap (λ (o : Opening). tail_in o work.caller.front) (sym opened_so) ∙ (sym (told holds_all).tail
             ∙ sym (drop-append_seam own book.tail)));
       }
@@ -379,11 +379,11 @@ module _ (plan : Plan) (link : LinkView) (work : Work) (book : BookView) (link_f
       × (end.folded ≡ length work.folding.events.items)) → IfOk result (IsEndOf plan)
   ended (Ok end) items registers stats counts =
       let h = events_in work.caller.front in
-      let tells = (told holds_all).told in
+      let represents_list = (told holds_all).told in
       let storm = storm_of counts.0 in
       let is : end.events.items ≡ h = items ∙ whole_history counts.0 in record {
         legal = subst (λ (es : List Event). IsLegal (opening_of plan) es) (sym is)
-            (subst (λ (o : Opening). IsLegal o h) opened_so tells.running.legal);
+            (subst (λ (o : Opening). IsLegal o h) opened_so represents_list.running.legal);
         made = record {
           history = work.caller.front;
           of_history = sym is;
@@ -392,7 +392,7 @@ module _ (plan : Plan) (link : LinkView) (work : Work) (book : BookView) (link_f
           others = storm.2;
         };
         folded = all_parted counts.0 end.events.items end.folded items counts.3;
-        registers = registers h tells ∙ (ap (λ o. registers_after o h) opened_so ∙ ap (λ es. registers_after (opening_of plan) es) (sym is));
-        stats = stats h tells ∙ (ap (λ o. stats_after o h) opened_so ∙ ap (λ es. stats_after (opening_of plan) es) (sym is));
+        registers = registers h represents_list ∙ (ap (λ o. registers_after o h) opened_so ∙ ap (λ es. registers_after (opening_of plan) es) (sym is));
+        stats = stats h represents_list ∙ (ap (λ o. stats_after o h) opened_so ∙ ap (λ es. stats_after (opening_of plan) es) (sym is));
       }
   ended (Err why) items registers stats counts = counts

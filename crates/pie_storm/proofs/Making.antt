@@ -22,28 +22,28 @@ use Rattle.pie_link.specs.Views.{IsTurn}
 use Rattle.pie_storm.proofs.PlanFacts.{IsCallOf, all_at, calls_are}
 
 -- one more fold of the caller
-pub handed_more : (law : EntriesLookBack) (opening : Opening) (caller : ℕ) (g : List Entry) (n who : ℕ) → who ≡ caller
+pub folded_more : (law : EntriesLookBack) (opening : Opening) (caller : ℕ) (g : List Entry) (n who : ℕ) → who ≡ caller
     → folded_for (is_number caller) opening [] (g ++ Folded who n ∷ []) ≡ folded_for (is_number caller) opening [] g ++ take n (tail_in opening g)
-handed_more law opening caller g n who is =
-    let both = law.handed (is_number caller) opening [] g (Folded who n ∷ []) in grind (arith, nat_tests, append-nil)
+folded_more law opening caller g n who is =
+    let both = law.folds_split (is_number caller) opening [] g (Folded who n ∷ []) in grind (arith, nat_tests, append-nil)
 
 -- without further entries of the caller its folds return no more events
-handed_none : (opening : Opening) (caller : ℕ) (before xs : List Entry) → NoneOwn number_of caller (caller + 1) xs
+folded_none : (opening : Opening) (caller : ℕ) (before xs : List Entry) → NoneOwn number_of caller (caller + 1) xs
     → folded_for (is_number caller) opening before xs ≡ []
-handed_none opening caller before [] none = refl
-handed_none opening caller before (entry ∷ xs) none =
+folded_none opening caller before [] none = refl
+folded_none opening caller before (entry ∷ xs) none =
     let first = All-head (λ e. is_within caller (caller + 1) (number_of e) ≡ false) entry xs none in
-    let rest = handed_none opening caller (before ++ entry ∷ []) xs
+    let rest = folded_none opening caller (before ++ entry ∷ []) xs
     (All-tail (λ e. is_within caller (caller + 1) (number_of e) ≡ false) entry xs none) in
     grind (arith, nat_tests)
 
-pub handed_same : (law : EntriesLookBack) (opening : Opening) (caller : ℕ) (g h : List Entry) → HasNoMore caller g h
+pub folded_same : (law : EntriesLookBack) (opening : Opening) (caller : ℕ) (g h : List Entry) → HasNoMore caller g h
     → folded_for (is_number caller) opening [] h ≡ folded_for (is_number caller) opening [] g
-handed_same law opening caller g h same =
+folded_same law opening caller g h same =
     let on = gone_on number_of caller (caller + 1) g h same in
     ap (λ (l : List Entry). folded_for (is_number caller) opening [] l) (sym on.1)
-    ∙ (law.handed (is_number caller) opening [] g on.0
-    ∙ (ap (λ (es : List Event). folded_for (is_number caller) opening [] g ++ es) (handed_none opening caller g on.0 on.2)
+    ∙ (law.folds_split (is_number caller) opening [] g on.0
+    ∙ (ap (λ (es : List Event). folded_for (is_number caller) opening [] g ++ es) (folded_none opening caller g on.0 on.2)
     ∙ append-nil (folded_for (is_number caller) opening [] g)))
 
 -- an entry of a history in which this caller alone folds, and makes nothing else
@@ -52,20 +52,20 @@ IsRight folder (Made event) = event.caller ≡ folder → ⊥
 IsRight folder (Folded who n) = who ≡ folder
 
 -- the events of its folds are those of all folds
-pub handed_alone : (opening : Opening) (folder : ℕ) (before h : List Entry) → All (IsRight folder) h
+pub folded_alone : (opening : Opening) (folder : ℕ) (before h : List Entry) → All (IsRight folder) h
     → folded_for (is_number folder) opening before h ≡ folded_for (λ caller. true) opening before h
-handed_alone opening folder before [] right = refl
-handed_alone opening folder before (entry ∷ h) right =
+folded_alone opening folder before [] right = refl
+folded_alone opening folder before (entry ∷ h) right =
     let first = All-head (IsRight folder) entry h right in
-    let rest = handed_alone opening folder (before ++ entry ∷ []) h (All-tail (IsRight folder) entry h right) in
+    let rest = folded_alone opening folder (before ++ entry ∷ []) h (All-tail (IsRight folder) entry h right) in
     grind (arith, nat_tests)
 
 module _ (caller : ℕ) where
   pub stays : (h : List Entry) → HasNoMore caller h h
   stays h = goes_on_itself number_of caller (caller + 1) h
 
-  goes_on : (h k l : List Entry) → HasNoMore caller h k → HasNoMore caller k l → HasNoMore caller h l
-  goes_on h k l a b = ((a.0.0 ++ b.0.0, let first = a.0.1 in let second = b.0.1 in grind (arith, append_assoc)), b.1 ∙ a.1)
+  continues : (h k l : List Entry) → HasNoMore caller h k → HasNoMore caller k l → HasNoMore caller h l
+  continues h k l a b = ((a.0.0 ++ b.0.0, let first = a.0.1 in let second = b.0.1 in grind (arith, append_assoc)), b.1 ∙ a.1)
 
   -- a caller's own entry is one more of its entries
   pub own_entry : (g : List Entry) (entry : Entry) → number_of entry ≡ caller → entries_of caller (g ++ entry ∷ []) ≡ entries_of caller g ++ entry ∷ []
@@ -79,9 +79,9 @@ module _ (opening : Opening) (caller : ℕ) where
   -- calls of a caller with a longer front are calls of one with a shorter front
   pub made_from : (front before : List Entry) (calls : List Call) (h : List Entry) (passed : ℕ) → HasNoMore caller front before
       → AreMade opening caller before calls h passed → AreMade opening caller front calls h passed
-  made_from front before [] h passed on m = (goes_on caller front before h on m.0, m.1)
-  made_from front before (call ∷ calls) h passed on (inl m) = inl (m.0, m.1, goes_on caller front before m.0 on m.2, m.3, m.4)
-  made_from front before (call ∷ calls) h passed on (inr m) = inr (m.0, m.1, goes_on caller front before m.0 on m.2, m.3, m.4, m.5)
+  made_from front before [] h passed on m = (continues caller front before h on m.0, m.1)
+  made_from front before (call ∷ calls) h passed on (inl m) = inl (m.0, m.1, continues caller front before m.0 on m.2, m.3, m.4)
+  made_from front before (call ∷ calls) h passed on (inr m) = inr (m.0, m.1, continues caller front before m.0 on m.2, m.3, m.4, m.5)
 
   -- calls after calls
   made_both : (front : List Entry) (calls later : List Call) (mid h : List Entry) (p q : ℕ) → AreMade opening caller front calls mid p
@@ -98,7 +98,7 @@ module _ (opening : Opening) (caller : ℕ) where
   -- calls in a history that goes on without further entries of the caller
   pub made_on : (front : List Entry) (calls : List Call) (h k : List Entry) (passed : ℕ) → HasNoMore caller h k
       → AreMade opening caller front calls h passed → AreMade opening caller front calls k passed
-  made_on front [] h k passed on m = (goes_on caller front h k m.0 on, m.1)
+  made_on front [] h k passed on m = (continues caller front h k m.0 on, m.1)
   made_on front (call ∷ calls) h k passed on (inl m) = inl (m.0, m.1, m.2, m.3, made_on (m.0 ++ m.1 ∷ []) calls h k passed on m.4)
   made_on front (call ∷ calls) h k passed on (inr m) = inr (m.0, m.1, m.2, m.3, m.4, made_on m.0 calls h k m.1 on m.5)
 
@@ -120,9 +120,9 @@ one_at (y ∷ xs) zero x e = ap (λ z. z ∷ []) (cc e)
 one_at (y ∷ xs) (suc k) x e = one_at xs k x e
 
 -- the new front of a caller with one number goes on from the old one
-pub seen : (link : LinkView) (number : ℕ) (before : CallerView) (history : List Entry) → IsAt link number before
+pub has_front : (link : LinkView) (number : ℕ) (before : CallerView) (history : List Entry) → IsAt link number before
     → Extends number_of before.first before.limit before.front history → HasNoMore number before.front history
-seen link number before history at on = rw (at.first, at.limit) at on
+has_front link number before history at on = rw (at.first, at.limit) at on
 
 -- ---- refusals of a command
 
@@ -196,7 +196,7 @@ module _ (plan : Plan) (number k : ℕ) (link : LinkView) (link_for : IsFor plan
       → Extends number_of before.first before.limit before.front history → IsOutcomeBy plan number history (call ∷ []) after.front passed → Came passed
   one_came call history passed there on came =
       subst (λ (calls : List Call). IsOutcomeBy plan number before.front calls after.front passed) (sym (one_at (calls_of plan number) k call there))
-      (came_from plan number before.front history (call ∷ []) after.front passed (seen link number before history at on) came)
+      (came_from plan number before.front history (call ∷ []) after.front passed (has_front link number before history at on) came)
 
   pub asked_next : (command : Command) → slice_get (calls_of plan number) k ≡ Some (Ask command) → (answer : Result (Told Answer) Refusal)
       → Answers link before command answer after → Came (added_by answer)
@@ -204,22 +204,22 @@ module _ (plan : Plan) (number k : ℕ) (link : LinkView) (link_for : IsFor plan
   asked_next command there (Ok told) answers =
       let a = answers (opening_of plan) link_for.opened in
       let taken : IsTurn (opening_of plan) before _ _ after a.0 = a.1 in
-      one_came (Ask command) a.0 (Some 0) there taken.from.goes_on
+      one_came (Ask command) a.0 (Some 0) there taken.from.continues
       (one_made plan number (Ask command) a.0 (Made (event_of before.first command told.answer)) after.front (at.first, refl)
-      (ap (λ (c : CallerView). c.front) taken.seen))
+      (ap (λ (c : CallerView). c.front) taken.has_front))
   asked_next command there (Err why) answers =
       let a = answers (opening_of plan) link_for.opened in
       let refused : IsTurn (opening_of plan) before _ _ after a.0 = a.1 in
       let its = all_at (IsCallOf plan number) (calls_of plan number) k (Ask command) (calls_are plan link_for.sound number) there in
-      one_came (Ask command) a.0 (added_by (Err why)) there refused.from.goes_on
-      (refused_by plan number a.0 after.front command its (ap (λ (c : CallerView). c.front) refused.seen ∙ append-nil a.0) why
-      (refused_why (refusal_in (opening_of plan) a.0 command) _ why (sym refused.said)))
+      one_came (Ask command) a.0 (added_by (Err why)) there refused.from.continues
+      (refused_by plan number a.0 after.front command its (ap (λ (c : CallerView). c.front) refused.has_front ∙ append-nil a.0) why
+      (refused_why (refusal_in (opening_of plan) a.0 command) _ why (sym refused.has_result)))
 
   -- a fold, whose events the caller stores
   module _ (law : EntriesLookBack) (n : ℕ) (there : slice_get (calls_of plan number) k ≡ Some (Fold n)) (old new : List Event) where
     handed_before : (history : List Entry) → HasNoMore number before.front history → WereFolded plan number old before.front
         → WereFolded plan number old history
-    handed_before history on had = had ∙ sym (handed_same law (opening_of plan) number before.front history on)
+    handed_before history on had = had ∙ sym (folded_same law (opening_of plan) number before.front history on)
 
     pub folded_next : (passed : Option ℕ) (answer : Result (Told (Vec Event Global)) FoldRefusal) → Folds link before n answer after
         → TakenIn answer old new passed → Came passed × (WereFolded plan number old before.front → WereFolded plan number new after.front)
@@ -227,22 +227,22 @@ module _ (plan : Plan) (number k : ℕ) (link : LinkView) (link_for : IsFor plan
     folded_next passed (Ok told) answers kept =
         let a = answers (opening_of plan) link_for.opened in
         let made : IsTurn (opening_of plan) before _ _ after a.0 = a.1 in
-        let on = seen link number before a.0 at made.from.goes_on in
-        let shown : after.front ≡ a.0 ++ Folded before.first n ∷ [] = ap (λ (c : CallerView). c.front) made.seen in (
-          subst Came (sym kept.1) (one_came (Fold n) a.0 (Some 0) there made.from.goes_on
-              (one_made plan number (Fold n) a.0 (Folded before.first n) after.front (at.first, refl, made.said.held) shown)),
+        let on = has_front link number before a.0 at made.from.continues in
+        let shown : after.front ≡ a.0 ++ Folded before.first n ∷ [] = ap (λ (c : CallerView). c.front) made.has_front in (
+          subst Came (sym kept.1) (one_came (Fold n) a.0 (Some 0) there made.from.continues
+              (one_made plan number (Fold n) a.0 (Folded before.first n) after.front (at.first, refl, made.has_result.held) shown)),
           λ had. kept.0 ∙ (ap (λ (es : List Event). es ++ told.answer.items) (handed_before a.0 on had)
-              ∙ (ap (λ (es : List Event). folded_for (is_number number) (opening_of plan) [] a.0 ++ es) made.said.oldest
-              ∙ (sym (handed_more law (opening_of plan) number a.0 n before.first at.first)
+              ∙ (ap (λ (es : List Event). folded_for (is_number number) (opening_of plan) [] a.0 ++ es) made.has_result.oldest
+              ∙ (sym (folded_more law (opening_of plan) number a.0 n before.first at.first)
               ∙ ap (λ (h : List Entry). folded_for (is_number number) (opening_of plan) [] h) (sym shown)))),
         )
     folded_next passed (Err (TooMany held)) answers kept =
         let a = answers (opening_of plan) link_for.opened in
         let refused : IsTurn (opening_of plan) before _ _ after a.0 = a.1 in
-        let on = seen link number before a.0 at refused.from.goes_on in
-        let shown : after.front ≡ a.0 = ap (λ (c : CallerView). c.front) refused.seen ∙ append-nil a.0 in (
-          subst Came (sym kept.1) (one_came (Fold n) a.0 (Some 1) there refused.from.goes_on
-              (one_passed plan number (Fold n) a.0 after.front (omega (arith, refused.said.0, refused.said.1)) shown)),
+        let on = has_front link number before a.0 at refused.from.continues in
+        let shown : after.front ≡ a.0 = ap (λ (c : CallerView). c.front) refused.has_front ∙ append-nil a.0 in (
+          subst Came (sym kept.1) (one_came (Fold n) a.0 (Some 1) there refused.from.continues
+              (one_passed plan number (Fold n) a.0 after.front (omega (arith, refused.has_result.0, refused.has_result.1)) shown)),
           λ had. kept.0 ∙ (handed_before a.0 on had
               ∙ ap (λ (h : List Entry). folded_for (is_number number) (opening_of plan) [] h) (sym shown)),
         )
@@ -413,12 +413,12 @@ burst_next law plan number k n link link_for before after at (a ∷ later) repli
     let its = subst (All Its) (sym is)
     (All-take Its n (drop k (calls_of plan number)) (All-drop Its k (calls_of plan number) (calls_are plan link_for.sound number))) in
     let front_is : after.front ≡ after_all law plan number h burst =
-    ap (λ (c : CallerView). c.front) told.seen ∙ ap (λ (first : ℕ). b.0 ++ recorded law plan first b.0 [] burst) at.first ∙ same.1 in
+    ap (λ (c : CallerView). c.front) told.has_front ∙ ap (λ (first : ℕ). b.0 ++ recorded law plan first b.0 [] burst) at.first ∙ same.1 in
     let replies_are : replies ≡ replies_to law plan number h burst =
-    told.said ∙ ap (λ (first : ℕ). answered law plan first b.0 [] burst) at.first ∙ same.0 in
+    told.has_result ∙ ap (λ (first : ℕ). answered law plan first b.0 [] burst) at.first ∙ same.0 in
     subst (λ (calls : List Call). IsOutcomeBy plan number before.front calls after.front passed) is
     (came_from plan number before.front h (map arriving burst) after.front passed
-    (subst (λ (g : List Entry). HasNoMore number before.front g) (sym none) (seen link number before b.0 at told.from.goes_on))
+    (subst (λ (g : List Entry). HasNoMore number before.front g) (sym none) (has_front link number before b.0 at told.from.continues))
     (subst (λ (g : List Entry). IsOutcomeBy plan number h (map arriving burst) g passed) (sym front_is)
     (burst_came law plan number h burst passed its (subst (λ (l : List Reply). AddedByAll l passed) replies_are added))))
 

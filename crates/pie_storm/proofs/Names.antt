@@ -25,7 +25,7 @@ pub use Rattle.pie_link.specs.EntryLaws.{EntriesLookBack}
 pub use Rattle.pie_link.specs.declared.arrival.Arrival.{Arrival}
 pub use Rattle.pie_link.specs.declared.entry.Entry.{Entry}
 pub use Rattle.pie_link.specs.declared.entry.Entry.TheVariants.{Folded, Made}
-pub use Rattle.pie_link.specs.declared.told.Told.{Told}
+pub use Rattle.pie_link.specs.declared.call_result.Told.{Told}
 pub use Rattle.pie_link.specs.Views.{CallerView, LinkView}
 pub use Rattle.pie_lock.proofs.Owns.{NoneOwn, goes_on_itself, gone_on, own_none}
 pub use Rattle.pie_lock.specs.Own.{is_within, own}

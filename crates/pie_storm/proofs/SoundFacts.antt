@@ -7,13 +7,13 @@ use Rattle.pie_storm.specs.Plans.{IsMoment, IsSoundArrival, planned}
 use Rattle.pie_storm.specs.StormPlan.{HasStormRange, IsStormPlan, change_at, command_count, words_after}
 use Rattle.pie_storm.specs.Storms.{refusal_of}
 unfoldable use Rattle.pie_storm.specs.Storms.{CanStop, HasFault}
-use Rattle.pie_storm.specs.declared.ending.StormFault.{StormFault}
-use Rattle.pie_storm.specs.declared.ending.StormFault.TheVariants as fault
+use Rattle.pie_storm.specs.declared.storm_end.StormFault.{StormFault}
+use Rattle.pie_storm.specs.declared.storm_end.StormFault.TheVariants as fault
 use Rattle.pie_event.specs.declared.opening.Limits.{Limits}
 use Rattle.pie_link.specs.Opening.{IsRefusedFor, link_refusal}
 use Rattle.rand_core.specs.Stream.{next_u64}
 use Rattle.pie_link.specs.declared.refusal.LinkRefusal.{LinkRefusal}
-use Rattle.pie_storm.specs.declared.numbers.StormNumbers.{StormNumbers}
+use Rattle.pie_storm.specs.declared.plan_numbers.StormNumbers.{StormNumbers}
 use Rattle.pie_storm.specs.declared.plan.Change.{Change}
 use Rattle.std.proofs.Common.{Option}
 use Rattle.std.proofs.Math.Nat.{div-le_self, mod-lt, mul-le-mul, mul_assoc, suc-mul}

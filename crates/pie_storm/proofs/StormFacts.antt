@@ -97,28 +97,28 @@ abbrev LegalIsClean : Type 0
 LegalIsClean = (text : List ℕ) (opening : Opening) (lines : List Line) → IsHistoryText text opening lines → AreLegal opening lines
     → text_finding (records_of text) ≡ Ok (Clean (length (events_of lines)))
 
-clean-told : EventsAreLines → LegalIsClean → (opening : Opening) (events : List Event) (known : Option (List ℕ)) → IsLegal opening events
+clean-written : EventsAreLines → LegalIsClean → (opening : Opening) (events : List Event) (known : Option (List ℕ)) → IsLegal opening events
     → IfSome known (λ text. IsHistoryText text opening (map Made events))
     → IfSome known (λ text. text_finding (records_of text) ≡ Ok (Clean (length events)))
-clean-told are_lines is_clean opening events None legal told = tt
-clean-told are_lines is_clean opening events (Some text) legal told =
+clean-written are_lines is_clean opening events None legal told = tt
+clean-written are_lines is_clean opening events (Some text) legal told =
     let same = are_lines.events events in
     is_clean text opening (map Made events) told
     (record { made = are_lines.made events; legal = subst (λ (es : List Event). IsLegal opening es) (sym same) legal })
     ∙ ap (λ (es : List Event). Ok (Clean (length es))) same
 
-pub writes-told : {A E : Type 0} → EventsAreLines → LegalIsClean → WholeIsClean → (given : Result A E) (plan : Plan) (events : List Event)
+pub writes-answered : {A E : Type 0} → EventsAreLines → LegalIsClean → WholeIsClean → (given : Result A E) (plan : Plan) (events : List Event)
     (auditor : AuditorView) (opening : Opening) (before now : Option (List ℕ)) → opening ≡ opening_of plan
     → IsLegal (opening_of plan) events → plan.limits.events ≡ plan.limits.tail → Audits opening auditor (map Made events)
     → OnOk given (Appends before now (rows_text (written_rows opening events)))
     → OnOk given (opening_refusal opening.limits opening.moment ≡ None → length events < 2 ^ 32 → before ≡ Some []
     → IfSome now (λ text. IsHistoryText text opening (map Made events)))
     → OnOk given (WritesHistory plan events before now)
-writes-told are_lines is_clean whole (Ok value) plan events auditor opening before now is legal same audits appends back =
+writes-answered are_lines is_clean whole (Ok value) plan events auditor opening before now is legal same audits appends back =
     let legal' = subst (λ (o : Opening). IsLegal o events) (sym is) legal in
     let same' : opening.limits.events ≡ opening.limits.tail = subst (λ (o : Opening). o.limits.events ≡ o.limits.tail) (sym is) same in
     let few = few-events are_lines whole opening auditor events legal' audits same' in record {
       written = subst (λ (o : Opening). Appends before now (rows_text (written_rows o events))) is appends;
-      clean = λ empty. clean-told are_lines is_clean opening events now legal' (back audits.accepted few empty);
+      clean = λ empty. clean-written are_lines is_clean opening events now legal' (back audits.accepted few empty);
     }
-writes-told are_lines is_clean whole (Err why) plan events auditor opening before now is legal same audits appends back = tt
+writes-answered are_lines is_clean whole (Err why) plan events auditor opening before now is legal same audits appends back = tt

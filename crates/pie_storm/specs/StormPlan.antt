@@ -12,7 +12,7 @@ use Rattle.pie_event.specs.declared.profile.Profile.TheVariants.{One}
 use Rattle.pie_params.specs.Elements.{usual}
 use Rattle.pie_params.specs.Profile.{default_profile}
 use Rattle.pie_params.specs.declared.raw.RawParams.{RawParams}
-use Rattle.pie_storm.specs.declared.numbers.StormNumbers.{StormNumbers}
+use Rattle.pie_storm.specs.declared.plan_numbers.StormNumbers.{StormNumbers}
 use Rattle.pie_link.specs.declared.arrival.Arrival.{Arrival}
 use Rattle.pie_storm.specs.declared.plan.Change.{Change}
 use Rattle.pie_storm.specs.declared.plan.Plan.{Plan}

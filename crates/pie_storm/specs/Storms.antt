@@ -12,7 +12,7 @@ use Rattle.pie_event.specs.declared.refusal.Refusal.{Refusal}
 use Rattle.pie_event.specs.declared.refusal.Refusal.TheVariants.{TooSoon}
 use Rattle.pie_event.specs.declared.refusal.FoldRefusal.{FoldRefusal}
 use Rattle.pie_event.specs.declared.refusal.FoldRefusal.TheVariants.{TooMany, Memory}
-use Rattle.pie_link.specs.declared.told.Told.{Told}
+use Rattle.pie_link.specs.declared.call_result.Told.{Told}
 use Rattle.pie_book.specs.Decision.{IsLegal, refusal_by_rule}
 use Rattle.pie_book.specs.Registers.{registers_after}
 use Rattle.pie_book.specs.Statistics.{stats_after}
@@ -22,9 +22,9 @@ use Rattle.pie_link.specs.Entries.{entries_of, events_in, folded_events, folded_
 use Rattle.pie_link.specs.Opening.{IsRefusedFor, IsWantOfMemory, link_refusal}
 use Rattle.pie_link.specs.Views.{LinkView, CallerView}
 use Rattle.pie_link.specs.declared.refusal.LinkRefusal.{LinkRefusal}
-use Rattle.pie_storm.specs.declared.ending.StormEnd.{StormEnd}
-use Rattle.pie_storm.specs.declared.ending.StormFault.{StormFault}
-use Rattle.pie_storm.specs.declared.ending.StormFault.TheVariants as fault
+use Rattle.pie_storm.specs.declared.storm_end.StormEnd.{StormEnd}
+use Rattle.pie_storm.specs.declared.storm_end.StormFault.{StormFault}
+use Rattle.pie_storm.specs.declared.storm_end.StormFault.TheVariants as fault
 use Rattle.pie_storm.specs.declared.plan.Plan.{Plan}
 use Rattle.pie_storm.specs.declared.plan.Call.{Call}
 use Rattle.pie_storm.specs.declared.plan.Call.TheVariants.{Ask, Fold}
@@ -140,14 +140,14 @@ pub record TakesTurn (link : LinkView) (plan : Plan) (number k count : ℕ) (bef
   pub few : IfSome passed (λ n. n ≤ 1)
   pub well : IsWell new → IsWell old
   pub came : IsWell new → IsOutcomeBy plan number before.front (take count (drop k (calls_of plan number))) after.front passed
-  pub handed : IsWell new → number ≡ folder plan → WereFolded plan number old.events.items before.front
+  pub folds_split : IsWell new → number ≡ folder plan → WereFolded plan number old.events.items before.front
       → WereFolded plan number new.events.items after.front
 
 -- the worker of the caller with this number made all its calls
 pub record IsWorkOf (link : LinkView) (plan : Plan) (number : ℕ) (work : Work) : Type 0 where
   pub at : IsAt link number work.caller
   pub came : IsWell work.folding → IsOutcomeOf plan number work.caller.front work.passed
-  pub handed : IsWell work.folding → number ≡ folder plan → WereFolded plan number work.folding.events.items work.caller.front
+  pub folds_split : IsWell work.folding → number ≡ folder plan → WereFolded plan number work.folding.events.items work.caller.front
 
 -- the work of all callers below this number: the skipped calls of the last of them, and the skipped updates
 pub record IsWorkBelow (link : LinkView) (plan : Plan) (n : ℕ) (work : Work) : Type 0 where
@@ -174,7 +174,7 @@ pub record IsStorm (plan : Plan) (events : List Event) (too_soon too_many : ℕ)
 
 -- after this history the folds had returned the first `folded` of these events, and the log had the others
 pub record AreFolded (opening : Opening) (history : List Entry) (events : List Event) (folded : ℕ) : Type 0 where
-  pub handed : folded_events opening history ≡ take folded events
+  pub folds_split : folded_events opening history ≡ take folded events
   pub left : tail_in opening history ≡ drop folded events
 
 -- the refusal of the link of a storm with this plan, out of memory aside

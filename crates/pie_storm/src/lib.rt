@@ -9,21 +9,21 @@
 //! Not promised: that a thread runs, that a storm ends, or the order of the calls of two callers.
 #![tactic(auto)]
 
-pub mod ending;
 pub mod gate;
-pub mod numbers;
 mod pace;
 pub mod plan;
+pub mod plan_numbers;
+mod planned_storm;
 mod planning;
-mod starter;
-mod storming;
+mod run;
+pub mod storm_end;
 mod worker;
 
-pub use ending::{StormEnd, StormFault};
 pub use gate::{Gate, NoGate};
-pub use numbers::StormNumbers;
 pub use pie_link::Arrival;
 pub use plan::{Call, Change, LONGEST_BURST, Plan};
+pub use plan_numbers::StormNumbers;
+pub use planned_storm::{MadeStorm, make_storm, write_storm};
 pub use planning::storm_plan;
-pub use starter::storm;
-pub use storming::{MadeStorm, make_storm, write_storm};
+pub use run::storm;
+pub use storm_end::{StormEnd, StormFault};

@@ -4,8 +4,8 @@ ghost use Rattle.std.specs.List.{range_with_len};
 ghost use Rattle.pie_storm.specs.StormPlan.{IsStormPlan, after_three, arrival_by, arrivals_of, change_at, changes_of, departs_of, ecn_of};
 ghost use Rattle.pie_storm.specs.StormPlan.{HasStormRange, usual_storm, folds_of, held_by, moment_of, params_at, updates_of, words_of};
 
-use crate::numbers::StormNumbers;
 use crate::plan::{Change, Plan};
+use crate::plan_numbers::StormNumbers;
 use pie_book::{Elements, Limits, Profile};
 use pie_link::Arrival;
 use pie_params::{Params, RawParams};

@@ -14,7 +14,7 @@ use Rattle.pie_summary.specs.Words.{wait_99}
 use Rattle.std.proofs.Common.{true≢false}
 use Rattle.pie_summary.proofs.CountFacts.{kept-more}
 use Rattle.pie_summary.proofs.PeriodFacts.{last_events-push, last_period-push, since_begun, some-events, under-way}
-use Rattle.pie_summary.proofs.SumsFacts.{noted-moment, times_kept, place_of, places-push, reached_later, reached_none}
+use Rattle.pie_summary.proofs.SumsFacts.{input-moment, times_kept, place_of, places-push, reached_later, reached_none}
 
 -- ---- periods
 
@@ -114,21 +114,21 @@ awaits-new old shown one number start end begun meter waits holds number-is star
           ∙ ap (λ (b : Bool). min (periods_begun every shown + cond b 1 0) 18446744073709551615)
           (sym (ap (λ (b : Option ℕ). starts b (period_at every one)) (sym holds.number) ∙ starts-here))
           ∙ sym (begun-push every shown one);
-      meter = empty ∙ reached_none [] one one.told.moment (noted-moment one) refl ∙ ap (λ (before : List Explained). reached before one) none;
+      meter = empty ∙ reached_none [] one one.told.moment (input-moment one) refl ∙ ap (λ (before : List Explained). reached before one) none;
       waits = cleared ∙ ap waits_of none;
       spans = spans;
     }
 
 -- a wall-clock time that is not known
-pub untold : (period : LivePeriod) (moment : ℕ) → (period.told ≡ 1 → ⊥) → time_of (clock_of period) moment ≡ None
-untold period moment none = rw (ne_eqb period.told 1 none) refl
+pub unknown_words : (period : LivePeriod) (moment : ℕ) → (period.told ≡ 1 → ⊥) → time_of (clock_of period) moment ≡ None
+unknown_words period moment none = rw (ne_eqb period.told 1 none) refl
 
 -- a recorded time is the first one; if no time is known, none is recorded
 pub clock_kept : (period : LivePeriod) (times : List ℕ) (moment : ℕ) → period.told ≡ period.meter.timed → period.meter ≡ timed_by period.meter times
     → period ≡ record period { meter = timed_by period.meter (times ++ cons_option (time_of (clock_of period) moment) []) }
 clock_kept period times moment same is = λ i. record period {
   meter = times_kept period.meter times (time_of (clock_of period) moment) is
-      (λ none. untold period moment (λ told. omega (arith, told, none, same))) i;
+      (λ none. unknown_words period moment (λ told. omega (arith, told, none, same))) i;
 }
 
 pub clock-same : {before after : LivePeriod} → IsSet before after → clock_of before ≡ clock_of after
@@ -159,7 +159,7 @@ pub at_last-some : (every number : ℕ) (summary_text : List Explained → List 
     → summary_text (last_events (Some every) all) ≡ at_last (Some every) summary_text all
 at_last-some every number summary_text all some = sym (ap (λ (last : Option ℕ). if is_some last then summary_text (last_events (Some every) all) else []) some)
 
-pub said_live : (by_wall : Bool) (all : List Explained) (meter : Meter) (waits : List ℕ) (most : ℕ) → meter ≡ meter_in all → waits ≡ waits_of all
+pub text_live : (by_wall : Bool) (all : List Explained) (meter : Meter) (waits : List ℕ) (most : ℕ) → meter ≡ meter_in all → waits ≡ waits_of all
     → most ≡ wait_99 waits meter → record_of by_wall meter most ≡ summary_text_of (record { csv = true; by_wall = by_wall }) all
 unfolding sums_of
-said_live by_wall all meter waits most is waits-are most-is = λ i. record_of by_wall (is i) ((most-is ∙ (λ j. wait_99 (waits-are j) (is j))) i)
+text_live by_wall all meter waits most is waits-are most-is = λ i. record_of by_wall (is i) ((most-is ∙ (λ j. wait_99 (waits-are j) (is j))) i)

@@ -66,10 +66,10 @@ search-ends counts rank place missing within left enough so_far =
     sym (so_far ∙ search-step (λ p. nat_le rank (sum (take (p + 1) counts))) place (length counts) within
     ∙ ap (λ b. if b then Some place else from_place counts rank (place + 1)) holds)
 
-pub search-goes-on : (counts : List ℕ) (rank place missing : ℕ) → place < length counts → missing ≡ rank - sum (take place counts)
+pub search-continues : (counts : List ℕ) (rank place missing : ℕ) → place < length counts → missing ≡ rank - sum (take place counts)
     → slice_index counts place < missing → first_up_to counts rank ≡ from_place counts rank place
     → (missing - slice_index counts place ≡ rank - sum (take (place + 1) counts)) × (first_up_to counts rank ≡ from_place counts rank (place + 1))
-search-goes-on counts rank place missing within left short so_far =
+search-continues counts rank place missing within left short so_far =
     let more = up-to-more counts place within in
     let misses : sum (take (place + 1) counts) < rank = omega (arith, more, left, short) in
     let fails : nat_le rank (sum (take (place + 1) counts)) ≡ false = grind (arith, nat_tests, misses) in (

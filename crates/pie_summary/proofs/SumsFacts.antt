@@ -33,9 +33,9 @@ waits-push shown one step is old-is = some-of-push ranges_of wait_in shown one s
 -- ---- a meter that awaits an event
 
 -- what is noted of an event has its moment
-pub noted-moment : (one : Explained) → (meter_input_of one).moment ≡ one.told.moment
+pub input-moment : (one : Explained) → (meter_input_of one).moment ≡ one.told.moment
 unfolding meter_input_by
-noted-moment one = by one.told.event.answer
+input-moment one = by one.told.event.answer
   where
     by : (answer : Answer) → (meter_input_by (conditions_of_event one) answer (cause_of one) (size_in one) one.told.waited).moment ≡ one.told.moment
     by (Left packet) = refl
@@ -58,10 +58,10 @@ reached_none [] one moment at none = λ i. record (meter_of [] []) { first = sym
 reached_none (first ∷ rest) one moment at none = absurd (omega (arith, none))
 
 -- a meter before one more event has the times of the events before
-pub noted-times : (shown : List Explained) (one : Explained) {meter : Meter} → meter ≡ reached shown one
+pub input-times : (shown : List Explained) (one : Explained) {meter : Meter} → meter ≡ reached shown one
     → meter ≡ timed_by meter (filter_map time_at shown)
 unfolding meter_of
-noted-times shown one is = is ∙ ap (λ (m : Meter). timed_by m (filter_map time_at shown)) (sym is)
+input-times shown one is = is ∙ ap (λ (m : Meter). timed_by m (filter_map time_at shown)) (sym is)
 
 -- the first of these times stays, if there is one or no further time is known
 pub times_kept : (meter : Meter) (times : List ℕ) (read : Option ℕ) → meter ≡ timed_by meter times → (meter.timed ≡ 0 → read ≡ None)
@@ -82,29 +82,29 @@ time_noted meter (first ∷ times) time is none =
     let some : meter.timed ≡ min (suc (length times)) 1 = ap (λ (m : Meter). m.timed) is in absurd (omega (arith, some, none))
 
 -- a meter after one more event has the numbers of all events
-pub taken : (shown : List Explained) (one : Explained) {noted : MeterInput} {time : Option ℕ} {old timed now : Meter} → noted ≡ meter_input_of one
+pub taken : (shown : List Explained) (one : Explained) {event_words : MeterInput} {time : Option ℕ} {old timed now : Meter} → event_words ≡ meter_input_of one
     → time ≡ time_at one → ((times : List ℕ) → old ≡ timed_by old times → timed ≡ timed_by old (times ++ cons_option time []))
-    → ((before : List MeterInput) (times : List ℕ) → timed ≡ awaiting before noted times → now ≡ meter_of (before ++ noted ∷ []) times)
+    → ((before : List MeterInput) (times : List ℕ) → timed ≡ awaiting before event_words times → now ≡ meter_of (before ++ event_words ∷ []) times)
     → old ≡ reached shown one → now ≡ meter_in (shown ++ one ∷ [])
 unfolding meter_of
 taken shown one is told notes takes reached-is =
     let before = map meter_input_of shown in
     let times = filter_map time_at (shown ++ one ∷ []) in
-    takes before times (notes (filter_map time_at shown) (noted-times shown one reached-is)
+    takes before times (notes (filter_map time_at shown) (input-times shown one reached-is)
     ∙ (λ i. timed_by (reached-is i) (filter_map time_at shown ++ cons_option (told i) []))
     ∙ (λ i. awaiting before (sym is i) (sym (filter_map-append time_at shown (one ∷ [])) i)))
     ∙ (λ i. meter_of (before ++ is i ∷ []) times) ∙ ap (λ all. meter_of all times) (sym (map_push meter_input_of shown one))
 
 -- ---- The meter's input for an event, by its numbers and its answer
 
-pub noted-by : (met : Conditions) (one : Explained) (answer : Answer) (cause : ℕ) (arrived : Option ℕ) → HasConditions met one → one.told.event.answer ≡ answer
+pub input-by : (met : Conditions) (one : Explained) (answer : Answer) (cause : ℕ) (arrived : Option ℕ) → HasConditions met one → one.told.event.answer ≡ answer
     → cause_of one ≡ cause → size_in one ≡ arrived → meter_input_of one ≡ meter_input_by met answer cause arrived one.told.waited
-noted-by met one answer cause arrived m is cause-is size-is = λ i. meter_input_by (m i) (is i) (cause-is i) (size-is i) one.told.waited
+input-by met one answer cause arrived m is cause-is size-is = λ i. meter_input_by (m i) (is i) (cause-is i) (size-is i) one.told.waited
 
 -- the input for an arrival with any verdict
-pub arrival-noted : (met : Conditions) (verdict : Verdict) (cause size waited : ℕ)
+pub arrival-input : (met : Conditions) (verdict : Verdict) (cause size waited : ℕ)
     → record (meter_input_by met Done 15 None 0) { answer = answer_place (answer_of verdict); cause = cause; arrived = Some size }
     ≡ meter_input_by met (answer_of verdict) cause (Some size) waited
 unfolding meter_input_by
-arrival-noted met Enqueued cause size waited = refl
-arrival-noted met _ cause size waited = refl
+arrival-input met Enqueued cause size waited = refl
+arrival-input met _ cause size waited = refl

@@ -4,9 +4,9 @@ use Rattle.std.specs.List.{flat_map}
 use Rattle.pie_aqm.specs.Places.{Place, places}
 use Rattle.pie_explain.specs.declared.form.Form.{Form}
 use Rattle.pie_explain.specs.declared.explanation.Explained.{Explained}
-use Rattle.pie_explain.specs.declared.which.Which.TheVariants.{Lost, Marked}
+use Rattle.pie_explain.specs.declared.choice.Which.TheVariants.{Lost, Marked}
 use Rattle.pie_explain.specs.Output.{clock_for, header_of}
-use Rattle.pie_explain.specs.Which.{chooses}
+use Rattle.pie_explain.specs.Choice.{chooses}
 use Rattle.pie_explain.specs.Words.{words_by}
 use Rattle.pie_summary.specs.declared.period.Period.{Period}
 use Rattle.pie_summary.specs.declared.summary.Summary.{Summary}
@@ -37,14 +37,14 @@ abbrev pub is_lost_or_marked : Explained → Bool
 is_lost_or_marked one = chooses Lost one.told.number one.told.event || chooses Marked one.told.number one.told.event
 
 -- what is said of an event by itself: its words, where packets are explained and it lost or marked one
-unfoldable pub noted : Summary → Explained → List ℕ
-noted summary one = if summary.packets && is_lost_or_marked one then words_by (clock_for summary.form one.told.clock) one else []
+unfoldable pub event_words : Summary → Explained → List ℕ
+event_words summary one = if summary.packets && is_lost_or_marked one then words_by (clock_for summary.form one.told.clock) one else []
 
 -- ---- the whole
 
 -- what is written at an event: a summary of the events before it, where it is in another period, and then what is said of it by itself
 abbrev pub written_at : Summary → Place Explained → List ℕ
-written_at summary place = at_end summary.every (summary_text_of summary.form) place ++ noted summary place.event
+written_at summary place = at_end summary.every (summary_text_of summary.form) place ++ event_words summary place.event
 
 -- the output before the end: the header, and the output at each of these events
 abbrev pub summaries : Summary → List Explained → List ℕ

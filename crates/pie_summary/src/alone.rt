@@ -46,7 +46,7 @@ impl Report for SumsAlone {
     }
 
     #[tactic(auto, unfolding(crate::specs::Summary::noted))]
-    fn tell(&self, state: &mut Period, told: &Explained, page: &mut Page) -> Written {
+    fn report_event(&self, state: &mut Period, told: &Explained, page: &mut Page) -> Written {
         let ends = begins(state.number, period_of(self.every, told.told.moment));
         push_ended(page, self.form, state, ends)?;
         state.take(self.every, told);

@@ -61,7 +61,7 @@ impl Report for ByFlow {
         Ok(FlowPeriod::empty(page.allocator()))
     }
 
-    fn tell(&self, state: &mut FlowPeriod, told: &Explained, page: &mut Page) -> Written {
+    fn report_event(&self, state: &mut FlowPeriod, told: &Explained, page: &mut Page) -> Written {
         let ends = begins(state.number, period_of(self.every, told.told.moment));
         push_ended(page, self, ends, &state.span, flows_of(&state.rows))?;
         state.take(self.every, told)?;

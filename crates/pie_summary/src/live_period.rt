@@ -50,7 +50,7 @@ impl LivePeriod {
     pub fn open(every: u64, by_wall: bool) -> LivePeriod
         ensures every { result.every ≡ every }
         ensures wall { result.wall ≡ (if by_wall then 1 else 0) }
-        ensures untold { result.told ≡ 0 }
+        ensures unknown { result.told ≡ 0 }
         ensures holds { Holds result [] }
     {
         LivePeriod {
@@ -126,7 +126,7 @@ impl LivePeriod {
     #[tactic(auto, using(crate::proofs::LiveFacts::clock_kept))]
     fn record_time(&mut self, moment: u64)
         ensures settings { IsSet self.old self.new }
-        ensures noted { (times : List ℕ) → self.old.meter ≡ timed_by self.old.meter times → self.new ≡ record self.old {
+        ensures adds { (times : List ℕ) → self.old.meter ≡ timed_by self.old.meter times → self.new ≡ record self.old {
           meter = timed_by self.old.meter
               (times ++ cons_option (time_of (clock_of self.old) moment) []);
         } }
@@ -142,7 +142,7 @@ impl LivePeriod {
     #[inline(never)]
     fn note_first_time(&mut self, moment: u64)
         ensures settings { IsSet self.old self.new }
-        ensures noted { (times : List ℕ) → self.old.meter ≡ timed_by self.old.meter times → self.new ≡ record self.old {
+        ensures adds { (times : List ℕ) → self.old.meter ≡ timed_by self.old.meter times → self.new ≡ record self.old {
           meter = timed_by self.old.meter
               (times ++ cons_option (time_of (clock_of self.old) moment) []);
         } }
@@ -180,7 +180,7 @@ impl LivePeriod {
     }
 
     /// Adds the record of the period under way to an empty line; before the first event there is none.
-    #[tactic(auto, using(crate::proofs::LiveFacts::said_live))]
+    #[tactic(auto, using(crate::proofs::LiveFacts::text_live))]
     pub fn put_record(&self, line: &mut LongRow)
         requires { line.old ≡ [] }
         ensures { (shown : List Explained) → Holds self.now shown → line.new ≡ at_last (length_of self.now) (summary_text_of (form_in self.now)) shown }

@@ -156,7 +156,7 @@ impl Conditions {
         arrived: Option<u64>,
         waited: u64,
     ) -> MeterInput
-        ensures noted { result ≡ meter_input_by self.now answer cause arrived waited }
+        ensures adds { result ≡ meter_input_by self.now answer cause arrived waited }
         ensures within { result.answer < 9 }
     {
         let plain = MeterInput {
@@ -206,7 +206,7 @@ impl Conditions {
     #[tactic(auto, unfolding(crate::specs::Sums::meter_input_by))]
     pub fn arrived(&self, answer: usize, cause: usize, size: u32) -> MeterInput
         ensures places { (result.answer ≡ answer) × (result.cause ≡ cause) }
-        ensures noted { (one : Explained) (verdict : Verdict) → HasConditions self.now one → one.told.event.answer ≡ answer_of verdict
+        ensures adds { (one : Explained) (verdict : Verdict) → HasConditions self.now one → one.told.event.answer ≡ answer_of verdict
             → answer ≡ answer_place (answer_of verdict) → cause ≡ cause_of one → size_in one ≡ Some size → result ≡ meter_input_of one }
     {
         MeterInput {
@@ -220,7 +220,7 @@ impl Conditions {
     #[tactic(auto, unfolding(crate::specs::Sums::meter_input_by))]
     pub fn left(&self, size: u32, waited: u64) -> MeterInput
         ensures places { (result.answer ≡ 5) × (result.cause ≡ 15) }
-        ensures noted { (one : Explained) (packet : Packet) → HasConditions self.now one → one.told.event.answer ≡ Left packet → packet.size ≡ size
+        ensures adds { (one : Explained) (packet : Packet) → HasConditions self.now one → one.told.event.answer ≡ Left packet → packet.size ≡ size
             → one.told.waited ≡ waited → one.told.cause ≡ None → size_in one ≡ None → result ≡ meter_input_of one }
     {
         let (tag, ecn) = (0, Ecn::NotEct);
@@ -233,7 +233,7 @@ impl Conditions {
     #[tactic(auto, unfolding(crate::specs::Sums::meter_input_by))]
     pub fn empty(&self) -> MeterInput
         ensures places { (result.answer ≡ 6) × (result.cause ≡ 15) }
-        ensures noted { (one : Explained) → HasConditions self.now one → one.told.event.answer ≡ Empty → one.told.cause ≡ None → size_in one ≡ None
+        ensures adds { (one : Explained) → HasConditions self.now one → one.told.event.answer ≡ Empty → one.told.cause ≡ None → size_in one ≡ None
             → result ≡ meter_input_of one }
     {
         self.noted(Answer::Empty, NO_CAUSE, None, 0)
@@ -244,7 +244,7 @@ impl Conditions {
     #[tactic(auto, unfolding(crate::specs::Sums::meter_input_by))]
     pub fn updated(&self, delay: u64) -> MeterInput
         ensures places { (result.answer ≡ 7) × (result.cause ≡ 15) }
-        ensures noted { (one : Explained) (prob burst : ℕ) → HasConditions self.now one → one.told.event.answer ≡ Updated delay prob burst
+        ensures adds { (one : Explained) (prob burst : ℕ) → HasConditions self.now one → one.told.event.answer ≡ Updated delay prob burst
             → one.told.cause ≡ None → size_in one ≡ None → result ≡ meter_input_of one }
     {
         let (prob, burst) = (0, 0);
@@ -256,7 +256,7 @@ impl Conditions {
     #[tactic(auto, unfolding(crate::specs::Sums::meter_input_by))]
     pub fn done(&self) -> MeterInput
         ensures places { (result.answer ≡ 8) × (result.cause ≡ 15) }
-        ensures noted { (one : Explained) → HasConditions self.now one → one.told.event.answer ≡ Done → one.told.cause ≡ None → size_in one ≡ None
+        ensures adds { (one : Explained) → HasConditions self.now one → one.told.event.answer ≡ Done → one.told.cause ≡ None → size_in one ≡ None
             → result ≡ meter_input_of one }
     {
         self.noted(Answer::Done, NO_CAUSE, None, 0)
@@ -266,7 +266,7 @@ impl Conditions {
 /// Returns the meter's input for an explained event.
 #[inline(always)]
 pub(crate) fn meter_input_of(all: &Explained) -> MeterInput
-    ensures noted { result ≡ meter_input_of all.now }
+    ensures adds { result ≡ meter_input_of all.now }
     ensures within { result.answer < 9 }
 {
     let (told, after) = (&all.told, &all.after);

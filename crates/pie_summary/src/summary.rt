@@ -104,7 +104,7 @@ impl Report for Summary {
         Ok(period)
     }
 
-    fn tell(&self, state: &mut Period, told: &Explained, page: &mut Page) -> Written {
+    fn report_event(&self, state: &mut Period, told: &Explained, page: &mut Page) -> Written {
         let ends = begins(state.number, period_of(self.every, told.told.moment));
         push_ended(page, self.form, state, ends)?;
         push_event_words(page, self, told)?;

@@ -7,11 +7,11 @@ pub use Rattle.std.proofs.lemmas.Bool.Decides.{nat_tests}
 pub use Rattle.std.proofs.lemmas.List.{append-nil}
 pub use Rattle.std.proofs.lemmas.List.Elements.{All-append, All-cons, All-nil, filter_map-append}
 pub use Rattle.std.specs.Prelude.{All, OnErr, codes, nat_lt, option_map}
-pub use Rattle.pie_trace.specs.{Answer, Appends, Ask, BadParams, Begins, BookView, Bounded, Clean, Clock, Coming, Err, Event, FirstKind, Flaw, Fold}
-pub use Rattle.pie_trace.specs.{FoldRefusal, HasField, IfErr, IfOk, IfSome, IsAt, NoDeviceFailed, IsWrite, Line, migrates, moves_on, None, Ok, OnOk, One}
+pub use Rattle.pie_trace.specs.{Answer, Appends, Ask, BadParams, Begins, BookView, Bounded, Clean, Clock, RemainingLines, Err, Event, FirstKind, Flaw, Fold}
+pub use Rattle.pie_trace.specs.{FoldRefusal, HasField, IfErr, IfOk, IfSome, IsAt, NoDeviceFailed, IsWrite, Line, migration_pass, later_records_pass, None, Ok, OnOk, One}
 pub use Rattle.pie_trace.specs.{Opening, Option, Progress, Refusal, Registers, Replies, Request, Result, Rolling, Row, Show, Represents, Some, Stats}
 pub use Rattle.pie_trace.specs.{Tally, HaveSameLines, BookRepresents, IsHistoryText, Three, TraceFault, Two, Version, after, append_known, closed, code_of}
-pub use Rattle.pie_trace.specs.{end_at, end_left, events_in, fault_at, fold_outcome, history_row, is_device, is_kind, later_rows, let_go}
+pub use Rattle.pie_trace.specs.{end_at, end_left, events_in, fault_at, fold_outcome, history_row, is_device, is_kind, later_rows, fold_reply}
 pub use Rattle.pie_trace.specs.{line_of_reply, lines_left, rows_left, migrated_text, migrated_version, opening_refusal, outcome}
 pub use Rattle.pie_trace.specs.{progress_at_end, queued_row, records_of, refused, refused_count, reply, reply_to_command, reply_to_fold, request_in}
 pub use Rattle.pie_trace.specs.{start, stats_after, text_of, line_in, rows_without_fault}
@@ -43,5 +43,5 @@ pub use Rattle.pie_record.specs.Text.{TakesRow, Took}
 pub use Rattle.pie_record.specs.declared.first_record.Draft.{Draft}
 pub use Rattle.pie_trace.specs.declared.run.RunEnd.{RunEnd}
 pub use Rattle.pie_record.proofs.Laws.{drop-has, event_count-cons, kind-first, records_left-written, rows_text-cons, same-before-three, tested}
-pub use Rattle.pie_record.proofs.Laws.{told-read, told_by-flaw, told_by-line, told_by-long}
+pub use Rattle.pie_record.proofs.Laws.{reads-one, line_in-flaw, line_in-line, line_in-long}
 pub use Rattle.pie_text.proofs.{LostFacts.lost-later, WriteFacts.contents-told}

@@ -7,15 +7,15 @@ use Rattle.pie_trace.proofs.Names.{held_with_one, recorded, refused_or, start, F
 use Rattle.pie_trace.proofs.Names.{Draft, FirstKind, Version, before_fault, history_rows, history_text, record_fault, replies, requests_of, text_left}
 use Rattle.pie_trace.proofs.Names.{opening_of, opening_read, Row, rows_text, text_of, request_of, line_of, Begins, AreLinesOf, IsHistoryText, line_of_reply}
 use Rattle.pie_trace.proofs.Names.{lines_left, lines_of_replies, rows_left, run_lines, first_fields, first_kind, kind_word, version_of, Reply, after}
-use Rattle.pie_trace.proofs.Names.{history_row, reply, reply_to_command, reply_to_fold, code_of, drop, records_of, rows_without_fault, told_by-line, Line}
+use Rattle.pie_trace.proofs.Names.{history_row, reply, reply_to_command, reply_to_fold, code_of, drop, records_of, rows_without_fault, line_in-line, Line}
 use Rattle.pie_trace.proofs.Names.{append_assoc, append-nil, filter_map-append, progress_after, RunEnd, end_of, fault_of, first_fault}
-use Rattle.pie_trace.proofs.Names.{progress_at_end, steps_of, let_go, refused, Finding, Clean, AreLegal, CanBeMade, map, Represents, Three, end_left, ◌≢◌}
+use Rattle.pie_trace.proofs.Names.{progress_at_end, steps_of, fold_reply, refused, Finding, Clean, AreLegal, CanBeMade, map, Represents, Three, end_left, ◌≢◌}
 use Rattle.pie_trace.proofs.Names.{field_at, fault_from, kind-first, lines_from, lost-later}
 use Rattle.std.proofs.lemmas.List.Concat.{flat_map-append}
 use Rattle.pie_event.specs.Ranges.{CommandFits, ParamsFit}
 use Rattle.pie_record.specs.FirstRecord.{opening_by}
 use Rattle.pie_record.specs.ReadBack.{TextsAreReadBack}
-use Rattle.pie_trace.specs.History.{Begun, going_on, text_in}
+use Rattle.pie_trace.specs.History.{Begun, resumed_progress, text_in}
 use Rattle.pie_trace.proofs.RunFacts.{first-one, whole-opened, progress_after-request, part-opened}
 use Rattle.pie_trace.specs.Laws.{Promises}
 use Rattle.pie_trace.specs.Reply.{answered}
@@ -24,7 +24,7 @@ use Rattle.pie_audit.specs.Finding.{event_in, events_of}
 use Rattle.pie_audit.specs.Text.{text_finding, IsFound, IsExcerptText, excerpt_lines, whole_finding, excerpt_fault, fault_after}
 use Rattle.pie_excerpt.specs.Preamble.{Preamble, HasPreamble, Resumes, resumed_of, is_resumed}
 use Rattle.pie_audit.specs.Legal.{EventsAreLines}
-use Rattle.pie_trace.specs.Resumed.{going_by, progress_resumed, resumed_end, resumed_fault, resumed_text, resumed_within, long_by, within_by, within_most}
+use Rattle.pie_trace.specs.Resumed.{beginning_of_preamble, progress_resumed, resumed_end, resumed_fault, resumed_text, resumed_within, long_by, within_by, within_most}
 use Rattle.pie_excerpt.specs.Reading.{resume_of}
 use Rattle.pie_excerpt.specs.declared.resume.Resume.{Resume}
 use Rattle.pie_trace.proofs.Names.{and_then, ◌==◌}
@@ -54,12 +54,12 @@ code-small why = grind (arith, nat_tests)
 -- ---- one record
 
 -- the reply to a command: an event by the rules, or a refusal
-pub asked-by : (P : Reply → Progress → Type 0) (opening : Opening) (progress : Progress) (caller : ℕ) (command : Command)
+pub requested-by : (P : Reply → Progress → Type 0) (opening : Opening) (progress : Progress) (caller : ℕ) (command : Command)
     → (refusal_by_rule opening progress.history command ≡ None → P (answered (decision opening progress.history command))
     (recorded opening progress caller command (Ok (decision opening progress.history command))))
     → ((why : Refusal) → P (refused (code_of why)) progress)
     → P (reply opening progress (Ask caller command)) (after opening progress (Ask caller command))
-asked-by P opening progress caller command taken refuses =
+requested-by P opening progress caller command taken refuses =
     by (refusal_by_rule opening progress.history command) (is_refused_full opening.choices.mode (progress.held == opening.limits.tail)) refl
   where
     by : (o : Option Refusal) (full : Bool) → refusal_by_rule opening progress.history command ≡ o
@@ -82,7 +82,7 @@ module _ (version : Version) (held : Promises) (opening : Opening) where
   -- the state of a run after a record is sound
   after-sound : (progress : Progress) (row : Row) (request : Request) → request_of version row ≡ Ok request → Sound opening progress
       → Sound opening (after opening progress request)
-  after-sound progress row (Ask caller command) reads sound = asked-by (λ given later. Sound opening later) opening progress caller command
+  after-sound progress row (Ask caller command) reads sound = requested-by (λ given later. Sound opening later) opening progress caller command
       (λ free.
       let event : Event = event_of caller command (decision opening progress.history command) in
       let more = length-append progress.history (event ∷ []) in
@@ -111,7 +111,7 @@ module _ (version : Version) (held : Promises) (opening : Opening) (opens : Open
       → request_of version row ≡ Ok request
       → line_of version (history_row version number row (reply opening progress request)) ≡ Ok (line_of_reply request (reply opening progress request))
   record-told number row (Ask caller command) progress small sound reads =
-      asked-by (λ given later. line_of version (history_row version number row given) ≡ Ok (line_of_reply (Ask caller command) given)) opening
+      requested-by (λ given later. line_of version (history_row version number row given) ≡ Ok (line_of_reply (Ask caller command) given)) opening
       progress caller command
       (λ free. held.back.answered version row caller command (decision opening progress.history command) reads
       (held.kinds opening progress.history command)
@@ -136,8 +136,8 @@ module _ (version : Version) (held : Promises) (opening : Opening) (opens : Open
 
 -- ---- all records
 
-abbrev RowsTold : Version → Opening → ℕ → Progress → List Row → List Request → Type 0
-RowsTold version opening number progress rows requests = AreLinesOf version (history_rows version number rows (replies opening progress requests))
+abbrev RowsAreLines : Version → Opening → ℕ → Progress → List Row → List Request → Type 0
+RowsAreLines version opening number progress rows requests = AreLinesOf version (history_rows version number rows (replies opening progress requests))
     (lines_of_replies requests (replies opening progress requests))
 
 -- induction over the records up to the first that has a fault: a property of no records, and of a record with a
@@ -166,12 +166,12 @@ each-good version most opening P none one number progress (row ∷ rows) =
         rw (e, q) (one number progress row rest request (requests_of version rest) (grind (arith, nat_tests, e)) q (later request))
     by None (Err what) e q later = absurd (grind (arith, nat_tests, e, q))
 
-pub rows-told : (version : Version) (held : Promises) (most : ℕ) (opening : Opening) (number : ℕ) (progress : Progress) (rows : List Row) → most ≤ 2 ^ 32
+pub rows-lines : (version : Version) (held : Promises) (most : ℕ) (opening : Opening) (number : ℕ) (progress : Progress) (rows : List Row) → most ≤ 2 ^ 32
     → Opens opening → Sound opening progress
     → AreLinesOf version (rows_left version most opening number progress rows) (lines_left version most opening number progress rows)
 unfolding replies history_rows lines_of_replies AreLinesOf
-rows-told version held most opening number progress rows few opens =
-    each-good version most opening (λ number progress rows requests. Sound opening progress → RowsTold version opening number progress rows requests)
+rows-lines version held most opening number progress rows few opens =
+    each-good version most opening (λ number progress rows requests. Sound opening progress → RowsAreLines version opening number progress rows requests)
     (λ number progress sound. tt)
     (λ number progress row rows request requests within reads later sound. (
       record-told version held opening opens number row request progress (omega (arith, within, few)) sound reads,
@@ -198,14 +198,14 @@ pub record Written (kind : FirstKind) (rest : Row) (rows : List Row) (opening : 
   pub few : length rows < 2 ^ 32
 
 -- records that each are a line are all read
-all-told : (version : Version) (most number : ℕ) (rows : List Row) (lines : List Line) → number + length rows ≤ most + 1
+all-answered : (version : Version) (most number : ℕ) (rows : List Row) (lines : List Line) → number + length rows ≤ most + 1
     → AreLinesOf version rows lines → rows_without_fault version most number rows ≡ rows
 unfolding AreLinesOf lines_from
-all-told version most number [] lines within tells = refl
-all-told version most number (row ∷ rows) [] within tells = absurd tells
-all-told version most number (row ∷ rows) (line ∷ lines) within tells =
-    rw (told_by-line version most number row line (omega arith) tells.0)
-    (ap (λ (l : List Row). row ∷ l) (all-told version most (number + 1) rows lines (omega arith) tells.1))
+all-answered version most number [] lines within book_represents = refl
+all-answered version most number (row ∷ rows) [] within book_represents = absurd book_represents
+all-answered version most number (row ∷ rows) (line ∷ lines) within book_represents =
+    rw (line_in-line version most number row line (omega arith) book_represents.0)
+    (ap (λ (l : List Row). row ∷ l) (all-answered version most (number + 1) rows lines (omega arith) book_represents.1))
 
 module _ (texts : TextsAreReadBack) (kind : FirstKind) (rest : Row) (rows : List Row) (opening : Opening) (lines : List Line) where
   pub written-tells : Written kind rest rows opening lines → IsHistoryText (rows_text ((kind_word kind ∷ rest) ∷ rows)) opening lines
@@ -215,7 +215,7 @@ module _ (texts : TextsAreReadBack) (kind : FirstKind) (rest : Row) (rows : List
   written-read w = texts.first kind rest rows (texts.fields _ rows lines w.told)
 
   pub written-kept : Written kind rest rows opening lines → rows_without_fault (version_of (kind_word kind ∷ rest)) (2 ^ 32) 2 rows ≡ rows
-  written-kept w = let few = w.few in all-told (version_of (kind_word kind ∷ rest)) (2 ^ 32) 2 rows lines (omega arith) w.told
+  written-kept w = let few = w.few in all-answered (version_of (kind_word kind ∷ rest)) (2 ^ 32) 2 rows lines (omega arith) w.told
 
 -- ---- the first record
 
@@ -255,10 +255,10 @@ sound-start held opening = record { legal = held.legal_at_first opening; fit = A
 
 -- the records of its beginning, and those of its answers
 pub text-begun : (most : ℕ) (past : List Event) (rows : List Row) (b : Begun)
-    → text_in most past rows (Ok b) ≡ rows_text (take b.read rows ++ rows_left b.version most b.opening (b.read + 1) (going_on past) b.left)
+    → text_in most past rows (Ok b) ≡ rows_text (take b.read rows ++ rows_left b.version most b.opening (b.read + 1) (resumed_progress past) b.left)
 unfolding text_left rows_text
 text-begun most past rows b =
-    sym (flat_map-append text_of (take b.read rows) (rows_left b.version most b.opening (b.read + 1) (going_on past) b.left))
+    sym (flat_map-append text_of (take b.read rows) (rows_left b.version most b.opening (b.read + 1) (resumed_progress past) b.left))
 
 pub text-whole : (most : ℕ) (row : Row) (rows : List Row) (opening : Opening) → 0 < most → opening_of row ≡ Ok opening
     → history_text most (row ∷ rows) ≡ rows_text (row ∷ rows_left (version_of row) most opening 2 start rows)
@@ -276,12 +276,12 @@ run-written held most kind rest rows opening few opens some =
     let is = opened held (kind_word kind ∷ rest) opening opens in
     let fit : Opens opening = record { accepted = is.accepted; params = held.params opening.params is.in_range } in
     let count = few-left version most opening 2 start rows (omega arith) in
-    record { opens = opens; told = rows-told version held most opening 2 start rows few fit (sound-start held opening); few = omega (arith, count) }
+    record { opens = opens; told = rows-lines version held most opening 2 start rows few fit (sound-start held opening); few = omega (arith, count) }
 
-pub run-told : (held : Promises) (most : ℕ) (row : Row) (rows : List Row) (opening : Opening) → 0 < most → most ≤ 2 ^ 32 → opening_of row ≡ Ok opening
+pub run-lines : (held : Promises) (most : ℕ) (row : Row) (rows : List Row) (opening : Opening) → 0 < most → most ≤ 2 ^ 32 → opening_of row ≡ Ok opening
     → IsHistoryText (history_text most (row ∷ rows)) opening (run_lines (version_of row) most opening rows)
 unfolding run_lines
-run-told held most row rows opening some few opens =
+run-lines held most row rows opening some few opens =
     let is = (opened held row opening opens).begins in
     subst (λ (first : Row). IsHistoryText (history_text most (first ∷ rows)) opening (run_lines (version_of first) most opening rows)) (sym is.is)
     (let there = ap opening_of (sym is.is) ∙ opens in
@@ -302,21 +302,21 @@ pub record IsStepOfLine (opening : Opening) (progress : Progress) (line : Line) 
   pub legal : IsLegal opening progress.history → IsLegal opening later.history
 
 -- nothing
-tells-none : (opening : Opening) (progress : Progress) (line : Line) (held : ℕ) → event_in line ≡ None
+lines-none : (opening : Opening) (progress : Progress) (line : Line) (held : ℕ) → event_in line ≡ None
     → IsStepOfLine opening progress line (record { history = progress.history; held = held })
 unfolding events_of
-tells-none opening progress line held none = record { events = rw none (append-nil progress.history); legal = λ legal. legal }
+lines-none opening progress line held none = record { events = rw none (append-nil progress.history); legal = λ legal. legal }
 
-tells-next : Promises → (opening : Opening) (progress : Progress) (request : Request)
+lines-next : Promises → (opening : Opening) (progress : Progress) (request : Request)
     → IsStepOfLine opening progress (line_of_reply request (reply opening progress request)) (after opening progress request)
 unfolding events_of
-tells-next held opening progress (Ask caller command) =
-    asked-by (λ given later. IsStepOfLine opening progress (line_of_reply (Ask caller command) given) later) opening progress caller command
+lines-next held opening progress (Ask caller command) =
+    requested-by (λ given later. IsStepOfLine opening progress (line_of_reply (Ask caller command) given) later) opening progress caller command
     (λ free. record { events = refl; legal = λ legal. held.legal_with_one_more opening progress.history caller command legal free })
-    (λ why. tells-none opening progress Note progress.held refl)
-tells-next held opening progress (Fold n) = tells-none opening progress Note (after opening progress (Fold n)).held refl
-tells-next held opening progress (request.Clock clock) = tells-none opening progress (line.Clock clock) progress.held refl
-tells-next held opening progress _ = tells-none opening progress Note progress.held refl
+    (λ why. lines-none opening progress Note progress.held refl)
+lines-next held opening progress (Fold n) = lines-none opening progress Note (after opening progress (Fold n)).held refl
+lines-next held opening progress (request.Clock clock) = lines-none opening progress (line.Clock clock) progress.held refl
+lines-next held opening progress _ = lines-none opening progress Note progress.held refl
 
 -- all requests
 after-none : (opening : Opening) (progress : Progress) → progress_after opening progress (steps_of []) ≡ progress
@@ -327,18 +327,18 @@ no-events : events_of [] ≡ []
 unfolding events_of
 no-events = refl
 
-abbrev AllTold : Opening → Progress → List Request → Type 0
-AllTold opening progress requests =
+abbrev AllAnswered : Opening → Progress → List Request → Type 0
+AllAnswered opening progress requests =
     (progress.history ++ events_of (lines_of_replies requests (replies opening progress requests))
     ≡ (progress_after opening progress (steps_of requests)).history)
     × (IsLegal opening progress.history → IsLegal opening (progress_after opening progress (steps_of requests)).history)
 
-tells-all : Promises → (opening : Opening) (progress : Progress) (requests : List Request) → AllTold opening progress requests
+lines-all : Promises → (opening : Opening) (progress : Progress) (requests : List Request) → AllAnswered opening progress requests
 unfolding lines_of_replies replies
-tells-all held opening progress [] = rw (after-none opening progress, no-events) (append-nil progress.history, λ legal. legal)
-tells-all held opening progress (request ∷ requests) =
-    let here = tells-next held opening progress request in
-    let later = tells-all held opening (after opening progress request) requests in
+lines-all held opening progress [] = rw (after-none opening progress, no-events) (append-nil progress.history, λ legal. legal)
+lines-all held opening progress (request ∷ requests) =
+    let here = lines-next held opening progress request in
+    let later = lines-all held opening (after opening progress request) requests in
     let first : Line = line_of_reply request (reply opening progress request) in
     let rest = lines_of_replies requests (replies opening (after opening progress request) requests) in
     let told : progress.history ++ events_of (first ∷ rest)
@@ -367,11 +367,11 @@ pub record AreRuns (opening : Opening) (lines : List Line) (history : List Event
 pub lines-legal : Promises → (opening : Opening) (progress : Progress) (before : List Line) (requests : List Request) → All CanBeMade before
     → events_of before ≡ progress.history → IsLegal opening progress.history
     → AreRuns opening (before ++ lines_of_replies requests (replies opening progress requests)) (progress_after opening progress (steps_of requests)).history
-lines-legal held opening progress before requests made tells legal =
-    let told = tells-all held opening progress requests in
+lines-legal held opening progress before requests made book_represents legal =
+    let told = lines-all held opening progress requests in
     let lines = lines_of_replies requests (replies opening progress requests) in
     let events : events_of (before ++ lines) ≡ (progress_after opening progress (steps_of requests)).history =
-    events-both before lines ∙ ap (λ (history : List Event). history ++ events_of lines) tells ∙ told.0 in
+    events-both before lines ∙ ap (λ (history : List Event). history ++ events_of lines) book_represents ∙ told.0 in
     record {
       legal = record {
         made = All-append CanBeMade before lines made (all-made requests (replies opening progress requests));
@@ -420,8 +420,8 @@ before-all version most number (row ∷ rows) e = by (record_fault version most 
 pub whole-clean : ReadBack → LegalIsClean → Promises → (most : ℕ) (rows : List Row) (end : RunEnd) → most ≤ 2 ^ 32 → fault_of most rows ≡ None
     → end_of most rows ≡ Some end → text_finding (records_of (history_text most rows)) ≡ Ok (Clean end.events)
 unfolding fault_of end_of
-whole-clean told clean held most [] end few sound ended = cc
-whole-clean told clean held most (row ∷ rows) end few sound ended = by (opening_of row) refl
+whole-clean told clean held most [] end few sound run_end = cc
+whole-clean told clean held most (row ∷ rows) end few sound run_end = by (opening_of row) refl
   where
     found : ℕ → Result Finding TraceFault
     found events = Ok (Clean events)
@@ -431,7 +431,7 @@ whole-clean told clean held most (row ∷ rows) end few sound ended = by (openin
     by (Ok opening) opens =
         let some : 0 < most = grind (arith, nat_tests, sound) in
         let none : first_fault (version_of row) most 2 rows ≡ None = grind (arith, nat_tests, sound, opens) in
-        let same : end_left (version_of row) opening start 0 rows ≡ end = grind (arith, nat_tests, some, ended, opens) in
+        let same : end_left (version_of row) opening start 0 rows ≡ end = grind (arith, nat_tests, some, run_end, opens) in
         run-clean told clean held most row rows opening some few opens
         ∙ ap (λ (all : List Row). found (length (progress_at_end opening (requests_of (version_of row) all)).history))
         (before-all (version_of row) most 2 rows none)
@@ -477,16 +477,16 @@ within most rows b e =
 
 text-resumed : (most : ℕ) (past : List Event) (rows : List Row) (b : Preamble) → resumed_within most rows ≡ Ok b
     → resumed_text most past rows
-    ≡ rows_text (take b.read rows ++ rows_left Three most b.opening (b.read + 1) (going_on past) b.left)
+    ≡ rows_text (take b.read rows ++ rows_left Three most b.opening (b.read + 1) (resumed_progress past) b.left)
 unfolding resumed_text
-text-resumed most past rows b e = rw (part-opened most rows b e) (text-begun most past rows (going_by b))
+text-resumed most past rows b e = rw (part-opened most rows b e) (text-begun most past rows (beginning_of_preamble b))
 
 -- legal lines are found clean
-told-clean : Below → (text : List ℕ) (opening : Opening) (past : List Event) (lines : List Line) (history : List Event)
+lines-clean : Below → (text : List ℕ) (opening : Opening) (past : List Event) (lines : List Line) (history : List Event)
     → IsExcerptText text opening past lines → AreRuns opening (map Made past ++ lines) history → IsFound text opening past (Clean (length history))
-told-clean law text opening past lines history told runs =
+lines-clean law text opening past lines history told runs =
     let same : AreRuns opening (map Made past ++ excerpt_lines (records_of text)) history =
-    subst (λ (ls : List Line). AreRuns opening (map Made past ++ ls) history) (sym told.tells) runs in
+    subst (λ (ls : List Line). AreRuns opening (map Made past ++ ls) history) (sym told.book_represents) runs in
     record {
       resumes = told.resumes;
       goes = told.goes;
@@ -505,19 +505,19 @@ resumed-clean law most rows opening past b few goes fit e =
     let legal : IsLegal b.opening past = subst (λ (o : Opening). IsLegal o past) (sym opened) shows.legal in
     let well = law.opens rows b at.begun in
     let opens : Opens b.opening = record { accepted = well.accepted; params = law.held.params b.opening.params well.in_range } in
-    let sound : Sound b.opening (going_on past) = record { legal = legal; fit = fit; held = omega arith } in
-    let more = rows_left Three most b.opening (b.read + 1) (going_on past) b.left in
-    let lines = lines_left Three most b.opening (b.read + 1) (going_on past) b.left in
-    let told : AreLinesOf Three more lines = rows-told Three law.held most b.opening (b.read + 1) (going_on past) b.left few opens sound in
+    let sound : Sound b.opening (resumed_progress past) = record { legal = legal; fit = fit; held = omega arith } in
+    let more = rows_left Three most b.opening (b.read + 1) (resumed_progress past) b.left in
+    let lines = lines_left Three most b.opening (b.read + 1) (resumed_progress past) b.left in
+    let told : AreLinesOf Three more lines = rows-lines Three law.held most b.opening (b.read + 1) (resumed_progress past) b.left few opens sound in
     let within = at.few in
-    let count = few-left Three most b.opening (b.read + 1) (going_on past) b.left (omega (arith, within)) in
-    let tells : IsExcerptText (rows_text (take b.read rows ++ more)) opening past lines =
+    let count = few-left Three most b.opening (b.read + 1) (resumed_progress past) b.left (omega (arith, within)) in
+    let book_represents : IsExcerptText (rows_text (take b.read rows ++ more)) opening past lines =
     law.behind rows more b opening past lines at.begun goes told (omega (arith, count, few)) in
-    let runs = lines-legal law.held b.opening (going_on past) (map Made past) (requests_of Three (before_fault Three most (b.read + 1) b.left))
+    let runs = lines-legal law.held b.opening (resumed_progress past) (map Made past) (requests_of Three (before_fault Three most (b.read + 1) b.left))
     (law.events.made past) (law.events.events past) legal in
     subst (λ (text : List ℕ). IsFound text opening past (Clean (length (progress_resumed most past b).history)))
     (sym (text-resumed most past rows b e))
-    (told-clean law (rows_text (take b.read rows ++ more)) opening past lines (progress_resumed most past b).history tells
+    (lines-clean law (rows_text (take b.read rows ++ more)) opening past lines (progress_resumed most past b).history book_represents
     (subst (λ (o : Opening). AreRuns o (map Made past ++ lines) (progress_resumed most past b).history) opened runs))
 
 -- ---- one without a fault
@@ -526,7 +526,7 @@ pub resumed-whole : Below → (most : ℕ) (rows : List Row) (opening : Opening)
     → Resumes rows opening past → All (λ event. CommandFits event.command) past → resumed_fault most rows ≡ None
     → resumed_end most past rows ≡ Some end → IsFound (resumed_text most past rows) opening past (Clean end.events)
 unfolding resumed_fault resumed_end
-resumed-whole law most rows opening past end few goes fit sound ended = by (resumed_within most rows) refl
+resumed-whole law most rows opening past end few goes fit sound run_end = by (resumed_within most rows) refl
   where
     found : ℕ → Type 0
     found events = IsFound (resumed_text most past rows) opening past (Clean events)
@@ -535,9 +535,9 @@ resumed-whole law most rows opening past end few goes fit sound ended = by (resu
     by (Err why) is = absurd (grind (arith, nat_tests, sound, is))
     by (Ok b) is =
         let none : first_fault Three most (b.read + 1) b.left ≡ None = grind (arith, nat_tests, sound, is) in
-        let same : end_left Three b.opening (going_on past) 0 b.left ≡ end = grind (arith, nat_tests, ended, is) in
+        let same : end_left Three b.opening (resumed_progress past) 0 b.left ≡ end = grind (arith, nat_tests, run_end, is) in
         subst (λ (r : RunEnd). found r.events) same
-        (subst (λ (rest : List Row). found (length (progress_after b.opening (going_on past) (steps_of (requests_of Three rest))).history))
+        (subst (λ (rest : List Row). found (length (progress_after b.opening (resumed_progress past) (steps_of (requests_of Three rest))).history))
         (before-all Three most (b.read + 1) b.left none) (resumed-clean law most rows opening past b few goes fit is))
 
 -- ==== The run of an excerpt after a history gives the answers of the whole from there on
@@ -560,27 +560,27 @@ progress-append opening from (Ask caller command ∷ xs) ys = progress-append op
 progress-append opening from (request ∷ xs) ys = progress-append opening (after opening from request) xs ys
 
 -- a fold of all that the tail holds
-folds-all : (opening : Opening) (at : Progress) → after opening at (Fold at.held) ≡ going_on at.history
+folds-all : (opening : Opening) (at : Progress) → after opening at (Fold at.held) ≡ resumed_progress at.history
 folds-all opening at = grind (arith, nat_tests)
 
-lets-go : (opening : Opening) (at : Progress) → reply opening at (Fold at.held) ≡ let_go at.held
+lets-go : (opening : Opening) (at : Progress) → reply opening at (Fold at.held) ≡ fold_reply at.held
 lets-go opening at = grind (arith, nat_tests)
 
 pub whole_replies : (opening : Opening) (earlier later : List Request)
     → let there = progress_at_end opening earlier in
     replies opening start (earlier ++ Fold there.held ∷ later)
-    ≡ replies opening start earlier ++ let_go there.held ∷ replies opening (going_on there.history) later
+    ≡ replies opening start earlier ++ fold_reply there.held ∷ replies opening (resumed_progress there.history) later
 unfolding replies
 whole_replies opening earlier later =
     let there = progress_at_end opening earlier in
     replies-append opening start earlier (Fold there.held ∷ later)
     ∙ ap (λ (given : List Reply). replies opening start earlier ++ given)
     (ap (λ (one : Reply). one ∷ replies opening (after opening there (Fold there.held)) later) (lets-go opening there)
-    ∙ ap (λ (at : Progress). let_go there.held ∷ replies opening at later) (folds-all opening there))
+    ∙ ap (λ (at : Progress). fold_reply there.held ∷ replies opening at later) (folds-all opening there))
 
 pub whole_ends : (opening : Opening) (earlier later : List Request)
     → let there = progress_at_end opening earlier in
-    progress_at_end opening (earlier ++ Fold there.held ∷ later) ≡ progress_after opening (going_on there.history) (steps_of later)
+    progress_at_end opening (earlier ++ Fold there.held ∷ later) ≡ progress_after opening (resumed_progress there.history) (steps_of later)
 unfolding progress_after steps_of
 whole_ends opening earlier later =
     let there = progress_at_end opening earlier in

@@ -26,7 +26,7 @@ unfoldable pub use Rattle.pie_record.specs.Answer.{answer_fields, folded_row, re
 pub use Rattle.pie_record.specs.Fault.{IsRead, NoDeviceFailed, IsWrite, closed, fault_at, is_device}
 pub use Rattle.pie_record.specs.Field.{and_then, is_kind}
 unfoldable pub use Rattle.pie_record.specs.FirstRecord.{first_kind, version_of, opening_of}
-pub use Rattle.pie_record.specs.HistoryLines.{Coming, coming_after, event_count, events_in, fault_from, history_lines, lines_from, line_in}
+pub use Rattle.pie_record.specs.HistoryLines.{RemainingLines, remaining_after_opening, event_count, events_in, fault_from, history_lines, lines_from, line_in}
 unfoldable pub use Rattle.pie_record.specs.HistoryLines.{after_opening, history_opening, history_version, line_of, shown_line}
 pub use Rattle.pie_record.specs.ReadBack.{Begins, IsHistoryText}
 pub use Rattle.pie_record.specs.Text.{HasField, Row, records_of, text_of}

@@ -12,7 +12,7 @@ use Rattle.pie_trace.specs.RunState.{Running, RunState, end_after, looking_back,
 pub record IsAt (book : BookView) (opening : Opening) (progress : Progress) : Type 0 where
   pub opened : book.opening ≡ opening
   pub accepted : opening_refusal opening.limits opening.moment ≡ None
-  pub tells : BookRepresents book progress.history
+  pub book_represents : BookRepresents book progress.history
   pub held : length book.tail ≡ progress.held
 
 -- a book runs with this core from this opening, and its tail has this number of events
@@ -23,9 +23,9 @@ pub record IsRunning (book : BookView) (opening : Opening) (it : Running) : Type
   pub held : length book.tail ≡ it.held
 
 -- a book is in this state, of either kind
-abbrev pub Stays : BookView → Opening → RunState → Type 0
-Stays book opening (looking_back progress) = IsAt book opening progress
-Stays book opening (running it) = IsRunning book opening it
+abbrev pub IsInState : BookView → Opening → RunState → Type 0
+IsInState book opening (looking_back progress) = IsAt book opening progress
+IsInState book opening (running it) = IsRunning book opening it
 
 -- how many refusals a reply is
 abbrev pub refusals_in : Reply → ℕ
@@ -34,16 +34,16 @@ refusals_in given = cond (is_refused given) 1 0
 -- the effect of a request: the book is in the state after it, a refusal is counted, and the text is that of its
 -- history record
 pub record IsReplied (version : Version) (number : ℕ) (row : Row) (request : Request) (opening : Opening) (new : BookView) (refused refused_then : ℕ)
-    (text : List ℕ) (stand : RunState) : Type 0 where
-  pub stands : Stays new opening (state_after opening stand request)
-  pub refusals : refused_then ≡ refused + refusals_in (reply_at opening stand request)
-  pub made : text ≡ text_of (history_row version number row (reply_at opening stand request))
+    (text : List ℕ) (run_state : RunState) : Type 0 where
+  pub is_in_state : IsInState new opening (state_after opening run_state request)
+  pub refusals : refused_then ≡ refused + refusals_in (reply_at opening run_state request)
+  pub made : text ≡ text_of (history_row version number row (reply_at opening run_state request))
 
 -- the effect of a request, for each record that makes it, and for each state of the book before
 abbrev pub Replies : Version → ℕ → Request → BookView → BookView → ℕ → ℕ → List ℕ → Type 0
 Replies version number request old new refused refused_then text =
-    (row : Row) → request_of version row ≡ Ok request → (stand : RunState) → Stays old old.opening stand
-    → IsReplied version number row request old.opening new refused refused_then text stand
+    (row : Row) → request_of version row ≡ Ok request → (run_state : RunState) → IsInState old old.opening run_state
+    → IsReplied version number row request old.opening new refused refused_then text run_state
 
 -- the outcome of the run of these records, by the book's running core, and for every history that the book
 -- represents: the first fault, the result, and the history text up to the first record that has a fault. `number`
@@ -51,7 +51,7 @@ Replies version number request old new refused refused_then text =
 abbrev pub runs_on : Version → ℕ → Opening → ℕ → BookView → ℕ → List Row → Pass RunState RunEnd
 runs_on version most opening number book refused rows = record {
   found = first_fault version most number rows;
-  may_follow = Stays book opening;
+  may_follow = IsInState book opening;
   gives = λ from. Some (end_after version opening from refused rows);
   text = λ from. text_at version most opening number from rows;
 }

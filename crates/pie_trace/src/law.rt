@@ -1,7 +1,7 @@
 //! The laws of runs and migrations: history texts are read back and are clean, and excerpts continue a history.
 ghost use Rattle.std.specs.Prelude.{◌≡◌, ◌<◌, ◌≤◌, ◌^◌, ◌∷◌, ◌++◌, ◌≢◌, All};
-ghost use Rattle.pie_trace.specs.{ℕ, List, Ok, Opening, progress_after, start, Request, history_text, progress_at_end, replies, steps_of, let_go};
-ghost use Rattle.pie_trace.specs.{going_on, version_of, opening_of, IsHistoryText, run_lines, Row, length, None, Some, Event, Preamble, Resumes};
+ghost use Rattle.pie_trace.specs.{ℕ, List, Ok, Opening, progress_after, start, Request, history_text, progress_at_end, replies, steps_of, fold_reply};
+ghost use Rattle.pie_trace.specs.{resumed_progress, version_of, opening_of, IsHistoryText, run_lines, Row, length, None, Some, Event, Preamble, Resumes};
 ghost use Rattle.pie_trace.specs.{before_fault, end_of, fault_of, requests_of, progress_resumed, resumed_end, resumed_fault, resumed_text};
 ghost use Rattle.pie_trace.specs.{resumed_within, records_of, Clean, text_finding, history_lines, history_opening, history_version, HaveSameLines};
 ghost use Rattle.pie_trace.specs.{first_in_two, history_fault, migrated_text, migrated_version};
@@ -56,9 +56,9 @@ pub fn history_texts_are_read_back()
 pub fn resumed_runs_go_on_as_the_whole()
     ensures answers { (opening : Opening) (earlier later : List Request) → let there = progress_at_end opening earlier in
         replies opening start (earlier ++ Request.Fold there.held ∷ later)
-        ≡ replies opening start earlier ++ let_go there.held ∷ replies opening (going_on there.history) later }
+        ≡ replies opening start earlier ++ fold_reply there.held ∷ replies opening (resumed_progress there.history) later }
     ensures ends { (opening : Opening) (earlier later : List Request) → let there = progress_at_end opening earlier in
-        progress_at_end opening (earlier ++ Request.Fold there.held ∷ later) ≡ progress_after opening (going_on there.history) (steps_of later) }
+        progress_at_end opening (earlier ++ Request.Fold there.held ∷ later) ≡ progress_after opening (resumed_progress there.history) (steps_of later) }
 {}
 
 /// The law of clean runs. The finding of a trace's history text is `Clean`, with the number of events that the run
@@ -116,7 +116,7 @@ pub fn lost_records_are_faults_of_excerpts()
 ///
 /// The function does nothing: its contract is the law (this project's own).
 pub fn migrated_histories_are_read_back()
-    ensures tells { (rows : List Row) (opening : Opening) → history_opening rows ≡ Ok opening
+    ensures book_represents { (rows : List Row) (opening : Opening) → history_opening rows ≡ Ok opening
         → IsHistoryText (migrated_text (2 ^ 32) rows) opening (history_lines (2 ^ 32) rows) }
     ensures version { (rows : List Row) (opening : Opening) → history_opening rows ≡ Ok opening
         → history_version (records_of (migrated_text (2 ^ 32) rows)) ≡ migrated_version (history_version rows) }

@@ -24,8 +24,8 @@
 pub mod law;
 pub mod migration;
 pub mod run;
+mod run_start;
 mod session;
-mod started;
 
 pub use law::{
     history_texts_are_read_back, lost_records_are_faults_of_excerpts,

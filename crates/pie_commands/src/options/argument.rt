@@ -10,7 +10,7 @@ use std::alloc::Global;
 
 /// The kind of value that an option takes, or a file argument.
 #[derive(Clone, Copy)]
-pub(crate) enum Takes {
+pub(crate) enum ValueKind {
     /// Nothing: it is there or not.
     Nothing,
     /// A whole number in a range.
@@ -30,7 +30,7 @@ pub(crate) enum Takes {
 pub(crate) struct Argument {
     /// Its name, which an option has behind two dashes.
     pub(crate) name: &'static str,
-    pub(crate) takes: Takes,
+    pub(crate) takes: ValueKind,
     /// What `--help` says of it.
     pub(crate) help: &'static str,
 }
@@ -51,7 +51,7 @@ pub(crate) struct Page<'a> {
 /// A row of a table of arguments: the name, what it takes, and what `--help` says of it.
 macro_rules! row {
     ($name:literal: $takes:ident $(($($of:expr),+))?, $help:literal) => {
-        Argument { name: $name, takes: Takes::$takes $(($($of),+))?, help: $help }
+        Argument { name: $name, takes: ValueKind::$takes $(($($of),+))?, help: $help }
     };
 }
 
@@ -98,16 +98,16 @@ pub(crate) fn arg_of<'a>(alloc: Global, argument: Argument) -> Arg<'a>
 {
     let Argument { name, takes, help } = argument;
     match takes {
-        Takes::Nothing => named(alloc, name, help)
+        ValueKind::Nothing => named(alloc, name, help)
             .long(name)
             .action(ArgAction::SetTrue),
-        Takes::Number(least, most) => {
+        ValueKind::Number(least, most) => {
             valued(alloc, argument, "N").value_parser(ValueParser::unsigned(least, most))
         }
-        Takes::Value(value) => valued(alloc, argument, value),
-        Takes::Lettered(letter, value) => valued(alloc, argument, value).short(letter),
-        Takes::File => named(alloc, name, help).value_name("FILE"),
-        Takes::Files => named(alloc, name, help)
+        ValueKind::Value(value) => valued(alloc, argument, value),
+        ValueKind::Lettered(letter, value) => valued(alloc, argument, value).short(letter),
+        ValueKind::File => named(alloc, name, help).value_name("FILE"),
+        ValueKind::Files => named(alloc, name, help)
             .value_name("FILE")
             .action(ArgAction::Append),
     }

@@ -1,6 +1,6 @@
 //! The page of `pie audit`: its arguments and its help.
 
-use crate::options::argument::{Argument, PROGRESS, Page, Takes, row};
+use crate::options::argument::{Argument, PROGRESS, Page, ValueKind, row};
 
 /// The page of `pie audit`.
 pub(crate) const PAGE: Page<'static> = Page {

@@ -127,7 +127,10 @@ fn with_subcommand<'a>(
 }
 
 /// `pie` and these subcommands.
-fn with_each<'a>(alloc: Global, subcommands: &[Subcommand]) -> Result<Command<'a>, AllocError>
+fn with_all_subcommands<'a>(
+    alloc: Global,
+    subcommands: &[Subcommand],
+) -> Result<Command<'a>, AllocError>
     ensures { IfOk result (λ pie. app_of pie ≡ with_subcommands pie_alone subcommands.now) }
 {
     let mut pie = Ok(alone(alloc));
@@ -145,7 +148,7 @@ fn with_each<'a>(alloc: Global, subcommands: &[Subcommand]) -> Result<Command<'a
 pub(crate) fn options<'a>(alloc: Global) -> Result<Command<'a>, AllocError>
     ensures { IfOk result (λ options. app_of options ≡ pie_app) }
 {
-    with_each(
+    with_all_subcommands(
         alloc,
         &[
             Subcommand::Run,

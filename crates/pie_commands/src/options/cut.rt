@@ -1,6 +1,6 @@
 //! The page of `pie cut`: its arguments and its help.
 
-use crate::options::argument::{Argument, FILE, FORCE, OUTPUT, PROGRESS, Page, Takes, row};
+use crate::options::argument::{Argument, FILE, FORCE, OUTPUT, PROGRESS, Page, ValueKind, row};
 
 /// The page of `pie cut`.
 pub(crate) const PAGE: Page<'static> = Page {

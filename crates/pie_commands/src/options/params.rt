@@ -1,6 +1,6 @@
 //! The page of `pie params`: its arguments and its help.
 
-use crate::options::argument::{Argument, Page, Takes, row};
+use crate::options::argument::{Argument, Page, ValueKind, row};
 
 /// The page of `pie params`.
 pub(crate) const PAGE: Page<'static> = Page {

@@ -1,13 +1,13 @@
 use Rattle.pie_audit.proofs.Names.{Differs, records_of, text_finding}
-use Rattle.pie_audit.proofs.LegalFacts.{clean-of-legal, differs-of-wrong, found-so, legal-of-clean, ok-same, told-as, told-finding}
+use Rattle.pie_audit.proofs.LegalFacts.{clean-of-legal, differs-of-wrong, found-so, legal-of-clean, ok-same, answered-as, answered-finding}
 use Rattle.pie_audit.proofs.law.clean_is_legal.Goals as goal
 
 pub returns : goal.returns
 returns c = record {
-  legal_is_clean = λ text opening lines told legal. told-as text opening lines _ told (clean-of-legal opening lines legal);
+  legal_is_clean = λ text opening lines told legal. answered-as text opening lines _ told (clean-of-legal opening lines legal);
   clean_is_legal = λ text opening lines events told is.
-      legal-of-clean opening lines events (ok-same _ _ (text_finding (records_of text)) (told-finding text opening lines told) is);
-  first_is_named = λ text opening lines event told first. told-as text opening lines _ told (differs-of-wrong opening lines event first);
+      legal-of-clean opening lines events (ok-same _ _ (text_finding (records_of text)) (answered-finding text opening lines told) is);
+  first_is_named = λ text opening lines event told first. answered-as text opening lines _ told (differs-of-wrong opening lines event first);
   named_is_first = λ text opening lines event told is.
-      found-so opening lines (Differs event) (ok-same _ _ (text_finding (records_of text)) (told-finding text opening lines told) is);
+      found-so opening lines (Differs event) (ok-same _ _ (text_finding (records_of text)) (answered-finding text opening lines told) is);
 }

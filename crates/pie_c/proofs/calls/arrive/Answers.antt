@@ -1,7 +1,7 @@
 use Rattle.pie_c.specs.{Arrive}
 use Rattle.pie_c.proofs.Names.{◌≡◌, ◌==◌, ◌∙◌, ap, arith, nat_tests, Ecn, ArrivingPacket, arrived, verdict, PieState, verdict_number, arrival_of}
 use Rattle.pie_c.proofs.Names.{arrival_refusal, held_in, with_arrival}
-use Rattle.pie_c.proofs.Packets.{arrived-state, handed, kept-later, makes, place-later, verdict-later}
+use Rattle.pie_c.proofs.Packets.{arrived-state, given_calls, kept-later, makes, place-later, verdict-later}
 use Rattle.pie_c.proofs.calls.arrive.Goals as goal
 use Rattle.pie_c.proofs.calls.arrive.Goals.{After-of_verdict}
 
@@ -34,7 +34,7 @@ returns-clause-arrives c = let a = c.args in record {
   answer = rw (taken c) (c.of_verdict.ensures ∙ ap verdict_number (decided c));
   fields = rw (taken c) (left c);
   held = λ sound. makes c.laws.ensures.keeps c.laws.ensures.looks a.state.now _ (Arrive (arrival c) a.moment) _ sound
-      (rw (taken c) (left c ∙ arrived-state (state c) (arrival c) a.moment sound)) (handed a.moment _);
+      (rw (taken c) (left c ∙ arrived-state (state c) (arrival c) a.moment sound)) (given_calls a.moment _);
 }
 
 pub returns-clause-place : goal.returns-clause-place

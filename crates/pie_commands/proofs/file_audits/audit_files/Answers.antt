@@ -26,6 +26,6 @@ loop-place-preserved g c =
       left = left-taken c.args.input names c.loop-place.place name c.audit_named.new.input named c.name_at-name.ensures
           (left-on c.args.input (take c.loop-place.place names) name c.loop-place.given c.audit_named.new.input c.loop-place.invariant.left
           c.audit_named.ensures.input);
-      audits = rw (c.any_unfound-unfound.ensures, c.any_broken-broken.ensures)
+      audits = rw (c.any_unaudited-unfound.ensures, c.any_broken-broken.ensures)
           (audits-taken works joined input files names c.loop-place.place name _ _ end before now named c.name_at-name.ensures more);
     }

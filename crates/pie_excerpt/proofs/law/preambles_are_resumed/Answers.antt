@@ -10,7 +10,7 @@ returns c =
       read_back = λ opening snapshot past set_by more fit written. goes-on opening snapshot past set_by more written
           (λ before next after is. law.taken opening snapshot past before next after written.good fit written.stands is)
           ((law.opened opening _ past written.stands.shows).moment) (law.ended opening snapshot past written.stands);
-      goes_on = λ opening snapshot past set_by more fit written. record {
+      continues = λ opening snapshot past set_by more fit written. record {
         beginning = begun_at opening snapshot past set_by more;
         resumed = goes-on opening snapshot past set_by more written
             (λ before next after is. law.taken opening snapshot past before next after written.good fit written.stands is)

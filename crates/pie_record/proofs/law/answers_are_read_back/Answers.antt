@@ -1,4 +1,4 @@
-use Rattle.pie_record.proofs.LinesBack.{answered-back, clock-told, folded-note, refused-note, shown-note, tallied-note}
+use Rattle.pie_record.proofs.LinesBack.{answered-back, clock-reads, folded-note, refused-note, shown-note, tallied-note}
 use Rattle.pie_record.proofs.law.answers_are_read_back.Goals as goal
 
 pub returns : goal.returns
@@ -8,5 +8,5 @@ returns c = record {
   folded = folded-note;
   shown = shown-note;
   tallied = tallied-note;
-  clock = clock-told;
+  clock = clock-reads;
 }

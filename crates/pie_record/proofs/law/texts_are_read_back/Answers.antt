@@ -1,4 +1,4 @@
-use Rattle.pie_record.proofs.OpeningBack.{coming-told, events-tell, history-told, told-fields, written-back}
+use Rattle.pie_record.proofs.OpeningBack.{remaining-read, events-read, history-read, fields-read, written-back}
 use Rattle.pie_record.proofs.RecordFacts.{records_left-written, records_of-written}
 use Rattle.pie_record.proofs.law.texts_are_read_back.Goals as goal
 
@@ -6,9 +6,9 @@ pub returns : goal.returns
 returns c = record {
   records = records_left-written;
   first = records_of-written;
-  fields = told-fields;
-  lines = coming-told;
-  history = history-told;
-  events = events-tell;
+  fields = fields-read;
+  lines = remaining-read;
+  history = history-read;
+  events = events-read;
   written = written-back;
 }

@@ -12,7 +12,7 @@ loop-k-preserved g c =
       at = turn.at;
       made = λ well. made_more c.args.plan.now c.args.number c.loop-k.k c.loop-k.caller.front c.loop-k.passed (l.made (turn.well well))
           c.min-count.result c.make_turn.new.caller.front c.in-Some.more (turn.came well);
-      handed = λ well folds. turn.handed well folds (l.handed (turn.well well) folds);
+      folds_split = λ well folds. turn.folds_split well folds (l.folds_split (turn.well well) folds);
     }
 
 pub returns-in-None : goal.returns-in-None
@@ -23,7 +23,7 @@ returns-in-None g c =
       at = turn.at;
       came = λ well. came_cut c.args.plan.now c.args.number c.loop-k.k c.loop-k.caller.front c.loop-k.passed (l.made (turn.well well))
           (omega (arith, l.within, c.calls-calls.ensures)) c.min-count.result c.make_turn.new.caller.front (turn.came well);
-      handed = λ well folds. absurd ((turn.came well).asks folds);
+      folds_split = λ well folds. absurd ((turn.came well).asks folds);
     }
 
 pub returns : goal.returns
@@ -33,5 +33,5 @@ returns g c =
     record {
       at = l.at;
       came = λ well. came_of_all c.args.plan.now c.args.number c.loop-k.k c.loop-k.caller.front c.loop-k.passed (l.made well) all;
-      handed = λ well folds. l.handed well folds;
+      folds_split = λ well folds. l.folds_split well folds;
     }

@@ -8,7 +8,7 @@ invariant-loop-k g l = record {
   within : l.k ≤ l.calls;
   at : IsAt l.link l.number l.caller;
   made : IsWell l.folding → AreMade (opening_of l.plan) l.number [] (take l.k (calls_of l.plan l.number)) l.caller.front l.passed;
-  handed : IsWell l.folding → l.number ≡ folder l.plan → WereFolded l.plan l.number l.folding.events.items l.caller.front;
+  folds_split : IsWell l.folding → l.number ≡ folder l.plan → WereFolded l.plan l.number l.folding.events.items l.caller.front;
 }
 
 abbrev pub decreases-loop-k : goal.decreases-loop-k

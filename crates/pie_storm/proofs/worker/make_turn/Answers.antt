@@ -25,7 +25,7 @@ returns-in-Some-Ask g c =
           c.ask.new.caller.front passed) (sym c.added_by.ensures.value)
           (asked_next plan number c.args.k c.args.link.now c.requires.link_for c.args.caller.now c.ask.new.caller at c.in-Some-Ask.command there
           c.ask.result c.ask.ensures.answered);
-      handed = λ well folds. absurd (its.0 folds);
+      folds_split = λ well folds. absurd (its.0 folds);
     })
 
 pub returns-in-Some-Fold : goal.returns-in-Some-Fold
@@ -44,5 +44,5 @@ returns-in-Some-Fold g c =
       few = c.take_in.ensures.few;
       well = c.take_in.ensures.well;
       came = λ well. (next (c.take_in.ensures.taken well)).0;
-      handed = λ well folds. (next (c.take_in.ensures.taken well)).1;
+      folds_split = λ well folds. (next (c.take_in.ensures.taken well)).1;
     })

@@ -11,7 +11,7 @@ returns-in_default g c =
       few = tt;
       well = λ well. absurd (cc well);
       came = λ well. absurd (cc well);
-      handed = λ well folds. absurd (cc well);
+      folds_split = λ well folds. absurd (cc well);
     }
 
 pub returns : goal.returns
@@ -31,5 +31,5 @@ returns g c =
           burst_next c.entries_look_back.ensures c.args.plan.now c.args.number c.args.k c.args.count c.args.link.now c.requires.link_for
           c.args.caller.now c.arrive_all.new.caller at burst replies c.requires.some c.burst-burst.ensures.long c.burst-burst.ensures.value
           answered c.added_by_all.result added;
-      handed = λ well folds. absurd (asks folds);
+      folds_split = λ well folds. absurd (asks folds);
     }

@@ -1,5 +1,5 @@
 use Rattle.pie_summary.proofs.Names.{◌<◌, arith, length, rules}
-use Rattle.pie_summary.proofs.RangeFacts.{search-ends, search-goes-on}
+use Rattle.pie_summary.proofs.RangeFacts.{search-ends, search-continues}
 use Rattle.pie_summary.proofs.ranges.first_up_to.Goals as goal
 
 pub returns-then-missing-here-clause-first : goal.returns-then-missing-here-clause-first
@@ -11,5 +11,5 @@ returns-then-missing-here-clause-first c =
 pub loop-place-preserved : goal.loop-place-preserved
 loop-place-preserved c =
     let within : c.loop-place.place < length c.args.counts.now = search rules in
-    search-goes-on c.args.counts.now c.args.rank c.loop-place.place c.loop-place.missing within c.loop-place.invariant.0
+    search-continues c.args.counts.now c.args.rank c.loop-place.place c.loop-place.missing within c.loop-place.invariant.0
     (omega (arith, c.if-missing-here.false)) c.loop-place.invariant.1

@@ -1,5 +1,5 @@
-use Rattle.pie_trace.proofs.RunBack.{run-told}
+use Rattle.pie_trace.proofs.RunBack.{run-lines}
 use Rattle.pie_trace.proofs.law.history_texts_are_read_back.Goals as goal
 
 pub returns : goal.returns
-returns c = run-told c.all_is_held.ensures
+returns c = run-lines c.all_is_held.ensures

@@ -1,5 +1,5 @@
 use Rattle.pie_explain.proofs.Names.{◌≡◌, ◌∙◌, [], ◌∷◌, ◌++◌, Some, true, false, ap, refl, rules, is_some, events_of, none_of}
-use Rattle.pie_explain.proofs.ExplainFacts.{ended-stands, explains-silent, explains-told, given-none, given-told, told-stands}
+use Rattle.pie_explain.proofs.ExplainFacts.{ended-represents, explains-silent, explains-reported, given-none, given-reported, reported-represents}
 use Rattle.pie_explain.proofs.explainer.Explaining.explain.Goals as goal
 
 pub returns-then-differs-clause-explains : goal.returns-then-differs-clause-explains
@@ -14,13 +14,13 @@ returns-clause-explains g c = λ start origin lines before out was explanation_t
     let agree : is_some c.feed.new.self.auditor.differs ≡ false = search rules in
     let follows = c.feed.ensures.follows start origin lines was.follows in
     let agreed = was.follows.audits.agrees c.requires in
-    let told = told-stands origin c.core.result.now (events_of lines) c.args.number c.args.event.now c.args.kept.now.follower.set_by
+    let told = reported-represents origin c.core.result.now (events_of lines) c.args.number c.args.event.now c.args.kept.now.follower.set_by
     c.clock-clock.result c.begin-told.result.told c.begin-told.ensures.after c.begin-told.ensures.in_state (rw c.core.ensures agreed.shows) in
     let told = rw (c.clock-clock.ensures, agreed.clock) at told in
-    let given = given-told c.args.self.now.choice c.args.line.now (Some c.begin-told.result.told) was.follows follows.audits agree
+    let given = given-reported c.args.self.now.choice c.args.line.now (Some c.begin-told.result.told) was.follows follows.audits agree
     (ap Some told ∙ explanation_texts) in
-    let after = ended-stands origin c.core-2.result.now (events_of (lines ++ c.args.line.now ∷ [])) c.begin-told.result.told c.end.new.self
+    let after = ended-represents origin c.core-2.result.now (events_of (lines ++ c.args.line.now ∷ [])) c.begin-told.result.told c.end.new.self
     c.end.ensures.after c.end.ensures.in_state
     (rw c.core-2.ensures (follows.audits.agrees (none_of c.feed.new.self.auditor.differs agree)).shows) in
-    explains-told c.args.line.now out was follows agree (given.is ∙ rw (← after) refl) (given.event c.begin-told.result.told refl)
-    c.saturating_add-kept.ensures (c.in_ok-tell.ensures _ was.shown)
+    explains-reported c.args.line.now out was follows agree (given.is ∙ rw (← after) refl) (given.event c.begin-told.result.told refl)
+    c.saturating_add-kept.ensures (c.in_ok-report_event.ensures _ was.shown)

@@ -3,9 +3,9 @@ use Rattle.pie_link.proofs.link.Link.depart_all.Goals as goal
 
 pub returns-clause-answered : goal.returns-clause-answered
 returns-clause-answered g c =
-    let said = c.answer_all.ensures.answered c.answer_all.result c.args.answers.now.items (λ i. (c.replace-replies.ensures.value i).items) in
+    let has_result = c.answer_all.ensures.answered c.answer_all.result c.args.answers.now.items (λ i. (c.replace-replies.ensures.value i).items) in
     let all : c.args.most - 0 ≡ c.args.most = omega arith in
     let answered = subst (λ (most : ℕ). AnswersAll has_left c.args.self.now c.args.caller.now (departures most c.args.moment)
-    c.args.answers.now.items said.0 c.answer_all.new.caller) all said.2 in
+    c.args.answers.now.items has_result.0 c.answer_all.new.caller) all has_result.2 in
     subst (λ (replies : List Reply). AnswersAll has_left c.args.self.now c.args.caller.now (departures c.args.most c.args.moment)
-    c.args.answers.now.items replies c.answer_all.new.caller) (sym said.1) answered
+    c.args.answers.now.items replies c.answer_all.new.caller) (sym has_result.1) answered

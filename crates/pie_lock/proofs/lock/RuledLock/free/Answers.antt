@@ -9,5 +9,5 @@ store-requires g c =
     let slot = c.requires.slot in (
       search rules,
       search rules,
-      frees_keep k.number_of k.origin_of k.tells (k.origin_of key.state.value) key.numbers _ _ _ slot.0 _ _ c.requires.added slot.1,
+      frees_keep k.number_of k.origin_of k.represents_list (k.origin_of key.state.value) key.numbers _ _ _ slot.0 _ _ c.requires.added slot.1,
     )

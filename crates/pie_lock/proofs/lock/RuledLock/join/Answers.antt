@@ -1,4 +1,4 @@
-use Rattle.pie_lock.proofs.Names.{rules, ap, ◌∙◌, Meets, pass_at}
+use Rattle.pie_lock.proofs.Names.{rules, ap, ◌∙◌, HasTwo, pass_at}
 use Rattle.pie_lock.proofs.Steps.{joins_keep, merges_keep}
 use Rattle.pie_lock.proofs.lock.RuledLock.join.Goals as goal
 
@@ -11,7 +11,7 @@ join_seat-requires g c =
       search rules,
       ap (λ m. m.1) waiting.1,
       search rules,
-      joins_keep k.number_of k.origin_of k.tells (k.origin_of key.state.value) key.numbers _ _ _ _ (ap (λ m. m.0) waiting.0)
+      joins_keep k.number_of k.origin_of k.represents_list (k.origin_of key.state.value) key.numbers _ _ _ _ (ap (λ m. m.0) waiting.0)
           (ap (λ m. m.0) waiting.1),
     )
 
@@ -23,6 +23,6 @@ load-requires g c =
     let q = pass_at c.args.other.me.0 in (
       search rules,
       search rules,
-      merges_keep k.number_of k.origin_of k.tells (k.origin_of key.state.value) key.numbers _ _ _ p q c.requires.beside
-          (c.join_seat.ensures.2 ∙ ap (λ m. (Meets p q, m.1)) c.requires.waiting.0),
+      merges_keep k.number_of k.origin_of k.represents_list (k.origin_of key.state.value) key.numbers _ _ _ p q c.requires.beside
+          (c.join_seat.ensures.2 ∙ ap (λ m. (HasTwo p q, m.1)) c.requires.waiting.0),
     )

@@ -9,6 +9,6 @@ split_seat-seat-requires g c =
     let has = c.pass.invariant.has in (
       search rules,
       search rules,
-      splits_keep k.number_of k.origin_of k.tells (k.origin_of key.state.value) key.numbers _ _ (ap (λ m. m.0) c.pass.invariant.waits)
+      splits_keep k.number_of k.origin_of k.represents_list (k.origin_of key.state.value) key.numbers _ _ (ap (λ m. m.0) c.pass.invariant.waits)
           (omega (arith, has.first_is, has.limit_is, has.nonempty)),
     )

@@ -1,19 +1,19 @@
 use Rattle.pie_summary.proofs.Names.{List, ◌∷◌, [], ◌++◌, ◌∙◌, ap, subst, sym, Some, time_of, Explained, LivePeriod, MeterInput, Holds, length_of}
 use Rattle.pie_summary.proofs.Names.{period_at, since}
 use Rattle.pie_summary.proofs.LiveFacts.{clock-same, holds-taken}
-use Rattle.pie_summary.proofs.SumsFacts.{noted-moment, noted-times, taken, waits-push}
+use Rattle.pie_summary.proofs.SumsFacts.{input-moment, input-times, taken, waits-push}
 use Rattle.pie_summary.proofs.live_period.LivePeriod.take.Goals as goal
 
 pub returns-clause-holds : goal.returns-clause-holds
 returns-clause-holds c = λ shown one noted clock holds.
     let period = c.reach.new.self in
-    let at = sym (noted-moment one) ∙ sym (ap (λ (n : MeterInput). n.moment) noted) in
+    let at = sym (input-moment one) ∙ sym (ap (λ (n : MeterInput). n.moment) noted) in
     let awaits = c.reach.ensures.awaits shown one at holds in
     let before : List Explained = since (length_of period) (Some (period_at (length_of period) one)) shown in
     let told = clock ∙ clock-same c.reach.ensures.settings in
-    let is = c.record_time.ensures.noted _ (noted-times before one awaits.meter) in
+    let is = c.record_time.ensures.adds _ (input-times before one awaits.meter) in
     let meter = taken before one noted (λ i. time_of (sym told i) (sym at i))
-    (λ times held. ap (λ (p : LivePeriod). p.meter) (c.record_time.ensures.noted times held)) c.take.ensures awaits.meter in
+    (λ times held. ap (λ (p : LivePeriod). p.meter) (c.record_time.ensures.adds times held)) c.take.ensures awaits.meter in
     let waits = waits-push before one (λ numbers held. c.count_some.ensures numbers (ap (λ (p : LivePeriod). p.waits) is ∙ held))
     (ap (λ (n : MeterInput). n.wait) noted) awaits.waits in
     subst (λ (p : LivePeriod). Holds (record p { meter = c.take.new.self; waits = c.count_some.new.counts }) (shown ++ one ∷ [])) (sym is)

@@ -2,7 +2,7 @@ use Rattle.pie_summary.proofs.Names.{ap, sym, ◌∙◌, time_of, MeterInput, Su
 use Rattle.std.specs.Option.{option_and}
 use Rattle.pie_summary.specs.Sums.{off_time, on_time}
 use Rattle.pie_summary.proofs.SpanFacts.{some-of-push}
-use Rattle.pie_summary.proofs.SumsFacts.{noted-moment, taken}
+use Rattle.pie_summary.proofs.SumsFacts.{input-moment, taken}
 use Rattle.pie_summary.proofs.sums.Sums.take.Goals as goal
 
 pub returns : goal.returns
@@ -10,7 +10,7 @@ unfolding sums_of
 returns c = λ shown noted same.
     let one = c.args.all.now in
     let at = sym (ap (λ (n : MeterInput). n.moment) noted) in
-    let time = c.time_of-time.ensures ∙ ap (time_of one.told.clock) (sym at ∙ noted-moment one) in
+    let time = c.time_of-time.ensures ∙ ap (time_of one.told.clock) (sym at ∙ input-moment one) in
     let reached = c.reach.ensures shown one at same in
     λ i. record {
       span = c.take-2.ensures shown (ap (λ (s : Sums). s.span) reached) i;

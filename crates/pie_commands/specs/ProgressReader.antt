@@ -1,0 +1,11 @@
+-- The parts of a watched reader that contracts name.
+use Rattle.std.specs.Prelude.{ℕ, List, Option}
+use Rattle.pie_commands.specs.declared.progress_reader.ProgressReader.{ProgressReader}
+
+-- the reader that is watched
+abbrev pub inner_of : {R W C : Type 0} → ProgressReader R W C → R
+inner_of watched = watched.inner
+
+-- the bytes that it will give, where they are known
+abbrev pub remaining_of : {R W C : Type 0} → (R → Option (List ℕ)) → ProgressReader R W C → Option (List ℕ)
+remaining_of remaining watched = remaining watched.inner

@@ -1,0 +1,154 @@
+//! A reader that reports its progress.
+ghost use Rattle.std.specs.Prelude.{◌≡◌};
+ghost use Rattle.pie_commands.specs.ProgressReader.{inner_of, remaining_of};
+
+use std::io;
+use std::io::{Read, Write};
+use std::time::{Clock, Instant};
+
+/// The number of bytes between two reports.
+const STEP: u64 = 8_000_000;
+
+/// The terminal sequence that clears a line: return to its beginning and erase from there.
+const WIPE: &[u8] = b"\r\x1b[K";
+
+/// A wrapper of a reader. It returns the bytes of the inner reader and, if requested, reports the progress on
+/// `errors`.
+pub(crate) struct ProgressReader<R: Drop, W: Write + Drop, C: Clock + Drop> {
+    inner: R,
+    errors: W,
+    clock: C,
+    /// When reading began, where the clock could be read.
+    begun: Option<Instant>,
+    /// Reports are requested.
+    is_shown: bool,
+    bytes: u64,
+    records: u64,
+    next: u64,
+}
+
+/// Returns the number of line ends in these bytes.
+fn ends(bytes: &[u8]) -> u64 {
+    let mut count: u64 = 0;
+    for byte in bytes {
+        if *byte == b'\n' {
+            count = count.saturating_add(1);
+        }
+    }
+    count
+}
+
+/// Wipes the line that says how far reading has come.
+fn wipe<W: Write>(errors: &mut W) {
+    let _ = errors.write_all(WIPE);
+    let _ = errors.flush();
+}
+
+/// Writes the progress after `milliseconds` over the line before.
+fn write_progress<W: Write>(errors: &mut W, bytes: u64, records: u64, milliseconds: Option<u64>) {
+    let (millions, tenths) = (records / 1_000_000, records % 1_000_000 / 100_000);
+    let megabytes = bytes / 1_000_000;
+    let _ = errors.write_all(WIPE);
+    let _ = write!(
+        errors,
+        "{millions}.{tenths} million records, {megabytes} MB"
+    );
+    if let Some(rate) = rate_of(bytes, milliseconds) {
+        let _ = write!(errors, ", {rate} MB/s");
+    }
+    let _ = errors.flush();
+}
+
+/// Returns the rate in megabytes per second of `bytes` read in `milliseconds`.
+fn rate_of(bytes: u64, milliseconds: Option<u64>) -> Option<u64> {
+    (bytes / 1000).checked_div(milliseconds?)
+}
+
+/// The milliseconds from this moment to now, where the clock can be read.
+fn since<C: Clock>(begun: Option<Instant>, clock: &C) -> Option<u64> {
+    match begun?.elapsed(clock) {
+        Ok(elapsed) => u64::try_from(elapsed.as_millis()).ok(),
+        Err(_) => None,
+    }
+}
+
+impl<R: Drop, W: Write + Drop, C: Clock + Drop> ProgressReader<R, W, C> {
+    /// Counts bytes that were read, and reports the progress if a report is due.
+    fn count(&mut self, bytes: &[u8])
+        ensures { inner_of self.new ≡ inner_of self.old }
+    {
+        self.bytes = self.bytes.saturating_add(bytes.len() as u64);
+        self.records = self.records.saturating_add(ends(bytes));
+        if self.bytes >= self.next {
+            self.next = self.bytes.saturating_add(STEP);
+            let milliseconds = since(self.begun, &self.clock);
+            write_progress(&mut self.errors, self.bytes, self.records, milliseconds);
+        }
+    }
+
+    /// Clears the report if there is one.
+    fn wipe(&mut self)
+        ensures { inner_of self.new ≡ inner_of self.old }
+    {
+        if self.next > STEP {
+            self.next = STEP;
+            wipe(&mut self.errors);
+        }
+    }
+}
+
+impl<R: Read + Drop, W: Write + Drop, C: Clock + Drop> ProgressReader<R, W, C> {
+    /// Wraps a reader. The wrapper reports its progress if it `is_shown`.
+    pub(crate) fn new(inner: R, errors: W, clock: C, is_shown: bool) -> ProgressReader<R, W, C>
+        ensures { remaining_of R.remaining result ≡ R.remaining inner }
+    {
+        let begun = if is_shown {
+            Instant::now(&clock).ok()
+        } else {
+            None
+        };
+        ProgressReader {
+            inner,
+            errors,
+            clock,
+            begun,
+            is_shown,
+            bytes: 0,
+            records: 0,
+            next: STEP,
+        }
+    }
+}
+
+impl<R: Read + Drop, W: Write + Drop, C: Clock + Drop> Read for ProgressReader<R, W, C> {
+    ghost remaining = { remaining_of R.remaining };
+
+    fn read(&mut self, buf: &mut [u8]) -> io::Result<usize> {
+        let count = self.inner.read(buf)?;
+        if self.is_shown {
+            self.count(&buf[..count]);
+        }
+        if count == 0 && !buf.is_empty() {
+            self.wipe();
+        }
+        Ok(count)
+    }
+}
+
+impl<R: Drop, W: Write + Drop, C: Clock + Drop> Drop for ProgressReader<R, W, C> {
+    fn drop(self) {
+        let ProgressReader {
+            inner: _,
+            mut errors,
+            clock: _,
+            begun: _,
+            is_shown: _,
+            bytes: _,
+            records: _,
+            next,
+        } = self;
+        if next > STEP {
+            wipe(&mut errors);
+        }
+    }
+}

@@ -1,0 +1,250 @@
+//! The files of the system.
+ghost use Rattle.std.specs.Prelude.{◌≡◌, None, false};
+ghost use Rattle.std.specs.Io.{WritesAtMost};
+ghost use Rattle.std.specs.Io.KnownBytes.{WriteAppends};
+ghost use Rattle.pie_commands.specs.Host.{has_closed, is_closed};
+
+use crate::files::NamedFiles;
+use either::{Either, Left, Right};
+use std::fs::{File, Metadata, OpenOptions};
+use std::io::{Error, ErrorKind, Read, Stdout, Write};
+use std::os::unix::fs::{MetadataExt, OpenOptionsExt, PermissionsExt};
+use std::{fs, io};
+
+/// The number of names that are tried for a file created beside another.
+const MOST_NAMES: u32 = 100;
+
+/// The output of the program: standard output, a new file beside its final name, or a pipe or a device. One type for
+/// all means that the code that writes is compiled once.
+#[derive(Drop)]
+pub struct Output {
+    to: Either<Stdout, File>,
+    /// The name of the file that was made, until that is moved.
+    made: Option<String>,
+    /// True if its reader is gone.
+    is_closed: bool,
+}
+
+impl Output {
+    /// Returns an output that writes to `to`. `made` is the temporary name of the file until it is moved.
+    fn new(to: Either<Stdout, File>, made: Option<String>) -> Output
+        ensures { is_closed result ≡ false }
+    {
+        Output {
+            to,
+            made,
+            is_closed: false,
+        }
+    }
+
+    /// Returns standard output.
+    pub fn standard(output: Stdout) -> Output
+        ensures { is_closed result ≡ false }
+    {
+        Output::new(Left(output), None)
+    }
+
+    /// Returns true if a write has failed because the reader is gone, as with a pipe whose reader has ended.
+    pub fn is_closed(&self) -> bool
+        ensures { result ≡ is_closed self.now }
+    {
+        self.is_closed
+    }
+
+    /// Stores that the reader is gone if a write with this result failed for that reason.
+    fn note(&mut self, given: &io::Result<usize>)
+        ensures { is_closed self.new ≡ has_closed (is_closed self.old) given.now }
+    {
+        if let Err(why) = given {
+            if matches!(why.kind(), ErrorKind::BrokenPipe) {
+                self.is_closed = true;
+            }
+        }
+    }
+}
+
+impl Write for Output {
+    fn write(&mut self, bytes: &[u8]) -> io::Result<usize>
+        ensures bound { WritesAtMost result bytes.now }
+        ensures bytes { WriteAppends None None result bytes.now }
+        ensures closed { is_closed self.new ≡ has_closed (is_closed self.old) result }
+    {
+        let given = self.to.write(bytes);
+        self.note(&given);
+        given
+    }
+
+    fn flush(&mut self) -> io::Result<()> {
+        self.to.flush()
+    }
+}
+
+/// Returns true for a name of standard output.
+fn is_standard(name: &str) -> bool {
+    matches!(name, "/dev/stdout" | "/dev/fd/1" | "/proc/self/fd/1")
+}
+
+/// Returns the error for a file that must not be replaced.
+fn is_there() -> Error {
+    Error::new(
+        ErrorKind::AlreadyExists,
+        "the file exists; --force replaces it",
+    )
+}
+
+/// Returns the name number `count` that is tried for a file beside `name`.
+fn name_beside(rt: &HostRuntime, name: &str, count: u32) -> io::Result<String> {
+    let made = match count {
+        1 => format!(in rt.alloc(); "{name}.partial")?,
+        _ => format!(in rt.alloc(); "{name}.partial.{count}")?,
+    };
+    Ok(made)
+}
+
+/// Creates a file of this name, with the permissions of the file that it will replace, if there is one.
+fn create(rt: &HostRuntime, name: &str, replaced: Option<&Metadata>) -> io::Result<File> {
+    let mut how = OpenOptions::new();
+    how.write(true).create_new(true);
+    let Some(replaced) = replaced else {
+        return how.open(rt, name);
+    };
+    how.mode(replaced.mode() & 0o777);
+    let file: File = how.open(rt, name)?;
+    file.set_permissions(replaced.permissions())?;
+    Ok(file)
+}
+
+/// Creates a file beside `name`, under a name that no file has.
+fn create_beside(rt: &HostRuntime, name: &str, replaced: Option<&Metadata>) -> io::Result<Output> {
+    for count in 1..=MOST_NAMES {
+        let made = name_beside(rt, name, count)?;
+        match create(rt, made.as_str(), replaced) {
+            Ok(file) => return Ok(Output::new(Right(file), Some(made))),
+            Err(why) if why.kind() == ErrorKind::AlreadyExists => {}
+            Err(why) => return Err(why),
+        }
+    }
+    Err(Error::new(
+        ErrorKind::AlreadyExists,
+        "too many partial files exist beside it",
+    ))
+}
+
+/// Opens a pipe or a device to write to it.
+fn open_as_it_is(rt: &HostRuntime, name: &str) -> io::Result<Output> {
+    let to = OpenOptions::new().write(true).open(rt, name)?;
+    Ok(Output::new(Right(to), None))
+}
+
+/// Returns true if no file and no link has this name.
+fn is_free(rt: &HostRuntime, name: &str) -> bool {
+    match fs::symlink_metadata(rt, name) {
+        Ok(_) => false,
+        Err(why) => why.kind() == ErrorKind::NotFound,
+    }
+}
+
+/// Moves a file onto a name that no file has. A hard link fails if a file has the name. If the folder has no links, an
+/// empty file takes the name first, which replaces no file.
+fn move_to_free(rt: &HostRuntime, made: &str, name: &str) -> io::Result<()> {
+    match fs::hard_link(rt, made, name) {
+        Ok(()) => {
+            let _ = fs::remove_file(rt, made);
+            Ok(())
+        }
+        Err(_) => {
+            let _ = create(rt, name, None)?;
+            replace_empty(rt, made, name)
+        }
+    }
+}
+
+/// Moves a file onto the name of an empty one. If it can't be moved, the empty file is removed.
+fn replace_empty(rt: &HostRuntime, made: &str, name: &str) -> io::Result<()> {
+    let moved = fs::rename(rt, made, name);
+    if moved.is_err() {
+        let _ = fs::remove_file(rt, name);
+    }
+    moved
+}
+
+impl NamedFiles for HostRuntime {
+    type File = File;
+
+    ghost holds = { λ _ _. None };
+
+    ghost fresh = { None };
+
+    ghost works = { false };
+
+    fn open_named(&self, name: &str) -> io::Result<File> {
+        File::open(self, name)
+    }
+
+    fn is_same_file(&self, name: &str, other: Option<&str>) -> bool {
+        let other = other.unwrap_or("/dev/stdin");
+        match (fs::metadata(self, name), fs::metadata(self, other)) {
+            (Ok(one), Ok(other)) => {
+                one.is_file() && one.dev() == other.dev() && one.ino() == other.ino()
+            }
+            _ => false,
+        }
+    }
+
+    type Made = Output;
+
+    fn make(&mut self, name: &str, is_forced: bool) -> io::Result<Output> {
+        if is_standard(name) {
+            return Ok(Output::standard(self.stdout()));
+        }
+        match fs::metadata(self, name) {
+            Ok(there) => {
+                if !there.is_file() {
+                    return open_as_it_is(self, name);
+                }
+                if !is_forced {
+                    return Err(is_there());
+                }
+                create_beside(self, name, Some(&there))
+            }
+            Err(why) => {
+                if why.kind() != ErrorKind::NotFound || name.is_empty() {
+                    return Err(why);
+                }
+                if !is_forced && !is_free(self, name) {
+                    return Err(is_there());
+                }
+                create_beside(self, name, None)
+            }
+        }
+    }
+
+    fn place(&mut self, made: &mut Output, name: &str, is_forced: bool) -> io::Result<()> {
+        let Some(other) = &made.made else {
+            return Ok(());
+        };
+        if let Right(file) = &made.to {
+            file.sync_all()?;
+        }
+        if is_forced {
+            fs::rename(self, other.as_str(), name)?;
+        } else {
+            move_to_free(self, other.as_str(), name)?;
+        }
+        made.made = None;
+        Ok(())
+    }
+
+    fn leave(&mut self, made: Output) -> Option<String> {
+        let Output { to, made, .. } = made;
+        let other = made?;
+        let Right(file) = to else {
+            return None;
+        };
+        let is_empty = matches!(file.metadata(), Ok(there) if there.len() == 0);
+        if is_empty && fs::remove_file(self, other.as_str()).is_ok() {
+            return None;
+        }
+        Some(other)
+    }
+}

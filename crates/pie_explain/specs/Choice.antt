@@ -1,0 +1,50 @@
+-- Which events are explained.
+use Rattle.std.specs.Prelude.{ℕ, ◌==◌, Bool, true, false, Option, Some, None}
+use Rattle.std.specs.Option.{option_map_or}
+use Rattle.pie_queue.specs.declared.packet.Packet.{Packet}
+use Rattle.pie_event.specs.declared.command.Command.{Command}
+use Rattle.pie_event.specs.declared.command.Command.TheVariants.{Arrive}
+use Rattle.pie_event.specs.declared.command.Answer.{Answer}
+use Rattle.pie_event.specs.declared.command.Answer.TheVariants.{DroppedEarly, DroppedBytes, DroppedPackets, Left}
+use Rattle.pie_event.specs.declared.command.Answer.TheVariants as answer
+use Rattle.pie_event.specs.declared.command.Event.{Event}
+use Rattle.pie_explain.specs.declared.choice.Which.{Which}
+use Rattle.pie_explain.specs.declared.choice.Which.TheVariants.{Number, Tag, Lost, Marked, All}
+
+-- the packet that left
+abbrev pub packet_left : Answer → Option Packet
+packet_left (Left packet) = Some packet
+packet_left _ = None
+
+-- the packet that arrived, or else the one that left
+abbrev pub packet_in : Command → Answer → Option Packet
+packet_in (Arrive moment packet word) answer = Some packet
+packet_in _ answer = packet_left answer
+
+-- the packet that an event is about
+abbrev pub packet_of : Event → Option Packet
+packet_of event = packet_in event.command event.answer
+
+-- an event is about a packet with this tag
+abbrev pub has_tag : ℕ → Event → Bool
+has_tag tag event = option_map_or (λ (p : Packet). p.tag == tag) (packet_of event) false
+
+-- an answer says that a packet was dropped
+abbrev pub is_lost : Answer → Bool
+is_lost DroppedEarly = true
+is_lost DroppedBytes = true
+is_lost DroppedPackets = true
+is_lost _ = false
+
+-- an answer says that a packet was marked
+abbrev pub is_marked : Answer → Bool
+is_marked answer.Marked = true
+is_marked _ = false
+
+-- the event with this number is chosen
+abbrev pub chooses : Which → ℕ → Event → Bool
+chooses (Number wanted) number event = wanted == number
+chooses (Tag tag) number event = has_tag tag event
+chooses Lost number event = is_lost event.answer
+chooses Marked number event = is_marked event.answer
+chooses All number event = true

@@ -1,0 +1,79 @@
+//! Which events are explained.
+ghost use Rattle.std.specs.Prelude.{◌≡◌};
+ghost use Rattle.pie_explain.specs.Choice.{has_tag, is_lost, is_marked, packet_of};
+
+use pie_book::{Answer, Command, Event};
+use pie_queue::Packet;
+
+/// Which events of a history are explained.
+#[derive(Clone, Copy)]
+pub enum Which {
+    /// The event with this number, counted from 1.
+    Number(u64),
+    /// Every event of a packet with this tag: its arrival and its departure.
+    Tag(u64),
+    /// Every arrival whose packet was dropped.
+    Lost,
+    /// Every arrival whose packet was marked.
+    Marked,
+    /// Every event.
+    All,
+}
+
+/// The packet that an event is about: the one that arrived, or the one that left.
+#[inline(always)]
+pub(crate) fn packet_of(event: &Event) -> Option<Packet>
+    ensures { result ≡ packet_of event.now }
+{
+    match event.command {
+        Command::Arrive { packet, .. } => Some(packet),
+        _ => match event.answer {
+            Answer::Left(packet) => Some(packet),
+            _ => None,
+        },
+    }
+}
+
+/// Returns true if the event is about a packet with this tag.
+fn has_tag(tag: u64, event: &Event) -> bool
+    ensures { result ≡ has_tag tag event.now }
+{
+    match packet_of(event) {
+        Some(packet) => packet.tag == tag,
+        None => false,
+    }
+}
+
+/// Returns true if the packet was dropped.
+fn is_lost(answer: Answer) -> bool
+    ensures { result ≡ is_lost answer }
+{
+    matches!(
+        answer,
+        Answer::DroppedEarly | Answer::DroppedBytes | Answer::DroppedPackets
+    )
+}
+
+/// Returns true if the packet was marked.
+fn is_marked(answer: Answer) -> bool
+    ensures { result ≡ is_marked answer }
+{
+    matches!(answer, Answer::Marked)
+}
+
+impl Which {
+    ghost use Rattle.pie_explain.specs.Choice.{chooses};
+
+    /// Returns true if the event with this number is chosen.
+    pub fn chooses(self, number: u64, event: &Event) -> bool
+        ensures { result ≡ chooses self number event.now }
+    {
+        match self {
+            Which::Number(wanted) => wanted == number,
+            Which::Tag(tag) => has_tag(tag, event),
+            Which::Lost => is_lost(event.answer),
+            Which::Marked => is_marked(event.answer),
+            Which::All => true,
+        }
+    }
+}

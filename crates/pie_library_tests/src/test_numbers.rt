@@ -1,0 +1,58 @@
+//! The answers of calls, and the printed lines.
+
+use crate::report::Report;
+use std::rt::Clock;
+
+/// The answer of a call, and two observed numbers, which the test of the call describes.
+#[derive(Clone, Copy)]
+pub(crate) struct Seen {
+    answer: &'static str,
+    one: u64,
+    other: u64,
+}
+
+impl Seen {
+    /// The call was not made.
+    pub(crate) const NOTHING: Seen = Seen {
+        answer: "not made",
+        one: 0,
+        other: 0,
+    };
+
+    /// It did what it is for.
+    pub(crate) fn done(one: u64, other: u64) -> Seen {
+        Seen {
+            answer: "done",
+            one,
+            other,
+        }
+    }
+
+    /// It was refused, for want of memory or not.
+    pub(crate) fn refused(is_memory: bool, one: u64) -> Seen {
+        Seen {
+            answer: if is_memory { "memory" } else { "refused" },
+            one,
+            other: 0,
+        }
+    }
+}
+
+/// Says that this call comes next: what is requested from here to the next line is requested by it alone.
+pub(crate) fn begin(rt: &impl Print, name: &str) {
+    let _ = println!(rt; "begin {name}");
+}
+
+/// Prints what was seen.
+pub(crate) fn print_numbers<R: Clock + Print>(report: &mut Report<R>, name: &str, seen: Seen) {
+    let Seen { answer, one, other } = seen;
+    let said = println!(report.rt; "{name}: {answer}, {one}, {other}");
+    report.printed(said);
+}
+
+/// Says whether a test holds.
+pub(crate) fn say<R: Clock + Print>(report: &mut Report<R>, name: &str, holds: bool) {
+    let word = if holds { "holds" } else { "fails" };
+    let said = println!(report.rt; "{name}: {word}");
+    report.printed(said);
+}

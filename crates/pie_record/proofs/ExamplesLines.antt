@@ -1,4 +1,4 @@
--- What no script of tests/ can show of the lines of a history, and of the version that an opening is written in: each theorem computes.
+-- Worked examples of history lines and of an opening's version, for cases that no script of tests/ reaches: each theorem computes.
 use Rattle.pie_event.specs.declared.profile.Profile.TheVariants.{One}
 use Rattle.pie_record.specs.{Opening, Some, codes, usual, default_profile, Bounded, rows_text, records_of, fault_from, lines_from, opening_row, Row}
 use Rattle.pie_record.specs.{◌≡◌, ℕ, List, [], ◌∷◌, map, refl, worked_text}
@@ -9,13 +9,13 @@ use Rattle.pie_record.specs.declared.version.Version.TheVariants as version
 abbrev three_records : List Row
 three_records = records_of (codes "refused,1,1\nrefused,1,1\ndep\n")
 
--- lines before a fault stand; a record past the greatest number is that fault
+-- lines before a fault are read; a record past the greatest number is the fault `TooLong`
 faulty-lines : (lines_from version.One 3 2 three_records ≡ Note ∷ Note ∷ []) × (fault_from version.One 3 2 three_records ≡ Some fault.TooLong)
     × (fault_from version.One 4 2 three_records ≡ Some (fault.Kind 4))
 unfolding worked_text
 faulty-lines = (refl, refl, refl)
 
--- version three where a limit is above those of version two
+-- an opening with a limit above those of version two is written in version three
 abbrev opened_by : ℕ → ℕ → Opening
 opened_by packets events = record {
   moment = 0;

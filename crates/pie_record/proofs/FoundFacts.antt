@@ -1,4 +1,4 @@
--- What a read of a line finds of the records that are left.
+-- The result of reading a line, as a statement on the remaining records.
 use Rattle.std.proofs.Common.{sym, ap, ◌∙◌, arith, subst, append_assoc, get_or}
 use Rattle.pie_record.specs.{◌≡◌, ◌<◌, ◌++◌, ◌∷◌, ◌==◌, ℕ, List, [], length, refl, true, false, Bool, Option, Some, None, IfSome, Row, if◌then◌else◌}
 use Rattle.pie_record.specs.{split_line, records_left, records_of, records_at, strip_bom, prepend_known, TakesLine, WereTaken, BeginsWith, ReadsPlain, IsPlainLine}
@@ -85,7 +85,7 @@ module _ (is_first : Bool) (before after put : Option (List ℕ)) (line ends : L
   pub end-found : TakesLine stop.End before line ends after → ReadsPlain found.Odd is_first before row put
   end-found it = back-found stop.End (λ rest all is. is) it
 
--- a line whose mark was put back with it, and with its line feed
+-- a line put back together with the byte order mark before it and its line feed
 pub mark-found : (before after put : Option (List ℕ)) (is_first : Bool) (line ends : List ℕ) (row : Row) → put ≡ prepend_known (line ++ 10 ∷ []) after
     → is_first ≡ true → TakesLine stop.Feed before line ends after → ReadsPlain found.Odd is_first before row put
 mark-found before after put is_first line ends row back first it = by before it.taken

@@ -1,4 +1,4 @@
--- What a reader has left, where bytes were read ahead.
+-- The remaining bytes of a reader that has read bytes ahead.
 use Rattle.std.proofs.Common.{sym, ap, ◌∙◌, arith, subst, take, drop, append_assoc}
 use Rattle.std.specs.Prelude.{slice_range, slice_get, Result}
 use Rattle.std.specs.Io.KnownBytes.{ReadConsumes}
@@ -25,7 +25,7 @@ read-keeps None after taken is = tt
 read-keeps (Some xs) None taken is = absurd is
 read-keeps (Some xs) (Some ys) taken is = sym is
 
--- a read, where no byte was ahead, keeps what is left
+-- if no byte was ahead, a read keeps the remaining bytes
 pub fill-keeps : (before after : Option (List ℕ)) (bytes buf : List ℕ) (at end count : ℕ) → end ≤ at → Consumes before after (take count buf)
     → Keeps (prepend_known (slice_range bytes at end) before) (prepend_known (slice_range buf 0 count) after)
 fill-keeps before after bytes buf at end count over is = rw (none-ahead bytes at end over, from-start buf count) (read-keeps before after (take count buf) is)
@@ -34,11 +34,11 @@ at-end : (after : Option (List ℕ)) → IsAtEnd after → IsAtEnd (prepend_know
 at-end None is = tt
 at-end (Some xs) is = is
 
--- .. and where it gave no byte, none is left
+-- a read of no byte at the end of the input leaves no byte
 pub fill-ends : (after : Option (List ℕ)) (buf : List ℕ) (count : ℕ) → count ≡ 0 → IsAtEnd after → IsAtEnd (prepend_known (slice_range buf 0 count) after)
 fill-ends after buf count zero_ is = rw (from-start buf count, zero_) (at-end after is)
 
--- ---- what is taken of the bytes ahead
+-- ---- bytes taken from those read ahead
 
 range-behind : (bytes : List ℕ) (at n end : ℕ) → n ≤ length (slice_range bytes at end)
     → slice_range bytes (at + n) end ≡ drop n (slice_range bytes at end)
@@ -57,7 +57,7 @@ feed-at ahead count is =
     sym (take-append-drop count ahead) ∙ ap (λ (l : List ℕ). take count ahead ++ l)
     (drop-cons ahead count 0 before ∙ rw (byte, next) refl)
 
--- a line feed behind what was taken
+-- bytes taken up to a line feed, with the line feed
 pub feed-taken : (known : Option (List ℕ)) (bytes : List ℕ) (at count end : ℕ) → slice_get (slice_range bytes at end) count ≡ Some 10
     → WereTaken stop.Feed (prepend_known (slice_range bytes at end) known) (take count (slice_range bytes at end))
     (prepend_known (slice_range bytes (at + (count + 1)) end) known)
@@ -70,7 +70,7 @@ feed-taken (Some ys) bytes at count end is =
       ap (λ (l : List ℕ). l ++ ys) (feed-at ahead count is) ∙ append_assoc (take count ahead) (10 ∷ drop (count + 1) ahead) ys,
     )
 
--- .. and otherwise
+-- bytes taken otherwise, without the byte after them
 pub rest-taken : (known : Option (List ℕ)) (bytes : List ℕ) (at count end : ℕ) → count ≤ length (slice_range bytes at end)
     → IfSome (prepend_known (slice_range bytes at end) known) (λ all. (rest : List ℕ)
     × (prepend_known (slice_range bytes (at + count) end) known ≡ Some rest) × (all ≡ take count (slice_range bytes at end) ++ rest))
@@ -82,7 +82,7 @@ rest-taken (Some ys) bytes at count end within =
       ap (λ (l : List ℕ). l ++ ys) (sym (take-append-drop count ahead)) ∙ append_assoc (take count ahead) (drop count ahead) ys,
     )
 
--- ---- what a scan of the bytes ahead found, added to a line
+-- ---- the bytes that a scan accepted, appended to a line
 
 module _ (known : Option (List ℕ)) (bytes all line ends line_now ends_now : List ℕ) (at count end long : ℕ) (same : bytes ≡ all) (is_long : length line ≡ long)
     (plain : IsPlainLine (take count (slice_range all at end))) (added : line_now ≡ line ++ take count (slice_range all at end))
@@ -113,7 +113,7 @@ begins-more stop.Feed line taken rest left all is begins = is ∙ ap (λ (l : Li
 begins-more stop.Odd line taken rest left all is begins = is ∙ ap (λ (l : List ℕ). line ++ l) begins ∙ sym (append_assoc line taken left)
 begins-more stop.End line taken rest left all is begins = is ∙ ap (λ (l : List ℕ). line ++ l) begins ∙ sym (append_assoc line taken left)
 
--- what was taken before, and then more
+-- bytes taken before and bytes taken after a refill are taken together
 taken-more : (how : Stop) (before now filled after : Option (List ℕ)) (line taken : List ℕ) → WereTaken stop.End before line now → Keeps now filled
     → WereTaken how filled taken after → WereTaken how before (line ++ taken) after
 taken-more how None now filled after line taken first keeps later = tt
@@ -162,7 +162,7 @@ none-before : (known : Option (List ℕ)) → prepend_known [] known ≡ known
 none-before None = refl
 none-before (Some xs) = refl
 
--- a read of the reader underneath, where no byte is ahead
+-- a read of the underlying reader, if no byte is ahead
 pub read-through : {E : Type 0} (before after : Option (List ℕ)) (bytes buf : List ℕ) (at end : ℕ) (result : Result ℕ E) → end ≤ at
     → ReadConsumes before after result buf
     → ReadConsumes (prepend_known (slice_range bytes at end) before) (prepend_known (slice_range bytes at end) after) result buf

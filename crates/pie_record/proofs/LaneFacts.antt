@@ -15,7 +15,7 @@ behind value digit (suc n) = behind value digit n * 10 + digit n
 abbrev less_8 : ℕ → ℕ → ℕ
 less_8 a b = (a + (2 ^ 8 - b)) % 2 ^ 8
 
--- the products of so many digits with their weights
+-- the products of eight digits with their weights
 pub sum_of_eight : (ds : List ℕ) → length ds ≡ 8 → ((k : ℕ) → k < 8 → get_or ds k 0 ≤ 9)
     → fold_l (λ s x. (s + x) % 2 ^ 32) 0 (zip2 (λ x y. x * y % 2 ^ 32) (map (λ x. x) ds) (10000000 ∷ 1000000 ∷ 100000 ∷ 10000 ∷ 1000 ∷ 100 ∷ 10 ∷ 1 ∷ []))
     ≡ behind 0 (λ k. get_or ds k 0) 8

@@ -20,7 +20,7 @@ abbrev join_to : List ℕ → Row → Row
 join_to field [] = []
 join_to field (first ∷ others) = (field ++ first) ∷ others
 
--- at the start of a field csv reads a plain byte, or a line feed, as within one
+-- at the start of a field csv reads a plain byte or a line feed as it reads it within a field
 start-plain : (fields : Row) (field : List ℕ) (byte : ℕ) (rest : List ℕ) → (byte == 34) ≡ false
     → next_record default_config st.StartField fields field (byte ∷ rest) ≡ next_record default_config st.InField fields field (byte ∷ rest)
 unfolding next_record
@@ -77,7 +77,7 @@ read-line (byte ∷ line) rest plain fields field =
         ∙ later fields (field ++ byte ∷ []) ∙ ap (λ (r : Row). Some (r, st.StartRecord, rest))
         (rw other (byte-joined fields field some.0 byte some.1 (split_line line) some.2))
 
--- .. from the start of a record
+-- at the start of a record csv reads a plain byte as it reads it within a field
 record-plain : (byte : ℕ) (rest : List ℕ) → IsPlain byte
     → next_record default_config st.StartRecord [] [] (byte ∷ rest) ≡ next_record default_config st.InField [] [] (byte ∷ rest)
 unfolding next_record

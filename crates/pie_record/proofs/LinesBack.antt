@@ -1,5 +1,5 @@
--- A record that asks a command, or tells the time of day, has just the fields with which that is written, and numbers of their types; so has a line
--- of a history. A record that was written is read as its line.
+-- A record of a command or of the wall-clock time has exactly the fields with which it is written, and its numbers fit their types; so has a line of
+-- a history. A record that was written is read as its line.
 use Rattle.std.proofs.Common.{rules, ap, subst, ◌∙◌, arith, sym}
 use Rattle.std.proofs.lemmas.Bool.{eqb-true}
 use Rattle.std.proofs.lemmas.Bool.Decides.{nat_tests}
@@ -26,7 +26,7 @@ use Rattle.pie_record.specs.declared.trace_record.Request.TheVariants as request
 use Rattle.pie_record.specs.declared.words.AnswerWord.TheVariants as said
 use Rattle.pie_record.specs.declared.command.CommandKind.TheVariants as kind
 
--- ---- what was asked
+-- ---- the command that was read
 
 abbrev pub kind_of : Command → CommandKind
 kind_of (Arrive moment packet word) = kind.Arrive
@@ -64,7 +64,7 @@ fits-of-nine params nine good = search rules
 
 -- ---- the fields of a command that was read
 
--- they are those that ask it, after the word of its kind
+-- a row that reads as a command has the command's fields after its keyword, and they fit their types
 pub record Reads (row : Row) (k : CommandKind) (asks : CommandFields) : Type 0 where
   pub kind : k ≡ command_row_kind asks
   pub has : HasAll row 1 (drop 1 (command_row_fields asks))
@@ -124,7 +124,7 @@ kind-has row k e =
     let all : List CommandKind = kind.Arrive ∷ kind.Depart ∷ kind.Update ∷ kind.Reset ∷ kind.Params ∷ [] in
     word-has row (command_word k) (found (λ kind. is_kind row (command_word kind)) all k e)
 
--- a record of a command begins with its word, is as long as its kind says, and is of that kind, whatever follows
+-- the row of a command begins with its keyword, has the length and the kind of its command, whatever fields follow
 pub command-shape : (asks : CommandFields) (more : Row) → (command_row_fields asks ≡ command_word (command_row_kind asks) ∷ drop 1 (command_row_fields asks))
     × (command_length (command_row_kind asks) ≡ length (command_row_fields asks)) × (command_kind (command_row_fields asks ++ more) ≡ Some (command_row_kind asks))
 unfolding command_kind field_at command_fields
@@ -195,12 +195,12 @@ unfolding request_of command_request fold_request
 clock-as-written version row clock e =
     let read = clock-read version row clock (grind (arith, nat_tests, e)) in (read.is (grind (arith, nat_tests, e)), read)
 
--- it asks the same in versions one and two
+-- versions one and two read the same request from a record
 pub same-before-three : (row : Row) → request_of One row ≡ request_of Two row
 unfolding request_of clock_in
 same-before-three row = grind (arith, nat_tests)
 
--- ---- what is written is read
+-- ---- written commands are read back
 
 back_u16 : (n : ℕ) → n ≤ most_u16 → number most_u16 (decimal n) ≡ Some n
 back_u16 n fits = number-back most_u16 n fits (omega arith)
@@ -210,7 +210,7 @@ params-behind : (a b c : List ℕ) (params : RawParams) (more : Row) → NineFit
 unfolding params_at numbers_at field_at
 params-behind a b c params more fits = params-back params more fits
 
--- .. whatever fields follow
+-- the fields of a command are read back, whatever fields follow
 pub command-back : (asks : CommandFields) (more : Row) → CommandFieldsFit asks → command_at (command_row_fields asks ++ more) (command_row_kind asks) ≡ Ok asks
 unfolding command_at arrival_at change_at packet_at field_at command_fields
 command-back (asked.Command caller (Arrive moment packet word)) more f =
@@ -223,7 +223,7 @@ command-back (asked.Command caller _) more f = rw (back_u16 caller f.0, back_u64
 
 -- ---- lines of a history
 
--- ---- what a line that was read holds
+-- ---- the numbers of a line that was read
 
 -- numbers of their types, and a parameter that is out of its range
 abbrev pub LineFits : Line → Type 0
@@ -297,7 +297,7 @@ clock-fits version row told e =
     let a = and_after (clock_in version row) (λ (clock : Clock). let it : Result Line Flaw = Ok (line.Clock clock) in it) told e in
     read-as LineFits (line.Clock a.got) told a.rest (clock-read version row a.got a.is).fits
 
--- a record that tells a note or has a flaw
+-- the line of a note fits
 noted : (told : Line) → told ≡ line.Note → LineFits told
 noted told e = rw e tt
 
@@ -319,7 +319,7 @@ lines-fit version most number rows = read-all LineFits version most number rows 
 
 -- ---- an event's record is read as it was written
 
--- what asks this can have this answer: new parameters that can't be are recorded with the answer of those that can
+-- answers that the fields of a command can have: invalid new parameters are recorded with the answer of valid ones
 abbrev CanHave : CommandFields → Answer → Type 0
 CanHave (asked.Command caller command) answer = fits command answer ≡ true
 CanHave (asked.BadParams change) answer = answer ≡ Done
@@ -344,7 +344,7 @@ line-back version asks answer fits can numbers =
     let back = answer-back asks answer can numbers in
     rw ((command-shape asks (answer_fields answer)).2, back.long, command-back asks (answer_fields answer) fits, back.reads) refl
 
--- the record of a trace that asks a command, with an answer that the command can have
+-- the record of a command followed by an answer that the command can have
 pub answered-back : (version : Version) (row : Row) (caller : ℕ) (command : Command) (answer : Answer)
     → request_of version row ≡ Ok (request.Ask caller command) → fits command answer ≡ true → AnswerFits answer
     → line_of version (row ++ answer_fields answer) ≡ Ok (made caller command answer)
@@ -357,7 +357,7 @@ answered-back version row caller command answer e can said =
 pub event-back : (version : Version) (event : Event) → EventFits event → line_of version (event_row event) ≡ Ok (line.Made event)
 event-back version event fits = line-back version (asked.Command event.caller event.command) event.answer (fits.caller, fits.command) fits.kind fits.answer
 
--- .. and of the time of day, from version three on
+-- the line of a wall-clock record, from version three on
 clock-line : (version : Version) (clock : Clock)
     → line_of version (clock_row clock) ≡ and_then (clock_in version (clock_row clock)) (λ told. Ok (line.Clock told))
 unfolding line_of command_kind field_at clock_row
@@ -375,7 +375,7 @@ unfolding line_of command_kind field_at clock_row clock_in clock_at
 clock-back clock fits =
     rw (number-back most_moment clock.moment fits.0 (omega (arith, fits.0)), number-back most_u64 clock.unix fits.1 (omega (arith, fits.1))) refl
 
--- a line that was read, but for a note, is told by each of its records
+-- the records of a line that was read are read as that line, and those of a note as no line
 pub line-again : (told : Line) → LineFits told → AreLinesOf Three (line_rows told) (without_notes (told ∷ []))
 unfolding AreLinesOf
 line-again (line.Made event) fits = (event-back Three event fits, tt)

@@ -1,4 +1,4 @@
--- The record of an opening is read back as that opening, and a text of it and of records that each tell a line as that opening and those lines.
+-- The record of an opening is read back as that opening. A text of it and of records of lines is read back as that opening and those lines.
 use Rattle.std.proofs.Common.{sym, ap, ◌∙◌, arith, subst}
 use Rattle.std.proofs.lemmas.Bool.{and_parts, ne_eqb}
 use Rattle.std.proofs.lemmas.Bool.Decides.{nat_tests}
@@ -32,7 +32,7 @@ are_default-true p e = grind (arith, nat_tests, e)
 abbrev pub numbers_row : ℕ → Limits → Row → Row
 numbers_row moment limits params = map decimal (moment ∷ limits.packets ∷ limits.tail ∷ limits.events ∷ []) ++ params
 
--- what they say
+-- the draft of these numbers, parameters and choices
 abbrev pub drafted : ℕ → Limits → RawParams → Choices → Result Draft Flaw
 drafted moment limits params choices = Ok (record { moment = moment; limits = limits; params = params; choices = choices })
 
@@ -44,7 +44,7 @@ params-behind a b c d params more fits = params-back params more fits
 longer : (a b c d e : List ℕ) (more : Row) → (length (a ∷ b ∷ c ∷ d ∷ e ∷ more) == 4) ≡ false
 longer a b c d e more = ne_eqb (length (a ∷ b ∷ c ∷ d ∷ e ∷ more)) 4 (λ same. omega (arith, same))
 
--- they read so wherever they begin, whatever follows: the fields before them are passed over by computing
+-- the numbers and the nine parameters are read as their draft, whatever fields follow: computing skips the fields before them
 pub long-draft : (choices : Choices) (moment : ℕ) (limits : Limits) (params : RawParams) (more : Row) → moment < 2 ^ 64 → LimitsFit limits
     → NineFit params
     → draft_at (numbers_row moment limits (map decimal (nine_of params) ++ more)) 0 choices ≡ drafted moment limits params choices
@@ -52,7 +52,7 @@ unfolding draft_at limits_at field_at
 long-draft choices moment limits params more small fits nine =
     rw (back_u64 _ small, back_u32 _ fits.packets, back_u32 _ fits.tail, back_u64 _ fits.events, longer, params-behind _ _ _ _ params more nine) refl
 
--- where they are short, the parameters are the defaults
+-- the fields of the parameters: none in the short form, in which the parameters are the defaults
 abbrev params_row : RawParams → Bool → Row
 params_row params short = if short then [] else map decimal (nine_of params)
 
@@ -66,7 +66,7 @@ draft-back choices moment limits params true same small fits set =
 draft-back choices moment limits params false other small fits set =
     long-draft choices moment limits params [] small fits (nine-of-fits params set)
 
--- a draft that is accepted opens what it says, where a record of this kind may have its limits
+-- an accepted draft opens its own values, if a first record of this kind may have its limits
 accepted-draft : (kind : FirstKind) (moment : ℕ) (limits : Limits) (params : RawParams) (choices : Choices) → opening_refusal limits moment ≡ None
     → first_bad params ≡ None → holds_limits kind limits ≡ true
     → opening_read kind (drafted moment limits params choices) ≡ Ok (record { moment = moment; limits = limits; params = params; choices = choices })
@@ -77,7 +77,7 @@ accepted-draft kind moment limits params choices accepted good held = rw (good, 
 abbrev chosen : Profile → Mode → Choices
 chosen profile mode = record { mode = mode; profile = profile; elements = usual }
 
--- its kind
+-- the kind of a first record of version one or two
 abbrev earlier_kind : Profile → Mode → FirstKind
 earlier_kind One Bounded = kinds.Open
 earlier_kind One Rolling = kinds.Rolling
@@ -96,9 +96,9 @@ earlier-read profile mode moment limits params short = grind (arith, nat_tests)
 usual-elements : (e : Elements) → are_usual e ≡ true → e ≡ usual
 usual-elements e same = grind (arith, nat_tests, same)
 
--- ---- .. and of version three: each of its words is read back
+-- ---- version three: each of its keywords is read back
 
--- where these words stand in a record, they are read
+-- the draft of a record with these keywords
 pub chosen-read : (row : Row) (c : Choices) (told : Bool) (place : ℕ) → field_at row 1 ≡ Some (profile_number c.profile)
     → field_at row 2 ≡ Some (delay_word c.elements.delay) → field_at row 3 ≡ Some (picking_word c.elements.picking)
     → field_at row 4 ≡ Some (step_word c.elements.step) → field_at row 5 ≡ Some (size_word c.elements.size)
@@ -107,7 +107,7 @@ unfolding chosen_at elements_at profile_of which_of
 chosen-read row c told place profile delay picking step size decay mode =
     grind (arith, nat_tests, profile, delay, picking, step, size, decay, mode)
 
--- what is chosen, with this decay, of which the one makes the record a field longer
+-- the choices with another decay; one of the two decays makes the record a field longer
 abbrev decaying : Choices → Decay → Choices
 decaying c decay = record c { elements = record c.elements { decay = decay } }
 
@@ -161,7 +161,7 @@ opening-back o accepted set = by (is_earlier o) (are_default o.params) refl refl
         ∙ draft-back o.choices o.moment o.limits o.params short same small fits set)
         ∙ accepted-draft kinds.Open3 o.moment o.limits o.params o.choices accepted set.in_range refl
 
--- ---- an opening that was checked: its parts, and what was looked at
+-- ---- a checked opening: its parts and its checks
 
 pub checked : (kind : FirstKind) (draft : Draft) (opening : Opening) → checked_opening kind (first_bad draft.params) draft ≡ Ok opening
     → Checked draft opening
@@ -173,7 +173,7 @@ checked kind draft opening e =
         → first_bad draft.params ≡ None → Checked draft opening
     by why is e good = record { same = grind (arith, nat_tests, e); accepted = grind (arith, nat_tests, is, e); in_range = good }
 
--- ---- rows that tell lines
+-- ---- rows of lines
 
 pub remaining-read : (version : Version) (most number : ℕ) (rows : List Row) (lines : List Line) → number + length rows ≤ most + 1
     → AreLinesOf version rows lines
@@ -186,7 +186,7 @@ remaining-read version most number (row ∷ rows) (line ∷ lines) within tells 
     (remaining-read version most (number + 1) rows lines (omega arith) tells.1))
 remaining-read version most number _ _ within tells = absurd tells
 
--- a row that tells a line has a field
+-- a row that reads as a line has a field
 pub field-reads : (version : Version) (row : Row) (line : Line) → line_of version row ≡ Ok line → HasField row
 unfolding line_of command_kind field_at
 field-reads version [] line e = cc
@@ -201,7 +201,7 @@ fields-read version (row ∷ rows) (line ∷ lines) tells = All-cons HasField ro
 
 -- ---- a whole text
 
--- a text of a record that opens so, and then of rows that tell these lines
+-- a text of a first record that opens the book and of rows of these lines
 pub history-read : (kind : FirstKind) (rest : Row) (rows : List Row) (opening : Opening) (lines : List Line)
     → opening_of (kind_word kind ∷ rest) ≡ Ok opening
     → All HasField rows → AreLinesOf (version_of (kind_word kind ∷ rest)) rows lines → length rows < 2 ^ 32
@@ -215,7 +215,7 @@ history-read kind rest rows opening lines opens some tells few =
           ∙ remaining-read (version_of (kind_word kind ∷ rest)) (2 ^ 32) 2 rows lines (omega arith) tells;
     }
 
--- ---- what a history is written as
+-- ---- the text of a history
 
 pub events-read : (version : Version) (events : List Event) → All EventFits events → AreLinesOf version (map event_row events) (map Made events)
 unfolding AreLinesOf

@@ -20,7 +20,7 @@ split-some (byte ∷ rest) =
 
 -- ---- fields by their ends
 
--- the ends of the fields of a line whose first byte is at a place
+-- the ends of the fields of a line whose first byte is at place `from`
 abbrev pub ends_from : ℕ → List ℕ → List ℕ
 ends_from from line = commas from line ++ (from + length line) ∷ []
 
@@ -39,7 +39,7 @@ slice-behind byte rest from s e above rising =
     let long : e - from - (s - from) ≡ e - (from + 1) - (s - (from + 1)) = omega arith in
     rw (long, start) refl
 
--- .. with the first element before it
+-- a slice with the first element before it
 slice-before : (byte : ℕ) (rest : List ℕ) (from e : ℕ) → from + 1 ≤ e
     → byte ∷ slice_range rest (from + 1 - (from + 1)) (e - (from + 1)) ≡ slice_range (byte ∷ rest) (from - from) (e - from)
 slice-before byte rest from e above =
@@ -130,7 +130,7 @@ length-with : (byte : ℕ) (first : List ℕ) (others : Row) → length (with_by
 unfolding with_byte
 length-with byte first others = refl
 
--- as many fields as ends
+-- a line has one field for each end
 pub fields-ends : (from : ℕ) (line : List ℕ) → length (split_line line) ≡ length (ends_from from line)
 unfolding commas split_line
 fields-ends from [] = refl

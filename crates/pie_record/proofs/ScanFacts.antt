@@ -1,4 +1,4 @@
--- How far a scan has come: over a byte, over a block of bytes that a mask marks, and to what stops it.
+-- The steps of a scan: over a byte, over a block of bytes that a mask marks, and up to the byte that stops it.
 use Rattle.std.proofs.Common.{suc, zero, sym, ◌∙◌, arith, subst, get_or, ⊎_elim}
 use Rattle.std.proofs.lemmas.Bool.{cases_lt}
 use Rattle.std.specs.Int.{bit_at}
@@ -35,11 +35,11 @@ module _ (from : ℕ) (bytes before : List ℕ) where
       subst (λ (p : ℕ). IsScanned from bytes before now p) same
       (scanned-other now (place + n) shorter (omega arith) (λ is. omega (arith, high, is)) (plain-above (get_or bytes (place + n) 0) (omega (arith, high))))
 
-  -- a scan went on to its end
+  -- a scan that reached its end
   pub went-on : (now : List ℕ) (end place : ℕ) → Scans from bytes before now end place stop.End → IsScanned from bytes before now end
   went-on now end place scans = subst (λ (p : ℕ). IsScanned from bytes before now p) scans.stop scans.scanned
 
-  -- what stops a scan stops one of more bytes
+  -- a scan stopped by a line feed is stopped by it in a longer range as well
   pub stops-feed : (now : List ℕ) (end last place : ℕ) → Scans from bytes before now end place stop.Feed → Scans from bytes before now last place stop.Feed
   stops-feed now end last place scans = record { scanned = scans.scanned; stop = scans.stop }
 
@@ -58,7 +58,7 @@ module _ (from : ℕ) (bytes before : List ℕ) where
         → IsScanned from bytes before now at → IsScanned from bytes before now (at + bit)
     scanned-past now bit few none so_far = scanned-above now at bit (unmarked bit few none) (omega arith) so_far
 
-    -- .. up to the first that is marked
+    -- a block was scanned up to its first marked byte
     pub scanned-to : (now : List ℕ) (bit : ℕ) → bit_at mask bit ≡ 1 → ((k : ℕ) → k < bit → bit_at mask k ≡ 0)
         → IsScanned from bytes before now at → IsScanned from bytes before now (at + bit)
     scanned-to now bit set none so_far = scanned-past now bit (let there = marks.within bit set in omega arith) none so_far

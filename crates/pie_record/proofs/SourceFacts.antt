@@ -1,4 +1,4 @@
--- What a turn of a read leaves of the records.
+-- The records that remain after one step of a read.
 use Rattle.std.proofs.Common.{sym, ap, subst, ◌∙◌}
 use Rattle.pie_record.specs.{◌≡◌, ℕ, List, Bool, false, Option, Some, None, IfSome, option_map, Row, records_at, records_of, ReadsPlain, TakesRow}
 use Rattle.pie_record.specs.declared.record.Found.TheVariants as found

@@ -1,4 +1,4 @@
--- What definitions, code and proofs of this crate take from below, in one place.
+-- The names of other crates and libraries that definitions, code and proofs of this crate use, in one place.
 pub use Rattle.std.specs.Fmt.{decimal}
 unfoldable pub use Rattle.std.specs.Fmt.{digits}
 pub use Rattle.std.specs.Io.KnownBytes.{Appends, Consumes, IsAtEnd, Keeps, append_known, prepend_known}

@@ -1,4 +1,4 @@
--- What theorems that compute unfold: the reading and the writing of texts and their records.
+-- Definitions that computing theorems unfold: the reading and the writing of texts and their records.
 use Rattle.pie_record.specs.Names.{⊤, digits, records_from, strip_bom, field_at, next_record, fields_text, is_blank}
 use Rattle.pie_record.specs.Answer.{answer_fields}
 use Rattle.pie_record.specs.Clock.{clock_at, clock_in}

@@ -1,4 +1,4 @@
-//! Blocks of 32 bytes, in which the bytes up to a comma are marked: those that end a field or a line are among them.
+//! Blocks of 32 bytes in which the bytes up to a comma are marked: among them are the bytes that end a field or a line.
 ghost use Rattle.std.specs.Prelude.{◌≡◌, ◌≢◌, ◌≤◌, ◌<◌, ◌+◌, ◌↔◌, ℕ, if◌then◌else◌, nat_le, slice_index};
 ghost use Rattle.std.specs.Int.{bit_at};
 ghost use Rattle.memchr.specs.Lanes.{HasLanes};

@@ -46,7 +46,7 @@ fn read_over<R: Read>(reader: &mut R, bytes: &mut Vec<u8>) -> io::Result<usize>
     reader.read(bytes.as_mut_slice())
 }
 
-// Makes room for what is read at a time.
+// Makes room for one read.
 #[inline(never)]
 fn make_room(bytes: &mut Vec<u8>) -> Result<(), ReadFailure>
     ensures some { OnOk result (0 < length bytes.new.items) }

@@ -1,31 +1,31 @@
-//! The laws of records and texts: what is written is read back, and what was read is written again.
+//! The laws of records and texts: written records are read back, and a record that was read is written again.
 ghost use Rattle.std.specs.Prelude.{◌≡◌};
 ghost use Rattle.pie_record.specs.{Opening, Ok, first_bad, Draft, FirstKind, Checked, checked_opening, AnswersAreReadBack};
 ghost use Rattle.pie_record.specs.{RequestsAreWrittenAgain, TextsAreReadBack};
 
-/// The history record of what a trace asked is read back as it was written: the event with its answer, the time of day, a note for all else.
+/// The history record of a request is read back as it was written: the event with its answer, the wall-clock time, or a note.
 ///
 /// It does nothing: its contract is the law (this project's own).
 pub fn answers_are_read_back()
     ensures { AnswersAreReadBack }
 {}
 
-/// A record that asks a command, or tells the time of day, has just the fields with which that is written again.
+/// A record of a command or of the wall-clock time has exactly the fields with which it is written again.
 ///
 /// It does nothing: its contract is the law (this project's own).
 pub fn requests_are_written_again()
     ensures { RequestsAreWrittenAgain }
 {}
 
-/// A text of written records is read back as those records, and where each tells a line, as those lines, with no fault behind them. That of an
-/// opening and its events is a history of these.
+/// A text of written records is read back as those records. If each record has a line, the text is read back as those lines, with no fault behind
+/// them. The text of an opening and its events is read back as their history.
 ///
 /// It does nothing: its contract is the law (this project's own).
 pub fn texts_are_read_back()
     ensures { TextsAreReadBack }
 {}
 
-/// The opening of a text that reads well is what its fields say, one that no book refuses, with parameters in their ranges.
+/// The opening of a text that could be read consists of the values of its fields. No book refuses it, and its parameters are in their ranges.
 ///
 /// It does nothing: its contract is the law (this project's own).
 pub fn openings_are_checked()

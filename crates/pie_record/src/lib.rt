@@ -1,15 +1,15 @@
-//! Records of traces and histories: what a record is, how it is read, how its fault is told and which text it has. Running, auditing,
-//! explaining and migrating stand on this crate.
+//! Records of traces and histories: their definition, their reading, their faults and their text. Running, auditing, explaining and migrating use
+//! this crate.
 //!
-//! The definitions that the contracts cite stand in `specs/`: the records of a text (`records_of`), what its first record opens, what a
-//! record of a trace asks and what a record of a history tells, and the text of records. A record of an event is a command's record with its
-//! answer, so both read the command by one reader (`command_at`).
+//! The definitions that the contracts cite are in `specs/`: the records of a text (`records_of`), the opening of its first record, the request of a
+//! trace record, the line of a history record, and the text of records. An event's record is a command's record with its answer, so one reader reads
+//! the command of both (`command_at`).
 //!
 //! `Records` reads one record after another from any reader, and `HistoryLines` the opening and the lines of a history. `Rows` writes records that
-//! were read, and texts of others, to any writer, many at a time. Both take memory for one record and one page. A reader never answers `Write`, and
-//! a writer never `Read` (clauses `input` and `device`).
+//! were read, and the text of other records, to any writer, many at a time. Both use memory for one record and one page. A reader never returns
+//! `Write`, and a writer never `Read` (clauses `input` and `device`).
 //!
-//! What crates above want of these definitions are laws: `answers_are_read_back`, `requests_are_written_again`, `texts_are_read_back`,
+//! Crates above use these definitions through laws: `answers_are_read_back`, `requests_are_written_again`, `texts_are_read_back`,
 //! `openings_are_checked`.
 #![tactic(auto)]
 

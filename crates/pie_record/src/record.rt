@@ -51,7 +51,7 @@ impl Model for Record {
     ghost invariant = { λ r. r.is_plain ≡ true → IsLine r.line.items r.ends.items };
 }
 
-/// Returns where the field at `place` begins, by the `ends` of the fields before it.
+/// Returns the place at which the field at `place` begins, by the `ends` of the fields before it.
 fn start_of(ends: &[usize], place: usize) -> usize
     requires within { place < length ends.now }
     requires fits { (i : ℕ) → i < length ends.now → get_or ends.now i 0 < 2 ^ 64 - 1 }
@@ -102,7 +102,7 @@ fn may_be_mark(line: &[u8], is_first: bool) -> bool
     }
 }
 
-/// Reads a line, and where its fields end.
+/// Reads a line and the ends of its fields.
 fn read_fields<R: Read>(
     alloc: Global,
     input: &mut Input<R>,
@@ -171,7 +171,7 @@ fn copy_fields(line: &[u8], ends: &[usize], fields: &mut ByteRecord) -> Result<(
     Ok(())
 }
 
-/// Returns what csv writes of these fields, with free lengths.
+/// Returns csv's text of these fields, with free lengths.
 fn quoted_text(alloc: Global, fields: &ByteRecord) -> Result<Vec<u8>, TraceFault>
     ensures text { IfOk result (λ bytes. bytes.items ≡ text_of (fields_of fields.now)) }
     ensures memory { IfErr result (λ why. why ≡ TraceFault.Memory) }
@@ -227,7 +227,7 @@ impl Record {
         Some(field_between(self.line.as_slice(), self.ends.as_slice(), place))
     }
 
-    /// Returns the text of the record: its line and a line feed, or what csv writes of its fields.
+    /// Returns the text of the record: its line and a line feed, or csv's text of its fields.
     ///
     /// # Errors
     ///

@@ -1,4 +1,4 @@
-//! The bytes of a plain line: where its fields end, and where it ends.
+//! Scans the bytes of a plain line for the ends of its fields and the end of the line.
 ghost use Rattle.std.specs.Prelude.{◌≡◌, ◌≤◌, ◌<◌, ◌+◌, ◌^◌, ◌++◌, ℕ, List, take};
 ghost use Rattle.pie_record.specs.{IfOk, length, commas, IsPlainLine, IsStop, IsScanned, Scans};
 

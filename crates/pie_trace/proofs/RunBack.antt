@@ -37,7 +37,7 @@ use Rattle.pie_event.specs.declared.refusal.Refusal.TheVariants as refusal
 use Rattle.pie_record.specs.declared.trace_record.Request.TheVariants as request
 use Rattle.pie_record.specs.declared.history_record.Line.TheVariants as line
 
--- how far a run has come
+-- the state of a run: its history is legal, fits its types, and contains the events of the tail
 pub record Sound (opening : Opening) (progress : Progress) : Type 0 where
   pub legal : IsLegal opening progress.history
   pub fit : All (λ event. CommandFits event.command) progress.history
@@ -178,7 +178,7 @@ rows-lines version held most opening number progress rows few opens =
       later (after-sound version held opening progress row request reads sound),
     )) number progress rows
 
--- how many there are
+-- the number of history records is within the limit
 pub few-left : (version : Version) (most : ℕ) (opening : Opening) (number : ℕ) (progress : Progress) (rows : List Row) → number ≤ most + 1
     → number + length (rows_left version most opening number progress rows) ≤ most + 1
 unfolding replies history_rows
@@ -301,7 +301,7 @@ pub record IsStepOfLine (opening : Opening) (progress : Progress) (line : Line) 
   pub events : progress.history ++ events_of (line ∷ []) ≡ later.history
   pub legal : IsLegal opening progress.history → IsLegal opening later.history
 
--- nothing
+-- a line without an event is a step that leaves the history unchanged
 lines-none : (opening : Opening) (progress : Progress) (line : Line) (held : ℕ) → event_in line ≡ None
     → IsStepOfLine opening progress line (record { history = progress.history; held = held })
 unfolding events_of
@@ -318,7 +318,7 @@ lines-next held opening progress (Fold n) = lines-none opening progress Note (af
 lines-next held opening progress (request.Clock clock) = lines-none opening progress (line.Clock clock) progress.held refl
 lines-next held opening progress _ = lines-none opening progress Note progress.held refl
 
--- all requests
+-- the state after no request
 after-none : (opening : Opening) (progress : Progress) → progress_after opening progress (steps_of []) ≡ progress
 unfolding progress_after steps_of
 after-none opening progress = refl
@@ -382,12 +382,12 @@ lines-legal held opening progress before requests made book_represents legal =
 
 -- ---- the whole text
 
--- what a history text is read back as
+-- the law of reading back a history text
 abbrev pub ReadBack : Type 0
 ReadBack = (most : ℕ) (row : Row) (rows : List Row) (opening : Opening) → 0 < most → most ≤ 2 ^ 32 → opening_of row ≡ Ok opening
     → IsHistoryText (history_text most (row ∷ rows)) opening (run_lines (version_of row) most opening rows)
 
--- what is found of legal lines
+-- the law that legal lines have a clean finding
 abbrev pub LegalIsClean : Type 0
 LegalIsClean = (text : List ℕ) (opening : Opening) (lines : List Line) → IsHistoryText text opening lines → AreLegal opening lines
     → text_finding (records_of text) ≡ Ok (Clean (length (events_of lines)))
@@ -439,7 +439,7 @@ whole-clean told clean held most (row ∷ rows) end few sound run_end = by (open
 
 -- ==== The audit finds the output of a run of an excerpt clean, with the events before it
 
--- what is wanted of the crates below
+-- the laws of the crates below
 pub record Below : Type 0 where
   pub held : Promises
   pub opens : (rows : List Row) (begun : Preamble) → resumed_of rows ≡ Ok begun → HasPreamble rows begun
@@ -450,7 +450,7 @@ pub record Below : Type 0 where
       → whole_finding opening past rows ≡ Clean (length (events_of (map Made past ++ excerpt_lines rows)))
   pub events : EventsAreLines
 
--- ---- its beginning
+-- ---- the preamble
 
 -- a beginning of no more records than are read
 record Within (most : ℕ) (rows : List Row) (b : Preamble) : Type 0 where
@@ -473,7 +473,7 @@ within most rows b e =
     let is = behind most rows b e in
     record { begun = grind (arith, nat_tests, is); few = grind (arith, nat_tests, is) }
 
--- ---- its text
+-- ---- the text
 
 text-resumed : (most : ℕ) (past : List Event) (rows : List Row) (b : Preamble) → resumed_within most rows ≡ Ok b
     → resumed_text most past rows
@@ -589,13 +589,13 @@ whole_ends opening earlier later =
 
 -- ==== A record of lost events is a fault of every excerpt
 
--- these records have it among them
+-- a record of `count` lost events among these records
 record HasLost (count : ℕ) (rows : List Row) : Type 0 where
   before : List Row
   after : List Row
   is : rows ≡ before ++ (lost_row count ∷ after)
 
--- it is no packet's
+-- a `lost` record of the rows is among those after the packets of the queue
 behind-queue : (count : ℕ) (waiting : List Waiting) (before after left : List Row)
     → before ++ (lost_row count ∷ after) ≡ map queued_row waiting ++ left → HasLost count left
 unfolding queued_row
@@ -604,13 +604,13 @@ behind-queue count (packet ∷ waiting) [] after left is = cc
 behind-queue count (packet ∷ waiting) (row ∷ before) after left is =
     behind-queue count waiting before after left (let rest : before ++ (lost_row count ∷ after) ≡ map queued_row waiting ++ left = cc in rest)
 
--- what pie_excerpt promises of all beginnings
+-- the laws of pie_excerpt on all preambles
 module _ (again : (row : Row) (rows : List Row) (begun : Preamble) → resumed_of (row ∷ rows) ≡ Ok begun
     → take begun.read (row ∷ rows) ≡ row ∷ map queued_row begun.core.waiting)
     (alone : (rows more : List Row) (begun : Preamble) → resumed_of rows ≡ Ok begun
     → resumed_of (take begun.read rows ++ more) ≡ Ok (record begun { left = more }))
     (opens : (rows : List Row) (begun : Preamble) → resumed_of rows ≡ Ok begun → HasPreamble rows begun) where
-  -- the records behind a beginning are those that are left
+  -- the records behind a preamble are those that its reader left
   left-is : (rows : List Row) (begun : Preamble) → resumed_of rows ≡ Ok begun → drop begun.read rows ≡ begun.left
   left-is rows begun is = same (resumed_of rows) (record begun { left = drop begun.read rows }) begun
       (ap resumed_of (sym (take-append-drop begun.read rows)) ∙ alone rows (drop begun.read rows) begun is) is

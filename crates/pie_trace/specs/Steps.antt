@@ -27,7 +27,7 @@ abbrev pub IsInState : BookView → Opening → RunState → Type 0
 IsInState book opening (looking_back progress) = IsAt book opening progress
 IsInState book opening (running it) = IsRunning book opening it
 
--- how many refusals a reply is
+-- 1 if a reply is a refusal, otherwise 0
 abbrev pub refusals_in : Reply → ℕ
 refusals_in given = cond (is_refused given) 1 0
 

@@ -135,9 +135,8 @@ pub fn migrating_again_changes_nothing()
     texts_are_read_back();
 }
 
-/// The history text of a run, migrated, is that of the run of the same trace with its first record in version two: of a trace of
-/// version one, of the trace that `open2` opens with profile one; a trace of a later version is written as it is. Where the trace has
-/// a fault, both are the text of the records before it.
+/// The history text of a run, migrated, is that of the run of the same trace with its first record in version two. For a trace of version one, that
+/// record is `open2` with profile one; a trace of a later version is unchanged. If the trace has a fault, both are the text of the records before it.
 ///
 /// It does nothing: its contract is the law (this project's own).
 #[tactic(auto, using(crate::proofs::MigrateFacts::run_migrated))]

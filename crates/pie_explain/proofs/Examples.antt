@@ -20,7 +20,7 @@ numbers : (setter_from None ≡ Unknown) × (setter_from (Some 0) ≡ Opening) �
     × (setter_number Unknown ≡ None) × (setter_number Opening ≡ None) × (setter_number (Event 97) ≡ Some 97)
 numbers = (refl, refl, refl, refl, refl, refl)
 
--- of events 101 to 200: event 5 and event 100 were before, event 0 and event 201 are none; of a text that opens no event was before
+-- of events 101 to 200: events 5 and 100 come earlier, events 0 and 201 do not exist; no event comes before a text that opens a book
 no-events : (no_event 100 5 200 ≡ Earlier 5 100) × (no_event 100 100 200 ≡ Earlier 100 100) × (no_event 100 0 200 ≡ NoEvent 0 200)
     × (no_event 100 201 200 ≡ NoEvent 201 200) × (no_event 0 0 4 ≡ NoEvent 0 4) × (no_event 0 5 4 ≡ NoEvent 5 4)
 no-events = (refl, refl, refl, refl, refl, refl)

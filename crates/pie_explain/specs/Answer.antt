@@ -42,14 +42,14 @@ answer_since choice start origin lines (Some why) = Err (Trace why)
 answer_since choice start origin lines None =
     answered choice start.events (length (explanations_since start origin choice lines)) (finding_from origin lines)
 
--- an answer says what the audit of the text answers: its fault, or its first difference; or there is none
+-- the result agrees with the audit of the text: with its fault, or its first difference, or it is clean
 abbrev pub IsAsAudited : Result Finding TraceFault → Result ℕ ExplainFault → Type 0
 IsAsAudited audited (Err (Trace why)) = is_device why ≡ false → audited ≡ Err why
 IsAsAudited audited (Err (Differs event)) = audited ≡ Ok (finding.Differs event)
 IsAsAudited audited (Err (NoEvent event events)) = audited ≡ Ok (Clean events)
 IsAsAudited audited other = (events : ℕ) × (audited ≡ Ok (Clean events))
 
--- ---- how far explaining has come
+-- ---- the state of an explanation
 
 -- the state after these lines: the report received the explanations of the chosen events after `start`, their text
 -- was appended to the output, and they were counted
@@ -61,13 +61,13 @@ pub record Explains (start : Start) (origin : Origin) (choice : Selection) (tale
   pub shown : shows (explanations_since start origin choice lines)
   pub written : Appends before now (tale (explanations_since start origin choice lines))
 
--- ---- how it ends
+-- ---- the end of an explanation
 
--- what is written: the whole tale of the chosen events, of those that a text has after its beginning
+-- the output: the whole text for the chosen events of the text
 abbrev pub IsExplanationText : Selection → (List Explained → List ℕ) → Start → Origin → List Line → List ℕ → Type 0
 IsExplanationText choice whole start origin lines explanation_texts = explanation_texts ≡ whole (explanations_since start origin choice lines)
 
--- all lines were looked at, and the explained events counted
+-- all lines were read, and the explained events were counted
 abbrev pub HasExplained : Selection → Start → Origin → List Line → Follower → ℕ → Type 0
 HasExplained choice start origin lines follower explained = (start.events ≡ follower.before) × AuditsFrom origin follower.auditor lines
     × (explained ≡ length (explanations_since start origin choice lines))

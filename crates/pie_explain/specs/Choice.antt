@@ -1,4 +1,4 @@
--- Which events are explained.
+-- The choice of the events to explain.
 use Rattle.std.specs.Prelude.{ℕ, ◌==◌, Bool, true, false, Option, Some, None}
 use Rattle.std.specs.Option.{option_map_or}
 use Rattle.pie_queue.specs.declared.packet.Packet.{Packet}
@@ -16,7 +16,7 @@ abbrev pub packet_left : Answer → Option Packet
 packet_left (Left packet) = Some packet
 packet_left _ = None
 
--- the packet that arrived, or else the one that left
+-- the packet that arrived, otherwise the one that left
 abbrev pub packet_in : Command → Answer → Option Packet
 packet_in (Arrive moment packet word) answer = Some packet
 packet_in _ answer = packet_left answer

@@ -45,7 +45,7 @@ with_after opening history told = record {
   delay = delay_after opening history;
 }
 
--- ---- the same of a core, whatever its state
+-- ---- the explanation by a core, whatever its state
 
 -- the effective moment of an event that a core is about to decide
 abbrev pub moment_at : CoreView → Event → ℕ
@@ -71,7 +71,7 @@ explanation_in core number event set_by clock = record {
 abbrev pub with_core : CoreView → Explanation → Explained
 with_core core told = record { told = told; after = registers_of core; delay = delay_in core.held (bytes_of core.waiting) }
 
--- ---- of an event of lines, wherever they begin
+-- ---- the explanation of an event of lines, wherever they begin
 
 -- the effective moment of an event after these
 abbrev pub moment_after : Origin → List Event → Event → ℕ

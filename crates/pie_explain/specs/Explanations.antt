@@ -5,7 +5,7 @@ use Rattle.pie_explain.specs.Names.{Explained, Explanation, Selection, Setter, p
 use Rattle.pie_explain.specs.Names.{ended_after, explanation_after, moment_after, setter_in}
 use Rattle.pie_audit.specs.Finding.{LinePlace, line_places, number_at}
 
--- an explanation where this holds
+-- the explanation if the flag is true
 abbrev pub explanation_if : Bool → Explanation → Option Explanation
 explanation_if true told = Some told
 explanation_if false told = None
@@ -17,7 +17,7 @@ explanation_of origin choice lines set_by (Made event) =
     (explanation_after origin (events_of lines) (count_after origin lines + 1) event set_by (latest_clock lines))
 explanation_of origin choice lines set_by _ = None
 
--- nothing from an event on that differs
+-- `None` from the first event that differs on
 abbrev pub explanation_unless : Option ℕ → Option Explanation → Option Explanation
 explanation_unless (Some event) told = None
 explanation_unless None told = told
@@ -25,14 +25,14 @@ explanation_unless None told = told
 abbrev pub explanation_before_difference : Origin → List Line → Option Explanation → Option Explanation
 explanation_before_difference origin lines told = explanation_unless (difference_from origin lines) told
 
--- what there is to say at a place, where no event up to it, itself included, differs
+-- the explanation at a place, if no event up to it, itself included, differs
 abbrev pub explanation_at : Origin → Selection → LinePlace → Option Explained
 explanation_at origin choice place =
     option_map (ended_after origin (events_of (place.before ++ place.line ∷ [])))
     (explanation_before_difference origin (place.before ++ place.line ∷ [])
     (explanation_of origin choice place.before (setter_in origin place.before) place.line))
 
--- what there is to say of the chosen events of these lines, in their order
+-- the explanations of the chosen events of these lines, in order
 unfoldable pub explanations : Origin → Selection → List Line → List Explained
 explanations origin choice lines = filter_map (explanation_at origin choice) (line_places lines)
 
@@ -42,11 +42,11 @@ explanations origin choice lines = filter_map (explanation_at origin choice) (li
 abbrev pub with_known_setter : Start → Explained → Explained
 with_known_setter start one = record one { told = record one.told { set_by = setter_from_start start one.told.set_by } }
 
--- what there is to say at a place, where it is of an event of the text
+-- the explanation at a place, if its event is one of the text
 abbrev pub explanation_since : Start → Origin → Selection → LinePlace → Option Explained
 explanation_since start origin choice place =
     if nat_lt start.events (number_at origin place) then option_map (with_known_setter start) (explanation_at origin choice place) else None
 
--- what there is to say of the chosen events of a history of these lines, of those that a text has which begins so
+-- the explanations of the chosen events of a text, given the lines of its whole history, in order
 unfoldable pub explanations_since : Start → Origin → Selection → List Line → List Explained
 explanations_since start origin choice lines = filter_map (explanation_since start origin choice) (line_places lines)

@@ -28,7 +28,7 @@ header form = header_of field_names form
 abbrev pub clock_for : Form → Option Clock → Option Clock
 clock_for form told = if form.by_wall then told else None
 
--- what is written of an explanation
+-- the text of an explanation
 unfoldable pub explanation_text : Form → Explained → List ℕ
 explanation_text form told = if form.csv then line_of (record_by form.by_wall told) else words_by (clock_for form told.told.clock) told
 

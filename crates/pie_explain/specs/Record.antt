@@ -43,19 +43,19 @@ verdict_word (Left packet) = word_of_answer explanation_texts.Left
 verdict_word (Updated delay prob burst) = codes "updated"
 verdict_word Done = word_of_answer explanation_texts.Done
 
--- the word of what decided an arrival; none for another event
+-- the keyword of an arrival's cause; empty for another event
 abbrev pub cause_word : Option Cause → List ℕ
 cause_word None = []
 cause_word (Some cause) = word_of_cause (name_of cause)
 
 -- ---- the record
 
--- the ECN field of the packet that an event is about, as in a history, empty where there is none
+-- the ECN field of an event's packet, as in a history; empty if there is none
 abbrev pub ecn_field : Option Packet → List ℕ
 ecn_field None = []
 ecn_field (Some packet) = ecn_word packet.ecn
 
--- a number, empty where there is none
+-- a number; empty if there is none
 abbrev pub number_field : Option ℕ → List ℕ
 number_field None = []
 number_field (Some n) = decimal n
@@ -65,12 +65,12 @@ abbrev pub word_of : Command → Option ℕ
 word_of (Arrive moment packet word) = Some word
 word_of _ = None
 
--- how long the packet had waited that left
+-- the waiting time of the packet that left
 abbrev pub wait_where : Answer → ℕ → Option ℕ
 wait_where (Left packet) waited = Some waited
 wait_where _ waited = None
 
--- whether the controller is active
+-- 1 if the controller is active, otherwise 0
 abbrev pub active_field : Bool → List ℕ
 active_field true = codes "1"
 active_field false = codes "0"
@@ -85,7 +85,7 @@ head_fields told =
 abbrev pub packet_fields : Option Packet → List (List ℕ)
 packet_fields packet = number_field (option_map (λ p. p.tag) packet) ∷ number_field (option_map (λ p. p.size) packet) ∷ []
 
--- what a controller holds: how much waits and how long, which mostly changes from one event to the next, and what often stays as it is
+-- a controller's numbers: bytes, packets and delay, which mostly change from one event to the next, and the others, which often stay unchanged
 abbrev pub steady_fields : ℕ → ℕ → ℕ → List (List ℕ)
 steady_fields prob accu burst = decimal prob ∷ decimal accu ∷ decimal burst ∷ []
 
@@ -93,17 +93,17 @@ abbrev pub held_fields : Registers → ℕ → List (List ℕ)
 held_fields held delay =
     decimal held.bytes ∷ decimal held.packets ∷ decimal delay ∷ steady_fields held.prob held.accu held.burst
 
--- what became of the event, what decided it, and the numbers that it met
+-- the verdict of the event, its cause, and the numbers before it
 abbrev pub condition_fields : Explanation → List (List ℕ)
 condition_fields told = verdict_word told.event.answer ∷ cause_word told.cause ∷ held_fields told.before told.delay
 
--- what else there is to say of it, and of the controller before it
+-- the other fields of the event and of the controller before it
 abbrev pub more_fields : Explanation → List (List ℕ)
 more_fields told =
     ecn_field (packet_of told.event) ∷ number_field (word_of told.event.command) ∷ number_field (wait_where told.event.answer told.waited)
     ∷ active_field told.before.active ∷ number_field (setter_number told.set_by) ∷ []
 
--- the twenty-seven fields, and all but the last, whether the controller is active after it
+-- the twenty-seven fields, and all of them except the last, the controller's activity after the event
 abbrev pub most_fields : Explained → List (List ℕ)
 most_fields all =
     head_fields all.told ++ packet_fields (packet_of all.told.event) ++ condition_fields all.told ++ more_fields all.told
@@ -112,7 +112,7 @@ most_fields all =
 abbrev pub record_of : Explained → List (List ℕ)
 record_of all = most_fields all ++ active_field all.after.active ∷ []
 
--- the time of day, empty where it is not known
+-- the wall-clock time; empty if it is unknown
 abbrev pub wall_field : Option ℕ → List ℕ
 wall_field None = []
 wall_field (Some unix) = utc_text unix
@@ -128,7 +128,7 @@ line_of [] = codes "\n"
 line_of (field ∷ []) = field ++ codes "\n"
 line_of (field ∷ (next ∷ fields)) = field ++ codes "," ++ line_of (next ∷ fields)
 
--- ---- its parts, as they are written
+-- ---- the fields in the order in which they are written
 
 -- these fields, each with a comma after it, before the end of a line
 abbrev pub onto : List (List ℕ) → List ℕ → List ℕ

@@ -1,4 +1,4 @@
--- Which events of a history are explained: those that are chosen, with an effective moment that is wanted.
+-- The selection of the events to explain: the chosen ones, with an effective moment within the bounds.
 use Rattle.std.specs.Prelude.{ℕ, Bool, true, false, not, ◌&&◌, ◌||◌, Option, Some, None, nat_le, is_some}
 use Rattle.pie_event.specs.declared.command.Event.{Event}
 use Rattle.pie_record.specs.declared.clock.Clock.{Clock}
@@ -13,7 +13,7 @@ abbrev pub time_of : Option Clock → ℕ → Option ℕ
 time_of None moment = None
 time_of (Some clock) moment = Some (unix_at clock moment)
 
--- a moment with this time of day is not before the first that is wanted, if there is one
+-- true if a moment is not before the first bound, or there is no first bound
 abbrev pub is_from : Option When → ℕ → Option ℕ → Bool
 is_from None moment time = true
 is_from (Some (Moment first)) moment time = nat_le first moment
@@ -32,6 +32,6 @@ abbrev pub picks : Selection → ℕ → ℕ → Option Clock → Event → Bool
 picks choice number moment clock event = chooses choice.which number event
     && (is_from choice.from moment (time_of clock moment) && is_to choice.to moment (time_of clock moment))
 
--- every moment is wanted
+-- the selection has no bound
 abbrev pub is_whole : Selection → Bool
 is_whole choice = not (is_some choice.from || is_some choice.to)

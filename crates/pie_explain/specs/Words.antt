@@ -1,4 +1,4 @@
--- An explanation in words, of some lines: what the event did, what decided it, and the numbers that it met.
+-- An explanation in words, of several lines: the event, its cause, and the numbers before it.
 use Rattle.std.specs.Prelude.{ℕ, ◌+◌, ◌-◌, ◌*◌, ◌/◌, ◌%◌, ◌^◌, ◌==◌, Bool, true, false, if◌then◌else◌, min, max, List, [], ◌∷◌, ◌++◌}
 use Rattle.std.specs.Prelude.{Option, Some, None, codes}
 use Rattle.std.specs.Fmt.{decimal}
@@ -55,7 +55,7 @@ word_text word =
     joined (decimal (word * 10 ^ 6 / 2 ^ 64 / 10 ^ 4) ∷ codes "." ∷ with_zeros 4 (word * 10 ^ 6 / 2 ^ 64 % 10 ^ 4) ∷ codes " % (" ∷ decimal word
     ∷ codes ")" ∷ [])
 
--- ---- what an event did
+-- ---- the event
 
 -- an ECN field as RFC 3168 names it
 abbrev pub ecn_name : Ecn → List ℕ
@@ -64,7 +64,7 @@ ecn_name Ect1 = codes "ECT(1)"
 ecn_name Ect0 = codes "ECT(0)"
 ecn_name Ce = codes "CE"
 
--- what became of an arriving packet
+-- the verdict on an arriving packet
 abbrev pub verdict_text : Answer → List ℕ
 verdict_text Enqueued = codes "queued"
 verdict_text Marked = codes "queued and marked"
@@ -99,9 +99,9 @@ deed_words number active (Update moment) answer waited = update_words number act
 deed_words number active (Reset moment) answer waited = joined (codes "event " ∷ decimal number ∷ codes ": a reset\n" ∷ [])
 deed_words number active (SetParams moment params) answer waited = joined (codes "event " ∷ decimal number ∷ codes ": new parameters\n" ∷ [])
 
--- ---- what decided an arrival
+-- ---- the cause of an arrival
 
--- why a picked packet was marked or dropped
+-- the fate of a picked packet, marked or dropped, with its reason
 unfoldable pub picked_words : Fate → List ℕ
 picked_words (fate.Marked threshold) = joined (codes "  marked: its endpoints understand a mark, and the probability is below " ∷ per_cent threshold
     ∷ codes "\n" ∷ [])
@@ -120,12 +120,12 @@ unfoldable pub sum_words : ℕ → ℕ → ℕ → List ℕ
 sum_words prob accu counted =
     joined (scaled_words prob counted ∷ codes "  the accumulated probability, with this one, is " ∷ per_cent (min (accu + counted) (2 ^ 64 - 1)) ∷ [])
 
--- what was accumulated where the random word decides; where nothing was, as when packets are picked by the word alone, nothing is said of it
+-- the accumulated probability, if the random word decides; if it is 0, as with packets picked by the word alone, only the scaled probability
 unfoldable pub accumulated_words : ℕ → ℕ → ℕ → List ℕ
 accumulated_words prob accu counted =
     if accu == 0 then scaled_words prob counted else joined (sum_words prob accu counted ∷ codes "\n" ∷ [])
 
--- what the random word is compared with
+-- the name of the number with which the random word is compared
 unfoldable pub counted_name : ℕ → ℕ → List ℕ
 counted_name prob counted = if counted == prob then codes "the probability" else codes "what that comes to"
 
@@ -135,7 +135,7 @@ compared_words name word counted outcome compares =
     joined (codes "  " ∷ outcome ∷ codes ": its random word, " ∷ word_text word ∷ codes ", " ∷ compares ∷ codes " " ∷ name ∷ codes ", "
     ∷ per_cent counted ∷ codes "\n" ∷ [])
 
--- where the probability counts as one above 0
+-- the cause of a considered packet whose scaled probability is above 0
 unfoldable pub considered_words : ℕ → Cause → List ℕ
 considered_words prob (LittleAccumulated accu counted) = joined (sum_words prob accu counted ∷ codes ", below 85 %\n" ∷ [])
 considered_words prob (PickedBySum accu counted picked) = joined (sum_words prob accu counted ∷ codes ", at least 850 %\n" ∷ picked_words picked ∷ [])
@@ -146,11 +146,11 @@ considered_words prob (WordNotBelow accu counted word) = joined
     (accumulated_words prob accu counted ∷ compared_words (counted_name prob counted) word counted (codes "not picked") (codes "is not below") ∷ [])
 considered_words prob _ = codes ""
 
--- where it counts as 0
+-- the cause of a packet whose scaled probability is 0
 unfoldable pub never_words : ℕ → List ℕ
 never_words prob = if prob == 0 then codes "  the probability is 0\n" else scaled_words prob 0
 
--- what decided it, at this probability
+-- the cause of an arrival at this probability
 unfoldable pub cause_words : ℕ → Cause → List ℕ
 cause_words shown (NoRoomInBytes bytes size limit) =
     joined (codes "  the queue holds " ∷ decimal bytes ∷ codes " bytes: with " ∷ decimal size ∷ codes " more it would be above its limit of "
@@ -186,7 +186,7 @@ unfoldable pub reason_words : Option Clock → Registers → Option Cause → Li
 reason_words clock before None = codes ""
 reason_words clock before (Some cause) = joined (cause_words before.prob cause ∷ lasting_words clock before.last cause ∷ [])
 
--- ---- whether the event turned the controller on or off
+-- ---- the controller's activity before and after the event
 
 -- the line for a change of activity, by the activity before and after the event
 unfoldable pub turned_words : Bool → Bool → List ℕ
@@ -195,7 +195,7 @@ turned_words true false = codes "  this event turned the controller off\n"
 turned_words true true = codes ""
 turned_words false false = codes ""
 
--- ---- what the controller held before the event
+-- ---- the controller's numbers before the event
 
 -- the moment of the last of `updates` updates, unless there was none
 unfoldable pub last_words : Option Clock → ℕ → ℕ → List ℕ

@@ -1,11 +1,11 @@
-//! Which events are explained.
+//! The choice of the events to explain.
 ghost use Rattle.std.specs.Prelude.{◌≡◌};
 ghost use Rattle.pie_explain.specs.Choice.{has_tag, is_lost, is_marked, packet_of};
 
 use pie_book::{Answer, Command, Event};
 use pie_queue::Packet;
 
-/// Which events of a history are explained.
+/// The choice of the events to explain.
 #[derive(Clone, Copy)]
 pub enum Which {
     /// The event with this number, counted from 1.

@@ -11,8 +11,7 @@ use pie_book::{Answer, Cause, Command, Core, Event, Registers};
 use pie_event::Setter;
 use pie_record::Clock;
 
-/// One event and the numbers that it met: all are those of before the event. Times are in nanoseconds, probabilities in units
-/// of `10^-12`.
+/// One event and the numbers before it. Times are in nanoseconds, probabilities in units of `10^-12`.
 #[derive(Clone, Copy)]
 pub struct Explanation {
     /// The number of the event, counted from 1.
@@ -112,7 +111,7 @@ impl Explained {
         Explained { told, after, delay }
     }
 
-    /// Takes what a core holds that has decided the event.
+    /// Stores the numbers of a core that has decided the event.
     #[inline(always)]
     pub(crate) fn end(&mut self, core: &Core)
         ensures after { (opening : Opening) (history : List Event) → Represents opening core.now history

@@ -6,7 +6,7 @@ use pie_record::Clock;
 /// The form of explanations.
 #[derive(Clone, Copy)]
 pub struct Form {
-    /// As CSV: a header row, and then one record an event; else in words, some lines an event.
+    /// True for CSV: a header row, and then one record for each event. False for words: several lines for each event.
     pub csv: bool,
     /// With wall-clock times, by the last clock record before the event. In words they replace the moments, if
     /// there is such a record. A CSV record has the wall-clock time of the effective moment as an additional last

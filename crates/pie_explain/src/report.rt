@@ -33,7 +33,7 @@ pub trait Report: Drop {
         ensures shown { IfOk result (λ state. shows self.now state []) }
         ensures written { OnOk result (page.new ≡ page.old ++ so_far self.now []) };
 
-    /// Writes onto a page what one more event adds.
+    /// Writes the text for one more event onto a page.
     fn report_event(
         &self,
         state: &mut Self::State,

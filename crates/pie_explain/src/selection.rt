@@ -1,4 +1,4 @@
-//! Which events are explained: those that are chosen, at the moments that are wanted.
+//! The selection of the events to explain: the chosen ones, with a moment within the bounds.
 ghost use Rattle.std.specs.Prelude.{◌≡◌};
 ghost use Rattle.pie_explain.specs.Selection.{is_from, is_to, time_of};
 
@@ -7,14 +7,14 @@ use pie_book::Event;
 use pie_record::Clock;
 use pie_units::When;
 
-/// Which events of a history are explained.
+/// The selection of the events to explain.
 #[derive(Clone, Copy)]
 pub struct Selection {
-    /// Which events are chosen.
+    /// The choice of events.
     pub which: Which,
-    /// The first effective moment or time of day that is wanted; none where every earlier one is.
+    /// The first effective moment or wall-clock time; `None` without such a bound.
     pub from: Option<When>,
-    /// The last that is wanted; none where every later one is.
+    /// The last effective moment or wall-clock time; `None` without such a bound.
     pub to: Option<When>,
 }
 

@@ -84,7 +84,7 @@ fn push_update(page: &mut String, number: u64, active: bool, answer: Answer) -> 
     }
 }
 
-/// The first lines: what the event did.
+/// Writes the first lines: the event and its outcome.
 #[tactic(auto, unfolding(crate::specs::Words::deed_words))]
 fn push_deed(page: &mut String, told: &Explanation) -> Written
     ensures { OnOk result (string_bytes page.new ≡ string_bytes page.old
@@ -164,7 +164,7 @@ fn push_sum(page: &mut String, prob: u64, accu: u64, counted: u64) -> Written
     )
 }
 
-/// Writes what was accumulated where the random word decides, if something was.
+/// Writes the accumulated probability, or, if it is 0, the scaled probability alone.
 #[tactic(auto, unfolding(crate::specs::Words::accumulated_words))]
 fn push_accumulated(page: &mut String, prob: u64, accu: u64, counted: u64) -> Written
     ensures { OnOk result (string_bytes page.new ≡ string_bytes page.old ++ accumulated_words prob accu counted) }
@@ -199,7 +199,7 @@ fn push_never(page: &mut String, prob: u64) -> Written
     push_scaled(page, prob, 0)
 }
 
-/// Why an arrival was decided so, at this probability.
+/// Writes the cause of an arrival at this probability.
 #[tactic(auto, unfolding(crate::specs::Words::cause_words))]
 fn push_cause(page: &mut String, shown: u64, cause: Cause) -> Written
     ensures { OnOk result (string_bytes page.new ≡ string_bytes page.old ++ cause_words shown cause) }
@@ -271,7 +271,7 @@ fn push_compared(
     )
 }
 
-/// Why an arrival was decided so that was considered, where the probability counted as one above 0.
+/// Writes the cause of a considered packet whose scaled probability was above 0.
 #[tactic(auto, unfolding(crate::specs::Words::considered_words))]
 fn push_considered(page: &mut String, shown: u64, cause: Cause) -> Written
     ensures { OnOk result (string_bytes page.new ≡ string_bytes page.old ++ considered_words shown cause) }
@@ -346,7 +346,7 @@ fn push_reason(
     }
 }
 
-/// The probability before the event, and what set it.
+/// Writes the probability before the event, and the event that set it.
 #[tactic(auto, unfolding(crate::specs::Words::setter_words))]
 fn push_setter(page: &mut String, set_by: Setter, before: &Registers) -> Written
     ensures { OnOk result (string_bytes page.new ≡ string_bytes page.old ++ setter_words set_by before.now) }

@@ -1,5 +1,4 @@
-//! The numbers of a controller that often stay as they are from one event to the next, where others change: their text is kept, and not
-//! written a second time.
+//! Keeps the text of a controller's numbers that often stay unchanged from one event to the next, instead of writing it a second time.
 ghost use Rattle.std.specs.Prelude.{◌≡◌, ◌+◌, ◌≤◌, [], length};
 ghost use Rattle.pie_explain.specs.Record.{held_fields, onto, steady_fields};
 ghost use Rattle.std.specs.Prelude.{true};
@@ -63,8 +62,8 @@ impl Steady {
     }
 }
 
-/// All numbers of a controller that were put last, and their text as fields of a row, each with a comma after it: what it holds after an event
-/// mostly is what it holds before the next.
+/// All numbers of a controller that were put last, and their text as fields of a row, each with a comma after it: the numbers after an event mostly
+/// are those before the next.
 #[derive(Drop)]
 pub(crate) struct Held {
     bytes: u64,

@@ -5,7 +5,7 @@ use pie_units::Utc;
 use std::fmt;
 use std::fmt::Display;
 
-/// A number, whose digits `itoa` finds in fewer instructions than `std::fmt`.
+/// A number in decimal digits, written with `itoa`, which needs fewer instructions than `std::fmt`.
 #[derive(Clone, Copy)]
 pub(crate) struct Digits(pub(crate) u64);
 
@@ -104,7 +104,7 @@ impl Display for Word {
     }
 }
 
-/// A count as a part of all, in per cent, rounded down; 0 where there are none.
+/// A count as a part of all, in per cent, rounded down; 0 if there are none.
 #[derive(Clone, Copy)]
 pub struct Share {
     /// The count.

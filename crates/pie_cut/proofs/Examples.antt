@@ -1,4 +1,4 @@
--- Which events are wanted, the segments of a text, and joints, worked: each theorem computes.
+-- Worked selections, segments of a text and joints: each theorem computes.
 use Rattle.std.specs.Prelude.{◌≡◌, ℕ, Option, Some, None, true, false, refl}
 use Rattle.pie_record.specs.Field.{number}
 use Rattle.pie_event.specs.declared.opening.Opening.{Opening}
@@ -15,11 +15,11 @@ use Rattle.std.proofs.Common.{ap, arith}
 
 -- ---- spans
 
--- all moments
+-- a selection by numbers alone
 abbrev numbers : ℕ → ℕ → Span
 numbers first last = record { first = first; last = last; from = None; to = None }
 
--- all numbers
+-- a selection by bounds alone
 abbrev within : Option When → Option When → Span
 within from to = record { first = 0; last = 18446744073709551615; from = from; to = to }
 

@@ -9,7 +9,7 @@ use Rattle.pie_summary.specs.Counts.{count_at, counts_of}
 pub kept-more : (n more most : ℕ) → min (min n most + more) most ≡ min (n + more) most
 kept-more n more most = omega arith
 
--- of nothing all counts are 0
+-- all counts of the empty list are 0
 pub none-counted : {X : Type 0} (place : X → ℕ) (first places : ℕ)
     → replicate places 0 ≡ map (λ wanted. count_at place wanted []) (range_with_len first places)
 none-counted place first zero = refl

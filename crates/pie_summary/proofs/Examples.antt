@@ -7,20 +7,20 @@ use Rattle.pie_summary.specs.Ranges.{end_within, range_end}
 use Rattle.pie_summary.specs.Aggregates.{mean_in, sum_in}
 use Rattle.pie_summary.specs.Words.{disagree}
 
--- what a theorem on a worked list computes with
+-- the definitions that theorems on a worked list unfold
 unfoldable worked : Type 0
 unfolding greatest last_or range_of range_end
 worked = ⊤
 
 -- ---- two times
 
--- they agree where the one is at least half the other, rounded down
+-- two times agree unless one is less than half the other, rounded down
 agreeing : map (disagree 8) (2 ∷ 3 ∷ 4 ∷ 8 ∷ 16 ∷ 17 ∷ 18 ∷ []) ≡ true ∷ true ∷ false ∷ false ∷ false ∷ false ∷ true ∷ []
 agreeing = refl
 
 -- ---- periods
 
--- of 100 ns each, of no length, and of none that is wanted
+-- intervals of 100 ns, of length 0, and no interval
 periods : (map (period_of (Some 100)) (0 ∷ 99 ∷ 100 ∷ 199 ∷ 250 ∷ []) ≡ 0 ∷ 0 ∷ 1 ∷ 1 ∷ 2 ∷ [])
     × (map (period_of (Some 0)) (0 ∷ 7 ∷ []) ≡ 0 ∷ 7 ∷ []) × (period_of None 250 ≡ 0)
 periods = (refl, refl, refl)

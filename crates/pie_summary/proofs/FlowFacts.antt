@@ -67,7 +67,7 @@ added-push all one = λ i. record {
   held = sum-more (λ n. n.held) all one i;
 }
 
--- of events with one more
+-- the sums of events with one more
 pub flow_sums_push : (shown : List Explained) (one : Explained)
     → added_up (flow_sums shown ∷ numbers_of (meter_input_of one) ∷ []) ≡ flow_sums (shown ++ one ∷ [])
 flow_sums_push shown one =
@@ -82,7 +82,7 @@ eight_digits n =
     let same : 8 - length (digits 16 false n) - 0 - 0 ≡ 8 - length (digits 16 false n) = omega arith in
     rw (same, append-nil (digits 16 false n)) refl
 
--- ---- all flows
+-- ---- the sums of all flows
 
 -- the events of a flow, with one more that is of it or is not
 of-push : (flow : ℕ) (shown : List Explained) (one : Explained) (b : Bool) → is_of flow one ≡ b
@@ -103,7 +103,7 @@ none_shown rows none = record {
   apart = subst (λ (rs : List (ℕ × Flow)). IsDistinct nat_eq (keys_of rs)) (sym none) tt;
 }
 
--- what was found of a flow
+-- the sums found for a flow
 abbrev pub sums_found : Option Flow → FlowSums
 sums_found (Some row) = row.sums
 sums_found None = added_up []
@@ -154,7 +154,7 @@ nothing_taken shown one rows has is = record {
   apart = has.apart;
 }
 
--- all rows, in their order
+-- all rows, in order
 pub rows_listed : (shown : List Explained) (rows : List (ℕ × Flow)) → HasFlows rows shown → values_of rows ≡ flows_of shown
 unfolding IsDistinct
 rows_listed shown rows has =

@@ -18,7 +18,7 @@ use Rattle.pie_summary.proofs.SumsFacts.{input-moment, times_kept, place_of, pla
 
 -- ---- periods
 
--- how many periods there are, with one more event
+-- the number of intervals, with one more event
 pub begun-push : (every : Option ℕ) (shown : List Explained) (one : Explained)
     → periods_begun every (shown ++ one ∷ [])
     ≡ min (periods_begun every shown + cond (starts (last_period every shown) (period_at every one)) 1 0) 18446744073709551615
@@ -35,9 +35,9 @@ within-period number every start end moment some start-is end-is from to =
     let few : moment - start < every = omega (arith, end-is, from, to) in
     ap (λ (m : ℕ). m / every) whole ∙ div-mul-add number every (moment - start) few
 
--- ---- its interval
+-- ---- the bounds of the interval under way
 
--- of an interval that has begun
+-- the bounds of an interval that has begun
 pub spans-begun : (begun number every start end : ℕ) → (begun ≡ 0 → ⊥) → start ≡ number * max every 1
     → end ≡ min (start + max every 1) 18446744073709551615 → Spans begun number every start end
 spans-begun begun number every start end some start-is end-is = record {
@@ -148,9 +148,9 @@ holds-taken period shown one meter waits awaits meter-is waits-is = record {
   spans = awaits.spans;
 }
 
--- ---- its record
+-- ---- the record of the interval
 
--- what is written at the end of no event, and of some
+-- the record at the end, of no event and of some
 pub at_last-none : (every : ℕ) (summary_text : List Explained → List ℕ) (all : List Explained) → last_period (Some every) all ≡ None
     → [] ≡ at_last (Some every) summary_text all
 at_last-none every summary_text all none = sym (ap (λ (last : Option ℕ). if is_some last then summary_text (last_events (Some every) all) else []) none)

@@ -41,7 +41,7 @@ last_events-push every shown one =
     ap (λ p. since every p (shown ++ one ∷ [])) (last_period-push every shown one)
     ∙ after_last-push_no (is_elsewhere every (period_at every one)) shown one (in_its_own every one)
 
--- an event that doesn't begin its period is in that which is under way
+-- an event that does not begin an interval is in the one under way
 pub under-way : (number : Option ℕ) (period : ℕ) → starts number period ≡ false → number ≡ Some period
 under-way None period same = cc
 under-way (Some before) period same = ap Some (eqb-true before period (twice (before == period) same))
@@ -50,7 +50,7 @@ under-way (Some before) period same = ap Some (eqb-true before period (twice (be
     twice true e = refl
     twice false e = sym e
 
--- in the interval under way, the last events are those of the interval
+-- within the interval under way, the last events are those of the interval
 pub since_same : (every : Option ℕ) (period : ℕ) (shown : List Explained) (before : Option ℕ) → before ≡ last_period every shown
     → starts before period ≡ false → since every (Some period) shown ≡ last_events every shown
 since_same every period shown before is same = ap (λ p. since every p shown) (sym (under-way before period same) ∙ is)
@@ -67,7 +67,7 @@ since_begun every period shown before is begun = by_end (ends-of shown)
         ap (λ all. since every (Some period) all) whole
         ∙ after_last-push_yes (is_elsewhere every period) front last (ap (λ b. starts b period) (sym known) ∙ begun)
 
--- where the last event has a period there are last events
+-- if the last event has an interval, there are last events
 pub some-events : (every : Option ℕ) (period : ℕ) (shown : List Explained) → last_period every shown ≡ Some period → last_events every shown ≡ [] → ⊥
 unfolding last_or
 some-events every period shown is empty = by_end (ends-of shown)
@@ -78,7 +78,7 @@ some-events every period shown is empty = by_end (ends-of shown)
         let nothing = ap length (sym (last_events-push every front last) ∙ ap (last_events every) (sym whole) ∙ empty) in
         omega (arith, nothing, length_push (since every (Some (period_at every last)) front) last)
 
--- ---- what is written of events with one more, and at their end
+-- ---- the output with one more event, and at the end
 
 pub written-push : (header : List ℕ) (at : Place Explained → List ℕ) (shown : List Explained) (one : Explained) (text : List ℕ)
     → text ≡ at (place_of shown one)

@@ -8,7 +8,7 @@ use Rattle.std.proofs.Math.Nat.{div-div-eq-div-mul, one-le-pow, pow-suc}
 use Rattle.pie_summary.specs.Ranges.{range_within}
 use Rattle.pie_summary.proofs.CountFacts.{counted-push, none-counted}
 
--- without its last digit a number has one less
+-- without its last digit, a number has one digit less
 pub shorter : (digits number : ℕ) → (digits ≡ 0 → ⊥) → number < 100 * 10 ^ digits → number / 10 < 100 * 10 ^ (digits - 1)
 shorter digits number some few = less (10 ^ (digits - 1)) (10 ^ digits) (ap (λ d. 10 ^ d) (omega (arith, some)) ∙ pow-suc 10 (digits - 1)) few
   where
@@ -53,7 +53,7 @@ search-step test place count within = longer (count - (place + 1)) (count - plac
         → find test (range_with_len place all) ≡ (if test place then Some place else find test (range_with_len (place + 1) rest))
     longer rest all is = rw is refl
 
--- what a search for a rank has left from a place on
+-- the search for a rank, from a place on
 abbrev pub from_place : List ℕ → ℕ → ℕ → Option ℕ
 from_place counts rank place = find (λ p. nat_le rank (sum (take (p + 1) counts))) (range_with_len place (length counts - place))
 
@@ -78,7 +78,7 @@ search-continues counts rank place missing within left short so_far =
           ∙ ap (λ b. if b then Some place else from_place counts rank (place + 1)) fails,
     )
 
--- of no number all ranges are empty
+-- all ranges are empty without a number
 pub no_ranges : replicate 1720 0 ≡ ranges_of []
 unfolding ranges_of
 no_ranges = none-counted range_of 0 1720

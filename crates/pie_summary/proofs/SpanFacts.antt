@@ -10,7 +10,7 @@ use Rattle.pie_summary.specs.declared.aggregates.Total.{Total}
 use Rattle.pie_summary.specs.Aggregates.{carried_over, counted_some, held_or}
 use Rattle.pie_summary.proofs.CountFacts.{kept-more}
 
--- ---- numbers of events, where a list of numbers has its step
+-- ---- aggregates of numbers of events, by one step for a list of numbers
 
 -- the aggregates of an optional number
 pub some-of-push : {S X : Type 0} (of : List ℕ → S) (number : X → Option ℕ) (shown : List X) (one : X) {read : Option ℕ} {old now : S}

@@ -32,7 +32,7 @@ waits-push shown one step is old-is = some-of-push ranges_of wait_in shown one s
 
 -- ---- a meter that awaits an event
 
--- what is noted of an event has its moment
+-- the meter's input for an event has the event's moment
 pub input-moment : (one : Explained) → (meter_input_of one).moment ≡ one.told.moment
 unfolding meter_input_by
 input-moment one = by one.told.event.answer
@@ -42,7 +42,7 @@ input-moment one = by one.told.event.answer
     by (Updated delay prob burst) = refl
     by _ = refl
 
--- where there are events before it the first moment is known
+-- if there are events before it, the first moment is known
 pub reached_later : (shown : List Explained) (one : Explained) → (shown ≡ [] → ⊥) → meter_in shown ≡ reached shown one
 unfolding meter_of
 reached_later [] one some = absurd (some refl)

@@ -10,11 +10,11 @@ use Rattle.pie_summary.specs.declared.aggregates.Span.{Span}
 use Rattle.pie_summary.specs.declared.aggregates.Total.{Total}
 use Rattle.pie_summary.specs.Counts.{kept}
 
--- how many there are, the first, and the last; all 0 where there is none
+-- the number of numbers, the first, and the last; all 0 if there is none
 abbrev pub bounds_of : List ℕ → Bounds
 bounds_of numbers = record { count = kept (length numbers); first = slice_index numbers 0; last = last_or 0 numbers }
 
--- the greatest, and the last; 0 where there is none
+-- the greatest number, and the last; 0 if there is none
 abbrev pub peak_of : List ℕ → Peak
 peak_of numbers = record { greatest = greatest numbers; last = last_or 0 numbers }
 
@@ -25,7 +25,7 @@ total_in all = record { high = all / 2 ^ 64; low = all % 2 ^ 64 }
 abbrev pub sum_in : Total → ℕ
 sum_in total = total.high * 2 ^ 64 + total.low
 
--- the sum of numbers, kept at the greatest number of 128 bits where it is above it
+-- the sum of numbers, at most the greatest number of 128 bits
 abbrev pub total_of : List ℕ → Total
 total_of numbers = total_in (min (sum numbers) (2 ^ 128 - 1))
 
@@ -37,17 +37,17 @@ mean_in count total = min (sum_in total / max count 1) (2 ^ 64 - 1)
 abbrev pub held_or : ℕ → ℕ → ℕ → ℕ
 held_or count held number = if count == 0 then number else held
 
--- a count with one more, where there is a number
+-- a count, and one more if there is a number
 abbrev pub counted_some : ℕ → Option ℕ → ℕ
 counted_some count None = count
 counted_some count (Some number) = kept (count + 1)
 
--- a sum with one more in its high part, or the greatest where that is as great as it can be
+-- a sum with 1 added to its high part, or the greatest sum if that part is at its maximum
 abbrev pub carried_over : Total → Total
 carried_over total =
     if total.high == 2 ^ 64 - 1 then record { high = total.high; low = 2 ^ 64 - 1 } else record { high = total.high + 1; low = total.low }
 
--- ---- of events
+-- ---- the span of events
 
 -- the effective moment of an event
 abbrev pub moment_at : Explained → ℕ

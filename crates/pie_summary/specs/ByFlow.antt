@@ -20,7 +20,7 @@ flow_header form = header_of flow_names form
 abbrev pub text_by_flow : ByFlow → List Explained → List ℕ
 text_by_flow by_flow all = flows_text by_flow.form (span_of all) by_flow.most (flows_of all)
 
--- what is written before the end: the header, and at each event the flows of the last events before it, where they are in another period
+-- the output before the end: the header, and at each event that begins an interval the flows of the interval before
 abbrev pub flows_so_far : ByFlow → List Explained → List ℕ
 flows_so_far by_flow all = flow_header by_flow.form ++ flat_map (at_end by_flow.every (text_by_flow by_flow)) (places all)
 
@@ -28,7 +28,7 @@ flows_so_far by_flow all = flow_header by_flow.form ++ flat_map (at_end by_flow.
 abbrev pub flows_whole : ByFlow → List Explained → List ℕ
 flows_whole by_flow all = flows_so_far by_flow all ++ at_last by_flow.every (text_by_flow by_flow) all
 
--- what a period has of these events: when they were, and their flows
+-- the state of an interval after these events: their span, and their flows
 pub record HoldsFlows (period : FlowPeriod) (all : List Explained) : Type 0 where
   pub span : period.span ≡ span_of all
   pub flows : HasFlows period.rows.entries all

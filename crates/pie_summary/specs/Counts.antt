@@ -2,11 +2,11 @@
 use Rattle.std.specs.Prelude.{ℕ, ◌-◌, ◌^◌, ◌==◌, min, List, map, count_by}
 use Rattle.std.specs.List.{range_with_len}
 
--- a count, kept at the greatest number of 64 bits where it is above it
+-- a count, at most the greatest number of 64 bits
 abbrev pub kept : ℕ → ℕ
 kept n = min n (2 ^ 64 - 1)
 
--- how many of these have this place
+-- the number of elements with this place
 abbrev pub count_at : {X : Type 0} → (X → ℕ) → ℕ → List X → ℕ
 count_at {X} place wanted all = kept (count_by (λ (one : X). place one == wanted) all)
 

@@ -12,7 +12,7 @@ use Rattle.pie_summary.specs.declared.meter_input.MeterInput.{MeterInput}
 use Rattle.pie_summary.specs.Counts.{kept}
 use Rattle.pie_summary.specs.Sums.{meter_input_of}
 
--- ---- of one event
+-- ---- the numbers of one event
 
 -- the flow of an event: that of the packet that arrived or left, the upper 32 bits of its tag; no other event has one
 abbrev pub flow_by : Command → Answer → Option ℕ
@@ -31,7 +31,7 @@ is_this flow (Some other) = flow == other
 abbrev pub is_of : ℕ → Explained → Bool
 is_of flow one = is_this flow (flow_in one)
 
--- 1 of an event whose answer has this place, and 0 of any other
+-- 1 for an event whose answer has this place, 0 for any other
 abbrev pub answered : ℕ → MeterInput → ℕ
 answered place one = if one.answer == place then 1 else 0
 
@@ -53,7 +53,7 @@ numbers_of one = record {
   held = kept (one.carried * (unwrap_or one.wait 0 / 1000));
 }
 
--- ---- of several
+-- ---- the numbers of several events
 
 -- the sums of several counts: each number is a sum, except the longest wait; the sum of waits has 128 bits
 unfoldable pub added_up : List FlowSums → FlowSums

@@ -20,7 +20,7 @@ use Rattle.pie_summary.specs.Words.{head_words, time_words}
 unfoldable pub flow_text : ℕ → List ℕ
 flow_text flow = joined (codes "0x" ∷ replicate (8 - length (digits 16 false flow)) 48 ∷ digits 16 false flow ∷ [])
 
--- what a row is of, in words and in CSV
+-- the name of a row, in words and in CSV
 unfoldable pub name_words : Name → List ℕ
 name_words (name.Of flow) = joined (codes "flow " ∷ flow_text flow ∷ [])
 name_words (name.Others count) = joined (codes "the other " ∷ decimal count ∷ codes " flows" ∷ [])
@@ -29,7 +29,7 @@ abbrev pub name_field : Name → List ℕ
 name_field (name.Of flow) = flow_text flow
 name_field (name.Others count) = codes "others"
 
--- ---- in words
+-- ---- rows in words
 
 -- the arrivals of a flow, its share of all bytes, and its share of the queue
 unfoldable pub amount_words : Name → FlowSums → FlowSums → List ℕ
@@ -41,13 +41,13 @@ amount_words name total sums =
 abbrev pub mean_wait : FlowSums → ℕ
 mean_wait sums = kept (sums.waited / max sums.left 1)
 
--- how long those had waited that left
+-- the departures: their number, their bytes, and their waiting times
 unfoldable pub wait_words : FlowSums → List ℕ
 wait_words sums =
     joined (codes "    left " ∷ decimal sums.left ∷ codes ", with " ∷ decimal sums.carried ∷ codes " bytes; they had waited at most "
     ∷ millis sums.greatest_wait ∷ codes ",\n    and in the mean " ∷ millis (mean_wait sums) ∷ codes "\n" ∷ [])
 
--- a flow, with what became of its packets
+-- a flow, with the verdicts on its packets
 unfoldable pub flow_words : Name → FlowSums → FlowSums → List ℕ
 flow_words name total sums =
     joined (amount_words name total sums
@@ -55,13 +55,13 @@ flow_words name total sums =
     ∷ codes ", without room in bytes " ∷ decimal sums.no_bytes ∷ codes ", in packets " ∷ decimal sums.no_packets ∷ codes "\n"
     ∷ wait_words sums ∷ [])
 
--- when the events of the flows were, by times of day or not, how many flows there are, and what arrived
+-- the span of the flows' events, with wall-clock times or not, the number of flows, and the arrivals
 unfoldable pub total_words : Bool → Span → ℕ → FlowSums → List ℕ
 total_words by_wall span count total =
     joined (head_words span.moments ∷ time_words by_wall (codes "  ") span.times
     ∷ codes "  " ∷ decimal count ∷ codes " flows: " ∷ decimal total.arrivals ∷ codes " arrivals, " ∷ decimal total.bytes ∷ codes " bytes\n" ∷ [])
 
--- ---- as a record
+-- ---- rows as records
 
 -- the names of the fields
 abbrev pub flow_names : List (List ℕ)
@@ -79,7 +79,7 @@ flow_record by_wall span name sums =
     joined (number_fields (span.moments.first ∷ span.moments.last ∷ []) ∷ name_field name ∷ codes "," ∷ number_fields (flow_numbers sums)
     ∷ last_fields by_wall sums.held span.times.count span.times.first ∷ [])
 
--- ---- in either form
+-- ---- rows in either form
 
 -- the text before the flows
 abbrev pub head_text : Heading → ℕ → List ℕ

@@ -23,7 +23,7 @@ flows_in all = distinct (filter_map flow_in all)
 abbrev pub flow_of : List Explained → ℕ → Flow
 flow_of all flow = record { number = flow; sums = flow_sums (filter (is_of flow) all) }
 
--- all flows
+-- all flows of these events
 abbrev pub flows_of : List Explained → List Flow
 flows_of all = map (flow_of all) (flows_in all)
 
@@ -50,11 +50,11 @@ first_of most flows = take most (in_order flows)
 abbrev pub is_among : List Flow → Flow → Bool
 is_among some one = list_any (λ other. one.number == other.number) some
 
--- the numbers of all flows but these
+-- the numbers of all flows except these
 abbrev pub sums_beside : List Flow → List Flow → FlowSums
 sums_beside some flows = added_up (map (λ one. one.sums) (filter (λ one. not (is_among some one)) flows))
 
--- ---- what is kept
+-- ---- the rows kept
 
 -- a flow with these events, if there are some
 abbrev pub row_of : ℕ → List Explained → Option Flow

@@ -16,7 +16,7 @@ pub use Rattle.pie_summary.specs.Sums.{HasConditions, meter_input_of}
 abbrev pub is_first : Option ℕ → Place Explained → Bool
 is_first every place = starts (last_period every place.before) (period_at every place.event)
 
--- how many periods these events are in, each counted where it begins
+-- the number of intervals of these events, each counted where it begins
 abbrev pub periods_begun : Option ℕ → List Explained → ℕ
 periods_begun every all = kept (count_by (is_first every) (places all))
 
@@ -33,8 +33,8 @@ pub record Spans (begun number every start end : ℕ) : Type 0 where
   pub starts : start ≡ (if begun == 0 then 0 else number * max every 1)
   pub ends : end ≡ (if begun == 0 then 0 else min (start + max every 1) (2 ^ 64 - 1))
 
--- what is kept is of these events: the period of the last one, how many periods there were, and the numbers and the waits of the last events as
--- far back as they are in the same period
+-- the state after these events: the interval of the last one, the number of intervals, and the numbers and the waiting times of the last events, as
+-- far back as they are in the same interval
 pub record Holds (period : LivePeriod) (all : List Explained) : Type 0 where
   pub number : number_in period ≡ last_period (length_of period) all
   pub begun : period.begun ≡ periods_begun (length_of period) all

@@ -41,21 +41,21 @@ abbrev pub starts : Option ℕ → ℕ → Bool
 starts None period = true
 starts (Some before) period = not (before == period)
 
--- what is written at an event: what is said of the last events before it, where they are in another period
+-- the output at an event: the summary of the last events before it, if they are in another interval
 abbrev pub at_end : Option ℕ → (List Explained → List ℕ) → Place Explained → List ℕ
 at_end every summary_text place =
     if begins (last_period every place.before) (period_at every place.event) then summary_text (last_events every place.before) else []
 
--- at the end something is said if all events are summed up together, or if there is an event, whose period is then known
+-- true if there is a summary at the end: all events are summed together, or there is an event, whose interval is then known
 abbrev pub has_summary : Option ℕ → Option ℕ → Bool
 has_summary None last = true
 has_summary (Some every) last = is_some last
 
--- what is written at the end: what is said of the last events
+-- the output at the end: the summary of the last events
 abbrev pub at_last : Option ℕ → (List Explained → List ℕ) → List Explained → List ℕ
 at_last every summary_text all = if has_summary every (last_period every all) then summary_text (last_events every all) else []
 
--- where the period with this number, if any, is that of the last of these events, this is so of the last events as far back as they are in it
+-- the state after these events: the number of the last event's interval, and a state of the last events, as far back as they are in that interval
 pub record Keeps (of : List Explained → Type 0) (every under_way : Option ℕ) (all : List Explained) : Type 0 where
   pub last : under_way ≡ last_period every all
   pub kept : of (last_events every all)

@@ -19,7 +19,7 @@ range_of number = range_within 18 number
 unfoldable pub range_end : ℕ → ℕ
 range_end range = if nat_lt range 10 then range else ((range - 10) % 90 + 11) * 10 ^ ((range - 10) / 90) - 1
 
--- how many of these numbers lie in each range
+-- the number of numbers in each range
 unfoldable pub ranges_of : List ℕ → List ℕ
 ranges_of numbers = counts_of range_of 1720 numbers
 
@@ -27,7 +27,7 @@ ranges_of numbers = counts_of range_of 1720 numbers
 abbrev pub first_up_to : List ℕ → ℕ → Option ℕ
 first_up_to counts rank = find (λ place. nat_le rank (sum (take (place + 1) counts))) (range_with_len 0 (length counts))
 
--- the greatest number of that range, or this greatest of all numbers where it is less
+-- the greatest number of that range, or `greatest` if it is less
 abbrev pub end_within : Option ℕ → ℕ → ℕ
 end_within None greatest = greatest
 end_within (Some range) greatest = min (range_end range) greatest

@@ -27,14 +27,14 @@ abbrev pub number_fields : List ℕ → List ℕ
 number_fields [] = []
 number_fields (number ∷ numbers) = decimal number ++ (codes "," ++ number_fields numbers)
 
--- how many events there were, each by its answer, when, and what arrived
+-- the number of events, summed over their answers, the first and the last moment, and the arrivals
 unfoldable pub first_fields : Meter → List ℕ
 first_fields meter =
     joined (number_fields (kept (sum meter.answers) ∷ meter.first ∷ meter.last ∷ meter.arrivals ∷ [])
     ∷ decimal (sum_in meter.arrived) ∷ codes "," ∷ [])
 
--- how long packets waited, what the updates made, and when the controller turned; with the wait of 99 of 100, the bytes carried, the target and
--- the burst allowance at the end, the time above the target, and how many packets had waited longer
+-- the waiting times, the numbers of the updates, and the changes of activity; with the waiting time of 99 of 100, the bytes carried, the target and
+-- the burst allowance at the end, the time above the target, and the number of packets that had waited longer
 abbrev pub later_numbers : Meter → ℕ → List ℕ
 later_numbers meter most =
     left_in meter ∷ meter.greatest_wait ∷ mean_in (left_in meter) meter.waits
@@ -51,7 +51,7 @@ last_fields true late timed time =
     if timed == 0 then joined (decimal late ∷ codes ",\n" ∷ [])
     else joined (decimal late ∷ codes "," ∷ utc_text time ∷ codes "\n" ∷ [])
 
--- a record of these numbers, with a time of day or not; in its middle the arrivals by what became of them, and by what decided them
+-- a record of these numbers, with a wall-clock time or not; between them the arrivals by verdict, and by cause
 unfoldable pub record_of : Bool → Meter → ℕ → List ℕ
 record_of by_wall meter most =
     joined (first_fields meter ∷ number_fields (take 5 meter.answers) ∷ number_fields meter.causes ∷ number_fields (later_numbers meter most)

@@ -36,13 +36,13 @@ summary_text_of form all = summary_text form (sums_of all) (waits_of all)
 abbrev pub is_lost_or_marked : Explained → Bool
 is_lost_or_marked one = chooses Lost one.told.number one.told.event || chooses Marked one.told.number one.told.event
 
--- what is said of an event by itself: its words, where packets are explained and it lost or marked one
+-- the words for an event by itself, if packets are explained and the event lost or marked one
 unfoldable pub event_words : Summary → Explained → List ℕ
 event_words summary one = if summary.packets && is_lost_or_marked one then words_by (clock_for summary.form one.told.clock) one else []
 
 -- ---- the whole
 
--- what is written at an event: a summary of the events before it, where it is in another period, and then what is said of it by itself
+-- the output at an event: the summary of the interval before, if the event begins another, and then the words for the event by itself
 abbrev pub written_at : Summary → Place Explained → List ℕ
 written_at summary place = at_end summary.every (summary_text_of summary.form) place ++ event_words summary place.event
 
@@ -58,7 +58,7 @@ summary_of summary all = summaries summary all ++ at_last summary.every (summary
 abbrev pub alone : SumsAlone → Summary
 alone it = record { form = it.form; every = it.every; packets = false }
 
--- what a period has of these events: their numbers, and their waits
+-- the state of an interval after these events: their numbers, and their waiting times
 pub record HoldsSums (period : Period) (all : List Explained) : Type 0 where
   pub sums : period.sums ≡ sums_of all
   pub waits : period.waits.value ≡ waits_of all

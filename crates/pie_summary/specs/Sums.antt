@@ -20,7 +20,7 @@ use Rattle.pie_summary.specs.Counts.{counts_of, kept}
 use Rattle.pie_summary.specs.Ranges.{ranges_of}
 use Rattle.pie_summary.specs.Aggregates.{bounds_of, peak_of, span_of, time_at, total_of}
 
--- ---- of one event
+-- ---- the meter's input for one event
 
 -- the place of an answer's count: queued, marked, dropped early, in bytes, in packets, a packet that left, none that did, an update, and
 -- a reset or new parameters
@@ -35,7 +35,7 @@ answer_place Empty = 6
 answer_place (Updated delay prob burst) = 7
 answer_place Done = 8
 
--- the place of the count of what decided an arrival, in the order of the decision; 15 of any other event
+-- the place of the count of an arrival's cause, in the order of the decision; 15 for any other event
 abbrev pub cause_place : Option Cause → ℕ
 cause_place (Some cause) = place_of_cause (name_of cause)
 cause_place None = 15
@@ -48,18 +48,19 @@ size_by _ = None
 abbrev pub size_in : Explained → Option ℕ
 size_in all = size_by all.told.event.command
 
--- the place of what decided an event
+-- the place of an event's cause
 abbrev pub cause_of : Explained → ℕ
 cause_of all = cause_place all.told.cause
 
--- this moment of an event, where it turned the controller on, or off: before it the controller was active or not, and is after it or not
+-- the moment of an event if it changed the controller's activity in this direction: `true` for on, `false` for off; then its activity before and
+-- after the event
 abbrev pub turned_at : Bool → Bool → Bool → ℕ → Option ℕ
 turned_at true false true moment = Some moment
 turned_at false true false moment = Some moment
 turned_at _ _ _ moment = None
 
--- what is noted of an event that met this and left that, whatever its kind: by the place of its answer, that of its cause, and the size of the
--- packet that arrived
+-- the meter's input for an event of any kind, by the numbers before and after it: with the place of its answer, that of its cause, and the size of
+-- the packet that arrived
 abbrev pub meter_input_plain : Conditions → ℕ → ℕ → Option ℕ → MeterInput
 meter_input_plain met answer cause arrived = record {
   answer = answer;
@@ -79,8 +80,8 @@ meter_input_plain met answer cause arrived = record {
   burst = met.burst;
 }
 
--- what a meter takes of it: of a packet that left also how long it had waited, and how much longer than the target, when it left, and its bytes;
--- and of an update, where the controller was active, its delay, and where that is above the target, how long it was since the update before
+-- the meter's input for an event. For a packet that left, also its waiting time, the excess of that over the target, its moment and its bytes; for an
+-- update of an active controller, its delay, and if that is above the target, the time since the update before
 unfoldable pub meter_input_by : Conditions → Answer → ℕ → Option ℕ → ℕ → MeterInput
 meter_input_by met (Left packet) cause arrived waited = record (meter_input_plain met 5 cause arrived) {
   wait = Some waited;
@@ -94,7 +95,7 @@ meter_input_by met (Updated delay prob burst) cause arrived waited = record (met
 }
 meter_input_by met answer cause arrived waited = meter_input_plain met (answer_place answer) cause arrived
 
--- what an event met and left, as it is explained
+-- the numbers before and after an event, from its explanation
 abbrev pub conditions_of_event : Explained → Conditions
 conditions_of_event one = record {
   moment = one.told.moment;
@@ -113,11 +114,11 @@ HasConditions met one = conditions_of_event one ≡ met
 abbrev pub meter_input_of : Explained → MeterInput
 meter_input_of one = meter_input_by (conditions_of_event one) one.told.event.answer (cause_of one) (size_in one) one.told.waited
 
--- how long the packet had waited that left
+-- the waiting time of the packet that left
 abbrev pub wait_in : Explained → Option ℕ
 wait_in one = (meter_input_of one).wait
 
--- the time of day of an event that turned the controller on, or off
+-- the wall-clock time of an event that turned the controller on, or off
 abbrev pub on_time : Explained → Option ℕ
 on_time one = option_and (meter_input_of one).turned_on (time_at one)
 
@@ -140,11 +141,11 @@ abbrev pub excess_within : Option ℕ → ℕ → ℕ
 excess_within None since = 0
 excess_within (Some excess) since = min excess since
 
--- how long the packet that left was the first in the queue and had waited longer than the target
+-- the time for which the packet that left was the first in the queue and had waited longer than the target
 abbrev pub late_at : Place MeterInput → ℕ
 late_at place = excess_within place.event.excess (place.event.moment - first_since place)
 
--- ---- of a list of events
+-- ---- the numbers of a list of events
 
 -- the numbers of a record, by the meter's inputs for the events and the wall-clock times that they have
 unfoldable pub meter_of : List MeterInput → List ℕ → Meter
@@ -184,7 +185,7 @@ awaiting shown one times = record (meter_of shown times) {
 abbrev pub timed_by : Meter → List ℕ → Meter
 timed_by meter times = record meter { timed = min (length times) 1; time = slice_index times 0 }
 
--- the numbers of these events, as they are explained, and where one more is the next
+-- the numbers of these events, from their explanations, and those before one more event
 abbrev pub meter_in : List Explained → Meter
 meter_in all = meter_of (map meter_input_of all) (filter_map time_at all)
 
@@ -200,6 +201,6 @@ sums_of all = record {
   off_times = bounds_of (filter_map off_time all);
 }
 
--- how many of the waits of packets that left lie in each range
+-- the number of waiting times in each range
 unfoldable pub waits_of : List Explained → List ℕ
 waits_of all = ranges_of (filter_map wait_in all)

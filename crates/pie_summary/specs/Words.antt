@@ -1,4 +1,4 @@
--- A summary in words: what became of the arrivals and why, how long packets waited, what the updates made, and when the controller turned.
+-- A summary in words: the arrivals by verdict and by cause, the waiting times, the numbers of the updates, and the changes of activity.
 use Rattle.std.specs.Prelude.{ℕ, ◌-◌, ◌/◌, ◌==◌, ◌||◌, nat_lt, Bool, true, false, List, [], ◌∷◌, ◌++◌, slice_index, codes}
 use Rattle.std.specs.Prelude.{if◌then◌else◌}
 use Rattle.std.specs.Fmt.{decimal}
@@ -18,14 +18,14 @@ use Rattle.pie_summary.specs.Aggregates.{mean_in, sum_in}
 unfoldable pub row_words : List ℕ → ℕ → ℕ → List ℕ
 row_words name count all = joined (codes "    " ∷ name ∷ codes ": " ∷ decimal count ∷ codes ", " ∷ share count all ∷ codes "\n" ∷ [])
 
--- what became of the arrivals
+-- the arrivals by verdict
 unfoldable pub verdict_words : List ℕ → ℕ → List ℕ
 verdict_words answers all =
     joined (row_words (codes "queued") (slice_index answers 0) all ∷ row_words (codes "queued and marked") (slice_index answers 1) all
     ∷ row_words (codes "dropped early") (slice_index answers 2) all ∷ row_words (codes "dropped, no room in bytes") (slice_index answers 3) all
     ∷ row_words (codes "dropped, no room in packets") (slice_index answers 4) all ∷ [])
 
--- how many arrivals a cause decided; nothing where it decided none
+-- the number of arrivals with this cause; nothing if there is none
 unfoldable pub cause_row : CauseName → List ℕ → ℕ → List ℕ
 cause_row name causes all =
     if slice_index causes (place_of_cause name) == 0 then []
@@ -53,7 +53,7 @@ time_words true spaces times =
     if times.count == 0 then []
     else joined (spaces ∷ codes "by the time of day from " ∷ utc_text times.first ∷ codes " to " ∷ utc_text times.last ∷ codes "\n" ∷ [])
 
--- how many packets left
+-- the number of packets that left
 abbrev pub left_in : Meter → ℕ
 left_in meter = slice_index meter.answers 5
 
@@ -69,7 +69,7 @@ update_words meter =
     ∷ codes ",\n    and the last " ∷ millis meter.delays.last ∷ codes "\n  the greatest probability was " ∷ per_cent meter.probs.greatest
     ∷ codes ", and the last " ∷ per_cent meter.probs.last ∷ codes "\n" ∷ [])
 
--- of two times, one is less than half the other, rounded down
+-- true if one of two times is less than half the other, rounded down
 abbrev pub disagree : ℕ → ℕ → Bool
 disagree one other = nat_lt one (other / 2) || nat_lt other (one / 2)
 
@@ -88,15 +88,15 @@ above_words meter =
     ∷ codes " of those that left, had waited longer than the target,\n    at the head of the queue for " ∷ millis meter.late ∷ codes "\n"
     ∷ disagree_words meter.above meter.late ∷ [])
 
--- how long the packets that left had waited, with the wait of 99 of 100, and the bytes that they carried; what the updates made, and how long the
--- delays and the waits were above the target
+-- the waiting times of the packets that left, with that of 99 of 100, and the bytes that they carried; the numbers of the updates, and the times for
+-- which delays and waiting times were above the target
 unfoldable pub later_words : Meter → ℕ → List ℕ
 later_words meter most =
     joined (codes "  " ∷ decimal (left_in meter) ∷ codes " packets left; they had waited at most " ∷ millis meter.greatest_wait
     ∷ codes ",\n    and in the mean " ∷ millis (mean_in (left_in meter) meter.waits) ∷ codes "\n    99 of 100 had waited at most " ∷ millis most
     ∷ codes "\n    they carried " ∷ decimal meter.carried ∷ codes " bytes\n" ∷ update_words meter ∷ above_words meter ∷ [])
 
--- when the controller turned on, or off; nothing where it never did
+-- the moments at which the controller turned on, or off; nothing if it never did
 unfoldable pub turned_words : List ℕ → Bounds → List ℕ
 turned_words way turned =
     if turned.count == 0 then []
@@ -110,7 +110,7 @@ turning_words by_wall sums =
     joined (turned_words (codes "on") sums.meter.turned_on ∷ time_words by_wall (codes "    ") sums.on_times
     ∷ turned_words (codes "off") sums.meter.turned_off ∷ time_words by_wall (codes "    ") sums.off_times ∷ [])
 
--- how many packets arrived, what became of them, and why
+-- the number of packets that arrived, by verdict and by cause
 unfoldable pub arrival_words : Meter → List ℕ
 arrival_words meter =
     joined (codes "  " ∷ decimal meter.arrivals ∷ codes " arrivals, " ∷ decimal (sum_in meter.arrived) ∷ codes " bytes\n"

@@ -21,7 +21,7 @@ pub struct Bounds {
     pub last: u64,
 }
 
-/// The greatest of some numbers, and the last; 0 where there was none.
+/// The greatest of some numbers, and the last; 0 if there was none.
 #[repr(C)]
 #[derive(Clone, Copy, Default)]
 pub struct Peak {
@@ -31,13 +31,13 @@ pub struct Peak {
     pub last: u64,
 }
 
-/// The sum of some numbers, and 2^128 - 1 where it is more.
+/// The sum of some numbers, at most 2^128 - 1.
 #[repr(C)]
 #[derive(Clone, Copy, Default)]
 pub struct Total {
-    /// Its high 64 bits.
+    /// The high 64 bits.
     pub high: u64,
-    /// Its low 64 bits.
+    /// The low 64 bits.
     pub low: u64,
 }
 

@@ -13,8 +13,8 @@ use pie_explain::{Explained, Form, Report, push_header};
 use pie_text::Page;
 use std::alloc::AllocError;
 
-/// Sums of the explained events by flow: what arrived, what became of it and how long it waited, of each of the flows with the most bytes,
-/// and of all others in one. Of all events, or of each period that has some; each is written when its last event is known.
+/// Sums of the explained events by flow: the arrivals, their verdicts and the waiting times, for each of the flows with the most bytes, and for all
+/// others together. The sums are those of all events, or of each interval that has some; each is written when its last event is known.
 ///
 /// A flow is the upper 32 bits of its packets' tags (this project's own). Memory is taken for each flow of a period.
 #[derive(Clone, Copy)]

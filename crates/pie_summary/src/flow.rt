@@ -42,11 +42,11 @@ fn count(rows: &mut IndexMap<u32, Flow>, flow: u32, told: &Explained) -> Result<
     }
 }
 
-/// Takes one more event.
+/// Counts one more event.
 ///
 /// # Errors
 ///
-/// `AllocError` where it is the first of its flow, and there is no memory for it.
+/// `AllocError` if it is the first of its flow, and there is no memory for it.
 pub(crate) fn take(rows: &mut IndexMap<u32, Flow>, told: &Explained) -> Result<(), AllocError>
     ensures { (shown : List Explained) → HasFlows rows.old.entries shown
         → OnOk result (HasFlows rows.new.entries (shown ++ told.now ∷ [])) }
@@ -129,7 +129,7 @@ fn is_among(some: &[Flow], one: &Flow) -> bool
     }
 }
 
-/// With the numbers of one more flow, where it is none of these.
+/// Adds the numbers of one more flow, unless it is one of these.
 #[tactic(auto, using(crate::proofs::FlowFacts::beside_more, crate::proofs::FlowFacts::beside_same))]
 fn with_beside(sums: FlowSums, some: &[Flow], one: &Flow) -> FlowSums
     ensures { (flows : List Flow) → sums ≡ sums_beside some.now flows → result ≡ sums_beside some.now (flows ++ one.now ∷ []) }

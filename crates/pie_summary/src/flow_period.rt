@@ -39,7 +39,7 @@ impl FlowPeriod {
         }
     }
 
-    /// Forgets the events before one that is in this period, where they are in another.
+    /// Drops the earlier events if they are in another interval than this one.
     #[tactic(auto, using(crate::proofs::FlowFacts::none_shown, crate::proofs::PeriodFacts::since_begun, crate::proofs::PeriodFacts::since_same), unfolding(pie_aqm::specs::Places::last_or))]
     fn begin(&mut self, period: u64)
         ensures { (shown : List Explained) (every : Option ℕ) → Keeps (HoldsFlows self.old) every self.old.number shown
@@ -51,11 +51,11 @@ impl FlowPeriod {
         }
     }
 
-    /// Takes one more event.
+    /// Counts one more event.
     ///
     /// # Errors
     ///
-    /// `AllocError` where there is no memory for its flow.
+    /// `AllocError` if there is no memory for its flow.
     pub(crate) fn take(&mut self, every: Option<u64>, told: &Explained) -> Result<(), AllocError>
         ensures { (shown : List Explained) → Keeps (HoldsFlows self.old) every self.old.number shown
             → OnOk result (Keeps (HoldsFlows self.new) every self.new.number (shown ++ told.now ∷ [])) }

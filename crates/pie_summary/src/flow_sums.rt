@@ -9,7 +9,7 @@ use crate::meter_input::{
 use pie_book::{Answer, Command};
 use pie_explain::Explained;
 
-/// The numbers of a flow, or of several, each over all events that were shown: 2^64 - 1 where a number would be above it.
+/// The numbers of a flow, or of several, each over all events so far, at most 2^64 - 1.
 #[derive(Clone, Copy, Default)]
 pub struct FlowSums {
     /// The number of arrivals.
@@ -74,7 +74,7 @@ fn numbers_of(one: &MeterInput) -> FlowSums
 }
 
 impl FlowSums {
-    /// Of nothing.
+    /// Returns the numbers of no event.
     #[tactic(auto, unfolding(crate::specs::FlowSums::added_up, pie_aqm::specs::Places::greatest))]
     pub(crate) fn empty() -> FlowSums
         ensures { result ≡ added_up [] }
@@ -103,7 +103,7 @@ impl FlowSums {
         }
     }
 
-    /// With one more event.
+    /// Returns the numbers with one more event.
     #[tactic(auto, using(crate::proofs::FlowFacts::flow_sums_push))]
     pub(crate) fn with(self, all: &Explained) -> FlowSums
         ensures { (shown : List Explained) → self ≡ flow_sums shown → result ≡ flow_sums (shown ++ all.now ∷ []) }

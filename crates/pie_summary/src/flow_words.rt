@@ -19,7 +19,7 @@ use std::fmt::Display;
 pub enum Name {
     /// The flow of this number.
     Of(u32),
-    /// So many others.
+    /// The other flows together, of this number.
     Others(u64),
 }
 
@@ -85,7 +85,7 @@ fn push_amount(page: &mut String, name: Name, total: &FlowSums, sums: &FlowSums)
     )
 }
 
-/// The mean wait of the packets that left, rounded down; 0 where none did.
+/// Returns the mean waiting time of the packets that left, rounded down; 0 if none did.
 fn mean_wait(sums: &FlowSums) -> u64
     ensures { result ≡ mean_wait sums.now }
 {
@@ -120,7 +120,7 @@ fn push_words(page: &mut String, name: Name, total: &FlowSums, sums: &FlowSums) 
     push_wait(page, sums)
 }
 
-/// When the events of the flows were, by times of day or not, how many flows there are, and what arrived.
+/// Writes the span of the flows' events, with wall-clock times or not, the number of flows, and the arrivals.
 #[tactic(auto, unfolding(crate::specs::FlowWords::total_words))]
 fn push_total(
     page: &mut String,

@@ -1,10 +1,10 @@
-//! Summaries of a saved history: how many arrivals each verdict and each cause had, how long packets waited, what the updates made, and
-//! when the controller turned on and off; of all events, or of each period that has some.
+//! Summaries of a saved history: the number of arrivals by verdict and by cause, the waiting times, the numbers of the updates, and the changes of
+//! the controller's activity; of all events, or of each interval that has some.
 //!
-//! `Summary` is a report that `explain` of pie_explain writes of the chosen events, and its text is `summary_of` them. The numbers of a
-//! summary are those of `sums_of`, which looks at the whole list of its events. Each event costs the same, and nothing is kept of it but
-//! the numbers. With `packets` each packet that was lost or marked is explained between the summaries, so that a history is read once for both.
-//! `SumsAlone` writes the summaries without packets, in less time for an event.
+//! `Summary` is a report that `explain` of pie_explain writes about the chosen events, and its text is `summary_of` them. The numbers of a summary
+//! are those of `sums_of`, which is defined on the whole list of its events. Each event has the same cost, and only the numbers are kept. With
+//! `packets` each packet that was lost or marked is explained between the summaries, so one pass over a history gives both. `SumsAlone` writes the
+//! summaries without packets, in less time for each event.
 #![tactic(auto)]
 
 pub mod aggregates;

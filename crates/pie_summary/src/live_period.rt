@@ -16,7 +16,7 @@ use pie_explain::time_of;
 use pie_record::Clock;
 use pie_text::LongRow;
 
-/// The numbers of the last events, as far back as they are in the same period, as `pie explain --every` sums them up.
+/// The numbers of the last events, as far back as they are in the same interval, as `pie explain --every` sums them up.
 #[repr(C)]
 #[derive(Drop)]
 pub struct LivePeriod {
@@ -26,7 +26,7 @@ pub struct LivePeriod {
     pub wall: u64,
     /// The number of intervals with events that have begun: 0 before the first event.
     pub begun: u64,
-    /// The number of the period under way, counted from 0 for the one that begins at moment 0.
+    /// The number of the interval under way, counted from 0 for the one that begins at moment 0.
     pub number: u64,
     /// The moment at which the interval begins: `number * every`; 0 before the first event.
     pub start: u64,
@@ -37,7 +37,7 @@ pub struct LivePeriod {
     pub told: u64,
     /// The moment of that wall-clock time.
     pub clock_moment: u64,
-    /// That time of day, in nanoseconds after 1970-01-01T00:00:00Z.
+    /// The wall-clock time at that moment, in nanoseconds after 1970-01-01T00:00:00Z.
     pub clock_unix: u64,
     /// The numbers of the events in it.
     pub meter: Meter,

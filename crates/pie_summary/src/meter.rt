@@ -1,4 +1,4 @@
-//! The numbers of a period that is summed up as it goes, in memory that its owner has: what the record of a summary is made of, and no more.
+//! The numbers of an interval that is summed up event by event, in memory of its owner: those of a summary's record, and no others.
 ghost use Rattle.std.specs.Prelude.{◌≡◌, ◌+◌, ◌-◌, ◌^◌, ◌<◌, ◌++◌, ◌∷◌, [], ℕ, List, length, min, nat_lt, slice_index};
 ghost use Rattle.std.specs.Prelude.{slice_set, if◌then◌else◌};
 ghost use Rattle.std.specs.List.{cons_option};
@@ -24,7 +24,7 @@ pub struct Meter {
     pub causes: [u64; 15],
     /// The effective moment of the first event, in nanoseconds.
     pub first: u64,
-    /// That of the last event.
+    /// The effective moment of the last event.
     pub last: u64,
     /// The moment since which the next packet to depart is the first in the queue, as far as these events show: the
     /// moment of the last departure, or of the first event if there was none.
@@ -43,7 +43,7 @@ pub struct Meter {
     pub probs: Peak,
     /// The moments of the events that turned the controller on.
     pub turned_on: Bounds,
-    /// The moments of those that turned it off.
+    /// The moments of the events that turned the controller off.
     pub turned_off: Bounds,
     /// 1 if an event has a wall-clock time, otherwise 0.
     pub timed: u64,
@@ -56,7 +56,7 @@ pub struct Meter {
     pub above: u64,
     /// The number of departed packets that waited longer than the target.
     pub longer: u64,
-    /// For how long, in nanoseconds, the first packet in the queue had waited longer than the target.
+    /// The time, in nanoseconds, for which the first packet in the queue had waited longer than the target.
     pub late: u64,
     /// The target after the last event, in nanoseconds.
     pub target: u64,
@@ -74,7 +74,7 @@ fn count<const N: usize>(counts: &mut [u64; N], place: usize)
     counts[place] = held.saturating_add(1);
 }
 
-/// Counts one more at the place of what decided an arrival; any other event's place lies behind them.
+/// Counts one more at the place of an arrival's cause; the place of any other event is after the counts.
 #[inline(always)]
 fn count_cause(causes: &mut [u64; 15], place: usize)
     ensures { causes.new ≡ (if nat_lt place 15 then slice_set causes.old place (min (slice_index causes.old place + 1) (2 ^ 64 - 1))
@@ -85,7 +85,7 @@ fn count_cause(causes: &mut [u64; 15], place: usize)
     }
 }
 
-/// Counts one more where there is a number.
+/// Counts one more if there is a number.
 #[inline(always)]
 fn count_some(count: &mut u64, number: Option<u64>)
     ensures { count.new ≡ counted_some count.old number }
@@ -119,7 +119,7 @@ impl Meter {
         }
     }
 
-    /// Notes the time of day of an event, where it is the first that has one.
+    /// Stores the wall-clock time of an event, if it is the first that has one.
     #[inline(always)]
     #[tactic(auto, using(crate::proofs::SumsFacts::time_noted, crate::proofs::SumsFacts::times_kept))]
     pub(crate) fn record_time(&mut self, time: Option<u64>)
@@ -146,7 +146,7 @@ impl Meter {
         }
     }
 
-    /// Takes the event that it awaits. Where it is compiled, what its kind has none of costs nothing.
+    /// Counts the event that the meter awaits. The compiler leaves out the numbers that the event's kind does not have.
     #[inline(always)]
     pub(crate) fn take(&mut self, noted: &MeterInput)
         requires { noted.now.answer < 9 }

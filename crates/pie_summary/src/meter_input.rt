@@ -39,7 +39,7 @@ pub struct MeterInput {
     /// The place of its answer's count, 0 to 8: queued, marked, dropped early, in bytes, in packets, a packet that left, none that did, an
     /// update, and a reset or new parameters.
     pub answer: usize,
-    /// The place of the count of what decided it, 0 to 14 of an arrival, in the order of the decision, and 15 of any other event.
+    /// The place of the count of its cause: 0 to 14 for an arrival, in the order of the decision, and 15 for any other event.
     pub cause: usize,
     /// Its effective moment, in nanoseconds.
     pub moment: u64,
@@ -49,15 +49,15 @@ pub struct MeterInput {
     pub wait: Option<u64>,
     /// The effective moment of a packet's departure.
     pub left: Option<u64>,
-    /// Of one that had waited longer than the target how much longer, in nanoseconds.
+    /// The excess of a departing packet's waiting time over the target, in nanoseconds, if it is above the target.
     pub excess: Option<u64>,
     /// The delay that an update took while the controller was active, in nanoseconds.
     pub delay: Option<u64>,
     /// The probability after it, in units of 10^-12.
     pub prob: u64,
-    /// Its effective moment, where it turned the controller on.
+    /// Its effective moment, if it turned the controller on.
     pub turned_on: Option<u64>,
-    /// Its effective moment, where it turned the controller off.
+    /// Its effective moment, if it turned the controller off.
     pub turned_off: Option<u64>,
     /// The size of a departing packet, in bytes.
     pub carried: u64,
@@ -111,7 +111,7 @@ fn answer_place(answer: Answer) -> usize
     }
 }
 
-/// The place of the count of what decided an arrival; 15 of any other event.
+/// Returns the place of the count of an arrival's cause; 15 for any other event.
 fn cause_place(cause: Option<Cause>) -> usize
     ensures place { result ≡ cause_place cause }
     ensures within { result < 16 }

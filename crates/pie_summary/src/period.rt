@@ -43,7 +43,7 @@ pub(crate) fn starts(before: Option<u64>, period: u64) -> bool
     }
 }
 
-/// Returns true if something is said at the end: of all events together, or of the last interval, whose number is `last`, if there is an event.
+/// Returns true if there is a summary at the end: of all events together, or of the last interval, whose number is `last`, if there is an event.
 pub(crate) fn has_summary(every: Option<u64>, last: Option<u64>) -> bool
     ensures { result ≡ has_summary every last }
 {
@@ -65,11 +65,11 @@ pub struct Period {
 }
 
 impl Period {
-    /// No event yet. All memory is taken here.
+    /// Returns the state before the first event. All memory is taken here.
     ///
     /// # Errors
     ///
-    /// `AllocError` where there is none.
+    /// `AllocError` if there is no memory.
     #[tactic(auto, using(crate::proofs::RangeFacts::no_ranges), unfolding(crate::specs::Sums::waits_of))]
     pub(crate) fn empty(alloc: Global) -> Result<Period, AllocError>
         ensures { IfOk result (λ period. (period.number ≡ None) × HoldsSums period []) }
@@ -82,7 +82,7 @@ impl Period {
         })
     }
 
-    /// Forgets the events before one that is in this period, where they are in another.
+    /// Drops the earlier events if they are in another interval than this one.
     #[tactic(auto, using(crate::proofs::PeriodFacts::since_begun, crate::proofs::PeriodFacts::since_same), unfolding(crate::specs::Sums::waits_of))]
     fn begin(&mut self, period: u64)
         ensures { (shown : List Explained) (every : Option ℕ) → Keeps (HoldsSums self.old) every self.old.number shown

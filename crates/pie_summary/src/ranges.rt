@@ -65,7 +65,7 @@ pub(crate) fn first_up_to(counts: &[u64; RANGES], rank: u64) -> Option<usize>
     None
 }
 
-/// The greatest number of a range, or a greatest number of all where it is less.
+/// Returns the greatest number of a range, or `greatest` if it is less.
 #[tactic(auto, unfolding(crate::specs::Ranges::range_end))]
 pub(crate) fn end_within(range: usize, greatest: u64) -> u64
     requires { range < 1720 }

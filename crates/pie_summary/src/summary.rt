@@ -13,9 +13,9 @@ use pie_explain::{Explained, Form, Report, Which, push_header};
 use pie_text::{LongRow, Page};
 use std::alloc::AllocError;
 
-/// Summaries of the explained events: how many arrivals each verdict and each cause had, how long packets waited, what the updates
-/// made, and when the controller turned on and off. One of all events, also if there is none, or one of each period that has some; each is
-/// written when its last event is known.
+/// Summaries of the explained events: the number of arrivals by verdict and by cause, the waiting times, the numbers of the updates, and the changes
+/// of the controller's activity. There is one of all events, also if there is none, or one of each interval that has some; each is written when its
+/// last event is known.
 #[derive(Clone, Copy)]
 pub struct Summary {
     /// In words, or as CSV: a header row, and one record for each summary. With wall-clock times a line of words
@@ -74,7 +74,7 @@ fn is_lost_or_marked(told: &Explained) -> bool
     Which::Lost.chooses(number, event) || Which::Marked.chooses(number, event)
 }
 
-/// Writes the words for an event that lost or marked a packet, where packets are explained.
+/// Writes the words for an event that lost or marked a packet, if packets are explained.
 #[tactic(auto, unfolding(crate::specs::Summary::noted))]
 fn push_event_words(page: &mut Page, summary: &Summary, told: &Explained) -> Written
     ensures { OnOk result (page.new ≡ page.old ++ noted summary.now told.now) }

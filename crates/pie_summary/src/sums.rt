@@ -32,7 +32,7 @@ impl Sums {
         Sums::default()
     }
 
-    /// Has the meter begin at this moment, where there was no event.
+    /// Begins the meter at this moment, if there was no event before.
     #[tactic(auto, using(crate::proofs::SumsFacts::reached_more, crate::proofs::SumsFacts::reached_none), unfolding(crate::specs::Sums::sums_of))]
     fn reach(&mut self, moment: u64)
         ensures { (shown : List Explained) (one : Explained) → (meter_input_of one).moment ≡ moment → self.old ≡ sums_of shown

@@ -15,7 +15,7 @@ use std::alloc::AllocError;
 /// The result of a write: `AllocError` if memory is short.
 pub(crate) type Written = Result<(), AllocError>;
 
-/// So many of all arrivals.
+/// Writes a count and its share of all arrivals.
 #[tactic(auto, unfolding(crate::specs::Words::row_words))]
 fn push_row(page: &mut String, name: &str, count: u64, all: u64) -> Written
     ensures { OnOk result (string_bytes page.new ≡ string_bytes page.old ++ row_words name.now count all) }
@@ -110,7 +110,7 @@ fn push_updates(page: &mut String, meter: &Meter) -> Written
     )
 }
 
-/// Says where the delays and the waits were above the target for very different times.
+/// Writes a remark if the delays and the waiting times were above the target for very different times.
 #[tactic(auto, unfolding(crate::specs::Words::disagree_words))]
 fn push_disagree(page: &mut String, above: u64, late: u64) -> Written
     ensures { OnOk result (string_bytes page.new ≡ string_bytes page.old ++ disagree_words above late) }

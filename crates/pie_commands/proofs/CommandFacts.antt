@@ -8,7 +8,7 @@ use Rattle.clap.specs.declared.builder.command.Command.{Command}
 
 -- ---- one after the other
 
--- one more, of those that are left
+-- one of the remaining arguments or subcommands is added
 pub wants-more : {A E : Type 0} (add : App → A → App) (begun next : Result Command E) (all : List A) (place : ℕ) (one other : A) (whole : App)
     → place < length all → one ≡ get_or all place other
     → ((rest : List A) (made : App) → Wants add (one ∷ rest) made begun → Wants add rest made next)

@@ -6,13 +6,13 @@ use Rattle.pie_commands.proofs.Names.{End, Fault, EndsBy, CutsLast, end_of_cut, 
 use Rattle.pie_cut.specs.declared.fault.CutFault.TheVariants.{Trace}
 use Rattle.pie_cut.specs.Answer.{CutsEither}
 
--- a fault was found where they were counted
+-- counting the events found a fault
 pub last-faulted : (many : ℕ) (known : Option (List ℕ)) (why : TraceFault) (before : Option (List ℕ))
     → IfSome known (λ text. LastEither (records_of text) (Err why)) → EndsBy end_of_cut (CutsLast many) known (Fault why) before before
 last-faulted many known why before counts =
     inr (Err (Trace why), refl, IfSome_then known counts (λ text fault. (Err why, fault, (refl, refl))))
 
--- they were counted, and those up to the last of them were cut
+-- the events were counted, and the excerpt up to the last of them was cut
 pub last-told : (many number : ℕ) (known : Option (List ℕ)) (end : End) (before now : Option (List ℕ))
     → IfSome known (λ text. LastEither (records_of text) (Ok number)) → EndsBy end_of_cut (CutsEither (last_of number many)) known end before now
     → EndsBy end_of_cut (CutsLast many) known end before now

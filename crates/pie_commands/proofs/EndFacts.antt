@@ -9,14 +9,14 @@ use Rattle.pie_record.specs.Text.{Row}
 pub status-most : (end : End) → status_of end ≤ 2
 status-most end = grind (arith, nat_tests)
 
--- what three clauses say of a text
+-- three clauses on a known text, as one
 pub if-all : (known : Option (List ℕ)) (P Q S : List ℕ → Type 0) → IfSome known P → IfSome known Q → IfSome known S
     → IfSome known (λ text. P text × Q text × S text)
 if-all known P Q S p q s = grind (arith, nat_tests)
 
 -- ---- a text that may hold more than is known
 
--- what is known is so
+-- a text that was known is unchanged
 abbrev pub IsKept : Option (List ℕ) → Option (List ℕ) → Type 0
 IsKept old new = (text : List ℕ) → old ≡ Some text → new ≡ Some text
 

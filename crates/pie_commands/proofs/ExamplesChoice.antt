@@ -1,4 +1,4 @@
--- Which events the words of `pie explain` and `pie cut` choose, worked out.
+-- Worked choices of events by the command lines of `pie explain` and `pie cut`.
 use Rattle.pie_commands.proofs.Names.{◌≡◌, List, [], ◌∷◌, Some, None, codes, refl, Text, Selection, options_in, choice_of, Part, Last, Every, Once}
 use Rattle.pie_commands.proofs.Names.{around, between, cut_request_of}
 use Rattle.clap.proofs.OnLiterals.{clap_on_literals}

@@ -6,12 +6,12 @@ use Rattle.pie_commands.specs.declared.file_audits.Unaudited.TheVariants.{Unopen
 use Rattle.pie_cut.specs.declared.joint_audit.Joint.{Joint}
 use Rattle.pie_cut.specs.declared.joint_audit.Joint.TheVariants.{Follows, Gap, Unlike}
 
--- a file whose events up to 150 are clean, at this joint
+-- a clean file of 150 events, with this joint
 abbrev clean : Joint → Joined
 clean joint = record { finding = Clean 150; joint = Some joint }
 
--- the first file has no joint; the second follows, or misses the events 101 to 103, or has another state after event 100; of a file with a fault
--- standard output says nothing
+-- the first file has no joint; the second follows, or misses the events 101 to 103, or has another state after event 100; for a file with a fault
+-- standard output has no line
 lines : (lines_of (codes "a") (Ok (record { finding = Clean 100; joint = None })) ≡ codes "a: clean,100\n")
     × (lines_of (codes "b") (Ok (clean Follows)) ≡ codes "b: clean,150\nb: follows\n")
     × (lines_of (codes "b") (Ok (clean (Gap 100 104))) ≡ codes "b: clean,150\nb: gap,100,104\n")

@@ -15,7 +15,7 @@ asks name = (
   record { taken = refl; found = refl },
 )
 
--- a subcommand's word alone asks for it, and names no file to be read or written
+-- the name of a subcommand alone selects it, and names no file to read or write
 alone : (name : Text) → let run = name ∷ codes "run" ∷ [] in let audit = name ∷ codes "audit" ∷ [] in let migrate = name ∷ codes "migrate" ∷ [] in
     Asks (codes "run") run × (file_in (options_in run) ≡ None) × (output_in (options_in run) ≡ None)
     × Asks (codes "audit") audit × (files_in (options_in audit) ≡ [])

@@ -36,7 +36,7 @@ tells-given {R} works joined remaining first input files earlier name before tol
     by false (Ok found) tells =
         (tells.2.0, subst (λ (k : Option (List ℕ)). IfSome k (λ text. FindsEither (records_of text) (Ok found.finding))) (is tells.0 tells.1) tells.2.1)
 
--- whether one of a list passes, with one more at its end
+-- true if an element of the list with one more at its end passes
 any-more : {X : Type 0} (test : X → Bool) (xs : List X) (x : X) (before : Bool) → before ≡ list_any test xs
     → (before || test x) ≡ list_any test (xs ++ x ∷ [])
 any-more test xs x before is = grind (arith, nat_tests, list_any-append)

@@ -35,7 +35,7 @@ left-on {R} first earlier name old new is taken =
     go false true = refl
     go false false = refl
 
--- what can be opened after files of these names
+-- the input that can be opened after files of these names
 pub opens-left : {R : Type 0} (first : R) (files : Name → Option (List ℕ)) (earlier : List Name) (input : Option R) (name : Name)
     → IsLeft first earlier input → opens_after files earlier name ≡ true → CanOpen input (files name) name
 opens-left {R} first files earlier input name is opens = subst (λ (i : Option R). CanOpen i (files name) name) (sym is)
@@ -47,7 +47,7 @@ opens-left {R} first files earlier input name is opens = subst (λ (i : Option R
     go true false held opens = refl
     go false before held opens = opens
 
--- ---- what can be opened
+-- ---- inputs that can be opened
 
 pub opens-dash : {R : Type 0} (input : Option R) (held : Option (List ℕ)) (name : Name) → bytes_eq name (codes "-") ≡ true
     → CanOpen input held name → IsSome input

@@ -35,7 +35,7 @@ number-given gives parses (Some text) result none some = go (accepts false (Unsi
         cc
     go false is None reads = refl
 
--- ---- whether an option with no value is there
+-- ---- options without a value
 
 pub flag-given : {E : Type 0} (gives : List ℕ → Result Bool E → Type 0)
     → ((text : List ℕ) (read : Result Bool E) → gives text read → ParsesBool text read)

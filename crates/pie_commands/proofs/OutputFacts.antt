@@ -11,18 +11,17 @@ keeps-same held other text is = is
 pub keeps-both : (old mid new : Held) → Keeps old mid → Keeps mid new → Keeps old new
 keeps-both old mid new first second other text is = second other text (first other text is)
 
--- a new empty file, moved onto its name, replaces no file except the one that may be replaced, and not the file
--- that is read
+-- a new empty file, moved onto its name, replaces no file except the one that may be replaced, and not the file that is read
 places-since : (read : Option Text) (forced : Bool) (name : Text) (left : Option (List ℕ)) (old mid new : Held) → Keeps old mid
     → (IsSome (old name) → read ≡ Some name → ⊥) → Places None forced name left mid new → Places read forced name left old new
 places-since read forced name left old mid new kept another places = grind (arith, nat_tests)
 
--- what hinders the move of a file hindered it before the file was made
+-- a hindrance to the move of a file existed before the file was created
 hindered-since : (works forced : Bool) (read : Option Text) (name : Text) (old mid : Held) → (MayHave forced (old name) → MayHave forced (mid name))
     → (works ≡ true → MayHave forced (mid name) → ⊥) → IsHindered works read forced name old
 hindered-since works forced read name old mid free hindered is may = absurd (hindered is (free may))
 
--- how a subcommand ends that wrote to a file which is then in its place or not
+-- the end of a subcommand that wrote to a file, which was then moved to its name or not
 pub ends-settled : (works : Bool) (read : Option Text) (forced : Bool) (name : Text) (old mid new : Held)
     (ends : End → Option (List ℕ) → Option (List ℕ) → Type 0) (end : End) (there : Bool) (fresh left : Option (List ℕ)) → IsEmpty fresh → Keeps old mid
     → (IsSome (old name) → read ≡ Some name → ⊥) → (MayHave forced (old name) → MayHave forced (mid name))
@@ -45,7 +44,7 @@ ends-settled works read forced name old mid new ends end there fresh left empty 
     go false true is settles part whole = let wrong : true ≡ false = part refl in cc
     go false false is settles part whole = inr (inr (left, empty, report_end, rw (sym is) (keeps-both old mid new kept settles)))
 
--- with the status 1 each file holds what it held
+-- with the status 1 each file is unchanged
 settles-keeps : (read : Option Text) (forced : Bool) (name : Text) (left : Option (List ℕ)) (old new : Held) (end : End) → status_of end ≡ 1
     → Settles (is_whole end) read forced name left old new → Keeps old new
 settles-keeps read forced name left old new end one settles = grind (arith, nat_tests)
@@ -59,7 +58,7 @@ pub ends-output : (works : Bool) (output read : Option Text) (forced : Bool) (fr
     (before now : Option (List ℕ)) → output ≡ None → ends end before now → EndsIn works output read forced fresh held held ends end before now
 ends-output works output read forced fresh held ends end before now is report_end = grind (arith, keeps-same)
 
--- to a file
+-- the end of a subcommand whose output goes to a file
 pub ends-file : (works : Bool) (output read : Option Text) (forced : Bool) (name : Text) (fresh : Option (List ℕ)) (old new : Held)
     (ends : End → Option (List ℕ) → Option (List ℕ) → Type 0) (end : End) (before now : Option (List ℕ)) → output ≡ Some name → now ≡ before
     → EndsAt works (file_of read) forced name fresh old new ends end → EndsIn works output read forced fresh old new ends end before now

@@ -119,7 +119,7 @@ differs-to subcommand options works input fresh old new before now report_end = 
 
 -- ---- the program over words
 
--- what `clap` answers is what it finds in the words
+-- the result of `clap` is the parse of the words
 pub finds-so : (app : App) (words : List Text) (result : Result ArgMatches Error) → app ≡ pie_app → IfOk result (HasMatchesOf app words)
     → IfErr result (λ why. takes app words ≡ true → kind_of why ≡ OutOfMemory) → Finds words result
 finds-so app words (Ok matches) is matched passes = subst (λ (a : App). HasMatchesOf a words matches) is matched
@@ -144,7 +144,7 @@ answers-performed words matches subcommand rows works input fresh old new end be
           (sym (options-in words matches rows matched given)) report_end);
     }
 
--- no subcommand began, for want of memory or since the words ask for none
+-- no subcommand began: memory was short, or the words select none
 pub answers-unable : (words : List Text) (works : Bool) (input fresh : Option (List ℕ)) (held : Held) (end : End) (before now : Option (List ℕ))
     → (end ≡ Differs → ⊥) → (takes pie_app words ≡ true → (end ≡ Unable) × (now ≡ before)) → Answers words works input fresh held held end before now
 answers-unable words works input fresh held end before now same end_unable = record {

@@ -1,4 +1,4 @@
--- What `clap` makes of the words that ask for a subcommand.
+-- The parse by `clap` of words that select a subcommand.
 use Rattle.pie_commands.proofs.OptionNames.{◌≡◌, ◌∙◌, List, [], Option, Some, None, true, false, codes, refl, sym, ap, option_and_then}
 use Rattle.pie_commands.proofs.OptionNames.{option_map, unwrap_or, if◌then◌else◌, bytes_eq, HasMatchesOf, Row, Text, found_of, is_simple, rows_of}
 use Rattle.pie_commands.proofs.OptionNames.{subcommand_rows_of, subcommand_name_of, clap_on_literals, Subcommand, Run, Audit, Explain, Cut, Migrate}
@@ -8,7 +8,7 @@ use Rattle.clap.specs.declared.parser.matches.ArgMatches.{ArgMatches}
 use Rattle.clap.specs.declared.parser.matches.ArgMatches.TheViews.{out-ArgMatches, out-SubCommand}
 use Rattle.pie_commands.specs.SubcommandWords.{word_of}
 
--- ---- what `clap` finds in the words
+-- ---- the parse by `clap`
 
 simple : is_simple pie_app ≡ true
 unfolding clap_on_literals
@@ -58,7 +58,7 @@ same-word one other same =
 pub known-word : (word : Text) (one : Subcommand) → word ≡ word_of one → (other : Subcommand) → word ≡ word_of other → Some one ≡ Some other
 known-word word one is other same = ap Some (same-word one other (ap Some (sym is ∙ same)))
 
--- a word that is none of these asks for none
+-- a word that is no subcommand's name selects none
 pub unknown-word : (word : Text) → bytes_eq word (codes "run") ≡ false → bytes_eq word (codes "audit") ≡ false
     → bytes_eq word (codes "explain") ≡ false → bytes_eq word (codes "cut") ≡ false → bytes_eq word (codes "migrate") ≡ false
     → bytes_eq word (codes "storm") ≡ false → bytes_eq word (codes "params") ≡ false → (subcommand : Subcommand) → word ≡ word_of subcommand

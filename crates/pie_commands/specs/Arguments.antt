@@ -1,4 +1,4 @@
--- What `clap` knows of an argument that a table has as data.
+-- The rule of `clap` for an argument in a table.
 use Rattle.std.specs.Prelude.{Some}
 use Rattle.clap.specs.Words.{Rule, Text, new_rule}
 use Rattle.clap.specs.declared.builder.action.ArgAction.TheVariants.{Append}

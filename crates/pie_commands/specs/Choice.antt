@@ -1,4 +1,4 @@
--- Which events the words of `pie explain` choose, and how they are explained.
+-- The choice of events by the command line of `pie explain`, and the form of the explanations.
 use Rattle.std.specs.Prelude.{ℕ, ◌==◌, ◌&&◌, ◌||◌, Bool, true, false, not, List, Option, Some, None, Result, Ok, Err, codes, if◌then◌else◌, is_some}
 use Rattle.std.specs.Prelude.{nat_le, option_map}
 use Rattle.std.specs.Option.{option_transpose}
@@ -41,7 +41,7 @@ bound_given name options = option_transpose (option_map when_in (one_of name opt
 
 -- ---- the choice
 
--- the length of a period that an option is given, where it can be read
+-- the length of an interval in an option's value, if it is valid
 abbrev pub every_in : Result (Option ℕ) MomentFault → Option ℕ
 every_in (Ok every) = every
 every_in (Err why) = None
@@ -49,11 +49,11 @@ every_in (Err why) = None
 abbrev pub every_of : List Row → Option ℕ
 every_of options = every_in (moment_given (codes "every") options)
 
--- these options ask for what is said of lost and marked packets between summaries
+-- true if these options request words for lost and marked packets between summaries
 abbrev pub is_digest : List Row → Bool
 is_digest options = flag_given (codes "digest") options
 
--- how many flows have a row of their own, where these options ask for sums by flow
+-- the number of flows with a row of their own, if these options request sums by flow
 abbrev pub flows_of : List Row → Option ℕ
 flows_of options = number_given (codes "flows") options
 
@@ -65,7 +65,7 @@ is_summary options = (flag_given (codes "summary") options || is_some (every_of 
 abbrev pub is_either : Bool → Option ℕ → Bool
 is_either digest flows = not (digest && is_some flows)
 
--- the events that are chosen, where exactly one of the five options chooses some; a summary is of all where none does
+-- the chosen events, if exactly one of the five options chooses some; without any of them a summary is of all events
 abbrev pub chosen : Bool → Option ℕ → Option ℕ → Bool → Bool → Bool → Option Which
 chosen summary (Some event) None false false false = Some (Number event)
 chosen summary None (Some tag) false false false = Some (Tag tag)
@@ -81,30 +81,31 @@ which_of options = chosen (is_summary options) (number_given (codes "event") opt
     (flag_given (codes "lost") options)
     (flag_given (codes "marked") options) (flag_given (codes "all") options)
 
--- a period lasts some time
+-- true unless the length of an interval is 0
 abbrev pub lasts : Option ℕ → Bool
 lasts None = true
 lasts (Some every) = not (every == 0)
 
--- the one bound isn't after the other, where there are both, and both are moments or times of day
+-- true unless both bounds are given, are of the same kind, moments or wall-clock times, and the first is after the last
 abbrev pub in_order : Option When → Option When → Bool
 in_order (Some (when.Moment from)) (Some (when.Moment to)) = nat_le from to
 in_order (Some (when.Unix from)) (Some (when.Unix to)) = nat_le from to
 in_order _ _ = true
 
--- these events, from one bound to another, where both can be read and so can the length of a period, which is above 0; and only where this holds
+-- the selection of these events between these bounds, if the bounds and the length of an interval are valid, the length is above 0, and `told` is
+-- true
 abbrev pub choice_at : Option Which → Option (Option When) → Option (Option When) → Option (Option ℕ) → Bool → Option Selection
 choice_at (Some which) (Some from) (Some to) (Some every) told =
     if lasts every && (told && in_order from to) then Some (record { which = which; from = from; to = to }) else None
 choice_at _ _ _ _ told = None
 
--- what these options choose; nothing where they don't say it as they have to
+-- the selection of these options; none if they are not valid together
 unfoldable pub choice_of : List Row → Option Selection
 choice_of options =
     choice_at (which_of options) (result_ok (bound_given (codes "from") options)) (result_ok (bound_given (codes "to") options))
     (result_ok (moment_given (codes "every") options)) (is_either (is_digest options) (flows_of options))
 
--- as CSV or in words, and with times of day or without
+-- the form: CSV or words, with wall-clock times or without
 abbrev pub form_of : List Row → Form
 form_of options = record { csv = flag_given (codes "csv") options; by_wall = flag_given (codes "wall") options }
 

@@ -1,4 +1,4 @@
--- `pie cut`: what the words choose, and how it ends.
+-- `pie cut`: the selection by its options, and its end.
 use Rattle.std.specs.Prelude.{ℕ, ◌≡◌, ◌==◌, ◌+◌, ◌-◌, ◌^◌, ◌<◌, List, Bool, true, false, Option, Some, None, Result, Ok, Err, ⊤, codes, min, not}
 use Rattle.std.specs.Prelude.{unwrap_or, if◌then◌else◌}
 use Rattle.std.specs.Result.{result_ok}
@@ -38,12 +38,12 @@ between from to = record { first = 0; last = 2 ^ 64 - 1; from = from; to = to }
 abbrev pub last_of : ℕ → ℕ → Span
 last_of number many = record { first = min (number - many + 1) (2 ^ 64 - 1); last = number; from = None; to = None }
 
--- the events within given bounds, where there is one
+-- the selection by these bounds, if there is one
 abbrev pub within : Option When → Option When → Option Span
 within None None = None
 within from to = Some (between from to)
 
--- what is chosen, where it is in exactly one way: an event, with some around it or none; the last ones; segments; or those within bounds
+-- the request, if it is stated in exactly one way: an event, with some around it or none; the last events; segments; or the events within bounds
 abbrev pub chosen : Option ℕ → Option ℕ → Option ℕ → Option ℕ → Option Span → Option CutRequest
 chosen (Some event) more None None None = Some (Once (Part (around event (unwrap_or more 0))))
 chosen None None (Some many) None None = Some (Last many)
@@ -56,7 +56,7 @@ abbrev pub wanted_at : Option ℕ → Option ℕ → Option ℕ → Option ℕ �
 wanted_at event more last every (Some from) (Some to) = if in_order from to then chosen event more last every (within from to) else None
 wanted_at _ _ _ _ _ _ = None
 
--- what these options choose; nothing where they don't say it as they have to
+-- the request of these options; none if they are not valid together
 unfoldable pub cut_request_of : List Row → Option CutRequest
 cut_request_of options = wanted_at (number_given (codes "event") options) (number_given (codes "around") options) (number_given (codes "last") options)
     (number_given (codes "every") options) (result_ok (bound_given (codes "from") options)) (result_ok (bound_given (codes "to") options))

@@ -37,7 +37,7 @@ end_report closed end = if not closed && is_unwritten end then codes "pie: canno
 
 -- ---- any subcommand
 
--- it has failed, or could not begin, and nothing was written
+-- the subcommand failed, or could not begin, and nothing was written
 abbrev pub WritesNothing : End → Option (List ℕ) → Option (List ℕ) → Type 0
 WritesNothing end before now = ((end ≡ Unable) ⊎ (end ≡ Failed)) × (now ≡ before)
 
@@ -61,7 +61,7 @@ end_of (Err why) = Fault why
 abbrev pub EndsRun : Option (List ℕ) → End → Option (List ℕ) → Option (List ℕ) → Type 0
 EndsRun = EndsBy end_of (RunsEither (2 ^ 32))
 
--- the line of how many events a run recorded, and how many records it refused
+-- the line with the number of events that a run recorded, and the number of records that it refused
 abbrev pub counts_line : RunEnd → List ℕ
 counts_line end = codes "pie: " ++ (decimal end.events ++ (codes " events, " ++ (decimal end.refused ++ codes " refused records\n")))
 

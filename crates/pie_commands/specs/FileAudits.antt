@@ -60,7 +60,7 @@ abbrev pub is_different : Finding → Bool
 is_different (finding.Differs event) = true
 is_different (finding.Clean events) = false
 
--- events are missing at a joint, or are in both files, or something else is not the same
+-- true if events are missing at a joint, or are in both files, or something else differs
 abbrev pub is_apart : Option Joint → Bool
 is_apart None = false
 is_apart (Some Follows) = false

@@ -6,11 +6,11 @@ use Rattle.std.specs.declared.io.ErrorKind.{ErrorKind}
 use Rattle.std.specs.declared.io.ErrorKind.TheVariants.{BrokenPipe}
 use Rattle.pie_commands.specs.declared.system_files.Output.{Output}
 
--- nobody reads it any more
+-- true if the reader of the output is gone
 abbrev pub is_closed : Output → Bool
 is_closed output = output.is_closed
 
--- a write fails so where nobody reads what is written
+-- true for the error of a write whose reader is gone
 abbrev pub is_broken : ErrorKind → Bool
 is_broken BrokenPipe = true
 is_broken _ = false

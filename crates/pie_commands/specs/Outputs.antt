@@ -6,13 +6,13 @@ use Rattle.pie_commands.specs.Output.{Held, IsEmpty, IsHindered, Keeps, Settles}
 use Rattle.pie_commands.specs.declared.end.End.{End}
 use Rattle.pie_commands.specs.declared.end.End.TheVariants.{Done, Differs, Unable, Unplaced}
 
--- all that there was to write was written
+-- true if the output is complete
 abbrev pub is_whole : End → Bool
 is_whole Done = true
 is_whole Differs = true
 is_whole _ = false
 
--- the end of a subcommand with this end whose output file has its name then (`there`), or has not
+-- the end of a subcommand, given whether its output file has its name: a complete output without its name is `Unplaced`
 abbrev pub after_output : End → Bool → End
 after_output end there = if is_whole end && not there then Unplaced else end
 

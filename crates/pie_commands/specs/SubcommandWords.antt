@@ -1,4 +1,4 @@
--- The word that asks for each subcommand.
+-- The name of each subcommand on the command line.
 use Rattle.std.specs.Prelude.{codes}
 use Rattle.clap.specs.Words.{Text}
 use Rattle.pie_commands.specs.declared.options.subcommand.Subcommand.{Subcommand}

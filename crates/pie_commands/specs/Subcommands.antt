@@ -60,7 +60,7 @@ abbrev pub EndsTo : Subcommand → List Row → Bool → Option (List ℕ) → O
 EndsTo subcommand options works input fresh old new =
     EndsIn works (output_for subcommand options) (file_in options) (is_forced options) fresh old new (EndsAs subcommand options works input old)
 
--- an event can differ in what three of them read
+-- true if the text that a subcommand reads can have an event that differs
 abbrev pub may_differ : Subcommand → Bool
 may_differ Audit = true
 may_differ Explain = true
@@ -69,7 +69,7 @@ may_differ _ = false
 
 -- ---- the words
 
--- this is what `clap` finds in words; what it takes, it refuses for want of memory alone
+-- the result of `clap` is the parse of the words; `clap` refuses words that it takes only if memory is short
 abbrev pub Finds : List Text → Result ArgMatches Error → Type 0
 Finds words (Ok matches) = HasMatchesOf pie_app words matches
 Finds words (Err why) = takes pie_app words ≡ true → kind_of why ≡ OutOfMemory

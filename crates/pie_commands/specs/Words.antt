@@ -14,7 +14,7 @@ use Rattle.pie_commands.specs.declared.options.subcommand.Subcommand.TheVariants
 use Rattle.pie_commands.specs.SubcommandWords.{word_of}
 use Rattle.pie_commands.specs.Files.{file_of}
 
--- `pie`, which has a version and wants a subcommand
+-- `pie`, which has a version and requires a subcommand
 abbrev pub pie_alone : App
 pie_alone = record (new_app (codes "pie")) { top = record (new_app (codes "pie")).top { has_version = true; subcommand_required = true } }
 
@@ -57,7 +57,7 @@ with_all_subcommands add app (one ∷ more) = with_all_subcommands add (add app 
 abbrev pub with_rules : App → List Rule → App
 with_rules = with_all_subcommands with_rule
 
--- what each subcommand takes
+-- the options and arguments of each subcommand
 abbrev pub rules_for : Subcommand → List Rule
 rules_for Run = flag_rule (codes "count") ∷ progress_rule ∷ output_rule ∷ force_rule ∷ file_rule ∷ []
 rules_for Audit = flag_rule (codes "joined") ∷ progress_rule ∷ files_rule ∷ []
@@ -98,14 +98,14 @@ pie_app = with_subcommands pie_alone (Run ∷ Audit ∷ Explain ∷ Cut ∷ Migr
 abbrev pub subcommand_in : List Text → Option Text
 subcommand_in words = option_map (λ p. p.0) (subcommand_of pie_app words)
 
--- the words ask for this subcommand, with any options: they are no request for help, and `clap` refuses them for want of memory alone
+-- the words select this subcommand, with any options: they are no request for help, and `clap` refuses them only if memory is short
 pub record Asks (subcommand : Text) (words : List Text) : Type 0 where
   pub taken : takes pie_app words ≡ true
   pub found : subcommand_in words ≡ Some subcommand
 
 -- ---- options
 
--- what the words give the options of their subcommand
+-- the options of the words' subcommand, with their values
 abbrev pub options_in : List Text → List Row
 options_in words = unwrap_or (option_map (λ p. p.1) (subcommand_of pie_app words)) []
 
@@ -113,23 +113,23 @@ options_in words = unwrap_or (option_map (λ p. p.1) (subcommand_of pie_app word
 abbrev pub number_of : Text → Option ℕ
 number_of text = if accepts false (Unsigned 0 (2 ^ 64 - 1)) text then Some (digits_value 10 (without_leading_plus text)) else None
 
--- the number that an option is given
+-- the number in an option's value
 abbrev pub number_given : Text → List Row → Option ℕ
 number_given name options = option_and_then number_of (one_of name options)
 
--- an option with no value is there
+-- true if an option without a value is present
 abbrev pub flag_given : Text → List Row → Bool
 flag_given name options = option_map_or (λ text. bytes_eq text (codes "true")) (one_of name options) false
 
--- the number that an option is given, and without it another; moved into its range, though `clap` refuses words that give one out of it
+-- the number in an option's value, or `unnamed` without the option; clamped to its range, though `clap` refuses a number out of it
 abbrev pub number_or : Text → ℕ → ℕ → ℕ → List Row → ℕ
 number_or name least most unnamed options = max least (min (unwrap_or (number_given name options) unnamed) most)
 
--- the file that the words of a subcommand name, where it takes one
+-- the file that a subcommand's words name, if it takes one
 abbrev pub file_in : List Row → Option Text
 file_in options = first_of (codes "file") options
 
--- the files that they name, where it takes any number
+-- the files that a subcommand's words name, if it takes any number
 abbrev pub files_in : List Row → List Text
 files_in options = unwrap_or (all_of (codes "file") options) []
 

@@ -1,4 +1,4 @@
-//! `pie cut`: what the words choose, and how cutting it out ends.
+//! `pie cut`: the selection by its options, and its end.
 ghost use Rattle.std.specs.Prelude.{◌≡◌, false, Some, IfSome, codes, option_map};
 ghost use Rattle.std.specs.Str.{bytes_eq};
 ghost use Rattle.clap.specs.Words.{found_of, rows_of};
@@ -52,7 +52,7 @@ const NO_PART: &str =
 /// The message for `--last` with an input that can't be read twice.
 const NO_NAME: &str = "cut --last reads its input twice, so it needs a file";
 
-/// The events within these bounds, where there is one.
+/// Returns the selection by these bounds, if there is one.
 fn within(from: Option<When>, to: Option<When>) -> Option<Span>
     ensures { result ≡ within from to }
 {
@@ -109,7 +109,7 @@ fn cut_request_of<E: Write>(options: &ArgMatches<'_>, errors: &mut E) -> Option<
     wanted
 }
 
-/// The end of a cut with this answer, with a line on `errors` where it is no `Ok`.
+/// Returns the end of a cut with this result. Unless it is `Ok`, writes a line to `errors`.
 pub(crate) fn report_end<E: Write>(errors: &mut E, given: Result<u64, CutFault>) -> End
     ensures { result ≡ end_of_cut given }
 {
@@ -140,8 +140,8 @@ pub(crate) fn cut_out<R: Read + Drop, W: Write>(
     }
 }
 
-/// The number of the last event of the text in the file of this name, or its fault; or none, with a line on `errors`, where the file can't be
-/// opened.
+/// Returns the number of the last event of the text in the file of this name, or its fault. If the file can't be opened, writes a line to `errors`
+/// and returns `None`.
 fn last_named<H: NamedFiles + Clock, R: Read + Drop, E: Write>(
     rt: &H,
     alloc: Global,

@@ -17,7 +17,7 @@ pub enum End {
     Done,
     /// An event of a history differs.
     Differs,
-    /// The trace or the history has this fault, or else the reader, the writer or memory failed.
+    /// The trace or the history has this fault, or the reader, the writer or memory failed.
     Fault(TraceFault),
     /// A file can't be opened, or memory or a thread is missing at the start. Nothing was written.
     Unable,

@@ -1,4 +1,4 @@
-//! `pie explain`: which events the words choose, and how explaining them ends.
+//! `pie explain`: the choice of events by its options, and its end.
 ghost use Rattle.std.specs.Prelude.{◌≡◌, IfSome};
 ghost use Rattle.clap.specs.Words.{found_of, rows_of};
 ghost use Rattle.pie_record.specs.Text.{records_of};
@@ -28,7 +28,7 @@ const NO_PERIOD: &str = "--every: the interval must be at least 1 ns";
 /// The message for `--flows` together with `--digest`.
 const NOT_BOTH: &str = "--flows cannot be combined with --digest";
 
-/// The events that are chosen, where exactly one of the five options chooses some; a summary is of all where none does.
+/// Returns the chosen events, if exactly one of the five options chooses some. Without any of them a summary is of all events.
 fn chosen(
     summary: bool,
     event: Option<u64>,
@@ -50,7 +50,7 @@ fn chosen(
     }
 }
 
-/// The length of a period that these options want, where it can be read.
+/// Returns the length of an interval in these options, if it is valid.
 fn every_of(options: &ArgMatches<'_>) -> Option<u64>
     ensures { result ≡ every_of (rows_of (found_of options.now)) }
 {
@@ -124,7 +124,7 @@ fn choice_of<E: Write>(options: &ArgMatches<'_>, errors: &mut E) -> Option<Selec
     Some(Selection { which, from, to })
 }
 
-/// In which form these options want the explanations.
+/// Returns the form of the explanations by these options.
 fn form_of(options: &ArgMatches<'_>) -> Form
     ensures { result ≡ form_of (rows_of (found_of options.now)) }
 {
@@ -191,7 +191,7 @@ fn output_kind_of(options: &ArgMatches<'_>) -> OutputKind
     output_kind_by(is_summary(options), packets, flows, every, form)
 }
 
-/// Writes what there is to say of the chosen events.
+/// Writes the explanations of the chosen events.
 fn explain_with<R: Read + Drop, W: Write>(
     alloc: Global,
     input: R,
@@ -211,7 +211,7 @@ fn explain_with<R: Read + Drop, W: Write>(
     }
 }
 
-/// The end of what `explain` answers, with a line on `errors` where it is no `Ok`.
+/// Returns the end of an explanation with this result. Unless it is `Ok`, writes a line to `errors`.
 fn report_end<E: Write>(errors: &mut E, given: Result<u64, ExplainFault>) -> End
     ensures { result ≡ end_of_explain given }
 {

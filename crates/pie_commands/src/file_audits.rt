@@ -91,7 +91,7 @@ fn put_finding<W: Write>(name: &str, found: Finding, output: &mut W) -> io::Resu
     }
 }
 
-/// Writes the line of a joint, where there is one, behind the name of the second of the two files.
+/// Writes the line of a joint, if there is one, after the name of the second of the two files.
 fn put_joint<W: Write>(name: &str, joint: Option<Joint>, output: &mut W) -> io::Result<()>
     ensures { OnOk result (Appends (W.contents output.old) (W.contents output.new) (line_of_joint name.now joint)) }
 {
@@ -168,7 +168,7 @@ fn any_unaudited(before: bool, told: Result<Joined, Unaudited>) -> bool
     before || told.is_err()
 }
 
-/// The worst end, where these say whether a file could not be audited, and whether an event of one differs.
+/// Returns the worst end: `unfound` is true if a file could not be audited, `different` if an event or a joint differs.
 fn worst(unfound: bool, different: bool) -> End
     ensures { result ≡ worst unfound different }
 {

@@ -18,7 +18,7 @@ pub(crate) struct ProgressReader<R: Drop, W: Write + Drop, C: Clock + Drop> {
     inner: R,
     errors: W,
     clock: C,
-    /// When reading began, where the clock could be read.
+    /// The moment at which reading began, if the clock could be read.
     begun: Option<Instant>,
     /// Reports are requested.
     is_shown: bool,
@@ -38,7 +38,7 @@ fn ends(bytes: &[u8]) -> u64 {
     count
 }
 
-/// Wipes the line that says how far reading has come.
+/// Clears the progress line.
 fn wipe<W: Write>(errors: &mut W) {
     let _ = errors.write_all(WIPE);
     let _ = errors.flush();
@@ -64,7 +64,7 @@ fn rate_of(bytes: u64, milliseconds: Option<u64>) -> Option<u64> {
     (bytes / 1000).checked_div(milliseconds?)
 }
 
-/// The milliseconds from this moment to now, where the clock can be read.
+/// Returns the milliseconds from this moment to now, if the clock can be read.
 fn since<C: Clock>(begun: Option<Instant>, clock: &C) -> Option<u64> {
     match begun?.elapsed(clock) {
         Ok(elapsed) => u64::try_from(elapsed.as_millis()).ok(),

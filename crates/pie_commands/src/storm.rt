@@ -1,4 +1,4 @@
-//! `pie storm`: the storm that the options ask for, whose history is written.
+//! `pie storm`: generates the storm that the options request, and writes its history.
 ghost use Rattle.std.specs.Prelude.{◌≡◌, Some, codes, option_map};
 ghost use Rattle.clap.specs.Words.{found_of, rows_of};
 ghost use Rattle.pie_commands.specs.StormEnds.{EndsStorm, choice_by, decay_in, elements_in, numbers_in, profile_by};
@@ -26,7 +26,7 @@ const NO_CHOICE: &str =
     "storm: --delay must be rate or stamp, --picking derandomized or random, --step capped or uncapped, --size unscaled or scaled, \
 and --decay zero or half";
 
-/// Which of two choices a word names: the first with no word, and none with another one.
+/// Returns the choice that a word names, of two choices with their keywords: the first without a word, none for another word.
 fn choice<T: Copy>(word: Option<&str>, first: &[u8], one: T, second: &[u8], other: T) -> Option<T>
     ensures { result ≡ choice_by first.now one second.now other (option_map (λ word. word.now) word.entry) }
 {
@@ -43,14 +43,14 @@ macro_rules! chosen {
     };
 }
 
-/// At which delays the probability decays.
+/// Returns the decay of the probability.
 pub(crate) fn decay_of(options: &ArgMatches<'_>) -> Option<Decay>
     ensures { result ≡ decay_in (rows_of (found_of options.now)) }
 {
     chosen!("decay" in options: decay_word, Decay::Zero, Decay::Half)
 }
 
-/// RFC 8033's optional elements that these options choose; none where a word names no choice.
+/// Returns RFC 8033's optional elements that these options choose, or `None` if a word names no choice.
 #[tactic(auto, unfolding(crate::specs::StormEnds::elements_in))]
 fn elements_of(options: &ArgMatches<'_>) -> Option<Elements>
     ensures { result ≡ elements_in (rows_of (found_of options.now)) }
@@ -81,7 +81,7 @@ fn profile_of(options: &ArgMatches<'_>) -> Profile
     }
 }
 
-/// The numbers of the plan that these options ask for, with these elements; each has one that it is where the words name none.
+/// Returns the numbers of the plan that these options request, with these elements. Each number has a default for a command line without it.
 fn numbers_of(options: &ArgMatches<'_>, elements: Elements) -> StormNumbers
     ensures requested { result ≡ numbers_in elements (rows_of (found_of options.now)) }
     ensures ranges { HasStormRange result }
@@ -139,7 +139,7 @@ fn changes_of_caller(events: &[Event]) -> u64 {
     changes
 }
 
-/// Says on `errors` how many events there are, and how many changes of caller, where the options ask for it. A failed write is passed over.
+/// If the options request it, writes the number of events and of changes of caller to `errors`. Ignores a failed write.
 fn report_counts<E: Write>(options: &ArgMatches<'_>, events: &[Event], errors: &mut E) {
     if flag(options, "count") {
         let (count, changes) = (events.len(), changes_of_caller(events));

@@ -14,12 +14,12 @@ use std::{fs, io};
 /// The number of names that are tried for a file created beside another.
 const MOST_NAMES: u32 = 100;
 
-/// The output of the program: standard output, a new file beside its final name, or a pipe or a device. One type for
-/// all means that the code that writes is compiled once.
+/// The output of the program: standard output, a new file beside its final name, or a pipe or a device. With one type for all, the code that writes
+/// is compiled once.
 #[derive(Drop)]
 pub struct Output {
     to: Either<Stdout, File>,
-    /// The name of the file that was made, until that is moved.
+    /// The name of the new file, until it is moved.
     made: Option<String>,
     /// True if its reader is gone.
     is_closed: bool,

@@ -33,7 +33,7 @@ pub(crate) enum Task {
     Migrate,
 }
 
-/// Writes how many events a run recorded, and how many records it refused.
+/// Writes the number of events that a run recorded, and the number of records that it refused.
 fn write_counts<E: Write>(end: &RunEnd, errors: &mut E) -> io::Result<()>
     ensures { OnOk result (Appends (E.contents errors.old) (E.contents errors.new) (counts_line end.now)) }
 {
@@ -41,7 +41,7 @@ fn write_counts<E: Write>(end: &RunEnd, errors: &mut E) -> io::Result<()>
     writeln!(errors, "pie: {events} events, {refused} refused records")
 }
 
-/// Says on `errors` how many events and refused records a run without a fault had, where the options ask for it. A failed write is passed over.
+/// After a run without a fault, writes the numbers of its events and refused records to `errors`, if the options request it. Ignores a failed write.
 fn report_counts<E: Write>(
     options: &ArgMatches<'_>,
     given: &Result<RunEnd, TraceFault>,

@@ -11,11 +11,11 @@ use std::alloc::Global;
 /// The kind of value that an option takes, or a file argument.
 #[derive(Clone, Copy)]
 pub(crate) enum ValueKind {
-    /// Nothing: it is there or not.
+    /// No value: the option is present or not.
     Nothing,
     /// A whole number in a range.
     Number(u64, u64),
-    /// A text, which help calls so.
+    /// A text of this name in the help.
     Value(&'static str),
     /// A text of this name in the help, for an option that also has this one-letter name.
     Lettered(char, &'static str),
@@ -28,17 +28,17 @@ pub(crate) enum ValueKind {
 /// An option of a subcommand, or a file that it takes.
 #[derive(Clone, Copy)]
 pub(crate) struct Argument {
-    /// Its name, which an option has behind two dashes.
+    /// The name; an option has two dashes before it.
     pub(crate) name: &'static str,
     pub(crate) takes: ValueKind,
-    /// What `--help` says of it.
+    /// Its line in the help.
     pub(crate) help: &'static str,
 }
 
 /// The page of a subcommand: its name, help and arguments.
 #[derive(Clone, Copy)]
 pub(crate) struct Page<'a> {
-    /// The word that asks for it.
+    /// Its name on the command line.
     pub(crate) word: &'a str,
     /// Its purpose, in one line.
     pub(crate) about: &'a str,
@@ -48,7 +48,7 @@ pub(crate) struct Page<'a> {
     pub(crate) arguments: &'a [Argument],
 }
 
-/// A row of a table of arguments: the name, what it takes, and what `--help` says of it.
+/// A row of a table of arguments: the name, the kind of value, and the line in the help.
 macro_rules! row {
     ($name:literal: $takes:ident $(($($of:expr),+))?, $help:literal) => {
         Argument { name: $name, takes: ValueKind::$takes $(($($of),+))?, help: $help }
@@ -73,7 +73,7 @@ pub(crate) const FORCE: Argument =
 pub(crate) const FILE: Argument =
     row!("file": File, "File to read; - is standard input. Default: standard input");
 
-/// An argument of this name, before it is known what it takes.
+/// Returns an argument of this name, without a kind of value yet.
 fn named<'a>(alloc: Global, name: &'a str, help: &'a str) -> Arg<'a>
     ensures rule { rule_of result ≡ new_rule name.now }
     ensures local { result.global ≡ false }
@@ -81,7 +81,7 @@ fn named<'a>(alloc: Global, name: &'a str, help: &'a str) -> Arg<'a>
     Arg::new(alloc, name).help(help)
 }
 
-/// An option of this name, whose value help calls so.
+/// Returns an option of this name, whose value has the name `value` in the help.
 fn valued<'a>(alloc: Global, argument: Argument, value: &'static str) -> Arg<'a>
     ensures rule { rule_of result ≡ text_rule argument.name.now }
     ensures local { result.global ≡ false }
@@ -91,7 +91,7 @@ fn valued<'a>(alloc: Global, argument: Argument, value: &'static str) -> Arg<'a>
         .value_name(value)
 }
 
-/// What `clap` knows of it.
+/// Returns the argument for `clap`.
 pub(crate) fn arg_of<'a>(alloc: Global, argument: Argument) -> Arg<'a>
     ensures rule { rule_of result ≡ rule_for argument }
     ensures local { result.global ≡ false }

@@ -1,4 +1,4 @@
-//! The command of `clap` for the command line, made from what each subcommand takes.
+//! The command of `clap` for the command line, built from the tables of the subcommands.
 ghost use Rattle.std.specs.Prelude.{◌≡◌, ◌<◌, ◌∷◌, IfOk, List, [], get_or, length, map};
 ghost use Rattle.clap.specs.Words.{App, Rule, app_of, new_app, new_rule, with_rule};
 ghost use Rattle.pie_commands.specs.Arguments.{rule_for};
@@ -12,10 +12,10 @@ use crate::options::{audit, cut, explain, migrate, params, run, storm};
 use clap::Command;
 use std::alloc::{AllocError, Global};
 
-/// What `pie --version` prints after the name.
+/// The version that `pie --version` prints after the name.
 const VERSION: &str = "0.1.0";
 
-/// What `pie --help` says below its subcommands.
+/// The text of `pie --help` below its subcommands.
 pub(crate) const PIE_HELP: &str =
     "Example: run a trace of one arrival and one departure, and print the decisions:
 
@@ -24,7 +24,7 @@ pub(crate) const PIE_HELP: &str =
 The output of a run is its history. pie audit decides it again, and pie explain
 explains it.";
 
-/// A subcommand without what it takes.
+/// Returns a subcommand without its arguments.
 fn plain<'a>(alloc: Global, name: &'a str, about: &'a str, help: &'a str) -> Command<'a>
     ensures { app_of result ≡ new_app name.now }
 {
@@ -86,7 +86,7 @@ fn page_of<'a>(subcommand: Subcommand) -> Page<'a>
     }
 }
 
-/// What `clap` knows of a subcommand.
+/// Returns a subcommand for `clap`, with its arguments.
 fn command_for<'a>(alloc: Global, subcommand: Subcommand) -> Result<Command<'a>, AllocError>
     ensures { IfOk result (λ command. app_of command ≡ app_for subcommand) }
 {
@@ -105,7 +105,7 @@ fn alone<'a>(alloc: Global) -> Command<'a>
         .subcommand_required(true)
 }
 
-/// Adds a subcommand to the command `pie`, if memory sufficed so far.
+/// Adds a subcommand to the command `pie`, unless memory was short before.
 fn with_subcommand<'a>(
     alloc: Global,
     begun: Result<Command<'a>, AllocError>,
@@ -140,11 +140,11 @@ fn with_all_subcommands<'a>(
     pie
 }
 
-/// `pie` and its subcommands.
+/// Returns the command `pie` with its subcommands.
 ///
 /// # Errors
 ///
-/// `AllocError` where there was no memory for them.
+/// `AllocError` if memory is short.
 pub(crate) fn options<'a>(alloc: Global) -> Result<Command<'a>, AllocError>
     ensures { IfOk result (λ options. app_of options ≡ pie_app) }
 {

@@ -23,7 +23,7 @@ pub(crate) enum Subcommand {
 }
 
 impl Subcommand {
-    /// The subcommand that a word asks for.
+    /// Returns the subcommand of this name.
     pub(crate) fn named(word: &str) -> Option<Subcommand>
         ensures named { IfSome result (λ subcommand. word.now ≡ word_of subcommand) }
         ensures each { (subcommand : Subcommand) → word.now ≡ word_of subcommand → result ≡ Some subcommand }

@@ -18,9 +18,9 @@ pub fn records_are_read_back()
     ensures queued { (w : Waiting) → WaitingFits w → queued_of (queued_row w) ≡ Ok (w.packet, w.since) }
 {}
 
-/// The records with which a text begins are its first and those with which the packets of its core are written (`again`): so who has the first and
-/// the core can write them all as they were read. They are read the same whatever follows them (`alone`), and written with others behind them they
-/// are read back with these (`text`). A beginning that reads well has an opening that a book accepts (`opens`; this project's own).
+/// A preamble consists of its first record and those with which the packets of its core are written (`again`), so a program with the first record and
+/// the core can write all records as they were read. A preamble is read equally whatever follows it (`alone`). Written with other records behind it,
+/// it is read back with these (`text`). The opening of a valid preamble is one that a book accepts (`opens`; this project's own).
 ///
 /// It does nothing: its contract is the law.
 pub fn preambles_are_written_again()

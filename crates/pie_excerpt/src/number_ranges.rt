@@ -1,5 +1,4 @@
-//! The numbers that are written are those that the types of their fields hold. These functions do nothing: their contracts say it of values in
-//! hand.
+//! Written numbers fit the types of their fields. These functions do nothing: their contracts state it for given values.
 ghost use Rattle.std.specs.Prelude.{◌≡◌, ◌<◌, ◌∷◌, []};
 ghost use Rattle.pie_excerpt.specs.{None, first_bad, StatsFit, AllSmall, NineFit, ResumeFits, SetterFits, WaitingFits, cycle_bytes, cycle_start};
 ghost use Rattle.pie_excerpt.specs.{measuring};
@@ -38,7 +37,7 @@ fn cycle_fits(cycle: Option<RawCycle>)
     }
 }
 
-/// The event that set the probability, where it is known.
+/// The event that set the probability, if it is known.
 fn setter_fits(set_by: Option<u64>)
     ensures { SetterFits set_by }
 {

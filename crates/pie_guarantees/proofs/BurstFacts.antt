@@ -9,12 +9,12 @@ use Rattle.pie_aqm.specs.Steps as Steps
 use Rattle.pie_guarantees.proofs.LawfulFacts.{IsStep, all_along, along, counted-cons, first-held, sound_at, step_at}
 use Rattle.pie_guarantees.proofs.EarlyFacts.{early_at}
 
--- ---- what a controller holds, from call to call
+-- ---- the controller's numbers from call to call
 
 one-more : (n k : ℕ) → (n + 1) * k ≡ n * k + k
 one-more n k = grind arith
 
--- how many updates there are after a command
+-- the number of updates after a command
 abbrev pub counted_with : Command → ℕ → ℕ
 counted_with (Update moment) n = n + 1
 counted_with _ n = n
@@ -162,9 +162,9 @@ module _ (opening : Opening) (before : List Event) (between : List Event) (event
       let used = used in
       omega (arith, since, used)
 
--- ---- where parameters never change
+-- ---- histories without a change of parameters
 
--- no more is left than the parameters allow
+-- the remaining allowance is at most `max_burst`
 abbrev Within : Held → Type 0
 Within h = h.control.burst ≤ h.params.max_burst
 
@@ -180,7 +180,7 @@ allowed_where_kept opening before later lawful keep =
     (within-next (held_after opening earlier) (waiting_after opening earlier) opening.limits.packets event.command old kept)) [] before later
     lawful (all_along (λ (event : Event). KeepsParams event.command) [] before keep) (subst Within (first-held opening) (omega arith))
 
--- ---- where the allowance is whole
+-- ---- moments with a whole allowance
 
 pub reset-whole : (h : Held) (waiting : List Waiting) (packets moment : ℕ)
     → (after_call h (call_of waiting packets (Reset moment))).control.burst ≡ (after_call h (call_of waiting packets (Reset moment))).params.max_burst

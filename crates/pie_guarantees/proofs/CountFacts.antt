@@ -31,7 +31,7 @@ deed-is : (opening : Opening) (before : List Event) (event : Event) → IsStep o
     → deed_of event ≡ deed event.command (answer_by (held_after opening before) (waiting_after opening before) opening.limits.packets event.command)
 deed-is opening before event step = ap (λ (a : Answer). deed event.command a) step.here.answered
 
--- in how many ways a deed counts
+-- the number of ways in which a deed counts
 abbrev ways : Deed → ℕ
 ways d = cond (is_queued d) 1 0 + cond (is_marked d) 1 0 + cond (is_dropped_early d) 1 0 + cond (is_dropped_bytes d) 1 0
     + cond (is_dropped_packets d) 1 0
@@ -87,7 +87,7 @@ ordered-next opening before event step old =
     (in-order (held_after opening before) (waiting_after opening before) opening.limits.packets event.command
     (effective_moment opening (before ++ event ∷ [])) (packets_departed before) (packets_queued before) old)
 
--- at the opening nothing waits
+-- at the opening no packet is queued
 none-waits : (opening : Opening) → waiting_after opening [] ≡ []
 none-waits opening = sym (first_shows opening).waiting
 
@@ -101,7 +101,7 @@ in_order opening history lawful =
 
 -- ---- limits
 
--- the packets that wait after a command: fewer or as many, or one more that ring and limit have room for
+-- the queued packets after a command: at most as many as before, or one more for which ring and limit have room
 record Bounded (limit packets : ℕ) (before after : List Waiting) (queued : Option Packet) : Type 0 where
   ring : length before ≤ packets → length after ≤ packets
   or : (bytes_of after ≤ bytes_of before) ⊎ (bytes_of after ≤ limit)

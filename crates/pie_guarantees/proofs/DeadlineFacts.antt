@@ -13,7 +13,7 @@ use Rattle.pie_guarantees.proofs.NextFacts.{next_above}
 use Rattle.pie_guarantees.proofs.RecoveryFacts.{same-update}
 use Rattle.pie_guarantees.proofs.SteadyFacts.{low_none, lows, low_rise, low_tenth, more-times, one-rise}
 
--- ---- from call to call
+-- ---- the controller's numbers from call to call
 
 -- after n updates of a lasting delay, from this burst allowance
 record Climbs (least burst n : ℕ) (params : RawParams) (h : Held) : Type 0 where
@@ -65,7 +65,7 @@ module _ (least : ℕ) (opening : Opening) (before between : List Event) where
   abbrev ClimbsTo : ℕ → List Event → Type 0
   ClimbsTo n history = Climbs least (burst_left opening before) n (params_after opening before) (held_after opening history)
 
-  -- with some of the events still to come
+  -- the state between two events: `n` updates were made, and the others follow
   record Since (earlier left : List Event) : Type 0 where
     n : ℕ
     counted : updates_in between ≡ n + updates_in left

@@ -7,7 +7,7 @@ use Rattle.pie_guarantees.proofs.Names.{AtEachEvent, bytes_after, params_after, 
 use Rattle.pie_queue.specs.declared.ecn.Ecn.{Ecn}
 use Rattle.pie_guarantees.proofs.LawfulFacts.{IsStep, step_at}
 
--- what is known of the controller where a packet was picked
+-- the controller's state when a packet was picked
 pub record IsPicked (h : Held) (bytes : ℕ) : Type 0 where
   pub active : h.active ≡ true
   pub no_burst : h.control.burst ≡ 0
@@ -43,7 +43,7 @@ early-arrival h waiting packets (Arrive moment packet word) e =
     record { moment = moment; packet = packet; word = word; is = refl; chosen = chosen-of h (arrival_of waiting packets packet word) e }
 early-arrival h waiting packets _ e = absurd (grind (arith, nat_tests))
 
--- ---- at a place of a lawful history
+-- ---- an event of a lawful history
 
 pub early_arrival : (opening : Opening) (before : List Event) (event : Event) → IsStep opening before event → is_early event.answer ≡ true
     → IsEarlyArrival (held_after opening before) (waiting_after opening before) opening.limits.packets event.command
@@ -75,7 +75,7 @@ module _ (opening : Opening) (before : List Event) (event : Event) (later : List
       → (held_after opening before).control.prob < 200_000_000_000 → is_early event.answer ≡ false
   at_low_delay low small = unless event.answer (λ e. let high = (picked e).high in grind arith)
 
--- ---- what still waits
+-- ---- the packets still queued
 
 still-wait : (waiting : List Waiting) (now : ℕ) (command : Command) (answer : Answer) → is_early answer ≡ true
     → bytes_of waiting ≤ bytes_of (waiting_next waiting now (deed command answer))

@@ -1,5 +1,4 @@
--- At each place of a lawful history a core represents the events before it, and each event changes the core as its
--- call does.
+-- In a lawful history, a core represents the events before each place, and each event changes the core as its call does.
 use Rattle.pie_guarantees.proofs.Names.{◌≡◌, ◌≤◌, ◌<◌, ◌+◌, ℕ, List, [], ◌∷◌, ◌++◌, false, sym, subst, ap, ◌∙◌, arith, ⊤, All, None, length, ◌^◌}
 use Rattle.pie_guarantees.proofs.Names.{AtEachEvent}
 use Rattle.pie_guarantees.proofs.Names.{append-nil, append_assoc, All-head, All-tail, first_bad, deed_of, caller_moment, IsTaken, after_call, Held}
@@ -14,7 +13,7 @@ use Rattle.pie_book.specs.Core.{CoreView, Represents, closed}
 use Rattle.pie_guarantees.proofs.Names.{effective_moment-push, waiting_after-push}
 use Rattle.pie_event.specs.Opening as Opens
 
--- ---- which commands are taken
+-- ---- accepted commands
 
 -- an accepted command: its moment is in range, and an update is not too soon
 pub record IsFree (opening : Opening) (before : List Event) (command : Command) : Type 0 where
@@ -27,7 +26,7 @@ pub is_free : (opening : Opening) (before : List Event) (command : Command) → 
 is_free opening before command e =
     record { moment = grind (arith, nat_tests); size = grind (arith, nat_tests); in_time = grind (arith, nat_tests) }
 
--- ---- what a core holds at a place
+-- ---- the core's numbers at a place
 
 -- a core represents these events, and its numbers are sound
 pub record IsSteadyAt (opening : Opening) (history : List Event) : Type 0 where
@@ -129,7 +128,7 @@ step_at opening before event later lawful =
     (at_place (IsLegalAt opening) before event later lawful.legal)
     (All-head (λ (e : Event). SetsInRange e.command) event later (set-after before (event ∷ later) lawful.set))
 
--- what holds before some events of a lawful history, with those still to come, and stays so at each of them, holds after them
+-- a property that holds before some events of a lawful history, given those that follow, and is preserved by each of them, holds after them
 pub along : (P : List Event → List Event → Type 0) (Q : List Event → Event → Type 0) (opening : Opening)
     → ((before : List Event) (event : Event) (left : List Event) → IsStep opening before event → Q before event → P before (event ∷ left)
     → P (before ++ event ∷ []) left)
@@ -142,13 +141,13 @@ along P Q opening stays before (event ∷ between) later lawful all so =
     let step = step_at opening before event (between ++ later) (rw (append_assoc before (event ∷ between) later) at lawful) in
     rw (← one) (along P Q opening stays (before ++ event ∷ []) between later (rw (← one) at lawful) all.1 (stays before event between step all.0 so))
 
--- what holds of each event holds of each with those before it
+-- a property of each event holds of each event with those before it
 pub all_along : (Q : Event → Type 0) (before between : List Event) → All Q between → AllAlong (λ earlier event. Q event) before between
 unfolding AllAlong
 all_along Q before [] all = tt
 all_along Q before (event ∷ between) all = (All-head Q event between all, all_along Q (before ++ event ∷ []) between (All-tail Q event between all))
 
--- what holds at the opening, and stays so at each event, holds after a lawful history
+-- a property that holds at the opening and is preserved by each event holds after a lawful history
 pub throughout : (P : List Event → Type 0) (opening : Opening) → P []
     → ((before : List Event) (event : Event) → IsStep opening before event → P before → P (before ++ event ∷ []))
     → (history : List Event) → IsLawful opening history → P history
@@ -156,7 +155,7 @@ throughout P opening first stays history lawful =
     along (λ before left. P before) (λ before event. ⊤) opening (λ before event left step passed so. stays before event step so) [] history []
     (rw (append-nil history) lawful) (all_along (λ event. ⊤) [] history (λ k d within. tt)) first
 
--- what is held at the opening
+-- the controller's numbers at the opening
 pub first-held : (opening : Opening) → (first_core opening).held ≡ held_after opening []
 first-held opening = held-is opening (first_core opening) [] (first_shows opening)
 
@@ -164,7 +163,7 @@ first-held opening = held-is opening (first_core opening) [] (first_shows openin
 pub counted-cons : (event : Event) (later : List Event) → updates_in (event ∷ later) ≡ cond (is_update (deed_of event)) 1 0 + updates_in later
 counted-cons event later = sum_by-cons (λ (e : Event). cond (is_update (deed_of e)) 1 0) event later
 
--- what is held there is sound, and its moment the effective one
+-- the controller's numbers there are sound, and their moment is the effective one
 pub sound_at : (opening : Opening) (before later : List Event) → IsLawful opening (before ++ later)
     → IsSound (held_after opening before) × ((held_after opening before).moment ≡ effective_moment opening before)
 sound_at opening before later lawful =
@@ -182,7 +181,7 @@ beginning opening before later lawful = record {
   legal = (steady_at opening before later lawful).shows.legal;
 }
 
--- at each place the command is taken and has its answer
+-- at each place the command is accepted and has its answer
 pub all_legal : (o : Opening) (ps : List (Place Event)) → map (λ (p : Place Event). refusal_by_rule o p.before p.event.command) ps
     ≡ map (λ (p : Place Event). None) ps
     → map (λ (p : Place Event). p.event.answer) ps ≡ map (λ (p : Place Event). decision o p.before p.event.command) ps → All (IsLegalAt o) ps

@@ -39,7 +39,7 @@ tuned-mono step prob x y le =
 
 -- ---- the next probability
 
--- a higher delay never gives a lower next probability, all else the same
+-- a higher delay never gives a lower next probability, if all other numbers are equal
 pub next_mono : (elements : Elements) (params : RawParams) (prob old delay more : ℕ) → delay ≤ more
     → next elements params prob delay old ≤ next elements params prob more old
 unfolding next decayed
@@ -68,7 +68,7 @@ tuned-down step prob params delay old below fallen =
     rw (raw-zero params, tuned-zero step prob) at
     (tuned-mono step prob (raw_step params delay old) (raw_step params params.target params.target) raw)
 
--- it does not decay at the target or above it
+-- the probability does not decay at the target or above it
 pub none_decays : (choice : Decay) (params : RawParams) (delay old : ℕ) → 0 < params.target → params.target ≤ delay
     → decays choice params delay old ≡ false
 none_decays choice params delay old some above = grind (arith, nat_tests)
@@ -101,11 +101,11 @@ pub next_capped : (elements : Elements) (params : RawParams) (prob delay old : �
 unfolding next decayed tuned_step
 next_capped elements params prob delay old capped large = grind (arith, nat_tests, ints, clamps)
 
--- where it decays the delay is below the target, or 0
+-- if the probability decays, the delay is at most the target
 pub decays_low : (choice : Decay) (params : RawParams) (delay old : ℕ) → decays choice params delay old ≡ true → delay ≤ params.target
 decays_low choice params delay old is = grind (arith, nat_tests)
 
--- where it decays, and the delay has not risen, it falls to 98 hundredths at most
+-- if the probability decays and the delay has not risen, the next probability is at most 98 hundredths of it
 pub next_decays : (elements : Elements) (params : RawParams) (prob delay old : ℕ) → decays elements.decay params delay old ≡ true → delay ≤ old
     → next elements params prob delay old * 100 ≤ prob * 98
 unfolding next decayed

@@ -36,7 +36,7 @@ prob-next opening before event step active =
 
 -- ---- any other event
 
--- what a command does to the probability that is no update of an active controller: it stays, or starts anew
+-- a command that is no update of an active controller leaves the probability unchanged or resets it
 pub stays-or-zero : (h : Held) (waiting : List Waiting) (packets : ℕ) (command : Command) (answer : Answer)
     → (is_update (deed command answer) ≡ false) ⊎ (h.active ≡ false)
     → (after_call h (call_of waiting packets command)).control.prob ≤ h.control.prob
@@ -44,7 +44,7 @@ stays-or-zero h waiting packets command answer other = grind (arith, nat_tests)
 
 -- ---- one delay all along
 
--- what an event leaves while the delay is steady
+-- the controller after an event while the delay is steady: its parameters, and its probability
 record Next (delay : ℕ) (elements : Elements) (h g : Held) (updates : Bool) : Type 0 where
   params : g.params ≡ h.params
   prob : g.control.prob ≡ (if updates then next elements h.params h.control.prob delay delay else h.control.prob)
@@ -75,7 +75,7 @@ unfolding after_updates
 steadily delay opening before between later lawful steady =
     sym (along Comes (IsSteady delay opening) opening stays before between later lawful steady refl)
   where
-    -- what the updates to come make of the probability
+    -- the remaining updates lead from the present probability to the final one
     Comes : List Event → List Event → Type 0
     Comes earlier left =
         after_updates (updates_in between) opening.choices.elements (params_after opening before) delay (probability_after opening before)
@@ -138,7 +138,7 @@ a_tenth_is_left n elements params delay prob is many =
         let both : x * 10 * b ≤ p * b = grind (arith, one, faded) in
         le_of_mul-le-mul_right both some
 
--- with the defaults, from 0 at twice the target, and from 1 with no delay
+-- with the defaults: from 0 at twice the target, and from 1 without delay
 pub exactly : (after_updates 162 usual default_profile 30_000_000 0 ≡ 100_178_833_003)
     × (after_updates 161 usual default_profile 30_000_000 0 ≡ 99_241_333_003)
     × (after_updates 87 usual default_profile 0 1_000_000_000_000 ≡ 96_421_179_148)

@@ -1,4 +1,4 @@
--- A weighted average lies between what it is made of.
+-- A weighted average lies between its two values.
 use Rattle.pie_guarantees.proofs.Names.{◌≡◌, ◌≤◌, ◌<◌, ◌+◌, ◌*◌, ◌-◌, ◌/◌, ℕ, List, [], ◌∷◌, refl, arith, length, All, fold, All-head, All-tail}
 use Rattle.pie_guarantees.proofs.Names.{le-div, mul-le, div-le_of_le-mul, average_of, averaged, IsBetween, min, ◌^◌, delay_of}
 use Rattle.pie_guarantees.proofs.Names.{Elements, Event, Opening, IsLawful, append-nil, held_after, held_of, params_after, bytes_after, delay_after}

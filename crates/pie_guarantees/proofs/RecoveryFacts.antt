@@ -136,7 +136,7 @@ bound-falls fall m (suc n) =
     let rest = rw other at (bound-falls fall m n) in
     let less = under-falls fall (bound fall (suc (m + n))) in rw one (omega (arith, rest, less))
 
--- ---- what a controller holds, from call to call
+-- ---- the controller's numbers from call to call
 
 -- after n updates without delay
 record Falls (fall n : ℕ) (h : Held) : Type 0 where
@@ -191,14 +191,14 @@ falls-next fall n h waiting packets command some within keeps free old = record 
   far = grind (arith, nat_tests);
 }
 
--- which commands are updates does not depend on the answer
+-- whether a command is an update does not depend on its answer
 pub same-update : (command : Command) (answer : Answer) → is_update (deed command answer) ≡ is_update (deed command Empty)
 same-update command answer = grind (arith, nat_tests)
 
 -- ---- along a lawful history
 
 module _ (fall : ℕ) (opening : Opening) (before between : List Event) where
-  -- with some of the events still to come
+  -- the state between two events: `n` updates were made, and the others follow
   record Since (earlier left : List Event) : Type 0 where
     n : ℕ
     counted : updates_in between ≡ n + updates_in left
@@ -257,7 +257,7 @@ pub recovers_in_any_case : BetweenAny (λ opening before between. active_after o
 unfolding bound under in-row
 recovers_in_any_case opening before between later lawful on = recovers 0 opening before between later lawful 1202 refl on (omega arith)
 
--- the same numbers are reached
+-- the bounds are reached
 pub as_slow : (after_updates 180 usual default_profile 0 (next usual default_profile 986_448_007_965 0 1) ≡ 1)
     × (after_updates 178 usual default_profile 0 1_000_000_000_000 ≡ 0) × (after_updates 177 usual default_profile 0 1_000_000_000_000 ≡ 1_988_772)
     × (after_updates 1202 usual (record default_profile { alpha = 0; beta = 0 }) 0

@@ -18,7 +18,7 @@ use Rattle.pie_guarantees.proofs.ProbabilityFacts.{elements-is}
 
 -- ---- one command
 
--- what the probability counts as, and whether a packet would be considered
+-- the counted probability of a packet of this size, and the condition for considering a packet
 abbrev q-of : Held → ℕ → ℕ
 q-of h size = counted_as h.elements.size h.params size h.control.prob
 
@@ -28,7 +28,7 @@ con-of h bytes = h.active && is_considered h.params h.control bytes
 abbrev considers : Held → ℕ → Command → Answer → Bool
 considers h bytes command answer = had_room (deed command answer) && con-of h bytes
 
--- by a command: a picked packet takes 0.85 to 9.5 off the sum, and what else starts it anew takes less than 8.5
+-- the effect of a command on the accumulated probability: a pick takes 0.85 to 9.5 off it, and any other restart less than 8.5
 record Adds (h g : Held) (considered early anew : Bool) (q : ℕ) : Type 0 where
   at_least : g.accu + (if early then 850_000_000_000 else 0) ≤ h.accu + (if considered then q else 0)
   at_most : h.accu + (if considered then q else 0)
@@ -63,7 +63,7 @@ adds h waiting packets (Arrive moment packet word) spaced small counts =
     record { at_least = grind (arith, nat_tests); at_most = grind (arith, nat_tests) }
 adds h waiting packets _ spaced small counts = record { at_least = grind (arith, nat_tests); at_most = grind (arith, nat_tests) }
 
--- ---- a pick starts anew
+-- ---- a pick resets the accumulated probability
 
 left-zero : (h : Held) (waiting : List Waiting) (packets : ℕ) (command : Command) → is_early (answer_by h waiting packets command) ≡ true
     → (after_call h (call_of waiting packets command)).accu ≡ 0
@@ -77,7 +77,7 @@ picks_clear opening before event later lawful early =
     ∙ left-zero (held_after opening before) (waiting_after opening before) opening.limits.packets event.command
     (ap (λ (a : Answer). is_early a) (sym step.here.answered) ∙ early)
 
--- ---- at a place
+-- ---- an event of a lawful history
 
 q-is : (opening : Opening) (before : List Event) (event : Event)
     → q-of (held_after opening before) (arriving_size event.command) ≡ counted_at opening before event
@@ -123,7 +123,7 @@ one-restart : (early considered anew : Bool) (q accu next all sum picks restarts
 one-restart early considered anew q accu next all sum picks restarts left one old = grind (arith, nat_tests)
 
 module _ (opening : Opening) (before between : List Event) where
-  -- with some of the events still to come
+  -- the balance between two events: the sums over the events so far and those that follow
   record Balance (earlier left : List Event) : Type 0 where
     at_least : Book.accu_after opening earlier + picks_in between * 850_000_000_000 + counted_in opening earlier left
         ≤ Book.accu_after opening before + counted_in opening before between + picks_in left * 850_000_000_000
@@ -169,7 +169,7 @@ shared opening before between later lawful spaced =
     let sound = (sound_at opening (before ++ between) later lawful).0.accu in
     (omega (arith, it.at_least), omega (arith, it.at_most, sound))
 
--- ---- how far picks are apart
+-- ---- the number of considered packets between picks
 
 counts-at-most : (most : ℕ) (opening : Opening) (before between : List Event) → AllAlong (CountsAtMost most opening) before between
     → counted_in opening before between ≤ considered_in opening before between * most

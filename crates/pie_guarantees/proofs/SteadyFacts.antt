@@ -67,7 +67,7 @@ div-more : (n d e : ℕ) → 0 < e → e ≤ d → n / d ≤ n / e
 div-more n d e some le =
     le-div (n / d) n e some (let whole = div-mul-le_self n d in let part = mul-le (n / d) e (n / d) d (omega arith) le in omega (arith, whole, part))
 
--- from a higher probability a rise is no smaller
+-- from a higher probability, a rise is at least as large
 rise-grows : (params : RawParams) (delay low high : ℕ) → low ≤ high → least_rise params delay low ≤ least_rise params delay high
 rise-grows params delay low high le =
     let more = div-more (untuned_rise params delay) (tuning_divisor low) (tuning_divisor high) (divisor-some high) (divisor-falls low high le) in
@@ -162,7 +162,7 @@ module _ (elements : Elements) (params : RawParams) (delay : ℕ) where
       let one : suc m + n ≡ suc (m + n) = omega arith in ap (λ (k : ℕ). after k prob) one ∙ after_both m n (once prob)
 
   module _ (some : 0 < params.target) (above : params.target ≤ delay) where
-    -- it never falls; each update increases it by at least the first and at most the second amount
+    -- the probability never falls; each update increases it by at least the first and at most the second amount
     rises : (n rise most prob : ℕ) → rise ≤ least_rise params delay prob → prob ≤ 10 ^ 12
         → (prob ≤ after n prob) × (min (10 ^ 12) (prob + n * rise) ≤ after n prob)
         × (after n prob ≤ most → after n prob ≤ prob + n * (untuned_rise params delay / tuning_divisor most))
@@ -192,8 +192,7 @@ module _ (elements : Elements) (params : RawParams) (delay : ℕ) where
     rises_at_most n prob most within below = (rises n 0 most prob (omega arith) within).2 below
 
   module _ (below : delay ≤ params.target) where
-    -- it never rises; each update decreases it by at least the first amount, and if it does not decay by at most
-    -- the second
+    -- the probability never rises; each update decreases it by at least the first amount, and, if it does not decay, by at most the second
     falls : (n fall least prob : ℕ) → (after n prob ≤ prob)
         × (0 < least → least ≤ after n prob → after n prob + n * (untuned_fall params delay / tuning_divisor least) ≤ prob)
         × (prob ≤ 10 ^ 12 → decays elements.decay params delay delay ≡ false → untuned_fall params delay / tuning_divisor prob ≤ fall
@@ -229,7 +228,7 @@ module _ (elements : Elements) (params : RawParams) (delay : ℕ) where
         → prob ≤ after n prob + n * (untuned_fall params delay / tuning_divisor prob)
     falls_at_most n prob within still = (falls n (untuned_fall params delay / tuning_divisor prob) 0 prob).2 within still (omega arith)
 
-  -- ---- to a tenth
+  -- ---- the increase to a tenth
 
   module _ (some : 0 < params.target) (above : params.target ≤ delay) where
     low-after : (n prob : ℕ) → prob ≤ 10 ^ 12 → lows params delay n ≤ after n prob

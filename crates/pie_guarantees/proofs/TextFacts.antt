@@ -46,7 +46,7 @@ opened_well text opening lines told = by (records_of text) told.opens
     by [] e = cc
     by (row ∷ rows) e = row-opens row opening e
 
--- ---- its lines
+-- ---- the lines of a text
 
 in-range : (command : Command) → CommandFits command → SetsInRange command
 in-range (SetParams moment params) fits = fits.1.in_range

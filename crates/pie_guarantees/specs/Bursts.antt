@@ -31,7 +31,7 @@ pub record AllAllow (burst least most : ℕ) (opening : Opening) (before between
   pub force : Allows burst least most (params_after opening before)
   pub set : All (λ event. SetsAllow burst least most event.command) between
 
--- how many updates there are among these events
+-- the number of updates among these events
 abbrev pub updates_in : List Event → ℕ
 updates_in events = count_of is_update events
 

@@ -13,13 +13,13 @@ is_packet_arrival _ = false
 abbrev pub packets_arrived : List Event → ℕ
 packets_arrived history = count_by (λ event. is_packet_arrival event.command) history
 
--- the packet that an event put into the queue: as it arrived, and with CE where it was marked
+-- the packet that an event put into the queue: as it arrived, and with CE if it was marked
 abbrev pub packet_queued : Deed → Option Packet
 packet_queued (queued packet) = Some packet
 packet_queued (marked packet) = Some (record packet { ecn = Ce })
 packet_queued _ = None
 
--- the packets that were queued or marked, those that departed, and those that wait, in order
+-- the packets that were queued or marked, in order
 unfoldable pub packets_queued : List Event → List Packet
 packets_queued history = filter_map (λ event. packet_queued (deed_of event)) history
 
@@ -38,7 +38,7 @@ abbrev pub SetsLimit : ℕ → Command → Type 0
 SetsLimit most (SetParams moment params) = params.limit_bytes ≤ most
 SetsLimit most _ = ⊤
 
--- from the end of the first events to the end of the later ones, the nanoseconds that passed
+-- the time, in nanoseconds, from the end of the first events to the end of the later ones
 abbrev pub time_of : Opening → List Event → List Event → ℕ
 time_of opening before between = effective_moment opening (before ++ between) - effective_moment opening before
 

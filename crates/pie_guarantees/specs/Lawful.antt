@@ -1,4 +1,4 @@
--- The histories for which all laws hold: those that the rules give from an opening on, whatever wrote them.
+-- The histories for which all laws hold: those that the rules give from an opening on, whatever program wrote them.
 use Rattle.std.specs.Prelude.{◌≡◌, ◌++◌, List, [], ◌∷◌, None, All, ⊤}
 use Rattle.pie_params.specs.Range.{first_bad}
 use Rattle.pie_event.specs.Opening.{opening_refusal}
@@ -23,7 +23,7 @@ unfoldable pub AllAlong : (List Event → Event → Type 0) → List Event → L
 AllAlong P before [] = ⊤
 AllAlong P before (event ∷ later) = P before event × AllAlong P (before ++ event ∷ []) later
 
--- this is so at each event of each lawful history, with the events before it
+-- the property holds of each event of each lawful history, with the events before it
 abbrev pub AtEachEvent : (Opening → List Event → Event → Type 0) → Type 0
 AtEachEvent P = (opening : Opening) (before : List Event) (event : Event) (later : List Event) → IsLawful opening (before ++ event ∷ later)
     → P opening before event

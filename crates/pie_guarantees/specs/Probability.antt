@@ -23,7 +23,7 @@ unfoldable pub after_updates : ℕ → Elements → RawParams → ℕ → ℕ �
 after_updates zero elements params delay prob = prob
 after_updates (suc n) elements params delay prob = after_updates n elements params delay (next elements params prob delay delay)
 
--- before auto-tuning each update at one delay raises the probability by alpha times what the delay is above the target
+-- before auto-tuning each update at one delay raises the probability by alpha times the excess of the delay over the target
 abbrev pub untuned_rise : RawParams → ℕ → ℕ
 untuned_rise params delay = params.alpha * (delay - params.target)
 
@@ -32,7 +32,7 @@ untuned_rise params delay = params.alpha * (delay - params.target)
 abbrev pub untuned_fall : RawParams → ℕ → ℕ
 untuned_fall params delay = params.alpha * (params.target - delay)
 
--- what auto-tuning leaves of a rise from this probability, and at most two hundredths
+-- the least rise from this probability or a higher one, after auto-tuning: the tuned rise, at most two hundredths
 abbrev pub least_rise : RawParams → ℕ → ℕ → ℕ
 least_rise params delay prob = min (untuned_rise params delay / tuning_divisor prob) 20_000_000_000
 
@@ -46,7 +46,8 @@ updates_to_a_tenth params delay =
     updates_from params delay 0 (10 ^ 6) + updates_from params delay (10 ^ 6) (10 ^ 7) + updates_from params delay (10 ^ 7) (10 ^ 8)
     + updates_from params delay (10 ^ 8) (10 ^ 9) + updates_from params delay (10 ^ 9) (10 ^ 10) + updates_from params delay (10 ^ 10) (10 ^ 11)
 
--- after these events the delay stays at this: no parameters, no reset, and each update of the active controller finds it, as the one before
+-- the event keeps the delay: it sets no parameters and resets nothing, the controller is active, and an update finds this delay, as the one before it
+-- did
 pub record IsSteady (delay : ℕ) (opening : Opening) (before : List Event) (event : Event) : Type 0 where
   pub keeps : KeepsParams event.command
   pub unreset : is_reset (deed_of event) ≡ false

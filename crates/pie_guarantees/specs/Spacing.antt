@@ -18,13 +18,13 @@ was_considered opening before event =
     had_room (deed_of event)
     && considered_where (active_after opening before) (params_after opening before) (parts_after opening before) (bytes_after opening before)
 
--- what the probability counted as for it
+-- the counted probability of the event's packet
 abbrev pub counted_at : Opening → List Event → Event → ℕ
 counted_at opening before event =
     counted_as opening.choices.elements.size (params_after opening before) (arriving_size event.command) (parts_after opening before).prob
 
--- the event starts the accumulated probability anew and picks no packet: a tail drop, a reset, an arrival that turns the controller on, or a packet
--- that is considered while the probability counts as 0
+-- the event resets the accumulated probability and picks no packet: a tail drop, a reset, an arrival that turns the controller on, or a packet that
+-- is considered while the probability counts as 0
 abbrev pub starts_anew : Opening → List Event → Event → Bool
 starts_anew opening before event =
     (is_dropped_bytes (deed_of event) || is_dropped_packets (deed_of event)) || is_reset (deed_of event)
@@ -44,7 +44,7 @@ considered_in opening = sum_along (λ before event. if was_considered opening be
 abbrev pub counted_in : Opening → List Event → List Event → ℕ
 counted_in opening = sum_along (λ before event. if was_considered opening before event then counted_at opening before event else 0)
 
--- the number of events that start the accumulated probability anew and pick no packet
+-- the number of events that reset the accumulated probability and pick no packet
 abbrev pub restarts_in : Opening → List Event → List Event → ℕ
 restarts_in opening = sum_along (λ before event. if starts_anew opening before event then 1 else 0)
 
@@ -52,7 +52,7 @@ restarts_in opening = sum_along (λ before event. if starts_anew opening before 
 abbrev pub picks_in : List Event → ℕ
 picks_in events = count_by (λ event. is_early event.answer) events
 
--- where a packet is considered, the probability counts as this at most
+-- the counted probability of a considered packet is at most `most`
 abbrev pub CountsAtMost : ℕ → Opening → List Event → Event → Type 0
 CountsAtMost most opening before event = was_considered opening before event ≡ true → counted_at opening before event ≤ most
 
@@ -60,7 +60,7 @@ CountsAtMost most opening before event = was_considered opening before event ≡
 abbrev pub CountsAtLeast : ℕ → Opening → List Event → Event → Type 0
 CountsAtLeast least opening before event = was_considered opening before event ≡ true → least ≤ counted_at opening before event
 
--- the event picks no packet, and nothing else starts the accumulated probability anew: no tail drop, no reset, and the controller isn't turned on
+-- the event picks no packet, and nothing else resets the accumulated probability: no tail drop, no reset, and the controller is not turned on
 pub record IsUnpicked (opening : Opening) (before : List Event) (event : Event) : Type 0 where
   pub unpicked : is_early event.answer ≡ false
   pub no_bytes : is_dropped_bytes (deed_of event) ≡ false

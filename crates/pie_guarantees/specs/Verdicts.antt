@@ -21,10 +21,10 @@ IsArrivalOf event packet = (moment : ℕ) × (word : ℕ) × (event.command ≡ 
 abbrev pub OnlyMarks : Opening → List Event → Type 0
 OnlyMarks opening before = (parts_after opening before).prob < (params_after opening before).mark_ecnth
 
--- the event drops no packet early whose endpoints understand a mark
+-- if the event's packet has endpoints that understand a mark, the event does not drop it early
 abbrev pub SparesCapable : Event → Type 0
 SparesCapable event = (packet : Packet) → IsArrivalOf event packet → is_capable packet.ecn ≡ true → event.answer ≡ DroppedEarly → ⊥
 
--- the event marks no packet whose endpoints don't
+-- if the event's packet has endpoints that do not understand a mark, the event does not mark it
 abbrev pub MarksOnlyCapable : Event → Type 0
 MarksOnlyCapable event = (packet : Packet) → IsArrivalOf event packet → is_capable packet.ecn ≡ false → event.answer ≡ Marked → ⊥

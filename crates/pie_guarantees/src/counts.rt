@@ -1,4 +1,4 @@
-//! No loss of count: what becomes of every packet, how much waits, and how long.
+//! Conservation of packets: the fate of every packet, the size of the queue, and the waiting times.
 ghost use Rattle.std.specs.Prelude.{◌≡◌, ◌≤◌, ◌+◌, ◌*◌, ◌^◌, ◌++◌, ◌∷◌, [], All, List, ℕ, Some, length};
 ghost use Rattle.pie_guarantees.specs.{deed_of, Event, Opening, Packet, params_after, bytes_after, waiting_after, count_of, is_dropped_bytes};
 ghost use Rattle.pie_guarantees.specs.{AtEachEvent, BetweenAny};

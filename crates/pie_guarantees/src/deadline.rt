@@ -1,4 +1,4 @@
-//! By when a delay that lasts is answered (RFC 8033, sections 4.1, 4.2, 4.4 and 5.4).
+//! The time within which a lasting delay is answered (RFC 8033, sections 4.1, 4.2, 4.4 and 5.4).
 ghost use Rattle.std.specs.Prelude.{◌≡◌, ◌≤◌, ◌<◌, ◌*◌, ◌^◌, ◌++◌, ◌∷◌, List, ℕ, true};
 ghost use Rattle.pie_params.specs.Profile.{default_profile};
 ghost use Rattle.pie_guarantees.specs.{Event, Opening, active_after, bytes_after, deed_of, params_after, AllAlong, BetweenAny, IsLasting, IsLawful};

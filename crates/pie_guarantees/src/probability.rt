@@ -33,8 +33,8 @@ pub fn the_probability_follows_the_delay()
         → probability_after opening (before ++ event ∷ []) ≤ probability_after opening before) }
 {}
 
-/// A higher delay never gives a lower next probability, all else the same (`delay`). A higher probability before can give a lower one
-/// after, where rises are capped: at a delay of one second, after none, 10 per cent becomes 12, and a hair less than 10 becomes 78.7 (`below`,
+/// A higher delay never gives a lower next probability, if all other numbers are equal (`delay`). If rises are capped, a higher probability before an
+/// update can give a lower one after it: at a delay of one second, after none, 10 per cent becomes 12, and a hair less than 10 becomes 78.7 (`below`,
 /// `from_a_tenth`).
 pub fn what_gives_a_higher_probability()
     ensures delay { (elements : Elements) (params : RawParams) (prob : ℕ) (old : ℕ) (delay : ℕ) (more : ℕ) → delay ≤ more

@@ -22,19 +22,18 @@ pub fn picks_are_far_apart()
         → 850_000_000_000 ≤ (considered_in opening before between + 1) * most }
 {}
 
-/// Where probabilities accumulate and the probability counts as at least `least` for each considered packet, above 0: as long as none is
-/// picked, and nothing else starts the accumulated probability anew, there are so few considered packets that these times `least` are below 8.5
-/// (RFC 8033, section 5.4). So at 1 per cent at least one of 850 in a row is
-/// picked, and after a tail drop the count begins again.
+/// Let probabilities accumulate, and let the counted probability of each considered packet be at least `least`, above 0. While no packet is picked,
+/// and nothing else resets the accumulated probability, the number of considered packets times `least` is below 8.5 (RFC 8033, section 5.4). So at 1
+/// per cent at least one of 850 in a row is picked, and after a tail drop the count begins again.
 pub fn picks_are_not_too_far_apart()
     ensures { (least : ℕ) → BetweenAny (λ opening before between. opening.choices.elements.picking ≡ Derandomized → 0 < least
         → AllAlong (CountsAtLeast least opening) before between → AllAlong (IsUnpicked opening) before between
         → considered_in opening before between * least < 8_500_000_000_000) }
 {}
 
-/// If probabilities accumulate and the probability counts as less than 0.85, no two consecutive considered packets are picked: from one pick to the
-/// next either a packet between them is considered and not picked, or the probability counts as at least 0.85 for the next (RFC 8033, section 5.4).
-/// This says nothing about flows: one flow may receive every pick (`one_flow_may_receive_every_pick`).
+/// If probabilities accumulate and the counted probability is less than 0.85, no two consecutive considered packets are picked. From one pick to the
+/// next either a packet between them is considered and not picked, or the counted probability is at least 0.85 for the next (RFC 8033, section 5.4).
+/// This law does not concern flows: one flow may receive every pick (`one_flow_may_receive_every_pick`).
 pub fn picks_never_follow_at_once()
     ensures { (opening : Opening) (before : List Event) (first : Event) (between : List Event) (second : Event) (later : List Event)
         → IsLawful opening (before ++ first ∷ [] ++ between ++ second ∷ later) → opening.choices.elements.picking ≡ Derandomized → IsEarly first

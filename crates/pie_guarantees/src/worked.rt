@@ -31,7 +31,7 @@ pub fn a_clock_at_its_end_refuses_every_update()
         → refusal_by_rule burst_opening last_update (Update moment) ≡ Some (TooSoon 1_152_921_504_606_847_075) }
 {}
 
-/// Spacing says nothing about flows: two flows send in turn at a probability of a half, and flow 1 receives every pick.
+/// Spacing does not concern flows: two flows send in turn at a probability of a half, and flow 1 receives every pick.
 pub fn one_flow_may_receive_every_pick()
     ensures legal { IsLegal flows_opening (half_is_reached ++ flows_in_turn) }
     ensures one { picks_of 1 flows_in_turn ≡ 3 }

@@ -191,7 +191,7 @@ falls-next fall n h waiting packets command some within keeps free old = record 
   far = grind (arith, nat_tests);
 }
 
--- whether a command is an update does not depend on its answer
+-- the answer has no effect on the classification of a command as an update
 pub same-update : (command : Command) (answer : Answer) → is_update (deed command answer) ≡ is_update (deed command Empty)
 same-update command answer = grind (arith, nat_tests)
 

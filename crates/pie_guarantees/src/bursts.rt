@@ -5,8 +5,8 @@ ghost use Rattle.pie_guarantees.specs.{AtEachEvent, BetweenAny, IsCalmUpdate};
 ghost use Rattle.pie_guarantees.specs.{KeepsParams, burst_left, updates_in, IsLawful, IsEarly};
 ghost use Rattle.pie_book.specs.Types.{Reset};
 
-/// The burst allowance is whole at the opening, after a reset, after an arrival that turns the controller on, and after each calm update, which finds
-/// the delay below half the target, as the update before it did, and leaves the probability at 0 (RFC 8033, sections 4.4 and 5.3).
+/// The burst allowance is whole at the opening, after a reset, after an arrival that turns the controller on, and after each calm update. A calm
+/// update finds the delay below half the target, as the update before it did, and leaves the probability at 0 (RFC 8033, sections 4.4 and 5.3).
 pub fn allowances_begin_whole()
     ensures opening { (opening : Opening) → IsLawful opening [] → IsWhole opening [] }
     ensures reset { AtEachEvent (λ opening before event. (moment : ℕ) → event.command ≡ Reset moment → IsWhole opening (before ++ event ∷ [])) }

@@ -4,11 +4,11 @@ ghost use Rattle.pie_params.specs.Profile.{default_profile};
 ghost use Rattle.pie_guarantees.specs.{Event, Opening, active_after, bytes_after, deed_of, params_after, AllAlong, BetweenAny, IsLasting, IsLawful};
 ghost use Rattle.pie_guarantees.specs.{burst_left, had_room, probability_after, untuned_rise, updates_in, updates_to_a_tenth, was_considered};
 
-/// While each update finds a delay of at least `least`, which is at or above the target, and no less than the update before it found: the probability
-/// is at least 10 per cent after the updates that each row of the table of auto-tuning takes (`probability`), with the defaults 164 at twice the
-/// target (`at_twice_the_target`). The burst allowance is used up after ⌈allowance / `t_update`⌉ updates (`burst`). From then on each arrival that
-/// finds more than two mean packets in the queue, and room, is considered (`considered`). So by `picks_are_not_too_far_apart`, if probabilities
-/// accumulate, at most 84 more of these arrivals pass before the first is picked.
+/// Let each update find a delay that is at least `least`, at least the target, and at least the delay of the update before it. After the number of
+/// updates that the rows of the table of auto-tuning take, the probability is at least 10 per cent (`probability`): with the defaults after 164 at
+/// twice the target (`at_twice_the_target`). After ⌈allowance / `t_update`⌉ updates the burst allowance is used up (`burst`). From then on, and after
+/// the first such update, each arrival that finds room, and more than two mean packets in the queue, is considered (`considered`). So by
+/// `picks_are_not_too_far_apart`, if probabilities accumulate, at most 84 more of these arrivals pass before the first is picked.
 pub fn lasting_delays_are_answered()
     ensures probability { (least : ℕ) → BetweenAny (λ opening before between. (params_after opening before).target ≤ least
         → 2048 ≤ untuned_rise (params_after opening before) least → AllAlong (IsLasting least opening) before between

@@ -1,4 +1,4 @@
-//! Guarantees that follow from the rules and hold for every history that an audit finds clean, whatever wrote it.
+//! Guarantees that follow from the rules and hold for every history that an audit finds clean, whatever program wrote it.
 //!
 //! Each law, and each worked example, is a function with an empty body: its contract is the law, or the example,
 //! which computes. `specs/` has the definitions that the contracts cite.

@@ -15,9 +15,9 @@ pub fn the_rate_lies_between_its_samples()
         → average_after opening history ≡ 0 }
 {}
 
-/// If the delay comes from the departure rate and there is a sample, the estimated delay is at most the bytes that wait times the longest sample, over
-/// `dq_threshold`, and at least these bytes times the shortest sample, over `dq_threshold`, or 2^40 nanoseconds, the greatest delay (RFC 8033,
-/// section 5.2; the greatest delay is this project's own).
+/// The bounds of the estimated delay, if the delay comes from the departure rate and there is a sample. It is at most the queued bytes times the
+/// longest sample, over `dq_threshold`. It is at least the queued bytes times the shortest sample, over `dq_threshold`, or 2^40 nanoseconds, the
+/// greatest delay, if that is less (RFC 8033, section 5.2; the greatest delay is this project's own).
 pub fn the_estimated_delay_lies_between()
     ensures { (least : ℕ) (most : ℕ) (opening : Opening) (history : List Event) → IsLawful opening history → opening.choices.elements.delay ≡ Rate
         → 0 < length (samples_after opening history) → All (IsBetween least most) (samples_after opening history)

@@ -6,10 +6,11 @@ ghost use Rattle.pie_guarantees.specs.{FindsNoDelay, HasRecovered};
 ghost use Rattle.pie_params.specs.Elements.{usual};
 ghost use Rattle.pie_params.specs.Profile.{default_profile};
 
-/// From any state of an active controller on, while no update finds a delay and no parameters are set, the probability is 0 and the burst allowance is
-/// whole after at most 182 updates, if alpha times the target is at least that of the defaults (`by_default`, `defaults`): 2.73 seconds of updates 15
-/// milliseconds apart. From some states it takes as many (`not_sooner`); from probability 1, with no delay before, it takes 178, 2.67 seconds
-/// (`from_one`, `not_yet`). With any parameters it takes at most 1204 updates (`in_any_case`), and as many with an alpha and a beta of 0 (`slowest`).
+/// Let an active controller be in any state, and let no update find a delay and no parameters be set from then on. After at most 182 updates the
+/// probability is 0 and the burst allowance is whole, if alpha times the target is at least that of the defaults (`by_default`, `defaults`): 2.73
+/// seconds of updates 15 milliseconds apart. From some states exactly this number is needed (`not_sooner`). From probability 1, with no delay before,
+/// 178 updates are needed, 2.67 seconds (`from_one`, `not_yet`). With any parameters at most 1204 updates are needed (`in_any_case`), and exactly
+/// this number with an alpha and a beta of 0 (`slowest`).
 pub fn controllers_recover()
     ensures by_default { BetweenAny (λ opening before between. active_after opening before ≡ true
         → 1_875_000_000 ≤ untuned_fall (params_after opening before) 0 → AllAlong (FindsNoDelay opening) before between

@@ -27,7 +27,7 @@ fn main(mut rt: HostRuntime) -> ExitCode {
     ExitCode::from(end.status(is_closed))
 }
 
-/// The words of the command line, or nothing where they could not be had, which is then said on standard error.
+/// Returns the words of the command line. If they can't be read, writes a line to standard error and returns `None`.
 fn words(rt: &HostRuntime) -> Option<Vec<String>> {
     let args = match env::args(rt) {
         Ok(args) => args,

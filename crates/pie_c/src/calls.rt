@@ -55,7 +55,7 @@ pub extern "C" fn pie_arrive(
 ) -> u32
     ensures { Arrives state.old (arrival_of queued size room bits word) (arrival_refusal queued size bits moment) moment result state.new }
 {
-    // As one value, so that the other path is compiled once and is a jump.
+    // One value, so that the other path is compiled once and is a jump.
     let is_usual = room != 0 && state.active == 1 && state.choices <= 1;
     if is_usual {
         let elements = usual_but_delay(state.choices);

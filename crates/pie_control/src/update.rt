@@ -36,8 +36,8 @@ pub fn delay(bytes: u64, average: u64, threshold: u64) -> u64
     estimate.min(u128::from(MAX_DELAY)) as u64
 }
 
-/// Returns `product / threshold`, rounded down. The thresholds that parameters can have are constant powers of two here,
-/// which the compiler turns into shifts.
+/// Returns `product / threshold`, rounded down. The thresholds that parameters can have are constant powers of two here, so the compiler turns them
+/// into shifts.
 #[inline(always)]
 fn quotient(product: u128, threshold: u64) -> u128
     requires { 0 < threshold }

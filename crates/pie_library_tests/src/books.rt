@@ -109,7 +109,7 @@ fn fill_out(alloc: Global, book: &Book, excerpt: &mut Excerpt) -> Seen {
     }
 }
 
-/// An excerpt of a book takes its room as it is made, and its text what it needs.
+/// Makes an excerpt of a book and writes its text: the excerpt takes its room as it is made, and the text its memory.
 fn take_out(alloc: Global, book: &Book) -> Seen {
     match Excerpt::with_room(alloc, book.opening()) {
         Ok(mut excerpt) => fill_out(alloc, book, &mut excerpt),

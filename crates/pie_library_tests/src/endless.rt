@@ -1,4 +1,4 @@
-//! A reader without an end, and a writer that compares what it takes.
+//! A reader without an end, and a writer that compares its input with expected bytes.
 
 use pie_book::Answer;
 use pie_trace::{HistoryLines, Line};
@@ -37,9 +37,9 @@ impl Read for Endless {
 /// A writer that accepts all bytes, and compares them with the expected ones.
 #[derive(Drop)]
 pub(crate) struct Compared<'a> {
-    /// The wanted bytes that did not come yet.
+    /// The expected bytes that have not been written yet.
     rest: &'a [u8],
-    /// Another byte came than was wanted.
+    /// True if another byte than the expected one was written.
     differs: bool,
 }
 
@@ -51,7 +51,7 @@ impl<'a> Compared<'a> {
         }
     }
 
-    /// Returns true if what is wanted came, and nothing else.
+    /// Returns true if exactly the expected bytes were written.
     pub(crate) fn is_all(&self) -> bool {
         self.rest.is_empty() && !self.differs
     }
@@ -70,7 +70,7 @@ impl Write for Compared<'_> {
     }
 }
 
-/// The history of 999 departures where the tail has room for 16.
+/// Returns the history of 999 departures in a book whose tail has room for 16.
 pub(crate) fn departures(alloc: Global) -> io::Result<String> {
     let mut history = String::from_str(alloc, "open,0,4,16,100\n")?;
     for _ in 0..16 {

@@ -77,14 +77,14 @@ trait Decides {
     fn decide(&mut self, alloc: Global, command: Command) -> Option<Answer>;
 }
 
-/// It decides alone.
+/// Decides only.
 impl Decides for Core {
     fn decide(&mut self, _alloc: Global, command: Command) -> Option<Answer> {
         self.step(1, command).ok()
     }
 }
 
-/// It records too, and is folded whenever its tail is full, unless it is rolling.
+/// Decides and records. The book is folded whenever its tail is full, unless it is rolling.
 impl Decides for Book {
     fn decide(&mut self, alloc: Global, command: Command) -> Option<Answer> {
         if self.tail_len() >= TAIL as usize && self.opening().choices.mode != Mode::Rolling {

@@ -1,5 +1,5 @@
-//! Calls that write, of texts that are whole and of others: where a writer's flush fails, each answers so. No clause says that a writer is flushed,
-//! and the program's needs no flush.
+//! Calls that write, for valid texts and others: if a writer's flush fails, each call reports it. No clause states that a writer is flushed, and the
+//! program's writer needs no flush.
 
 use pie_audit::{Finding, write_finding};
 use pie_book::{Answer, Command, Event, Opening};
@@ -11,7 +11,7 @@ use std::alloc::Global;
 use std::io;
 use std::io::{ErrorKind, Write};
 
-/// A writer that takes all, and whose flush fails or not.
+/// A writer that accepts everything, and whose flush fails if `flush_fails`.
 #[derive(Drop)]
 pub(crate) struct Sink {
     flush_fails: bool,
@@ -45,7 +45,7 @@ pub(crate) const HISTORY: &[u8] =
 
 const FAULT: &[u8] = b"open,0,4,16,100\ndep\n";
 
-/// A rolling book with the default parameters and the usual elements, whose ring and tail hold four.
+/// Returns the opening of a rolling book with the default parameters and the usual elements, whose ring and tail hold four.
 fn opening() -> Opening {
     opening_for(4, Elements::usual(), Params::default_profile())
 }
@@ -62,7 +62,7 @@ pub(crate) enum Writes {
     History,
 }
 
-/// All of them, and how they are printed.
+/// All of them, with their names in the output.
 pub(crate) const WRITES: [(Writes, &str); 7] = [
     (Writes::Run, "run_trace_flushes"),
     (Writes::RunWithin, "run_trace_within_flushes"),

@@ -65,7 +65,7 @@ fn count(link: &Link, caller: &mut Caller) -> u64
     }
 }
 
-// ---- calls that want memory
+// ---- calls that need memory
 
 /// Why there is no link.
 fn refused(why: LinkRefusal) -> Seen {
@@ -88,7 +88,7 @@ pub(crate) fn open<R: Wait + Print>(rt: &R, alloc: Global, name: &str) -> Seen {
     }
 }
 
-/// Three events and a fold of two. Where it was refused the lock is free, and the book has the same events.
+/// Makes three events and folds two. If the fold was refused, the lock is free, and the book has the same events.
 fn fold_at<R: Wait + Print>(
     rt: &R,
     link: &Link,

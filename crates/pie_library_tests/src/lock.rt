@@ -1,5 +1,5 @@
-//! The lock, over the counter that pie_lock has for tests. What its calls answer is proved but for this: that there is memory, that a free lock is
-//! taken and closed (src/links.rt), and that those who sleep at a lock that is held are woken: with a missed wake a test doesn't end.
+//! The lock, over the counter that pie_lock has for tests. The results of its calls are proved, with three exceptions: there is memory, a free lock
+//! is taken and closed (src/links.rt), and threads that sleep at a held lock are woken. After a missed wake a test does not end.
 ghost use Rattle.std.specs.Prelude.{◌≡◌, Some};
 ghost use Rattle.pie_lock.specs.Tally.{Represents};
 
@@ -115,8 +115,8 @@ fn has_three<R: Wait>(rt: &R, place: AtLock) -> bool {
     count == 3 && total == 3
 }
 
-/// Whether all of three threads have been there, of which two sleep while the first has the state, and one still while the second has it. (Without
-/// memory there are fewer, and the test fails.)
+/// Returns true if all three threads have had the state: two sleep while the first has it, and one still sleeps while the second has it. (Without
+/// memory there are fewer threads, and the test fails.)
 pub(crate) fn all_wake<R: Threads + Wait + Clock + Sync>(rt: &R, alloc: Global) -> bool {
     match RuledLock::new(alloc, Counter::new(), 4) {
         Ok((lock, pass)) => {

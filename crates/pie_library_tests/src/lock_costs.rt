@@ -32,7 +32,7 @@ fn at_lock<R: Threads + Wait + Clock + Print + Sync>(to: &mut Report<R>, alloc: 
     }
 }
 
-/// Prints the time of an uncontended take and put, and how many there are in a second by 1, 2, 4 and 8 threads, for the lock and for the mutex.
+/// Prints the time of an uncontended take and put, and their number per second with 1, 2, 4 and 8 threads, for the lock and for the mutex.
 pub fn measure<R: Threads + Wait + Clock + Print + Sync>(report: &mut Report<R>, alloc: Global) {
     for place in 0..THREADS.len() {
         at_lock(report, alloc, THREADS[place]);

@@ -66,7 +66,7 @@ fn part<R: Threads + Wait + Clock + Print + Sync>(to: &mut Report<R>, alloc: Glo
     }
 }
 
-/// Makes each call that can want memory and that no program makes so, and says what was seen.
+/// Makes each call that can run out of memory and that no program makes so, and prints its result.
 fn calls<R: Wait + Clock + Print>(to: &mut Report<R>, alloc: Global) {
     let rt = to.rt;
     let seen = books::fold(rt, alloc, "Book::fold");
@@ -81,7 +81,7 @@ fn calls<R: Wait + Clock + Print>(to: &mut Report<R>, alloc: Global) {
     print_numbers(to, "Link::fold", seen);
 }
 
-/// Says of each test whether it holds.
+/// Prints for each test whether it holds.
 fn tests<R: Threads + Wait + Clock + Print + Sync>(to: &mut Report<R>, alloc: Global) {
     for place in 0..WRITES.len() {
         let (writes, name) = WRITES[place];
@@ -99,7 +99,7 @@ fn tests<R: Threads + Wait + Clock + Print + Sync>(to: &mut Report<R>, alloc: Gl
     sleepers(to, alloc);
 }
 
-/// Says so of worked rows: a core, a book, runs, a history without an end, a queue.
+/// Runs the tests of worked rows: a core, a book, runs, a history without an end, a queue.
 fn worked_rows<R: Clock + Print>(to: &mut Report<R>, alloc: Global) {
     let holds = rows::core_decides(alloc);
     say(to, "a_core_decides_worked_histories", holds);
@@ -115,7 +115,7 @@ fn worked_rows<R: Clock + Print>(to: &mut Report<R>, alloc: Global) {
     say(to, "a_queue_of_two_packets", holds);
 }
 
-/// Says so of storms.
+/// Runs the tests of storms.
 fn storms_of_threads<R: Threads + Wait + Clock + Print + Sync>(to: &mut Report<R>, alloc: Global) {
     let holds = storms::held_comes_last(to.rt, alloc);
     say(to, "a_held_sender_comes_last", holds);
@@ -131,7 +131,7 @@ fn storms_of_threads<R: Threads + Wait + Clock + Print + Sync>(to: &mut Report<R
     say(to, "a_storm_keeps_its_pace", holds);
 }
 
-/// Says whether those that sleep at a held lock wake.
+/// Runs the test whether threads that sleep at a held lock wake.
 fn sleepers<R: Threads + Wait + Clock + Print + Sync>(to: &mut Report<R>, alloc: Global) {
     let wake = lock::all_wake(to.rt, alloc);
     say(to, "those_that_sleep_at_a_held_lock_all_wake", wake);

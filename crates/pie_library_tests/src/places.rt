@@ -14,12 +14,12 @@ const UNCONTENDED: u64 = 10_000_000;
 /// Number of calls of each of several threads.
 const PER_THREAD: u64 = 1_000_000;
 
-/// By how many threads each place is measured; by 0 it is one thread, while there is no other.
+/// The numbers of threads with which each place is measured; 0 is one thread, while there is no other.
 pub const THREADS: [u16; 5] = [0, 1, 2, 4, 8];
 
 /// A place of one thread, which takes one call after another.
 pub trait Place {
-    /// A place of one thread more; nothing where there is none.
+    /// Returns a place for one more thread; `None` if there is none.
     fn share(&mut self) -> Option<Self>;
 
     /// The call of a turn, by a thread that sends or by another.
@@ -45,7 +45,7 @@ pub fn jobs_at<P: Place + Drop>(alloc: Global, place: &mut P, threads: u16) -> V
     jobs
 }
 
-/// So many calls of one of several threads; the number is theirs.
+/// Makes `calls` calls of one of several threads, and returns `calls`.
 fn toil<R: Wait + Clock, P: Place + Drop>(rt: &R, job: Job<P>, calls: u64) -> u64 {
     let Job { mut place, sends } = job;
     for turn in 0..calls {
@@ -54,7 +54,7 @@ fn toil<R: Wait + Clock, P: Place + Drop>(rt: &R, job: Job<P>, calls: u64) -> u6
     calls
 }
 
-/// So many calls of a thread for each job; whether there was memory for the threads.
+/// Makes `calls` calls in a thread for each job. Returns true if there was memory for the threads.
 pub fn toil_all<R: Threads + Wait + Clock + Sync, P: Place + Send + Drop>(
     rt: &R,
     jobs: Vec<Job<P>>,

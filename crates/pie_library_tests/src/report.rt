@@ -34,7 +34,7 @@ impl<'a, R: Clock + Print> Report<'a, R> {
         it.ok()
     }
 
-    /// Takes in whether a line was printed.
+    /// Stores the failure of a line that was not printed.
     pub fn printed(&mut self, said: io::Result<()>) {
         let _ = self.kept(said);
     }
@@ -70,7 +70,7 @@ impl<'a, R: Clock + Print> Report<'a, R> {
         self.printed(said);
     }
 
-    /// Prints what the results of the calls add up to, which keeps them from being optimised away.
+    /// Prints the sum of the calls' results, so that they are not optimised away.
     pub fn checksum(&mut self, part: &str, name: &str, sum: u64) {
         let said = println!(self.rt; "{part}_{name}_checksum {sum} sum");
         self.printed(said);

@@ -1,4 +1,4 @@
-//! Worked histories, whose events a core and a book decide again; the numbers of runs; texts without an end; a queue. All numbers are worked out by
+//! Worked histories, whose events a core and a book decide again; the numbers of runs; texts without an end; a queue. All numbers were computed by
 //! hand.
 
 use crate::books::packet;
@@ -17,7 +17,7 @@ depart,2,25,left,7,1500,ect0
 depart,2,30,empty
 ";
 
-/// Its trace.
+/// The trace of the worked history.
 const TRACE: &[u8] = b"open,0,4,16,100
 arrive,1,10,7,1500,ect0,0
 depart,2,25
@@ -96,7 +96,7 @@ impl Decides for Core {
     }
 }
 
-/// After each event a fold empties the tail, and the checkpoint is to be what the book holds.
+/// Folds the tail after each event, and tests that the checkpoint is the state of the book.
 impl Decides for Book {
     fn open(alloc: Global, opening: &Opening) -> Option<Book> {
         Book::open_with(alloc, *opening).ok()

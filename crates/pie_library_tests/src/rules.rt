@@ -1,4 +1,4 @@
-//! The rules over checked numbers, by worked rows: a controller takes their steps over plain ones, so nothing else calls these.
+//! The rules over checked numbers, by worked rows. A controller calls the rules over plain numbers, so only these tests call the checked ones.
 
 use pie_control::{Control, delay, next_probability};
 use pie_early::{Choice, Early, Offered};
@@ -7,8 +7,8 @@ use pie_params::{Elements, Params, Step};
 use pie_queue::Ecn;
 use pie_rate::Rate;
 
-/// The size of departures, the bytes that they leave behind, and their moments: the first begins a cycle, the second closes it after 12 milliseconds
-/// and begins the next, and the third closes that after 20.
+/// The size of departures, the bytes that they leave, and their moments: the first opens a cycle, the second closes it after 12 milliseconds and
+/// opens the next, and the third closes that one after 20.
 const DEPARTURES: [(u32, u64, u64); 3] = [
     (1500, 20_000, 1000),
     (16_384, 16_384, 12_001_000),

@@ -67,7 +67,7 @@ impl Passed {
         }
     }
 
-    /// Returns true if callers 1, 2, .. made as many calls as this says, each with its number before it and after.
+    /// Returns true if callers 1, 2, .. made these numbers of calls, each with its number before it and after.
     fn are(&self, calls: &[u64]) -> bool {
         let mut are_so = self.wrong.load(Ordering::SeqCst) == 0;
         for place in 0..calls.len().min(12) {
@@ -219,7 +219,7 @@ fn comes_last<R: Threads + Wait + Sync>(
     is_last && gate.passed.are(&[2, 2, 0, 0, 0, 0])
 }
 
-/// Either of two senders comes last where its gate holds it.
+/// Returns true if either of two senders comes last when its gate delays it.
 pub(crate) fn held_comes_last<R: Threads + Wait + Sync>(rt: &R, alloc: Global) -> bool {
     let plan = plan(alloc, 2, &[1, 2]);
     comes_last(rt, alloc, &plan, 1, 2) && comes_last(rt, alloc, &plan, 2, 1)
@@ -245,7 +245,7 @@ fn see_all_flags<R: Threads + Wait + Sync>(
     ends && gate.seen.load(Ordering::SeqCst) == u64::from(senders) && gate.passed.are(calls)
 }
 
-/// All of two senders see each other's flags, and all of eight.
+/// Returns true if all of two senders see each other's flags, and all of eight.
 pub(crate) fn flags_are_seen<R: Threads + Wait + Sync>(rt: &R, alloc: Global) -> bool {
     let two = [2, 2, 0, 0, 0, 0];
     let eight = [2, 2, 2, 2, 2, 2, 2, 2, 0, 0, 0, 0];
@@ -262,7 +262,7 @@ fn folding_plan(alloc: Global) -> Plan {
     plan
 }
 
-/// Returns true if these are the four events, the registers and the statistics that such a plan ends with, where one fold asked for too many.
+/// Returns true if these are the four events, the registers and the statistics at the end of such a plan, with one fold of too many events.
 fn is_as_folded(end: &StormEnd) -> bool {
     end.events.len() == 4
         && end.too_soon == 0
@@ -274,7 +274,7 @@ fn is_as_folded(end: &StormEnd) -> bool {
         && end.registers.bytes == 300
 }
 
-/// Folds that are held until all else was answered take part, and a change.
+/// Returns true if the folds, delayed until all other calls were answered, and a change take part.
 pub(crate) fn folds_take_part<R: Threads + Wait + Sync>(rt: &R, alloc: Global) -> bool {
     let gate = holding(FOLDER, 0, 4);
     let is_so = match storm(rt, alloc, &folding_plan(alloc), &gate) {
@@ -284,7 +284,7 @@ pub(crate) fn folds_take_part<R: Threads + Wait + Sync>(rt: &R, alloc: Global) -
     is_so && gate.passed.are(&[2, 1, 0, 0, 1, 3])
 }
 
-/// A fold of two events that comes before any is counted as one of too many, since the only packets are held until it was answered.
+/// Returns true if a fold of two events before the first one is counted as one of too many. The only packets are delayed until it was answered.
 pub(crate) fn early_fold_is_passed_over<R: Threads + Wait + Sync>(rt: &R, alloc: Global) -> bool {
     let mut plan = plan(alloc, 1, &[1, 2]);
     let _ = plan.arrivals.push(Vec::new(alloc));
@@ -308,8 +308,8 @@ fn has_five_events<R: Threads + Wait + Sync>(
     }
 }
 
-/// The usual plan of two packets has five events, and six commands where an update is too soon. One whose ring has no room is not opened, and one
-/// whose tail has too little room is not sound, whatever else it lacks.
+/// Returns true if the usual plan of two packets has five events, and six commands if an update is too soon. A plan whose ring has no room is not
+/// opened, and one whose tail has too little room is not sound, whatever else is wrong with it.
 fn is_checked<R: Threads + Wait + Sync>(rt: &R, alloc: Global, mut plan: Plan) -> bool {
     let is_made = has_five_events(rt, alloc, &plan, 0);
     plan.limits.packets = 0;

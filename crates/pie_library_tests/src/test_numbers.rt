@@ -19,7 +19,7 @@ impl Seen {
         other: 0,
     };
 
-    /// It did what it is for.
+    /// Returns the result of a call that succeeded.
     pub(crate) fn done(one: u64, other: u64) -> Seen {
         Seen {
             answer: "done",
@@ -28,7 +28,7 @@ impl Seen {
         }
     }
 
-    /// It was refused, for want of memory or not.
+    /// Returns the result of a call that was refused, for lack of memory or for another reason.
     pub(crate) fn refused(is_memory: bool, one: u64) -> Seen {
         Seen {
             answer: if is_memory { "memory" } else { "refused" },
@@ -38,19 +38,19 @@ impl Seen {
     }
 }
 
-/// Says that this call comes next: what is requested from here to the next line is requested by it alone.
+/// Prints the name of the next call: it makes all memory requests up to the next line.
 pub(crate) fn begin(rt: &impl Print, name: &str) {
     let _ = println!(rt; "begin {name}");
 }
 
-/// Prints what was seen.
+/// Prints the result of a call.
 pub(crate) fn print_numbers<R: Clock + Print>(report: &mut Report<R>, name: &str, seen: Seen) {
     let Seen { answer, one, other } = seen;
     let said = println!(report.rt; "{name}: {answer}, {one}, {other}");
     report.printed(said);
 }
 
-/// Says whether a test holds.
+/// Prints whether a test holds.
 pub(crate) fn say<R: Clock + Print>(report: &mut Report<R>, name: &str, holds: bool) {
     let word = if holds { "holds" } else { "fails" };
     let said = println!(report.rt; "{name}: {word}");

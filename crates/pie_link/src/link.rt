@@ -47,7 +47,7 @@ impl Link {
     ///
     /// # Errors
     ///
-    /// As `open_with`.
+    /// Those of `open_with`.
     pub fn open(
         alloc: Global,
         limits: Limits,

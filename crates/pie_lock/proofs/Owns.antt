@@ -1,4 +1,4 @@
--- Entries of a list under the numbers of a range, and lists that go on without such entries.
+-- Entries of a list under the numbers of a range, and longer lists without further entries of the range.
 use Rattle.pie_lock.proofs.Names.{◌≡◌, ℕ, ◌≤◌, false, List, [], ◌∷◌, ◌++◌, length, refl, subst, arith, append-nil}
 use Rattle.pie_lock.proofs.Names.{nat_tests, append_cancel_left, All-cons, All-drop, All-head, All-nil, All-tail, All-take, filter-append, All, is_within, own}
 use Rattle.pie_lock.proofs.Names.{Extends}
@@ -39,7 +39,7 @@ module _ {E : Type 0} (number : E → ℕ) (first limit : ℕ) where
   none_own (e ∷ rest) none =
       All-cons (λ x. is_within first limit (number x) ≡ false) e rest (grind (arith, nat_tests)) (none_own rest (grind (arith, nat_tests)))
 
-  -- a history goes on from a front if it begins with it and no further entry has one of its numbers
+  -- a history continues a front if it begins with it and no further entry has one of its numbers
   pub goes_on : (front rest history : List E) → front ++ rest ≡ history → NoneOwn rest → Extends number first limit front history
   goes_on front rest history is none = (
     (rest, is),

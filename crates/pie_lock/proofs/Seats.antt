@@ -121,7 +121,7 @@ module _ {E O : Type 0} (number : E → ℕ) (origin : O) (numbers : ℕ) where
 
   -- ---- two passes
 
-  -- the longer of two fronts goes on from the shorter, and the history from the longer, under the numbers of both
+  -- the longer of two fronts continues the shorter, and the history the longer, under the numbers of both
   longer_facts : (history : List E) (p q : PassKnowledge E O) → Fits history p → Fits history q → AreAdjacent p q → length p.front ≤ length q.front
       → Extends number (min p.first q.first) (max p.limit q.limit) q.front history × Extends number p.first p.limit p.front q.front
   longer_facts history p q f g adjacent less =
@@ -135,7 +135,7 @@ module _ {E O : Type 0} (number : E → ℕ) (origin : O) (numbers : ℕ) where
         goes_on number p.first p.limit p.front m.0 q.front m.1 out.0,
       )
 
-  -- two passes with adjacent ranges become one, and both fronts go on to the longer one
+  -- two passes with adjacent ranges become one, and the longer front continues both
   pub follows_both : (history : List E) (p q : PassKnowledge E O) → Fits history p → Fits history q → AreAdjacent p q
       → Fits history (made_one p q) × Extends number p.first p.limit p.front (longer p.front q.front)
       × Extends number q.first q.limit q.front (longer p.front q.front)

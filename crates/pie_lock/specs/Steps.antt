@@ -97,7 +97,7 @@ module _ {S E O : Type 0} where
   freed added step before found after =
       after ≡ (Waits (with_front (pass_at before.0) ((pass_at before.0).front ++ added)), [])
 
-  -- the seat has one pass made of p and q, and the longer front goes on from both fronts
+  -- the seat has one pass, merged from p and q, whose longer front continues both fronts
   abbrev pub HasMerged : (E → ℕ) → PassKnowledge E O → PassKnowledge E O → Me (Option S) (Place E O) → Type 0
   HasMerged number p q made =
       (made ≡ (Waits (made_one p q), []))

@@ -55,7 +55,7 @@ TriesToFill (Some before) None code after filled = (code ≡ 122) × (after ≡ 
 TriesToFill (Some before) (Some text) code after filled =
     (now : CallerView) × (left : ExcerptText) × (after ≡ Some now) × (filled ≡ Some left) × IsFilledAt before text code now left
 
--- ---- its text
+-- ---- the text of an excerpt
 
 -- the record at a place: the `resume` record, those of the packets in the queue, and those of the events; none after
 -- these

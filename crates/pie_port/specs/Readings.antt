@@ -9,7 +9,7 @@ use Rattle.pie_port.specs.Calls.{AtPort}
 use Rattle.pie_port.specs.declared.readings.PieRegisters.{PieRegisters}
 use Rattle.pie_port.specs.declared.readings.PieTotals.{PieTotals}
 
--- ---- in a struct
+-- ---- readings in a struct
 
 abbrev pub bit : Bool → ℕ
 bit true = 1

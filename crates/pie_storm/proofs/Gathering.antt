@@ -34,7 +34,7 @@ run_fault plan (Ok end) sound none faulted = tt
 run_fault plan (Err why) sound none (inl is) = subst (HasFault plan) (sym is) (sound, none)
 run_fault plan (Err why) sound none (inr is) = subst (HasFault plan) (sym is) (sound, none)
 
--- the calls of a caller in a history are its calls in one that goes on without further entries of it
+-- the calls of a caller in a history are its calls in a longer one without further entries of it
 came_on : (law : EntriesLookBack) (plan : Plan) (caller : ℕ) (h k : List Entry) (passed : ℕ) → HasNoMore caller h k → IsOutcomeOf plan caller h passed
     → IsOutcomeOf plan caller k passed
 unfolding IsOutcomeOf
@@ -61,7 +61,7 @@ each_below caller n h k below on =
     continues number_of caller (caller + 1) h all.0 k all.1
     (λ i d within. other_below n caller (number_of (get_or all.0 i d)) below (all.2 i d within))
 
--- the front of two gathered callers goes on from the front of each
+-- the front of two gathered callers continues the front of each
 fronts : (plan : Plan) (p q r : CallerView) (n : ℕ) → p.first ≡ 0 → p.limit ≡ n → q.first ≡ n → q.limit ≡ n + 1 → IsBothOf number_of p q r
     → ((caller : ℕ) → caller < n → HasNoMore caller p.front r.front) × HasNoMore n q.front r.front
 fronts plan p q r n p_first p_limit q_first q_limit both =
@@ -190,7 +190,7 @@ few_events n (e ∷ xs) below right =
     let rest = few_events n xs (All-tail (IsBelow (suc n)) e xs below) (All-tail (λ e. number_of e ≡ n → IsRight n e) e xs right) in
     grind (arith, nat_tests)
 
--- ---- what a caller's entries are
+-- ---- the entries of a caller
 
 module _ (plan : Plan) (caller : ℕ) where
   abbrev IsIts : Call → Type 0
@@ -295,7 +295,7 @@ module _ (plan : Plan) (h : List Entry) (sound : IsSound plan) (below : All (IsB
       let lower : caller < callers_of_plan plan = omega (arith, not_over) in
       let c = came caller lower in (c.0, all_made caller c.0 lower c.1, c.2))
 
-  -- only the folder has folds, and it has nothing else
+  -- the folder alone has folds, and has no other entry
   pub all_right : All (IsRight (folder plan)) h
   all_right = λ k d within.
       let caller = number_of (get_or h k d) in
@@ -323,13 +323,13 @@ module _ (plan : Plan) (link : LinkView) (work : Work) (book : BookView) (link_f
   holds_all : HoldsAll work.caller
   holds_all = (worked.first, worked.limit ∙ (sym numbers ∙ ap (λ (l : LinkView). l.numbers) (sym worked.lock)))
 
-  -- it closed the link, and has the book that was opened
+  -- the caller closed the link, and has the book that was opened
   opened_so : book.opening ≡ opening_of plan
   opened_so =
       let same : Some book.opening ≡ Some (opening_of plan) = sym opened ∙ (ap (λ (l : LinkView). l.origin) worked.lock ∙ link_for.opened) in
       cc same
 
-  -- all entries of its front have numbers of the plan's callers, whose calls were made as they may be
+  -- all entries of its front have numbers of the plan's callers, which made permitted calls
   all_below : All (λ (e : Entry). number_of e < callers_of_plan plan) work.caller.front
   all_below =
       let all : work.caller.lock.numbers ≡ callers_of_plan plan = omega (arith, ap (λ (l : LinkView). l.numbers) worked.lock, numbers) in

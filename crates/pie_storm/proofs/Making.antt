@@ -95,7 +95,7 @@ module _ (opening : Opening) (caller : ℕ) where
       let sum : p + q ≡ m.1 + q + 1 = omega (arith, m.4) in
       inr (m.0, m.1 + q, m.2, m.3, sum, made_both m.0 calls later mid h m.1 q m.5 n)
 
-  -- calls in a history that goes on without further entries of the caller
+  -- calls in a longer history without further entries of the caller
   pub made_on : (front : List Entry) (calls : List Call) (h k : List Entry) (passed : ℕ) → HasNoMore caller h k
       → AreMade opening caller front calls h passed → AreMade opening caller front calls k passed
   made_on front [] h k passed on m = (continues caller front h k m.0 on, m.1)
@@ -119,7 +119,7 @@ one_at [] k x e = absurd (grind arith)
 one_at (y ∷ xs) zero x e = ap (λ z. z ∷ []) (cc e)
 one_at (y ∷ xs) (suc k) x e = one_at xs k x e
 
--- the new front of a caller with one number goes on from the old one
+-- the new front of a caller with one number continues the old one
 pub has_front : (link : LinkView) (number : ℕ) (before : CallerView) (history : List Entry) → IsAt link number before
     → Extends number_of before.first before.limit before.front history → HasNoMore number before.front history
 has_front link number before history at on = rw (at.first, at.limit) at on

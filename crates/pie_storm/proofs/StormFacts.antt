@@ -46,7 +46,7 @@ fit-legal kinds opening events legal =
     (all_of (IsLegalAt opening) Fits event_of (places events)
     (λ place at. rw at.answered (kinds opening place.before place.event.command)) legal)
 
--- ---- they are found clean, and are few
+-- ---- the events are found clean, and their number is bounded
 
 -- legal events after a preamble are found clean
 abbrev WholeIsClean : Type 0

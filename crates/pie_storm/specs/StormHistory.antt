@@ -15,7 +15,7 @@ use Rattle.pie_storm.specs.Storms.{IsStorm}
 -- the history of these events, from the opening of this plan, was written
 pub record WritesHistory (plan : Plan) (events : List Event) (before now : Option (List ℕ)) : Type 0 where
   pub written : Appends before now (rows_text (written_rows (opening_of plan) events))
-  -- as a text of its own it is clean
+  -- if it is the whole text, it is clean
   pub clean : before ≡ Some [] → IfSome now (λ text. text_finding (records_of text) ≡ Ok (Clean (length events)))
 
 -- the history of a storm was written

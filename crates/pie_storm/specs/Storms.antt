@@ -53,13 +53,12 @@ abbrev pub WasPassedOver : Opening → List Entry → Call → Type 0
 WasPassedOver opening before (Ask command) = WasTooSoon opening (events_in before) command
 WasPassedOver opening before (Fold n) = WasTooMany opening before n
 
--- a history goes on from the caller's front, and has no further entry of the caller
+-- a longer list continues the caller's front, and has no further entry of the caller
 abbrev pub HasNoMore : ℕ → List Entry → List Entry → Type 0
 HasNoMore caller front longer = Extends number_of caller (caller + 1) front longer
 
--- a caller with this front made these calls in this history, and no others, except that `passed` of them were skipped.
--- Each was made after a prefix of the history that goes on from the caller's front and has no further entry of it; the
--- entry of one that was not skipped follows at once
+-- a caller with this front made these calls in this history, and no others, except that `passed` of them were skipped. Each was made after a prefix
+-- of the history that continues the caller's front and has no further entry of it; the entry of one that was not skipped follows at once
 abbrev pub AreMade : Opening → ℕ → List Entry → List Call → List Entry → ℕ → Type 0
 AreMade opening caller front [] history passed = HasNoMore caller front history × (passed ≡ 0)
 AreMade opening caller front (call ∷ calls) history passed =

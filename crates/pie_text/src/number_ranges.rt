@@ -1,5 +1,4 @@
-//! The numbers of an event are those that the types of its fields hold. These functions do nothing: their contracts
-//! say it of values in hand.
+//! The numbers of an event fit the types of their fields. These functions do nothing: their contracts state it for given values.
 ghost use Rattle.pie_record.specs.Field.{most_u16};
 ghost use Rattle.std.specs.Prelude.{◌≤◌, ◌≡◌};
 ghost use Rattle.pie_text.specs.{AnswerFits, CommandFits, PacketFits, true, fits, ParamsFit, EventFits};
@@ -77,7 +76,7 @@ fn answer_fits(answer: Answer)
     }
 }
 
-/// An event's numbers, where its answer is of a kind that its command can have.
+/// The numbers of an event, if its answer is of a kind that its command can have.
 pub(crate) fn event_fits(event: &Event)
     requires { fits event.now.command event.now.answer ≡ true }
     ensures { EventFits event.now }

@@ -43,7 +43,7 @@ impl Page {
     ///
     /// # Errors
     ///
-    /// `AllocError` where there is no memory for them.
+    /// `AllocError` if there is no memory for them.
     #[inline(always)]
     pub fn push(&mut self, bytes: &[u8]) -> Result<(), AllocError>
         ensures { OnOk result (self.new ≡ self.old ++ bytes.now) }
@@ -61,11 +61,11 @@ impl Page {
         words
     }
 
-    /// Adds words, which it takes to keep their memory.
+    /// Adds the words, and keeps their memory for later words.
     ///
     /// # Errors
     ///
-    /// `AllocError` where there is no memory for them on the page.
+    /// `AllocError` if there is no memory for them on the page.
     pub fn put(&mut self, words: String) -> Result<(), AllocError>
         ensures { OnOk result (self.new ≡ self.old ++ string_bytes words) }
     {
@@ -74,7 +74,7 @@ impl Page {
         put
     }
 
-    /// All of it.
+    /// Returns the bytes of the page.
     pub fn as_bytes(&self) -> &[u8]
         ensures { result.now ≡ self.now }
     {

@@ -10,7 +10,7 @@ const GREATEST: u128 = (1 << 60) - 1;
 /// The number of parts of one: a number has at most 18 decimals.
 const PARTS: u128 = 1_000_000_000_000_000_000;
 
-/// Zeros, as many as a number may have decimals.
+/// Zeros for the greatest number of decimals.
 const ZEROS: &[u8] = b"000000000000000000";
 
 /// The reason why a text is not a number of its kind.

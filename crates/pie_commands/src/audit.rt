@@ -18,7 +18,7 @@ use pie_trace::TraceFault;
 use std::alloc::Global;
 use std::io::{Read, Write};
 
-/// The end of an audit that found this.
+/// Returns the end of an audit with this finding.
 fn end_of(found: Finding) -> End
     ensures { result ≡ end_found found }
 {

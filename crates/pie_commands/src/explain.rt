@@ -85,7 +85,7 @@ fn lasts(every: Option<u64>) -> bool
     }
 }
 
-/// The events that these options choose.
+/// Returns the choice of events by these options.
 fn which_of(options: &ArgMatches<'_>) -> Option<Which>
     ensures { result ≡ which_of (rows_of (found_of options.now)) }
 {
@@ -160,7 +160,7 @@ fn each_kind(form: Form) -> OutputKind
     }
 }
 
-/// Each event, or with these choices sums over them.
+/// Returns the kind of output: each event, or sums over the events as these options choose.
 fn output_kind_by(
     summary: bool,
     packets: bool,

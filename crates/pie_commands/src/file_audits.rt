@@ -19,12 +19,12 @@ use std::io;
 use std::io::{Read, Write};
 use std::time::Clock;
 
-/// Why a file was not audited.
+/// The reason why a file was not audited.
 #[derive(Clone, Copy)]
 pub enum Unaudited {
-    /// It could not be opened.
+    /// The file could not be opened.
     Unopened,
-    /// Its text has this fault, or the reader or memory failed.
+    /// The file's text has this fault, or the reader or memory failed.
     Faulty(TraceFault),
 }
 
@@ -179,7 +179,7 @@ fn worst(unfound: bool, different: bool) -> End
     }
 }
 
-/// The name at this place.
+/// Returns the name at this place.
 fn name_at<'a>(names: &[&'a str], place: usize) -> &'a str
     requires { place < length names.now }
     ensures { result.now ≡ get_or (map (λ name. name.now) names.now) place [] }

@@ -9,7 +9,7 @@ use pie_units::{Moment, MomentFault, When, WhenFault};
 use std::fmt::Display;
 use std::io::Write;
 
-/// The nanoseconds of a moment that was read, if there was one to read.
+/// Returns the nanoseconds of a moment that was read, if there was one.
 fn units_of(read: Result<Option<Moment>, MomentFault>) -> Result<Option<u64>, MomentFault>
     ensures { result ≡ units_of read }
 {
@@ -20,14 +20,14 @@ fn units_of(read: Result<Option<Moment>, MomentFault>) -> Result<Option<u64>, Mo
     }
 }
 
-/// The moment that an option is given, in nanoseconds.
+/// Returns the moment in an option's value, in nanoseconds.
 pub(crate) fn moment(options: &ArgMatches<'_>, name: &str) -> Result<Option<u64>, MomentFault>
     ensures { result ≡ moment_given name.now (rows_of (found_of options.now)) }
 {
     units_of(options.try_get_one::<Moment>(name))
 }
 
-/// The bound that an option is given.
+/// Returns the bound in an option's value.
 pub(crate) fn bound(options: &ArgMatches<'_>, name: &str) -> Result<Option<When>, WhenFault>
     ensures { result ≡ bound_given name.now (rows_of (found_of options.now)) }
 {

@@ -70,7 +70,7 @@ fn elements_of(options: &ArgMatches<'_>) -> Option<Elements>
     })
 }
 
-/// The profile that these options choose.
+/// Returns the profile that these options choose.
 fn profile_of(options: &ArgMatches<'_>) -> Profile
     ensures { result ≡ profile_by (number_or (codes "profile") 1 2 1 (rows_of (found_of options.now))) }
 {

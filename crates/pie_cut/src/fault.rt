@@ -1,4 +1,4 @@
-//! Why no excerpt was written, or none to its end.
+//! The reason why no excerpt was written, or not all of it.
 
 use pie_record::TraceFault;
 use thiserror::Error;
@@ -6,7 +6,7 @@ use thiserror::Error;
 /// The result of writing rows.
 pub(crate) type Written = Result<(), TraceFault>;
 
-/// Why no excerpt was written, or none to its end (this project's own).
+/// The reason why no excerpt was written, or not all of it (this project's own).
 #[derive(Clone, Copy, Debug, PartialEq, Eq, Error)]
 pub enum CutFault {
     /// The text has this fault, or a device failed, or there was no memory.

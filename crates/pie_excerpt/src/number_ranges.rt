@@ -16,7 +16,7 @@ pub fn params_are_good(params: Params)
     let _ = params.raw();
 }
 
-/// The nine parameters, in their ranges or not.
+/// The nine parameters, in their ranges or not, fit their types.
 fn nine_fit(params: RawParams)
     ensures { NineFit params }
 {
@@ -25,7 +25,7 @@ fn nine_fit(params: RawParams)
     let _ = (params.limit_bytes, params.mark_ecnth, params.dq_threshold);
 }
 
-/// A cycle of the departure rate, or none.
+/// The numbers of a cycle of the departure rate fit their types.
 fn cycle_fits(cycle: Option<RawCycle>)
     ensures { AllSmall (measuring cycle ∷ cycle_start cycle ∷ cycle_bytes cycle ∷ []) }
 {
@@ -37,7 +37,7 @@ fn cycle_fits(cycle: Option<RawCycle>)
     }
 }
 
-/// The event that set the probability, if it is known.
+/// The event that set the probability, if it is known, fits its type.
 fn setter_fits(set_by: Option<u64>)
     ensures { SetterFits set_by }
 {
@@ -49,7 +49,7 @@ fn setter_fits(set_by: Option<u64>)
     }
 }
 
-/// Statistics.
+/// Statistics fit their types.
 fn stats_fit(s: Stats)
     ensures { StatsFit s }
 {
@@ -77,7 +77,7 @@ pub fn resume_fits(resume: Resume)
     let _ = (c.control.burst, c.control.last, c.rate.average, c.waited);
 }
 
-/// A packet that waits.
+/// A queued packet's numbers fit their types.
 pub(crate) fn waiting_fits(waiting: Waiting)
     ensures { WaitingFits waiting }
 {

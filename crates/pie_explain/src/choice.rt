@@ -20,7 +20,7 @@ pub enum Which {
     All,
 }
 
-/// The packet that an event is about: the one that arrived, or the one that left.
+/// Returns the packet of an event: the one that arrived, or the one that left.
 #[inline(always)]
 pub(crate) fn packet_of(event: &Event) -> Option<Packet>
     ensures { result ≡ packet_of event.now }

@@ -64,7 +64,7 @@ fn waited(core: &Core, event: &Event, now: u64) -> u64
     }
 }
 
-/// The effective moment of an event that a core is about to decide.
+/// Returns the effective moment of an event that a core is about to decide.
 #[tactic(auto, unfolding(pie_book::specs::Registers::registers_after))]
 pub fn moment_of(core: &Core, event: &Event) -> u64
     ensures after { (opening : Opening) (history : List Event) → Represents opening core.now history → result ≡ moment_of opening history event.now }

@@ -58,7 +58,7 @@ impl Selection {
     ghost use Rattle.std.specs.Prelude.{None};
     ghost use Rattle.pie_explain.specs.Selection.{is_whole, picks};
 
-    /// These events, at every moment.
+    /// Returns the selection of these events, at every moment.
     pub fn of(which: Which) -> Selection
         ensures { result ≡ record { which = which; from = None; to = None } }
     {

@@ -17,7 +17,7 @@ use std::alloc::AllocError;
 /// The result of a write: an error if memory is short.
 pub(crate) type Written = Result<(), AllocError>;
 
-/// An ECN field as RFC 3168 names it.
+/// Returns the name of an ECN field in RFC 3168.
 fn ecn_name(ecn: Ecn) -> &'static str
     ensures { result.now ≡ ecn_name ecn }
 {
@@ -43,7 +43,7 @@ fn verdict_text(answer: Answer) -> &'static str
     }
 }
 
-/// The beginning of the first line of an event about a packet.
+/// Writes the beginning of the first line of a packet's event.
 #[tactic(auto, unfolding(crate::specs::Words::packet_words))]
 fn push_packet(page: &mut String, number: u64, packet: Packet) -> Written
     ensures { OnOk result (string_bytes page.new ≡ string_bytes page.old ++ packet_words number packet) }
@@ -60,7 +60,7 @@ fn push_event(page: &mut String, number: u64, rest: &str) -> Written
     write!(page, "event {number}{rest}")
 }
 
-/// The first lines of an update.
+/// Writes the first lines of an update.
 #[tactic(auto, unfolding(crate::specs::Words::update_words))]
 fn push_update(page: &mut String, number: u64, active: bool, answer: Answer) -> Written
     ensures { OnOk result (string_bytes page.new ≡ string_bytes page.old ++ update_words number active answer) }
@@ -111,7 +111,7 @@ fn push_deed(page: &mut String, told: &Explanation) -> Written
     }
 }
 
-/// Why a picked packet was marked or dropped.
+/// Writes the fate of a picked packet, marked or dropped, and its reason.
 #[tactic(auto, unfolding(crate::specs::Words::picked_words))]
 fn push_fate(page: &mut String, fate: Fate) -> Written
     ensures { OnOk result (string_bytes page.new ≡ string_bytes page.old ++ picked_words fate) }

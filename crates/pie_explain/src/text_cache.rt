@@ -28,7 +28,7 @@ impl Model for Steady {
 }
 
 impl Steady {
-    /// Zeros.
+    /// Returns the text of zeros.
     pub(crate) fn new() -> Steady {
         let mut text = Row::new();
         text.number(0);
@@ -86,7 +86,7 @@ impl Model for Held {
 }
 
 impl Held {
-    /// Zeros.
+    /// Returns the text of zeros.
     pub(crate) fn new() -> Held {
         let (steady, mut text) = (Steady::new(), Row::new());
         text.text(steady.text.as_bytes());
@@ -123,7 +123,7 @@ impl Held {
         self.delay = delay;
     }
 
-    /// Their text.
+    /// Returns the text.
     pub(crate) fn as_bytes(&self) -> &[u8]
         ensures text { result.now ≡ self.now }
         ensures long { length result.now ≤ 126 }

@@ -1,4 +1,4 @@
--- When an update is refused as too soon.
+-- The conditions under which an update is refused as too soon.
 use Rattle.pie_guarantees.proofs.Names.{◌≡◌, ◌<◌, ◌+◌, ℕ, List, [], ◌∷◌, ◌++◌, true, Some, arith, subst, sym, ◌∙◌, nat_tests}
 use Rattle.pie_guarantees.proofs.Names.{append_assoc, AtEachEvent, IsLawful, Event, Opening, Command, Update, Answer, Held, Waiting}
 use Rattle.pie_guarantees.proofs.Names.{deed, deed_of, is_update, caller_moment, refusal_with, refusal_by_rule, after_call, call_of}

@@ -18,7 +18,7 @@ pub record IsLawful (opening : Opening) (history : List Event) : Type 0 where
   pub set : All (λ event. SetsInRange event.command) history
   pub legal : IsLegal opening history
 
--- this holds of each of these later events, with all events before it
+-- the property holds of each of these later events, with all events before it
 unfoldable pub AllAlong : (List Event → Event → Type 0) → List Event → List Event → Type 0
 AllAlong P before [] = ⊤
 AllAlong P before (event ∷ later) = P before event × AllAlong P (before ++ event ∷ []) later

@@ -1,4 +1,4 @@
-//! When nothing is marked or dropped early: while a burst is allowed, at a short queue, at a low delay (RFC 8033, sections 4.1 and 4.4).
+//! The conditions under which nothing is marked or dropped early: a burst allowance, a short queue, a low delay (RFC 8033, sections 4.1 and 4.4).
 ghost use Rattle.std.specs.Prelude.{◌≡◌, ◌≤◌, ◌<◌, ◌*◌, ◌++◌, ◌∷◌, false};
 ghost use Rattle.pie_guarantees.specs.{active_after, params_after, parts_after, bytes_after, is_early, AtEachEvent};
 

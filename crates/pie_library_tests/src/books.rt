@@ -20,7 +20,7 @@ pub(crate) fn limits(tail: u32) -> Limits {
     }
 }
 
-/// A packet that understands no mark.
+/// Returns a packet whose endpoints do not understand a mark.
 pub(crate) fn packet(tag: u64, size: u32) -> Packet
     ensures { result.size ≡ size }
 {
@@ -31,7 +31,7 @@ pub(crate) fn packet(tag: u64, size: u32) -> Packet
     }
 }
 
-/// The arrival of a packet of 100 bytes with this tag.
+/// Returns the arrival of a packet of 100 bytes with this tag.
 pub(crate) fn arrive(moment: u64, tag: u64) -> Command {
     Command::Arrive {
         moment,
@@ -89,7 +89,7 @@ fn fold_one(alloc: Global, book: &mut Book) -> Seen {
     }
 }
 
-/// A fold of one event from a full tail of a thousand, which requests room for one.
+/// Folds one event from a full tail of a thousand, which requests memory for one.
 pub(crate) fn fold(rt: &impl Print, alloc: Global, name: &str) -> Seen {
     match full(alloc, 1000) {
         Some(mut book) => {
@@ -117,7 +117,7 @@ fn take_out(alloc: Global, book: &Book) -> Seen {
     }
 }
 
-/// The text of an excerpt of a full tail of eight.
+/// Writes the text of an excerpt of a full tail of eight.
 pub(crate) fn excerpt(rt: &impl Print, alloc: Global, name: &str) -> Seen {
     match full(alloc, 8) {
         Some(book) => {

@@ -44,7 +44,7 @@ impl Stream {
         }
     }
 
-    /// The next command: at one moment an arrival comes before a departure, and that before an update.
+    /// Returns the next command: at one moment an arrival comes before a departure, and a departure before an update.
     fn next(&mut self) -> Command {
         if self.arrival <= self.departure && self.arrival <= self.update {
             let moment = self.arrival;
@@ -132,7 +132,7 @@ pub fn opening(limits: Limits, mode: Mode) -> Opening {
     Opening { choices, ..usual }
 }
 
-/// A book with these limits.
+/// Opens a book with these limits.
 pub fn open_book(alloc: Global, limits: Limits, mode: Mode) -> Option<Book> {
     Book::open_with(alloc, opening(limits, mode)).ok()
 }

@@ -67,7 +67,7 @@ fn count(link: &Link, caller: &mut Caller) -> u64
 
 // ---- calls that need memory
 
-/// Why there is no link.
+/// Returns the result of a link that was not opened.
 fn refused(why: LinkRefusal) -> Seen {
     let is_memory = matches!(
         why,
@@ -76,7 +76,7 @@ fn refused(why: LinkRefusal) -> Seen {
     Seen::refused(is_memory, 0)
 }
 
-/// A link that takes an arrival.
+/// Opens a link, and makes an arrival at it.
 pub(crate) fn open<R: Wait + Print>(rt: &R, alloc: Global, name: &str) -> Seen {
     let opening = Opening::usual(limits(8), Params::default_profile(), 0);
     begin(rt, name);
@@ -113,7 +113,7 @@ fn fold_at<R: Wait + Print>(
     }
 }
 
-/// A fold by the call that waits for the book, or by the one that never blocks.
+/// Folds by the call that waits for the book, or by the one that never blocks.
 pub(crate) fn fold<R: Wait + Print>(rt: &R, alloc: Global, waits: bool, name: &str) -> Seen {
     match Link::open(alloc, limits(8), Params::default_profile(), 0, 2) {
         Ok((link, mut one)) => fold_at(rt, &link, &mut one, waits, name),

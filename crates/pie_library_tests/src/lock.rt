@@ -46,7 +46,7 @@ fn hold<R: Clock>(rt: &R, long: u64) {
     }
 }
 
-/// One turn of a thread that waits for the lock.
+/// Makes one turn of a thread that waits for the lock.
 fn waiting_turn<R: Wait + Clock>(
     rt: &R,
     lock: &RuledLock<Counter>,
@@ -64,7 +64,7 @@ fn waiting_turn<R: Wait + Clock>(
     pass
 }
 
-/// One turn of a thread. If the lock is free, the turn wakes no thread: those that sleep have to look again.
+/// Makes one turn of a thread. If the lock is free, the turn wakes no thread: sleeping threads have to look again.
 fn turn<R: Wait + Clock>(
     rt: &R,
     lock: &RuledLock<Counter>,

@@ -38,7 +38,7 @@ fn main(rt: HostRuntime) -> io::Result<()> {
     run(&rt, rt.alloc(), words.next())
 }
 
-/// The part that has this name; with none, every test.
+/// Runs the part with this name; without a name, every test.
 fn run<R: Threads + Wait + Clock + Print + Sync>(
     rt: &R,
     alloc: Global,

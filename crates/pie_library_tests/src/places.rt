@@ -22,7 +22,7 @@ pub trait Place {
     /// Returns a place for one more thread; `None` if there is none.
     fn share(&mut self) -> Option<Self>;
 
-    /// The call of a turn, by a thread that sends or by another.
+    /// Makes the call of a turn, by a thread that sends or by another.
     fn call<R: Wait + Clock>(self, rt: &R, sends: bool, turn: u64) -> Self;
 }
 

@@ -45,7 +45,7 @@ impl<'a, R: Clock + Print> Report<'a, R> {
         self.kept(now)
     }
 
-    /// The nanoseconds since then.
+    /// Returns the nanoseconds since `start`, or 0 without it.
     fn since(&mut self, start: Option<Instant>) -> u128 {
         let Some(start) = start else {
             return 0;

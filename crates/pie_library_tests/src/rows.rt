@@ -176,19 +176,19 @@ fn are_decided<D: Decides + Drop>(alloc: Global) -> bool {
         && on.is_some_and(|held| held.active)
 }
 
-/// A core decides each event of the worked histories as they have it.
+/// Returns true if a core decides each event of the worked histories as recorded.
 pub(crate) fn core_decides(alloc: Global) -> bool {
     are_decided::<Core>(alloc)
 }
 
-/// A book does so too, and a fold after each event leaves nothing in its tail that its checkpoint lacks.
+/// Returns true if a book does so too, and if the checkpoint after a fold of each event is the book's state.
 pub(crate) fn book_decides(alloc: Global) -> bool {
     are_decided::<Book>(alloc)
 }
 
 // ---- runs
 
-/// The registers and the statistics of a run of these records with the default parameters.
+/// Returns true if a run of these records with the default parameters ends with these registers and statistics.
 fn is_ended(end: &RunEnd, events: u64, moment: u64, stats: Stats) -> bool {
     let held = end.registers;
     let is_new = (held.prob, held.old, held.accu, held.burst) == (0, 0, 0, 150_000_000);
@@ -260,7 +260,7 @@ pub(crate) fn runs_are_bounded(alloc: Global) -> bool {
 
 // ---- a queue
 
-/// A queue of two packets takes two, hands the third one back, and gives the first.
+/// Returns true if a queue of two packets accepts two, returns the third one, and gives the first.
 pub(crate) fn queue_is_first_in_first_out(alloc: Global) -> bool {
     match (ByteQueue::new(alloc, 2), Nanos::from_units(5)) {
         (Ok(mut queue), Some(since)) => {

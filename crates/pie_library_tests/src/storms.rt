@@ -252,7 +252,7 @@ pub(crate) fn flags_are_seen<R: Threads + Wait + Sync>(rt: &R, alloc: Global) ->
     see_all_flags(rt, alloc, 2, &two) && see_all_flags(rt, alloc, 8, &eight)
 }
 
-/// One sender with packets at 9 and 3 and one with a packet at 5, a change and three folds.
+/// Returns a plan of one sender with packets at 9 and 3, one with a packet at 5, a change and three folds.
 fn folding_plan(alloc: Global) -> Plan {
     let params = Params::default_profile();
     let mut plan = plan(alloc, 1, &[9, 3]);

@@ -24,7 +24,7 @@ fn say<T: Display>(alloc: Global, texts: &[(T, &'static str)]) -> bool {
     are_said
 }
 
-/// The refusals of a command, and of a lock.
+/// Returns true if the refusals of a command and of a lock have their texts.
 fn say_why_a_command_is_refused(alloc: Global) -> bool {
     let commands = [
         (Refusal::Moment, "moment out of range"),
@@ -58,7 +58,7 @@ fn say_why_others_are_refused(alloc: Global) -> bool {
     say(alloc, &openings) & say(alloc, &folds) & say(alloc, &resumings)
 }
 
-/// Those of a queue and its packets.
+/// Returns true if the refusals of a queue and its packets have their texts.
 fn say_why_a_queue_refuses(alloc: Global) -> bool {
     let queues = [(Memory, "out of memory")];
     let orders = [(
@@ -69,7 +69,7 @@ fn say_why_a_queue_refuses(alloc: Global) -> bool {
     say(alloc, &queues) & say(alloc, &orders) & say(alloc, &ends)
 }
 
-/// Those of parameters, of a trace longer than a test can run, and of a pass.
+/// Returns true if the faults of parameters, of a trace longer than a test can run, and of a pass have their texts.
 fn say_what_is_wrong(alloc: Global) -> bool {
     let params = [(
         BadParam(Field::DqThreshold),

@@ -190,7 +190,7 @@ fn quoted_text(alloc: Global, fields: &ByteRecord) -> Result<Vec<u8>, TraceFault
 }
 
 impl Record {
-    /// A record without fields. Takes no memory.
+    /// Returns a record without fields. Takes no memory.
     pub fn new(alloc: Global) -> Record
         ensures { result ≡ [] }
     {

@@ -2,10 +2,10 @@
 
 /// A gate that watches or delays a storm's workers (this project's own). Tests delay a worker with it.
 pub trait Gate {
-    /// Called before caller `caller` makes its call number `call`, counted from 1.
+    /// Runs before caller `caller` makes its call number `call`, counted from 1.
     fn before(&self, caller: u16, call: u64);
 
-    /// Called after caller `caller` made its call number `call`, counted from 1.
+    /// Runs after caller `caller` made its call number `call`, counted from 1.
     fn after(&self, caller: u16, call: u64);
 }
 

@@ -57,6 +57,6 @@ moment_at all = all.told.moment
 abbrev pub time_at : Explained → Option ℕ
 time_at all = time_of all.told.clock all.told.moment
 
--- when these events were
+-- the span of these events
 abbrev pub span_of : List Explained → Span
 span_of all = record { moments = bounds_of (map moment_at all); times = bounds_of (filter_map time_at all) }

@@ -27,8 +27,8 @@ length_of period = Some period.every
 abbrev pub number_in : LivePeriod → Option ℕ
 number_in period = if period.begun == 0 then None else Some period.number
 
--- when the interval under way starts and ends: both are 0 before the first event. After it the start is the interval's number times its length, and
--- the end one length later, at most 2^64 - 1
+-- the start and the end of the interval under way: both are 0 before the first event. After it the start is the interval's number times its length,
+-- and the end one length later, at most 2^64 - 1
 pub record Spans (begun number every start end : ℕ) : Type 0 where
   pub starts : start ≡ (if begun == 0 then 0 else number * max every 1)
   pub ends : end ≡ (if begun == 0 then 0 else min (start + max every 1) (2 ^ 64 - 1))

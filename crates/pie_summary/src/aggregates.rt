@@ -41,12 +41,12 @@ pub struct Total {
     pub low: u64,
 }
 
-/// When events were.
+/// The span of some events.
 #[derive(Clone, Copy, Default)]
 pub struct Span {
-    /// Their effective moments, in nanoseconds.
+    /// The effective moments of the events, in nanoseconds.
     pub moments: Bounds,
-    /// Their wall-clock times, if a clock record comes before them, in nanoseconds since 1970-01-01T00:00:00Z.
+    /// The wall-clock times of the events with a clock record before them, in nanoseconds since 1970-01-01T00:00:00Z.
     pub times: Bounds,
 }
 
@@ -114,7 +114,7 @@ impl Peak {
 impl Total {
     ghost use Rattle.pie_summary.specs.Aggregates.{total_of};
 
-    /// The sum.
+    /// Returns the sum.
     pub(crate) fn sum(self) -> u128
         ensures { result ≡ sum_in self }
     {
@@ -164,7 +164,7 @@ impl Total {
     }
 }
 
-/// A greatest number, or a greater one in its place.
+/// Raises `most` to `number`, if that is greater.
 #[inline(always)]
 pub(crate) fn raise(most: &mut u64, number: u64)
     ensures { most.new ≡ max most.old number }

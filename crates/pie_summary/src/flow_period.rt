@@ -13,19 +13,19 @@ use indexmap::IndexMap;
 use pie_explain::Explained;
 use std::alloc::{AllocError, Global};
 
-/// The flows of the last events, as far back as they are in the same period.
+/// The flows of the last events, as far back as they are in the same interval.
 #[derive(Drop)]
 pub struct FlowPeriod {
-    /// The number of that period; none before the first event.
+    /// The number of that interval; `None` before the first event.
     pub number: Option<u64>,
-    /// When these events were.
+    /// The span of these events.
     pub span: Span,
     /// Their flows by number, in the order of their first events.
     pub rows: IndexMap<u32, Flow>,
 }
 
 impl FlowPeriod {
-    /// No event yet.
+    /// Returns the state before the first event.
     #[tactic(auto, using(crate::proofs::FlowFacts::none_shown), unfolding(pie_aqm::specs::Places::last_or))]
     pub(crate) fn empty(alloc: Global) -> FlowPeriod
         ensures number { result.number ≡ None }

@@ -38,7 +38,7 @@ pub struct FlowSums {
     pub held: u64,
 }
 
-/// The flow of an event: of the packet that arrived or left, the upper 32 bits of its tag.
+/// Returns the flow of an event: the upper 32 bits of the tag of the packet that arrived or left.
 pub(crate) fn flow_by(command: Command, answer: Answer) -> Option<u32>
     ensures { result ≡ flow_by command answer }
 {
@@ -82,7 +82,7 @@ impl FlowSums {
         FlowSums::default()
     }
 
-    /// Both together.
+    /// Returns the sums of both.
     #[tactic(auto, unfolding(crate::specs::FlowSums::added_up, pie_aqm::specs::Places::greatest))]
     pub(crate) fn plus(self, more: &FlowSums) -> FlowSums
         ensures { result ≡ added_up (self ∷ more.now ∷ []) }

@@ -28,7 +28,7 @@ pub enum Name {
 pub struct Heading {
     /// The form of the rows.
     pub form: Form,
-    /// When the events of all flows were.
+    /// The span of the events of all flows.
     pub span: Span,
     /// The sums of all flows.
     pub total: FlowSums,
@@ -105,7 +105,7 @@ fn push_wait(page: &mut String, sums: &FlowSums) -> Written
     )
 }
 
-/// A flow in words.
+/// Writes a flow in words.
 #[tactic(auto, unfolding(crate::specs::FlowWords::flow_words))]
 fn push_words(page: &mut String, name: Name, total: &FlowSums, sums: &FlowSums) -> Written
     ensures { OnOk result (string_bytes page.new ≡ string_bytes page.old ++ flow_words name total.now sums.now) }
@@ -140,7 +140,7 @@ fn push_total(
     )
 }
 
-/// Numbers, each with a comma after it.
+/// Writes numbers, each with a comma after it.
 fn push_numbers(page: &mut String, numbers: &[u64]) -> Written
     ensures { OnOk result (string_bytes page.new ≡ string_bytes page.old ++ number_fields numbers.now) }
 {
@@ -168,7 +168,7 @@ fn push_last(page: &mut String, by_wall: bool, late: u64, times: &Bounds) -> Wri
     write!(page, "{late},{first}\n")
 }
 
-/// A flow as a record, with a time of day or not.
+/// Writes a flow as a record, with a wall-clock time or not.
 #[tactic(auto, unfolding(crate::specs::FlowWords::flow_record))]
 fn push_record(
     page: &mut String,

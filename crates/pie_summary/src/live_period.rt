@@ -46,7 +46,7 @@ pub struct LivePeriod {
 }
 
 impl LivePeriod {
-    /// No event yet.
+    /// Returns the state before the first event.
     pub fn open(every: u64, by_wall: bool) -> LivePeriod
         ensures every { result.every ≡ every }
         ensures wall { result.wall ≡ (if by_wall then 1 else 0) }

@@ -107,7 +107,7 @@ fn add_excess(late: &mut u64, excess: Option<u64>, since: u64)
 }
 
 impl Meter {
-    /// No event yet, and the first at this moment.
+    /// Returns the numbers of no event, with the first moment at `moment`.
     #[tactic(auto, unfolding(crate::specs::Sums::meter_of, pie_aqm::specs::Places::greatest, pie_aqm::specs::Places::last_or, pie_aqm::specs::Places::places))]
     pub(crate) fn begun(moment: u64) -> Meter
         ensures { result ≡ record (meter_of [] []) { first = moment; since = moment } }

@@ -92,7 +92,7 @@ pub struct Conditions {
     pub target: u64,
 }
 
-/// The place of an answer's count.
+/// Returns the place of an answer's count.
 #[inline(always)]
 fn answer_place(answer: Answer) -> usize
     ensures place { result ≡ answer_place answer }
@@ -122,7 +122,7 @@ fn cause_place(cause: Option<Cause>) -> usize
     }
 }
 
-/// The size of the packet that arrived.
+/// Returns the size of the packet that arrived.
 fn size_by(command: Command) -> Option<u64>
     ensures { result ≡ size_by command }
 {
@@ -132,7 +132,7 @@ fn size_by(command: Command) -> Option<u64>
     }
 }
 
-/// The moment of an event that turned the controller on, or off: before it the controller was active or not, and after it is.
+/// Returns the moment of an event that changed the controller's activity in this direction, `on` or off, by the activity before and after the event.
 #[inline(always)]
 fn turned_at(on: bool, was: bool, is: bool, moment: u64) -> Option<u64>
     ensures { result ≡ turned_at on was is moment }
@@ -201,7 +201,7 @@ impl Conditions {
         }
     }
 
-    /// An arrival with this answer's place, this cause's place and this size.
+    /// Returns the input for an arrival with this answer's place, this cause's place and this size.
     #[inline(always)]
     #[tactic(auto, unfolding(crate::specs::Sums::meter_input_by))]
     pub fn arrived(&self, answer: usize, cause: usize, size: u32) -> MeterInput
@@ -228,7 +228,7 @@ impl Conditions {
         self.noted(Answer::Left(packet), NO_CAUSE, None, waited)
     }
 
-    /// A departure that found no packet.
+    /// Returns the input for a departure that found no packet.
     #[inline(always)]
     #[tactic(auto, unfolding(crate::specs::Sums::meter_input_by))]
     pub fn empty(&self) -> MeterInput
@@ -239,7 +239,7 @@ impl Conditions {
         self.noted(Answer::Empty, NO_CAUSE, None, 0)
     }
 
-    /// An update that took this delay.
+    /// Returns the input for an update that took this delay.
     #[inline(always)]
     #[tactic(auto, unfolding(crate::specs::Sums::meter_input_by))]
     pub fn updated(&self, delay: u64) -> MeterInput
@@ -251,7 +251,7 @@ impl Conditions {
         self.noted(Answer::Updated { delay, prob, burst }, NO_CAUSE, None, 0)
     }
 
-    /// A reset, or new parameters.
+    /// Returns the input for a reset, or for new parameters.
     #[inline(always)]
     #[tactic(auto, unfolding(crate::specs::Sums::meter_input_by))]
     pub fn done(&self) -> MeterInput

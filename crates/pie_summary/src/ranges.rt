@@ -19,7 +19,7 @@ fn range_within(digits: u8, number: u64) -> u64
     range_within(digits - 1, number / 10) + 90
 }
 
-/// The range of a number: of 1,000,000 to 10^10 - 1, as most waits are in nanoseconds, by one division.
+/// Returns the range of a number. For 1,000,000 to 10^10 - 1, as most waits are in nanoseconds, this takes one division.
 #[inline(always)]
 fn range_place(number: u64) -> u64
     ensures place { result ≡ range_of number }

@@ -11,7 +11,7 @@ use pie_explain::{Explained, time_of};
 /// The numbers of a summary, each over all events that it was shown.
 #[derive(Clone, Copy, Default)]
 pub struct Sums {
-    /// When the events were.
+    /// The span of the events.
     pub span: Span,
     /// The numbers of a record.
     pub meter: Meter,
@@ -24,7 +24,7 @@ pub struct Sums {
 impl Sums {
     ghost use Rattle.pie_summary.specs.Sums.{sums_of};
 
-    /// No event yet.
+    /// Returns the numbers of no event.
     #[tactic(auto, unfolding(crate::specs::Sums::meter_of, crate::specs::Sums::sums_of, pie_aqm::specs::Places::greatest, pie_aqm::specs::Places::last_or, pie_aqm::specs::Places::places))]
     pub(crate) fn empty() -> Sums
         ensures { result ≡ sums_of [] }

@@ -167,7 +167,7 @@ fn push_later(page: &mut String, meter: &Meter, most: u64) -> Written
     push_above(page, meter)
 }
 
-/// When the controller turned on, or off.
+/// Writes the moments at which the controller turned on, or off.
 #[tactic(auto, unfolding(crate::specs::Words::turned_words))]
 fn push_turned(page: &mut String, way: &str, turned: &Bounds) -> Written
     ensures { OnOk result (string_bytes page.new ≡ string_bytes page.old ++ turned_words way.now turned.now) }

@@ -7,7 +7,7 @@ use pie_event::{Answer, Command, Event};
 use pie_params::Params;
 use pie_queue::Packet;
 
-/// A packet's numbers.
+/// A packet's numbers fit their types.
 fn packet_fits(packet: Packet)
     ensures { PacketFits packet }
 {
@@ -21,14 +21,14 @@ pub(crate) fn params_fit(params: Params)
     let _ = params.raw();
 }
 
-/// A caller's number.
+/// A caller's number fits its type.
 fn caller_fits(caller: u16)
     ensures { caller ≤ most_u16 }
 {
     let _ = caller;
 }
 
-/// A command's numbers.
+/// A command's numbers fit their types.
 fn command_fits(command: Command)
     ensures { CommandFits command }
 {
@@ -57,7 +57,7 @@ fn command_fits(command: Command)
     }
 }
 
-/// An answer's numbers.
+/// An answer's numbers fit their types.
 fn answer_fits(answer: Answer)
     ensures { AnswerFits answer }
 {
@@ -76,7 +76,7 @@ fn answer_fits(answer: Answer)
     }
 }
 
-/// The numbers of an event, if its answer is of a kind that its command can have.
+/// The numbers of an event fit their types, if its answer is of a kind that its command can have.
 pub(crate) fn event_fits(event: &Event)
     requires { fits event.now.command event.now.answer ≡ true }
     ensures { EventFits event.now }

@@ -23,7 +23,7 @@ impl Model for Page {
 }
 
 impl Page {
-    /// An empty page. Takes no memory.
+    /// Returns an empty page. Takes no memory.
     pub fn new(alloc: Global) -> Page
         ensures { result ≡ [] }
     {
@@ -34,7 +34,7 @@ impl Page {
         }
     }
 
-    /// The allocator of its memory.
+    /// Returns the allocator of the page's memory.
     pub fn allocator(&self) -> Global {
         self.alloc
     }
@@ -51,7 +51,7 @@ impl Page {
         self.bytes.extend_from_slice(bytes)
     }
 
-    /// A text for words that come onto the page next: empty, with the memory of those before.
+    /// Returns an empty text for the next words, with the memory of the last ones.
     pub fn words(&mut self) -> String
         ensures empty { string_bytes result ≡ [] }
         ensures kept { self.new ≡ self.old }

@@ -45,7 +45,7 @@ fn with_argument<'a>(
     }
 }
 
-/// The argument at this place.
+/// Returns the argument at this place.
 fn argument_at(arguments: &[Argument], place: usize) -> Argument
     requires { place < length arguments.now }
     ensures { rule_for result ≡ get_or (map rule_for arguments.now) place (new_rule []) }
@@ -94,7 +94,7 @@ fn command_for<'a>(alloc: Global, subcommand: Subcommand) -> Result<Command<'a>,
     command_of(alloc, page.word, page.about, page.help, page.arguments)
 }
 
-/// `pie` without its subcommands.
+/// Returns the command `pie` without its subcommands.
 fn alone<'a>(alloc: Global) -> Command<'a>
     ensures { app_of result ≡ pie_alone }
 {
@@ -126,7 +126,7 @@ fn with_subcommand<'a>(
     }
 }
 
-/// `pie` and these subcommands.
+/// Returns the command `pie` with these subcommands.
 fn with_all_subcommands<'a>(
     alloc: Global,
     subcommands: &[Subcommand],

@@ -30,7 +30,7 @@ use Rattle.pie_commands.specs.Ends.{EndsBy, WritesNothing}
 abbrev pub around : ℕ → ℕ → Span
 around event more = record { first = event - more; last = min (event + more) (2 ^ 64 - 1); from = None; to = None }
 
--- the events from one bound to another: moments, or times of day
+-- the events from one bound to another: moments, or wall-clock times
 abbrev pub between : Option When → Option When → Span
 between from to = record { first = 0; last = 2 ^ 64 - 1; from = from; to = to }
 

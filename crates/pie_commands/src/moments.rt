@@ -1,4 +1,4 @@
-//! The moments and times of day that options are given.
+//! The moments and wall-clock times in the values of options.
 ghost use Rattle.std.specs.Prelude.{◌≡◌};
 ghost use Rattle.std.specs.Result.{result_ok};
 ghost use Rattle.clap.specs.Words.{found_of, rows_of};

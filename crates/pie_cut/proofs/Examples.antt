@@ -29,7 +29,7 @@ moments from to = within (Some (Moment from)) (Some (Moment to))
 abbrev at_times : ℕ → ℕ → Span
 at_times from to = within (Some (Unix from)) (Some (Unix to))
 
--- an event with this number, this moment, and this time of day or none
+-- an event with this number, this moment, and this wall-clock time or none
 abbrev met : ℕ → ℕ → Option ℕ → Position
 met number moment time = record { number = number; moment = moment; time = time }
 

@@ -32,7 +32,7 @@ pub onto-append : (fields : List (List ℕ)) (front rest : List ℕ) → onto fi
 onto-append [] front rest = refl
 onto-append (f ∷ fs) front rest = append_assoc f (44 ∷ onto fs front) rest ∙ ap (λ (l : List ℕ). f ++ (44 ∷ l)) (onto-append fs front rest)
 
--- a record, and the time of day behind it
+-- a record, and the wall-clock time after it
 pub wall-line : (all : Explained) (wall old : List ℕ)
     → ((old ++ onto (most_fields all) (active_field all.after.active ++ codes ",")) ++ wall) ++ codes "\n"
     ≡ old ++ line_of (record_of all ++ wall ∷ [])

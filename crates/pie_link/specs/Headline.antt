@@ -53,8 +53,7 @@ pub record IsOneHistory (opening : Opening) (book : BookView) (callers : List Ca
   pub begins : All (BeginsWith history) callers
   -- it contains each caller's calls once and in order
   pub calls : All (HasCallsOf history) callers
-  -- it ends with the event log, which begins after the events that were folded or, in a rolling link, dropped for want
-  -- of room
+  -- it ends with the event log, which begins after the events that were folded or, in a rolling link, dropped from the full log
   pub ends : last_events (length book.tail) (events_in history) ≡ book.tail
   pub tail : book.tail ≡ tail_in opening history
   -- in a bounded link the folded events, in order, followed by the log are all its events

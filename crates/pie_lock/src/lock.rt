@@ -167,8 +167,8 @@ impl<S: Kept> RuledLock<S> {
         self.table.shared.store::<FreeStep<J>>(seat, WORD, FREE);
     }
 
-    // Returns true if another pass has the state. It is a load: the cache line of the word stays shared, where a failed
-    // exchange would take it from the processor that has the state.
+    // Returns true if another pass has the state. It is a load: the cache line of the word stays shared. A failed exchange would take the line from
+    // the processor that has the state.
     fn is_held(&self, pass: &mut Pass<S>) -> bool
         requires own { pass.old.lock ≡ self.now }
         ensures same { pass.new ≡ pass.old }

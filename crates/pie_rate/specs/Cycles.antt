@@ -31,8 +31,7 @@ first_cycle threshold departures from =
     option_and_then (λ i. option_map (λ j. record { opened = i; closed = j }) (first_closing threshold departures i))
     (first_opening threshold departures from)
 
--- the cycles from position `from` on, at most `most` of them. Each is the first that opens at or after the position
--- where the one before it closed
+-- the cycles from position `from` on, at most `most` of them. Each is the first that opens at or after the closing position of the one before it
 unfoldable pub cycles_from : ℕ → List Departure → ℕ → ℕ → List Cycle
 cycles_from threshold departures zero from = []
 cycles_from threshold departures (suc most) from =
@@ -44,12 +43,11 @@ cycles_from threshold departures (suc most) from =
 unfoldable pub cycles : ℕ → List Departure → List Cycle
 cycles threshold departures = cycles_from threshold departures (length departures) 0
 
--- the position where the last of the cycles closed, or `start` without a cycle
+-- the closing position of the last cycle, or `start` without a cycle
 abbrev pub last_closed : ℕ → List Cycle → ℕ
 last_closed start [] = start
 last_closed start (cycle ∷ rest) = last_closed cycle.closed rest
 
--- the departure that opens the cycle that is still open: the first opening at or after the position where the last
--- cycle closed
+-- the departure that opens the cycle that is still open: the first opening at or after the closing position of the last cycle
 unfoldable pub begun : ℕ → List Departure → Option ℕ
 begun threshold departures = first_opening threshold departures (last_closed 0 (cycles threshold departures))

@@ -148,7 +148,7 @@ written-as row k asks known long says =
       fits = read.fits;
     }
 
--- ---- the time of day
+-- ---- the wall-clock time
 
 abbrev pub ClockFits : Clock → Type 0
 ClockFits clock = (clock.moment ≤ most_moment) × (clock.unix ≤ most_u64)

@@ -46,7 +46,7 @@ folded_same law opening caller g h same =
     ∙ (ap (λ (es : List Event). folded_for (is_number caller) opening [] g ++ es) (folded_none opening caller g on.0 on.2)
     ∙ append-nil (folded_for (is_number caller) opening [] g)))
 
--- an entry of a history in which this caller alone folds, and makes nothing else
+-- an entry of a history in which this caller folds and makes no other entry, and no other caller folds
 abbrev pub IsRight : ℕ → Entry → Type 0
 IsRight folder (Made event) = event.caller ≡ folder → ⊥
 IsRight folder (Folded who n) = who ≡ folder
@@ -113,7 +113,7 @@ module _ (opening : Opening) (caller : ℕ) where
       grind (arith, length-append)
   few_made front (call ∷ calls) h passed (inr m) = let rest = few_made m.0 calls h m.1 m.5 in let same = m.2.1 in grind arith
 
--- the element at a place where the list is cut
+-- the element at the place at which the list is cut
 one_at : {A : Type 0} (xs : List A) (k : ℕ) (x : A) → slice_get xs k ≡ Some x → take 1 (drop k xs) ≡ x ∷ []
 one_at [] k x e = absurd (grind arith)
 one_at (y ∷ xs) zero x e = ap (λ z. z ∷ []) (cc e)

@@ -137,7 +137,7 @@ fn work_at_once<R: Threads + Wait + Sync, G: Gate + Sync>(
     )
 }
 
-// Gathers a caller to those before it. It is apart from `both`, where drops on each way out would be dear to prove.
+// Gathers a caller to those before it. It is apart from `both`: the proof of the drops on each early return would be long there.
 fn gathered(link: &Link, caller: Caller, last: Caller) -> Caller
     requires own { (caller.lock ≡ link.now) × (last.lock ≡ link.now) }
     requires beside { last.first ≡ caller.limit }
@@ -216,8 +216,8 @@ pub fn storm<R: Threads + Wait + Sync, G: Gate + Sync>(
     }
 }
 
-// Makes all calls of the plan at this link, and closes it. It is apart from `storm`, where a way out after the opening
-// would drop the link, which is dear to prove.
+// Makes all calls of the plan at this link, and closes it. It is apart from `storm`: there an early return after the opening would drop the link, and
+// its proof would be long.
 fn run<R: Threads + Wait + Sync, G: Gate + Sync>(
     rt: &R,
     alloc: Global,

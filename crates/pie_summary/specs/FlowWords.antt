@@ -73,7 +73,7 @@ abbrev pub flow_numbers : FlowSums → List ℕ
 flow_numbers sums = sums.arrivals ∷ sums.bytes ∷ sums.queued ∷ sums.marked ∷ sums.early ∷ sums.no_bytes ∷ sums.no_packets ∷ sums.left
     ∷ sums.carried ∷ sums.greatest_wait ∷ mean_wait sums ∷ []
 
--- a record, with a time of day or not
+-- a record, with a wall-clock time or not
 unfoldable pub flow_record : Bool → Span → Name → FlowSums → List ℕ
 flow_record by_wall span name sums =
     joined (number_fields (span.moments.first ∷ span.moments.last ∷ []) ∷ name_field name ∷ codes "," ∷ number_fields (flow_numbers sums)

@@ -62,6 +62,6 @@ pub record IsSet (before after : LivePeriod) : Type 0 where
   pub clock_moment : after.clock_moment ≡ before.clock_moment
   pub clock_unix : after.clock_unix ≡ before.clock_unix
 
--- the form of the records: with a time of day, or without
+-- the form of the records: with a wall-clock time, or without
 abbrev pub form_in : LivePeriod → Form
 form_in period = record { csv = true; by_wall = period.wall == 1 }

@@ -88,8 +88,8 @@ above_words meter =
     ∷ codes " of those that left, had waited longer than the target,\n    at the head of the queue for " ∷ millis meter.late ∷ codes "\n"
     ∷ disagree_words meter.above meter.late ∷ [])
 
--- the waiting times of the packets that left, with that of 99 of 100, and the bytes that they carried; the numbers of the updates, and the times for
--- which delays and waiting times were above the target
+-- the waiting times of the packets that left, with that of 99 of 100, and the bytes that they carried; the numbers of the updates, and the durations
+-- of delays and waiting times above the target
 unfoldable pub later_words : Meter → ℕ → List ℕ
 later_words meter most =
     joined (codes "  " ∷ decimal (left_in meter) ∷ codes " packets left; they had waited at most " ∷ millis meter.greatest_wait
@@ -116,7 +116,7 @@ arrival_words meter =
     joined (codes "  " ∷ decimal meter.arrivals ∷ codes " arrivals, " ∷ decimal (sum_in meter.arrived) ∷ codes " bytes\n"
     ∷ verdict_words meter.answers meter.arrivals ∷ cause_words meter.causes meter.arrivals ∷ [])
 
--- a summary of these numbers, with the wait of 99 of 100, by times of day or not
+-- a summary of these numbers, with the waiting time of 99 of 100, and with wall-clock times or not
 unfoldable pub words : Bool → Sums → ℕ → List ℕ
 words by_wall sums most =
     joined (head_words sums.span.moments ∷ time_words by_wall (codes "  ") sums.span.times ∷ arrival_words sums.meter

@@ -15,7 +15,7 @@ pub struct Sums {
     pub span: Span,
     /// The numbers of a record.
     pub meter: Meter,
-    /// The times of day of the events that turned the controller on, in nanoseconds after 1970-01-01T00:00:00Z.
+    /// The wall-clock times of the events that turned the controller on, in nanoseconds after 1970-01-01T00:00:00Z.
     pub on_times: Bounds,
     /// Those of the events that turned it off.
     pub off_times: Bounds,

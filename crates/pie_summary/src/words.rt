@@ -221,7 +221,7 @@ fn push_turning(page: &mut String, by_wall: bool, sums: &Sums) -> Written
     push_times(page, by_wall, "    ", &sums.off_times)
 }
 
-/// Writes a summary in words, with the wait of 99 of 100, by times of day or not.
+/// Writes a summary in words, with the waiting time of 99 of 100, and with wall-clock times or not.
 #[tactic(auto, unfolding(crate::specs::Words::words))]
 pub(crate) fn push_words(page: &mut String, by_wall: bool, sums: &Sums, most: u64) -> Written
     ensures { OnOk result (string_bytes page.new ≡ string_bytes page.old ++ words by_wall sums.now most) }

@@ -87,7 +87,7 @@ def compare(ours, theirs, margin):
 
 
 def compare_pairs(ours, theirs, margin):
-    """As `compare`, of blocks that both got: the mean of the differences within a block, tested by Student's t."""
+    """Judges, as `compare` does, blocks that both got: the mean of the differences within a block, tested by Student's t."""
     differences = [one - other for one, other in zip(ours, theirs, strict=True)]
     difference, error, freedom = fmean(differences), math.sqrt(variance(differences) / len(differences)), len(differences) - 1
     return judge(difference, error, freedom, margin)

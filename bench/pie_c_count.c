@@ -1,5 +1,5 @@
-/* So many calls of one kind on a state of the library, or at a link, for bench/pie_c_count.sh to count their instructions. Ends with the status 2
- * where a call answered otherwise than its kind says.
+/* Makes CALLS calls of one kind on a state of the library, or at a link, for bench/pie_c_count.sh to count their instructions. Ends with the status 2
+ * if a call returned another value than its kind has.
  *
  * usage: pie_c_count KIND CALLS
  */

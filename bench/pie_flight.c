@@ -41,7 +41,7 @@ static double now(void) {
     return (double)it.tv_sec * 1e9 + (double)it.tv_nsec;
 }
 
-/* An arrival and, where it was queued, a departure. */
+/* Makes an arrival and, if it was queued, a departure. */
 static inline uint32_t pair(struct queue *queue, int is_kept) {
     struct pie_event event;
     uint64_t waits = queue->came - queue->left;

@@ -60,7 +60,7 @@ def steps():
 
 
 def drawing():
-    """What `dot` is handed."""
+    """Returns the input of `dot`."""
     lines = ["digraph crates {", 'rankdir=TB; newrank=true; compound=true; nodesep=0.18; ranksep=0.42; fontname="Helvetica"; fontsize=15;',
              'node [shape=box, style="filled,rounded", fillcolor=white, fontname="Helvetica", fontsize=13, margin="0.09,0.05", height=0.3];',
              'edge [arrowsize=0.6, color="#555555"];']
@@ -82,7 +82,7 @@ def mark():
 
 
 def listing():
-    """Of each layer a line, with its crates and what each is."""
+    """Returns a line for each layer, with its crates and a description of each."""
     lines = [f"- **{name}** ({meaning}): " + "; ".join(f"{crate}: {said}" for crate, (_, said) in crates.items()) for name, meaning, crates in groups()]
     return "\n".join(textwrap.fill(line, 100, subsequent_indent="  ", break_on_hyphens=False) for line in lines)
 

@@ -75,7 +75,7 @@ class Integrator:
 
 
 def crossing(falls):
-    """Where a function that falls has its zero."""
+    """Returns the zero of a decreasing function."""
     low, high = 1e-9, 1e9
     for _ in range(120):
         middle = math.sqrt(low * high)
@@ -125,7 +125,8 @@ def check(what, found, wanted, within):
 
 
 def cubic_crossing(loop):
-    """Where the gain is 1 with (alpha + (beta + alpha / 2) T s) / Ts for the controller: a cubic in the frequency's square, by Newton from above."""
+    """Returns the frequency at which the gain is 1 with (alpha + (beta + alpha / 2) T s) / Ts for the controller: a cubic in the
+    frequency's square, by Newton from above."""
     k = (loop.tuned * loop.window / (2 * loop.trip * UPDATE)) ** 2
     a, b = (2 / (loop.trip * loop.window)) ** 2, (1 / loop.trip) ** 2
     slope = ((BETA + ALPHA / 2) * UPDATE) ** 2

@@ -559,7 +559,7 @@ def own_figures():
 
 
 def differences(stored):
-    """What differs between pages and what the runs give; `stored` has texts in place of files."""
+    """Returns the differences between the pages and the results of the runs; `stored` has texts in place of files."""
     made = {"docs/RESULTS.md": page(), "docs/ellipses.svg": picture()}
     wrong = [f"{name} is not what the stored runs give: docs/results.py makes it" for name, text in made.items()
              if (stored[name] if name in stored else (ROOT / name).read_text()) != text]

@@ -10,7 +10,7 @@ pie=${PIE:-pie}
 work=$(mktemp -d)
 trap 'rm -rf "$work"' EXIT
 "$pie" explain --all --csv < "$history" > "$work/events.csv"
-# The target of the opening, in ms: its first parameter, and 15 ms where it has none; of a text that resumes that in force.
+# The target of the opening, in ms: its first parameter, or 15 ms if it has none; for an excerpt the target in force.
 target=$(awk -F, 'NR == 1 { at = $1 == "resume" ? 21 : $1 == "open3" ? 12 : $1 == "open2" ? 8 : 6
     at += $7 == "zero" || $7 == "half"
     printf "%.3f", (NF >= at ? $at : 15000000) / 1e6 }' "$history")

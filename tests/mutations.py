@@ -39,7 +39,7 @@ LOADING, LINE_PROVED, EDIT, DEAR = 13, 0.08, 2.5, {"pie_link": 6, "pie_book": 4}
 SMALL = 400
 # About as many a crate's checks take, one after another, that lie in one share.
 TOGETHER = 170
-# As many mutations are made in one copy at most, and of dear ones half as many: a check keeps all that it finds in memory.
+# The greatest number of mutations in one copy, halved for expensive crates: a check keeps all its results in memory.
 MOST = 16
 PARTS = ("src", "specs", "proofs")
 # A line of crates.txt: a crate, its kind, and its dependencies.

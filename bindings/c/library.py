@@ -87,14 +87,14 @@ def with_memory():
 
 
 def newest(folder):
-    """When a source of the crate was last changed."""
+    """Returns the time of the last change of a source of the crate."""
     files = [os.path.join(at, name) for part in ("src", "specs", "proofs") for at, _, names in os.walk(f"{folder}/{part}") for name in names]
     return max(map(os.path.getmtime, files))
 
 
 def proved_at(crates):
-    """When the last of these libraries was proved, by `rt ci`, which writes no stamp, or by another command; or nothing if one is not there, or its crate
-    has changed since."""
+    """Returns the time at which the last of these libraries was proved, by `rt ci`, which writes no stamp, or by another command.
+    Returns None if a library is missing, or its crate has changed since."""
     for it in crates:
         is_stamped = os.path.exists(f"{it.folder}/out/rlib/stamp")
         if not os.path.isdir(it.rlib) or not (it.is_built() if is_stamped else newest(it.folder) < os.path.getmtime(it.rlib)):

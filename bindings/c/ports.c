@@ -158,7 +158,7 @@ static void events_from(uint64_t tag, struct pie_event *events, size_t count) {
         events[i] = event_at(tag + i, tag + i);
 }
 
-/* Which events of a burst are no longer as they were: a bit each. */
+/* Returns the events of a burst that have changed: a bit for each. */
 static unsigned changed(const struct pie_event *events, const struct pie_event *before, size_t count) {
     unsigned bits = 0;
     size_t i;
@@ -219,7 +219,7 @@ static void bursts(void) {
     CHECK(pie_link_arrive_all(&port, events, 2) == PIE_DONE && events[0].answer == PIE_ENQUEUE && events[1].answer == PIE_FULL);
     CHECK(pie_link_depart_all(&port, UINT64_MAX, events + 2, 2, &made) == PIE_DONE && made == 1 && events[2].answer == PIE_FULL);
     CHECK(changed(events, before, 6) == 7);
-    /* what was made, in its order */
+    /* the events, in order */
     CHECK(fold_one(&port, &event, &params) == PIE_DONE && event.tag == 10 && event.caller == 1 && event.kind == PIE_EVENT_ARRIVE);
     CHECK(fold_one(&port, &event, &params) == PIE_DONE && event.kind == PIE_EVENT_UPDATE && event.burst == 150000000);
     CHECK(fold_one(&port, &event, &params) == PIE_DONE && event.tag == 14 && event.kind == PIE_EVENT_ARRIVE);

@@ -1,4 +1,4 @@
-/* The worked rows of the parts of the controller, through the library. Exits with the status 1 where a check fails, and names its
+/* The worked rows of the parts of the controller, through the library. If a check fails, exits with the status 1 and names its
  * line. */
 #include "pie.h"
 

@@ -227,7 +227,7 @@ def with_telemetry(*words, **settings):
 
 
 def ask(telemetry, command):
-    """What DPDK's telemetry answers."""
+    """Returns the answer of DPDK's telemetry."""
     telemetry.send(command.encode())
     return json.loads(telemetry.recv(1 << 16))[command.partition(",")[0]]
 

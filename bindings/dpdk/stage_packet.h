@@ -1,4 +1,4 @@
-/* The ECN field of a frame: where it is, what it says, and how it is set (RFC 3168, section 5; RFC 8200, section 7). */
+/* The ECN field of a frame: its place, its values, and how to set it (RFC 3168, section 5; RFC 8200, section 7). */
 #ifndef STAGE_PACKET_H
 #define STAGE_PACKET_H
 

@@ -2,7 +2,7 @@
  * memory, a clock that goes back, packets without IP and oversized ones; many threads at once. No mbuf may be lost.
  * `now` is simulated, so nothing depends on the machine's speed. Prints a line for each group; exits with status 1
  * at the first fault.
- * usage: stage_test [EAL options] -- FOLDER [threads]     FOLDER: histories come to it, for pie audit; threads: the threads alone, for a sanitizer
+ * usage: stage_test [EAL options] -- FOLDER [threads]     FOLDER: for the histories; threads: the threads alone, for a sanitizer
  */
 #include "stage_test.h"
 

@@ -96,7 +96,7 @@ void test_no_ip(void);
 void test_shared(void);
 
 /* Cuts a history while packets arrive and depart, with a queue that is copied in many turns: each text can be
- * audited alone, and begins where the one before ends. */
+ * audited alone, and begins at the end of the one before. */
 void test_cut_beside(int cuts);
 
 /* With `events` above 0 one more thread writes the history, with `flight` one writes the text of the flight

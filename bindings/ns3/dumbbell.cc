@@ -185,7 +185,7 @@ QueueOf(const Scenario& scenario)
     }
     else if (scenario.queue.rfind("pie", 0) == 0)
     {
-        /* what ChangedPieQueueDisc changes: at a mark, and at the burst allowance */
+        /* the changes of ChangedPieQueueDisc: at a mark, and at the burst allowance */
         std::string choice = scenario.queue.substr(3);
         bool isChanged = TakesOff(choice, "-mark");
         bool isWhole = isChanged && TakesOff(choice, "-burst");

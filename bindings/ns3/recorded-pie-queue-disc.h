@@ -36,7 +36,7 @@ class RecordedPieQueueDisc : public QueueDisc
     /* The controller's state, to be read at any time. */
     const pie_state& GetState() const;
 
-    /* Why packets are dropped or marked, in the words of a history. */
+    /* The reasons for a drop or a mark, by the keywords of a history. */
     static constexpr const char* EARLY_DROP = "early";
     static constexpr const char* BYTES_DROP = "bytes";
     static constexpr const char* PACKETS_DROP = "packets";

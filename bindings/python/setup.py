@@ -15,7 +15,7 @@ from wheel.bdist_wheel import bdist_wheel
 HERE = Path(__file__).resolve().parent
 MADE = HERE / "out"
 TOP = HERE / "library" if (HERE / "library").is_dir() else HERE.parent.parent
-# what the Makefile makes the library from
+# the files from which the Makefile builds the library
 SOURCES = ["Makefile", "LICENSE-MIT", "LICENSE-APACHE", "include/pie.h", "include/pie_link.h", "bindings/python/native/pie_arrays.c",
            "bindings/python/native/pie_arrays.h", "dist/abi.txt", "dist/heap.c", "dist/runtime.h", "dist/x86_64/pie_c.S", "dist/x86_64/pie_link_c.S"]
 

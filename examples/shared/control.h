@@ -1,6 +1,5 @@
-/* The one grammar of options of the programs in C that have a link with PIE in front of it. A word means what it means to `pie params`,
- * which has tc's words; what tc has no word for has the name that it has in pie.h. Texts are read by the library, as `pie params` reads
- * them. */
+/* The options of the programs in C that have a link with PIE in front of it. A keyword has its meaning in `pie params`, which has the
+ * keywords of tc; an option without a keyword in tc has its name in pie.h. The library reads the values, as `pie params` does. */
 #ifndef SHARED_CONTROL_H
 #define SHARED_CONTROL_H
 

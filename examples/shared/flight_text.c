@@ -1,5 +1,5 @@
-/* Writes what a flight recorder's file holds as a text that resumes (docs/FORMATS.md), for pie audit and pie explain: also where the process
- * that kept it was killed. While that process runs, let it write the text itself.
+/* Writes the contents of a flight recorder's file as an excerpt (docs/FORMATS.md), for pie audit and pie explain, also if the process
+ * that kept the file was killed. While that process runs, let it write the text itself.
  * usage: flight_text FILE      the text goes to standard output */
 #include "flight_file.h"
 

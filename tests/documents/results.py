@@ -1,8 +1,8 @@
 #!/usr/bin/env python3
-"""docs/RESULTS.md and docs/ellipses.svg are what docs/results.py makes of the stored runs, and docs/RESULTS.in has no figure of its own. A page with a
-changed figure fails. The stored A/A runs hold: tail drop here and pfifo do not differ, and with UDP alone they agree within 0.1 ms and 0.1 % of goodput;
-at most one in twenty comparisons of a queue's odd blocks with its even ones differs, and of their 90 % intervals 84 % contain 0. The page shows
-every scenario that was run.
+"""docs/RESULTS.md and docs/ellipses.svg are the output of docs/results.py for the stored runs, and docs/RESULTS.in has no figure of its own. A page
+with a changed figure fails. The stored A/A runs hold: tail drop here and pfifo do not differ, and with UDP alone they agree within 0.1 ms and 0.1 %
+of goodput; at most one in twenty comparisons of a queue's odd blocks with its even ones differs, and of their 90 % intervals 84 % contain 0. The
+page shows every scenario that was run.
 needs: nothing"""
 import os
 import re

@@ -312,7 +312,7 @@ def check_nothing(history):
 
 
 def check_file(history):
-    """With -o FILE the excerpt is there once all of it was written, also where an event differs; and nothing is there at a fault."""
+    """Checks -o FILE: the excerpt has its name once all of it was written, also if an event differs; at a fault there is no file."""
     with tempfile.TemporaryDirectory() as folder:
         file, words = Path(folder) / "part", ["--from", "0"]
         wanted = cut(history.text, *words)

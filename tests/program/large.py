@@ -95,7 +95,7 @@ def many_events():
 
 
 def full_queue():
-    """As many packets as a queue can have, one more, and their departures in order."""
+    """Fills a queue with the most packets that it can have, and one more; then they depart in order."""
     course = Course()
     for tag in range(PACKETS):
         course.arrive(tag, tag, 1)

@@ -31,7 +31,7 @@ refused, faults = {}, {"beginning": 0, "later": 0, "none": 0}
 
 
 def ran(rows):
-    """What `pie run --count` ends with of these records: the status, its output and its error stream."""
+    """Returns the status, the output and the error stream of `pie run --count` for these records."""
     text = "".join(map(text_of, rows))
     done = subprocess.run([PROGRAM, "run", "--count"], input=text, capture_output=True, text=True, check=False)
     return done.returncode, done.stdout, done.stderr

@@ -34,7 +34,8 @@ def histories():
 
 
 def records(name, history):
-    """What `pie explain --all --csv` writes of a history: its lines, and without the header row its records and their effective moments."""
+    """Returns the output of `pie explain --all --csv` for a history: its lines, and without the header row its records and their
+    effective moments."""
     status, text, _ = pie(history, "--all", "--csv")
     expect(f"{name}: status of --all", status, 0)
     rows = list(csv.DictReader(io.StringIO(text)))

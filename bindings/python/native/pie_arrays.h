@@ -10,7 +10,7 @@
 extern "C" {
 #endif
 
-/* Why a loop ended. */
+/* The reason why a loop ended. */
 enum {
     PIE_ARRAY_ALL = 0,     /* all was done */
     PIE_ARRAY_REFUSED = 1, /* a call was refused: the next event has the reason; nothing was changed by it */

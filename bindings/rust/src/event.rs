@@ -22,7 +22,7 @@ pub struct Packet {
     pub tag: u64,
     /// Its size in bytes, 1 to 65535.
     pub size: u32,
-    /// Its ECN field: of an arrival as it came, of a departure as it left, [`Ecn::Ce`] where it was marked.
+    /// The ECN field: of an arrival as it arrived, of a departure as it departed; [`Ecn::Ce`] if the packet was marked.
     pub ecn: Ecn,
 }
 
@@ -61,7 +61,7 @@ impl<const BYTES: usize> Text<BYTES> {
 }
 
 impl Text {
-    /// An event's record; none where it cannot be, and of new parameters.
+    /// Returns an event's record; `None` if there is none, and for new parameters.
     pub(crate) fn event(event: &RawEvent) -> Option<Text> {
         // SAFETY: as `library` says, and `out` has `room` bytes.
         Text::of(|out, room| unsafe { pie_write_event(event, out, room) })
@@ -84,13 +84,13 @@ impl Event {
         Event(RawEvent { caller, moment, tag, size, ecn: ecn as u8, ..RawEvent::default() })
     }
 
-    /// One that a link handed out.
+    /// Returns an event that a link returned.
     #[cfg(feature = "link")]
     pub(crate) fn of_raw(raw: RawEvent) -> Event {
         Event(raw)
     }
 
-    /// The code that the call answered, where it was refused.
+    /// Returns the return code of the call, if the call was refused.
     #[inline]
     pub(crate) fn refused(&self) -> Option<u32> {
         (self.0.answer > 100).then_some(self.0.answer)
@@ -112,7 +112,7 @@ impl Event {
 }
 
 impl ParamsEvent {
-    /// One that a link handed out.
+    /// Returns an event that a link returned.
     #[cfg(feature = "link")]
     pub(crate) fn of_raw(event: Event, params: Params) -> ParamsEvent {
         ParamsEvent { event, params }
@@ -166,7 +166,7 @@ impl State {
     /// [`State::arrive`] of this packet.
     ///
     /// # Errors
-    /// As of [`State::arrive`].
+    /// Those of [`State::arrive`].
     pub fn arrive_event(
         &mut self,
         queued: u64,
@@ -186,7 +186,7 @@ impl State {
     /// [`State::depart_waited`] of this packet; where delays don't come from time stamps, `arrived` plays no part.
     ///
     /// # Errors
-    /// As of [`State::depart_waited`].
+    /// Those of [`State::depart_waited`].
     pub fn depart_event(&mut self, left: u64, arrived: u64, packet: Packet, caller: u16, moment: u64) -> (Event, Result<(), Refusal>) {
         let mut event = Event::of(packet, caller, moment);
         // SAFETY: as `library` says.
@@ -197,7 +197,7 @@ impl State {
     /// [`State::empty`]: a departure that found no packet.
     ///
     /// # Errors
-    /// As of [`State::empty`].
+    /// Those of [`State::empty`].
     pub fn empty_event(&mut self, caller: u16, moment: u64) -> (Event, Result<(), Refusal>) {
         let mut event = Event::new(caller, moment);
         // SAFETY: as `library` says.
@@ -209,7 +209,7 @@ impl State {
     /// [`State::update`].
     ///
     /// # Errors
-    /// As of [`State::update`].
+    /// Those of [`State::update`].
     pub fn update_event(&mut self, queued: u64, caller: u16, moment: u64) -> (Event, Result<Updated, Refusal>) {
         let mut event = Event::new(caller, moment);
         // SAFETY: as `library` says.
@@ -222,7 +222,7 @@ impl State {
     /// [`State::reset`].
     ///
     /// # Errors
-    /// As of [`State::reset`].
+    /// Those of [`State::reset`].
     pub fn reset_event(&mut self, caller: u16, moment: u64) -> (Event, Result<(), Refusal>) {
         let mut event = Event::new(caller, moment);
         // SAFETY: as `library` says.
@@ -233,7 +233,7 @@ impl State {
     /// [`State::set_params`].
     ///
     /// # Errors
-    /// As of [`State::set_params`].
+    /// Those of [`State::set_params`].
     pub fn set_params_event(&mut self, params: &Params, caller: u16, moment: u64) -> (ParamsEvent, Result<(), Refusal>) {
         let mut event = Event::new(caller, moment);
         // SAFETY: as `library` says.

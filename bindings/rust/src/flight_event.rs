@@ -108,7 +108,7 @@ impl Bits {
     }
 }
 
-/// The record of the event with these words; none where it cannot be.
+/// Returns the record of the event with these words; `None` if there is none.
 #[cfg(feature = "std")]
 pub(crate) fn event_text(words: &[u64]) -> Option<Text> {
     let &[first, one, two, three, four] = words else {

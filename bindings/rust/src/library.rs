@@ -5,7 +5,7 @@ use core::mem::{align_of, offset_of, size_of};
 
 use crate::{Params, State, Stats};
 
-/// What `pie_update` answers.
+/// The return value of `pie_update`.
 #[repr(C)]
 pub(crate) struct RawUpdated {
     pub(crate) code: u64,

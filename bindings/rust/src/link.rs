@@ -99,7 +99,7 @@ pub struct LinkUpdated {
     pub burst: u64,
 }
 
-/// An event of the log, which a fold handed out. Its text, by `Display`, is its record in a history.
+/// An event of the log, returned by a fold. Its text, by `Display`, is its record in a history.
 #[derive(Clone, Copy, Debug, PartialEq, Eq, Hash)]
 pub enum Folded {
     /// Any event but new parameters.
@@ -112,7 +112,7 @@ impl Folded {
     /// Writes its record into a history.
     ///
     /// # Errors
-    /// As of [`Recorder::record`].
+    /// Those of [`Recorder::record`].
     pub fn record<W: Write>(&self, history: &mut Recorder<W>) -> io::Result<()> {
         match self {
             Folded::Event(event) => history.record(event),
@@ -130,7 +130,7 @@ impl fmt::Display for Folded {
     }
 }
 
-/// The events that one fold handed out, oldest first.
+/// The events that one fold returned, oldest first.
 #[derive(Clone, Debug)]
 pub struct Folds {
     events: [RawEvent; MOST],
@@ -140,7 +140,7 @@ pub struct Folds {
     params: Params,
 }
 
-/// The numbers of the events, where the first event of the history has 1.
+/// The numbers of the events, counted from 1 for the first event of the history.
 ///
 /// ```
 /// use juniperbowls::{Link, Opening};
@@ -159,14 +159,14 @@ pub struct Folds {
 /// # }
 /// ```
 impl Folds {
-    /// Returns the number of the first event that the fold handed out. If it is not one more than the last number of the fold before, events are
-    /// missing between the two: a rolling link let them go, or another port folded them.
+    /// Returns the number of the first event that the fold returned. If it is not one more than the last number of the fold before, events are
+    /// missing between the two: a rolling link dropped them, or another port folded them.
     #[must_use]
     pub fn first_number(&self) -> u64 {
         self.last - self.count as u64 + 1
     }
 
-    /// Returns the number of the last event that the fold handed out.
+    /// Returns the number of the last event that the fold returned.
     #[must_use]
     pub fn last_number(&self) -> u64 {
         self.last
@@ -217,7 +217,7 @@ impl Event {
     /// The packet that left by a departure, if one did.
     ///
     /// # Errors
-    /// Why it was refused.
+    /// The refusal of the departure.
     pub fn departed(&self) -> Result<Option<Packet>, LinkRefusal> {
         packet_of(self.raw().answer, self.raw())
     }
@@ -290,9 +290,9 @@ impl Port {
     /// Takes the numbers of another port of this link.
     ///
     /// # Errors
-    /// The other port, of another link, or where neither's numbers follow on the other's.
+    /// The other port, if it is of another link, or if the ports' number ranges are not adjacent.
     pub fn gather(&mut self, mut other: Port) -> Result<(), Port> {
-        // SAFETY: as `link_library` says. The library is handed two ports of one link, as it has to be.
+        // SAFETY: as `link_library` says. The library gets two ports of one link, as it requires.
         if self.link == other.link && unsafe { pie_link_gather_ports(&mut self.raw, &mut other.raw) } == 0 { Ok(()) } else { Err(other) }
     }
 
@@ -309,7 +309,7 @@ impl Port {
         Verdict::of(code).map_err(|_| link_refusal(code))
     }
 
-    /// The link asks for the next packet, which leaves, [`Ecn::Ce`] where it was marked; none where none waits.
+    /// Makes a departure: returns the next packet, with [`Ecn::Ce`] if it was marked, or `None` if the queue is empty.
     ///
     /// # Errors
     /// In this order: `Busy`; `Refused` by `Moment`; `Exhausted`, `Full`.
@@ -334,7 +334,7 @@ impl Port {
     /// Probability, delays and rate estimate start anew.
     ///
     /// # Errors
-    /// As of [`Port::try_depart`].
+    /// Those of [`Port::try_depart`].
     pub fn try_reset(&mut self, moment: u64) -> Result<(), LinkRefusal> {
         let mut event = RawEvent { moment, ..RawEvent::default() };
         // SAFETY: as `link_library` says.
@@ -416,7 +416,7 @@ impl Port {
     /// [`Port::try_arrive`], once it has the turn.
     ///
     /// # Errors
-    /// As of that, but `Busy`.
+    /// Those of that call, except `Busy`.
     pub fn arrive(&mut self, packet: Packet, word: u64, moment: u64) -> Result<Verdict, LinkRefusal> {
         until_served(|| self.try_arrive(packet, word, moment))
     }
@@ -424,7 +424,7 @@ impl Port {
     /// [`Port::try_depart`], once it has the turn.
     ///
     /// # Errors
-    /// As of that, but `Busy`.
+    /// Those of that call, except `Busy`.
     pub fn depart(&mut self, moment: u64) -> Result<Option<Packet>, LinkRefusal> {
         until_served(|| self.try_depart(moment))
     }
@@ -432,7 +432,7 @@ impl Port {
     /// [`Port::try_update`], once it has the turn.
     ///
     /// # Errors
-    /// As of that, but `Busy`.
+    /// Those of that call, except `Busy`.
     pub fn update(&mut self, moment: u64) -> Result<LinkUpdated, LinkRefusal> {
         until_served(|| self.try_update(moment))
     }
@@ -440,7 +440,7 @@ impl Port {
     /// [`Port::try_reset`], once it has the turn.
     ///
     /// # Errors
-    /// As of that, but `Busy`.
+    /// Those of that call, except `Busy`.
     pub fn reset(&mut self, moment: u64) -> Result<(), LinkRefusal> {
         until_served(|| self.try_reset(moment))
     }
@@ -448,7 +448,7 @@ impl Port {
     /// [`Port::try_set_params`], once it has the turn.
     ///
     /// # Errors
-    /// As of that, but `Busy`.
+    /// Those of that call, except `Busy`.
     pub fn set_params(&mut self, params: &Params, moment: u64) -> Result<(), LinkRefusal> {
         until_served(|| self.try_set_params(params, moment))
     }
@@ -468,7 +468,7 @@ impl Port {
     /// [`Port::try_fold`], once it has the turn.
     ///
     /// # Errors
-    /// As of that, but `Busy`.
+    /// Those of that call, except `Busy`.
     pub fn fold(&mut self) -> Result<Folds, LinkRefusal> {
         until_served(|| self.try_fold())
     }

@@ -32,7 +32,7 @@ impl Excerpt {
     /// `tail`, whichever is more. It is an excerpt of no events.
     ///
     /// # Errors
-    /// What [`State::open`](crate::State::open) refuses, then `NoMemory`.
+    /// Those of [`State::open`](crate::State::open), then `NoMemory`.
     pub fn with_room(opening: &Opening) -> Result<Excerpt, LinkRefusal> {
         let mut excerpt = Excerpt { raw: RawExcerpt::CLOSED };
         let raw = opening.raw();
@@ -71,7 +71,7 @@ impl Port {
     /// [`Port::try_excerpt`], once it has the turn.
     ///
     /// # Errors
-    /// As of that, but `Busy`.
+    /// Those of that call, except `Busy`.
     pub fn excerpt(&mut self, excerpt: &mut Excerpt) -> Result<(), LinkRefusal> {
         until_served(|| self.try_excerpt(excerpt))
     }

@@ -8,7 +8,7 @@ use crate::library::{RawEvent, RawOpening};
 use crate::link_readings::{Registers, Totals};
 use crate::Params;
 
-/// A port as the library holds it: a pointer, null where it is closed. It is moved, and never copied.
+/// A port in the form of the library: a pointer, which is null if the port is closed. It is moved, and never copied.
 #[repr(C)]
 #[derive(Debug)]
 pub(crate) struct RawPort {

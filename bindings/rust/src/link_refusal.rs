@@ -1,4 +1,4 @@
-//! Why a call at a port is refused.
+//! The refusals of calls at a port.
 
 use core::error::Error;
 use core::fmt;
@@ -6,7 +6,7 @@ use core::fmt;
 use crate::refusal::refusal;
 use crate::{Params, Refusal};
 
-/// Why a call at a [`Port`](crate::Port) is refused. It then changed nothing, and leaves no event in the history.
+/// The refusal of a call at a [`Port`](crate::Port). A refused call changes nothing and adds no event to the history.
 #[derive(Clone, Copy, Debug, PartialEq, Eq, Hash)]
 pub enum LinkRefusal {
     /// Another port has the turn: try it again, or call the form that waits.
@@ -17,7 +17,7 @@ pub enum LinkRefusal {
     Exhausted,
     /// The event log of a link that lets none go ([`Mode::Bounded`](crate::Mode::Bounded)) is full: fold some.
     Full,
-    /// A fold where the log holds no event.
+    /// A fold of an empty log.
     NoEvent,
     /// There was no memory.
     NoMemory,

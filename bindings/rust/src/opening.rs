@@ -59,7 +59,7 @@ impl Opening {
         opening
     }
 
-    /// As the library has it.
+    /// Returns the opening in the form of the library.
     pub(crate) fn raw(&self) -> RawOpening {
         let Opening { params, moment, profile, choices, mode, packets, tail, events } = *self;
         RawOpening { params, moment, profile: profile as u64, choices: choices.flags(), mode: mode as u64, packets, tail, events }

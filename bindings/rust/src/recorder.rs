@@ -14,13 +14,13 @@ impl Text {
         Text::of(|out, room| unsafe { pie_write_opening(&opening, out, room) })
     }
 
-    /// That the record with this number was refused by this code; none where histories don't know it.
+    /// Returns the record of a refusal of the record with this number, with this code; `None` for a code that histories do not have.
     fn refused(record: u64, code: u32) -> Option<Text> {
         // SAFETY: as `library` says, and `out` has `room` bytes.
         Text::of(|out, room| unsafe { pie_write_refused(record, code, out, room) })
     }
 
-    /// That it was this time of day at this moment; none where the moment is above 2^60 - 1.
+    /// Returns the record of the wall-clock time at this moment; `None` if the moment is above 2^60 - 1.
     pub(crate) fn clock(moment: u64, unix_time: u64) -> Option<Text> {
         // SAFETY: as `library` says, and `out` has `room` bytes.
         Text::of(|out, room| unsafe { pie_write_clock(moment, unix_time, out, room) })
@@ -92,7 +92,7 @@ impl<W: Write> Recorder<W> {
     /// Writes the record of new parameters.
     ///
     /// # Errors
-    /// As of [`Recorder::record`].
+    /// Those of [`Recorder::record`].
     pub fn record_params(&mut self, event: &ParamsEvent) -> io::Result<()> {
         self.put(event.refused(), || event.text())
     }

@@ -1,4 +1,4 @@
-//! Why a call is refused.
+//! The refusals of calls.
 
 use core::error::Error;
 use core::fmt;

@@ -69,7 +69,7 @@ impl Choices {
     /// No optional element: delays by the departure rate, de-randomized picking, capped steps, all packets picked alike, decay at 0.
     pub const NONE: Choices = Choices { delay_stamp: false, pick_random: false, step_uncapped: false, size_scaled: false, decay_half: false };
 
-    /// As the library has them.
+    /// Returns the choices in the form of the library.
     pub(crate) fn flags(self) -> u64 {
         let flags = [self.delay_stamp, self.pick_random, self.step_uncapped, self.size_scaled, self.decay_half];
         flags.iter().rev().fold(0, |sum, &flag| 2 * sum + u64::from(flag))

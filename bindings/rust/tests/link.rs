@@ -98,7 +98,7 @@ fn each_call_answers() {
     assert_eq!(second.arrive(PACKET, 9, 15_000_006), Ok(Verdict::Enqueue));
 }
 
-/// A link that lets its oldest event go: the numbers of a fold show the events that no fold handed out.
+/// A link that drops its oldest event: the numbers of a fold show the events that no fold returned.
 #[test]
 fn gaps() {
     let opening = Opening { tail: 2, packets: 8, ..Opening::for_rate(100_000_000) };
@@ -113,7 +113,7 @@ fn gaps() {
     assert_eq!(port.fold().unwrap_err(), LinkRefusal::NoEvent);
 }
 
-/// Bursts: each event answers as a call of its own, an update rides, and departures end by a budget of bytes or where no packet waits.
+/// Bursts: each event has the result of a call of its own, an update is part of one, and departures end at a budget of bytes or at an empty queue.
 #[test]
 fn bursts() {
     let mut port = Link::open(&opening(64), 1).unwrap();

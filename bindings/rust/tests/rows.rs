@@ -393,7 +393,7 @@ fn limits_by_rate() {
     }
 }
 
-/// Where delays come from time stamps, a departure says when its packet arrived, and an update takes what it waited.
+/// If delays come from time stamps, a departure has the moment of its packet's arrival, and an update uses its waiting time.
 #[test]
 fn delays_by_time_stamps() {
     let choices = Choices { delay_stamp: true, ..Choices::NONE };

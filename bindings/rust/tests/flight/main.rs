@@ -306,7 +306,7 @@ fn an_audit_finds_a_changed_answer() {
     assert_eq!(audited(changed.as_bytes()), format!("differs,{}", first + (at - begin) as u64 + 1));
 }
 
-/// Says that it is enough when it goes, also where a test fails: the writer that waits for it ends then.
+/// Sets its flag when it is dropped, also if a test fails: the writer that waits for the flag then ends.
 struct Enough<'a>(&'a AtomicBool);
 
 impl Drop for Enough<'_> {

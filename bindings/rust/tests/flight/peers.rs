@@ -29,7 +29,7 @@ fn run(program: &Path, words: &[&str], input: &[u8]) -> (i32, Vec<u8>) {
     (output.status.code().unwrap(), output.stdout)
 }
 
-/// What `pie audit` finds.
+/// Returns the finding of `pie audit`.
 pub fn audited(text: &[u8]) -> String {
     let (_, found) = run(&Path::new(TOP).join("crates/pie/out/pie"), &["audit"], text);
     String::from_utf8(found).unwrap().trim_end().to_owned()
@@ -61,7 +61,7 @@ fn params_words(params: &Params) -> [u64; 9] {
     [target, t_update, max_burst, alpha, beta, mean_pkt, limit_bytes, mark_ecnth, dq_threshold]
 }
 
-/// As C has it.
+/// Returns the bytes of a state in the layout of C.
 fn state_bytes(state: &State) -> Vec<u8> {
     let State { params, moment, prob, old_delay, burst, last, accu, average, measuring, cycle_start, cycle_count, profile, active, .. } = *state;
     let rest = [moment, prob, old_delay, burst, last, accu, average, measuring, cycle_start, cycle_count, profile, active];

@@ -13,7 +13,7 @@ NORMAL = NormalDist()
 
 
 def beta_fraction(a, b, x):
-    """The continued fraction of the incomplete beta function (Lentz)."""
+    """Returns the continued fraction of the incomplete beta function (Lentz)."""
     c, d = 1.0, 1 / (1 - (a + b) * x / (a + 1))
     found = d
     for m in range(1, 500):
@@ -36,7 +36,7 @@ def incomplete_beta(a, b, x):
 
 
 def student(t, freedom):
-    """The distribution function of Student's t."""
+    """Returns the distribution function of Student's t."""
     half = incomplete_beta(freedom / 2, 0.5, freedom / (freedom + t * t)) / 2
     return 1 - half if t > 0 else half
 
@@ -76,7 +76,7 @@ def judge(difference, error, freedom, margin):
 
 
 def compare(ours, theirs, margin):
-    """The verdict on the difference of the means (`judge`)."""
+    """Returns the verdict on the difference of the means (`judge`)."""
     parts = [variance(ours) / len(ours), variance(theirs) / len(theirs)]
     difference, error = fmean(ours) - fmean(theirs), math.sqrt(sum(parts))
     if error == 0:

@@ -100,7 +100,7 @@ class Follower:
         return True
 
     def parts(self, below):
-        """The processes that the gate started; in place of tests/run.py the scripts that it started."""
+        """Yields the processes that the gate started; in place of tests/run.py the scripts that it started."""
         for part in below.get(self.gate, []):
             yield from below.get(part, []) if self.script(words_of(part)) == "tests/run.py" else [part]
 

@@ -9,7 +9,7 @@ Took = namedtuple("Took", "seconds processor_seconds user_seconds")
 
 
 def took(words, source, target):
-    """The times of one run, by the clock and of a processor; its files are opened, and the earlier output is dropped, before."""
+    """Returns the times of one run, by the clock and of a processor; its files are opened, and the earlier output is dropped, before."""
     with open(source, "rb") as reader, open(target, "wb") as writer:
         begin = time.perf_counter()
         child = subprocess.Popen(words, stdin=reader, stdout=writer)

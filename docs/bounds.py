@@ -42,8 +42,8 @@ def holds(what, is_so):
 # ---- a burst
 
 def burst(picking, word):
-    """For each event after the burst began its milliseconds since then, its row and the registers after it. The link's rate was measured by forty
-    packets before."""
+    """Returns for each event after the burst began its milliseconds since then, its row and the registers after it. The link's rate was measured by
+    forty packets before."""
     begins = 41 * UPDATE - 100_000
     arrivals = [(0, tag) for tag in range(40)] + [(begins + 8_000 * place, 100 + place) for place in range(150)]
     arrivals += [(begins + 1_200_000 + 800_000 * place, 300 + place) for place in range(300)]
@@ -132,7 +132,7 @@ def probabilities(delay, count, params, first=()):
 
 
 def rising_bound(delay):
-    """After how many updates at most the probability is at each row's end of the table of auto-tuning, by the law."""
+    """Yields the greatest number of updates after which the probability is at the end of each row of the table of auto-tuning, by the law."""
     after, low = 0, 0
     for high, by in ((10**6, 2048), (10**7, 512), (10**8, 128), (10**9, 32), (10**10, 8), (10**11, 2)):
         yield after, max(low, 1) / 1e12

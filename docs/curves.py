@@ -24,12 +24,12 @@ class Panel:
                 HEIGHT - BOTTOM - (HEIGHT - TOP - BOTTOM) * share(y, self.ys, self.logs[1]))
 
     def words(self, x, y, text, **style):
-        """A text at a place of the axes."""
+        """Adds a text at a place of the axes."""
         at = self.place(x, y)
         self.parts.append(text_at(*at, text, **style))
 
     def line(self, points, colour, width=2, dash=""):
-        """A line through these points; it ends where they leave the axes."""
+        """Adds a line through these points; it ends where they leave the axes."""
         low, high = self.ys[0][0], self.ys[-1][0]
         places = [self.place(x, min(high, max(low, y))) for x, y in points]
         way = "M" + " L".join(f"{x:.1f} {y:.1f}" for x, y in places)

@@ -55,7 +55,7 @@ def all_crates():
 
 
 def steps():
-    """Each step of each way: the crate, the one below it, and the way's colour."""
+    """Returns each step of each path: the crate, the one below it, and the path's colour."""
     return [(*step, colour) for colour, way in WAYS.values() for step in zip(way, way[1:])]
 
 

@@ -84,7 +84,7 @@ def crossing(falls):
 
 
 def margins(loop):
-    """The phase margin in degrees and the gain margin in decibels."""
+    """Returns the phase margin in degrees and the gain margin in decibels."""
     phase = 180 + math.degrees(loop.phase(crossing(lambda w: loop.gain(w) - 1)))
     return phase, -20 * math.log10(loop.gain(crossing(lambda w: loop.phase(w) + math.pi)))
 
@@ -137,7 +137,7 @@ def cubic_crossing(loop):
 
 
 def next_prob(prob, delay, old):
-    """The rule in whole numbers: probabilities in 10^-12, delays in nanoseconds."""
+    """Returns the next probability by the rule in whole numbers: probabilities in 10^-12, delays in nanoseconds."""
     by = next((by for below, by in TUNING if prob < round(below * 1e12)), 1)
     raw = 125 * (delay - 15_000_000) + 1250 * (delay - old)
     step = raw // by if raw >= 0 else -(-raw // by)

@@ -50,11 +50,11 @@ class Runs:
             self.rows.setdefault((row["scenario"], row["queue"]), {}).setdefault(part, {})[int(row["block"])] = row
 
     def parts(self, scenario):
-        """The parts of a scenario: those that follow each other, and the whole."""
+        """Returns the parts of a scenario: those that follow each other, and the whole."""
         return sorted(next(parts for (name, _), parts in self.rows.items() if name == scenario))
 
     def part(self, scenario, name):
-        """`start` is the first part, `after` the second, `whole` all; or as 18-32."""
+        """Returns a part by its name: `start` is the first, `after` the second, `whole` all; others have the form 18-32."""
         parts = self.parts(scenario)
         last = max(to for _, to in parts)
         split = [it for it in parts if it != (parts[0][0], last) or len(parts) == 1]
@@ -63,7 +63,7 @@ class Runs:
         return (parts[0][0], last) if name == "whole" else tuple(float(it) for it in name.split("-"))
 
     def blocks(self, scenario, queue, part="after"):
-        """The rows by block; nothing if the scenario did not run with this queue."""
+        """Returns the rows by block; none if the scenario did not run with this queue."""
         found = self.rows.get((scenario, queue), {})
         return found.get(self.part(scenario, part), {}) if found else {}
 
@@ -82,13 +82,13 @@ def shown(number, field="probe", digits=None):
 
 
 def value(scenario, queue, field, part="after", digits=None):
-    """The mean over blocks."""
+    """Returns the mean over blocks."""
     found = list(RUNS.values(scenario, queue, field, part).values())
     return shown(fmean(found), field, digits) if found else ""
 
 
 def spread(scenario, queue, field, part="after", digits=None):
-    """The mean over blocks, and in brackets the least and the greatest."""
+    """Returns the mean over blocks, and in brackets the least and the greatest."""
     found = list(RUNS.values(scenario, queue, field, part).values())
     return f"{shown(fmean(found), field, digits)} ({shown(min(found), field, digits)} to {shown(max(found), field, digits)})" if found else ""
 
@@ -111,13 +111,13 @@ def lost(scenario, queue, part="after"):
 
 
 def group(scenario, queue, place, part="after", digits=2):
-    """The goodput of one group of flows."""
+    """Returns the goodput of one group of flows."""
     rows = RUNS.blocks(scenario, queue, part).values()
     return f"{fmean(float(row['groups'].split('/')[place]) for row in rows):.{digits}f}" if rows else ""
 
 
 def difference_of(scenario, one, other, field, part="after", other_scenario=None):
-    """The mean difference of the blocks that both queues got."""
+    """Returns the mean difference of the blocks that both queues got."""
     ours, theirs = RUNS.values(scenario, one, field, part), RUNS.values(other_scenario or scenario, other, field, part)
     both = sorted(ours.keys() & theirs.keys())
     return [ours[it] for it in both], [theirs[it] for it in both]
@@ -134,7 +134,7 @@ def margin(field):
 
 
 def margin_of(field, theirs):
-    """The margin in ms, or in Mbit/s as a share of the other's goodput."""
+    """Returns the margin in ms, or in Mbit/s as a share of the other's goodput."""
     return margin(field) * (fmean(theirs) if field == "goodput" else 1)
 
 
@@ -150,18 +150,18 @@ def interval(found, field, digits=None):
 
 
 def difference(scenario, one, other, field, part="after", other_scenario=None, digits=None):
-    """The difference, its interval and the verdict, in words."""
+    """Returns the difference, its interval and the verdict, in words."""
     found = test(scenario, one, other, field, part, other_scenario)
     return f"{interval(found, field, digits)} {UNITS.get(field, 'ms')}, `{found[3]}`"
 
 
 def add(scenario, queue, *fields):
-    """The sum of the means of several counts."""
+    """Returns the sum of the means of several counts."""
     return shown(sum(fmean(RUNS.values(scenario, queue, field).values()) for field in fields), "early")
 
 
 def payload(scenario, queue):
-    """The payload that arrived, in per cent of the bytes that the queue counted as sent."""
+    """Returns the payload that arrived, in per cent of the bytes that the queue counted as sent."""
     begin, end = RUNS.part(scenario, "after")
     bits, sent = (fmean(RUNS.values(scenario, queue, field).values()) for field in ("goodput", "sent"))
     return f"{100 * bits * 1e6 * (end - begin) / (8 * sent):.1f}"
@@ -186,14 +186,14 @@ def was_run(scenario):
 
 
 def cell(scenario, queue):
-    """Goodput, wait and blocks of a queue after the start."""
+    """Returns goodput, wait and blocks of a queue after the start."""
     rows = RUNS.blocks(scenario, queue)
     wait, goodput = value(scenario, queue, "probe"), fmean(RUNS.values(scenario, queue, "goodput").values()) if rows else 0
     return f"{shown(goodput, 'goodput', 3 if goodput < 3 else 1 if goodput > 100 else 2)}, {wait or '-'} ({len(rows)})" if rows else ""
 
 
 def scenarios_table():
-    """Every scenario that was run, with the result of every queue that ran it."""
+    """Returns every scenario that was run, with the result of every queue that ran it."""
     lines = []
     for name, it in SCENARIOS.items():
         if was_run(name):
@@ -209,14 +209,14 @@ def not_run():
 
 
 def split_parts(scenario):
-    """The parts without the whole."""
+    """Returns the parts without the whole."""
     parts = RUNS.parts(scenario)
     whole = (min(begin for begin, _ in parts), max(to for _, to in parts))
     return [it for it in parts if it != whole or len(parts) == 1]
 
 
 def pairs_of(one="stamp", other="pie"):
-    """Scenario and part of each comparison of two queues."""
+    """Yields scenario and part of each comparison of two queues."""
     for name in SCENARIOS:
         if RUNS.rows.get((name, one)) and RUNS.rows.get((name, other)):
             for part in split_parts(name):
@@ -244,13 +244,14 @@ def verdicts(field, one="stamp", other="pie"):
 
 
 def later_differences(one="stamp", other="pie"):
-    """The mean differences of waits in the parts after a start."""
+    """Returns the mean differences of waits in the parts after a start."""
     found = [test(name, one, other, "probe", part) for name, part, bounds in pairs_of(one, other) if bounds[0] > 0]
     return [it[0] for it in found if it]
 
 
 def longer():
-    """The number of parts after a start in which the mean wait of a probe is greater here, of how many, and the chance of so many if none differs."""
+    """Returns the number of parts after a start in which the mean wait of a probe is greater here, the number of all, and the chance of such a number
+    if none differs."""
     found = later_differences()
     most, count = sum(it > 0 for it in found), len(found)
     chance = sum(math.comb(count, it) for it in range(most, count + 1)) / 2 ** count
@@ -259,14 +260,14 @@ def longer():
 
 
 def pooled():
-    """The mean of the differences over all parts after a start, each part with the same weight."""
+    """Returns the mean of the differences over all parts after a start, each part with the same weight."""
     found = later_differences()
     return interval(judge(fmean(found), stdev(found) / math.sqrt(len(found)), len(found) - 1, margin("probe")), "probe")
 
 
 def blocks_needed(scenario, one, other, field, part, most=512):
-    """The number of blocks that makes a comparison `same` with a chance of 80 % if there is no difference, by the spread of the stored blocks;
-    `most` if it is more."""
+    """Returns the number of blocks that makes a comparison `same` with a chance of 80 % if there is no difference, by the spread of the stored
+    blocks; `most` if it is more."""
     ours, theirs = difference_of(scenario, one, other, field, part)
     spread_of = stdev(it - other for it, other in zip(ours, theirs))
     least = 2       # bisection: the power grows with the number of blocks
@@ -301,7 +302,7 @@ def same_calibration_table():
 
 @functools.cache
 def halves():
-    """Each queue beside itself: the blocks with odd numbers and those with even ones."""
+    """Compares each queue with itself: the blocks with odd numbers and those with even ones."""
     found = []
     for name, queue in RUNS.rows:
         for part in split_parts(name):
@@ -314,7 +315,7 @@ def halves():
 
 
 def halves_count():
-    """The verdicts of each queue beside itself, and the number of 90 % intervals that contain 0."""
+    """Returns the verdicts of each queue beside itself, and the number of 90 % intervals that contain 0."""
     found = [it[-1] for it in halves()]
     verdicts_of = [it[3] for it in found]
     inside = sum(it[1] <= 0 <= it[2] for it in found)
@@ -343,7 +344,7 @@ def control_table():
 
 
 def base_text():
-    """The delay of the empty queue in each kind of bottleneck, in us."""
+    """Returns the delay of the empty queue in each kind of bottleneck, in us."""
     rows = [row for parts in RUNS.rows.values() for blocks in parts.values() for row in blocks.values()]
     parts = []
     for is_ours in (True, False):
@@ -354,7 +355,7 @@ def base_text():
 
 
 def queues_table(scenario, queues, more=()):
-    """Goodput, waits and losses of queues, each as (scenario, queue)."""
+    """Returns goodput, waits and losses of queues, each as (scenario, queue)."""
     lines = []
     for queue in queues:
         it = more[queue] if queue in more else scenario
@@ -379,7 +380,7 @@ def probes_table():
 
 
 def took(scenario, queue, size):
-    """The times of all short flows of this size, in ms; one that did not end counts as a minute."""
+    """Returns the times of all short flows of this size, in ms; one that did not end counts as a minute."""
     rows = (row for row in SHORT if (row["scenario"], row["queue"], row["bytes"]) == (scenario, queue, str(size)))
     return sorted(6e4 if row["took"] == "" else float(row["took"]) for row in rows)
 
@@ -468,7 +469,7 @@ def ns3_table():
 
 
 def burst_sentence():
-    """The number of runs of four flows that never settle: those that wait above 20 ms on average."""
+    """Returns the number of runs of four flows that never settle: those that wait above 20 ms on average."""
     parts = []
     names = {"pie-stamp": "`PieQueueDisc`", "recorded-stamp": "this repository", "pie-mark-burst-stamp": "`PieQueueDisc` with marks and bursts changed"}
     for queue, name in names.items():
@@ -486,7 +487,7 @@ WIDE, HIGH, ACROSS = 230, 150, 4
 
 
 def ellipse_of(points):
-    """Centre, half axes and angle of the ellipse of one standard deviation."""
+    """Returns centre, half axes and angle of the ellipse of one standard deviation."""
     xs, ys = zip(*points)
     if len(points) < 2:
         return fmean(xs), fmean(ys), 0, 0, 0
@@ -498,7 +499,7 @@ def ellipse_of(points):
 
 
 def panel(name, left, top):
-    """One scenario: waits to the left, from long to short, and goodput upwards, so that the better is up and to the right."""
+    """Returns the panel of one scenario: waits to the left, from long to short, and goodput upwards, so that the better is up and to the right."""
     queues = [queue for queue in SCENARIOS[name]["queues"] if RUNS.blocks(name, queue)]
     points = {}
     for queue in queues:
@@ -535,7 +536,7 @@ def picture():
 
 
 def wrapped(block):
-    """A paragraph, or the items of a list, in lines of 100 columns. Tables, headings, pictures and commands stay as they are."""
+    """Returns a paragraph, or the items of a list, in lines of 100 columns. Tables, headings, pictures and commands are unchanged."""
     if re.search(r"^(\||#|!|    )", block, re.M) and not re.match(r"\d+\. ", block):
         return block
     items = re.split(r"\n(?=\d+\. |- )", block)
@@ -552,7 +553,7 @@ def page():
 
 
 def own_figures():
-    """Decimal numbers that RESULTS.in has itself: each has to be a version, a section or a setting."""
+    """Returns decimal numbers that RESULTS.in has itself: each has to be a version, a section or a setting."""
     text = re.sub(r"\{\{.*?\}\}|^    .*$|\[[^\]]*\]\([^)]*\)|`[^`\n]*`", "", (ROOT / "docs/RESULTS.in").read_text(), flags=re.M | re.S)
     found = re.findall(r"(?<![\w.])(?:section |Section |Linux |ns-3 |DPDK |version )?\d+\.\d+", text)
     return [it for it in found if it[0].isdigit() and it not in SETTINGS]

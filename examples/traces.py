@@ -37,31 +37,28 @@ def written(opening, arrivals, departs, updates, others=(), ecns=("not",), seed=
 
 
 def burst():
-    """A link of 10 Mbit/s at half load. At 30 ms forty packets arrive at once: 50 kilobytes, 40
-    milliseconds of the link."""
+    """Returns the trace of a link of 10 Mbit/s at half load. At 30 ms forty packets arrive at once: 50 kilobytes, 40 milliseconds of the link."""
     arrivals = steady(0, 30, 2) + [30 * MS] * 40 + steady(32, 120, 2)
     return written(OPENING, arrivals, steady(1, 120, 1), steady(15, 120, 15))
 
 
 def overload():
-    """A link of 5 Mbit/s. For 0.6 seconds 1.5 times its rate arrives, and then half its rate. No
-    packet is ECN-capable."""
+    """Returns the trace of a link of 5 Mbit/s. For 0.6 seconds 1.5 times its rate arrives, and then half its rate. No packet is ECN-capable."""
     return written(OPENING, steady(0, 600, 4 / 3) + steady(600, 900, 4), steady(2, 900, 2), steady(15, 900, 15))
 
 
 def marks():
-    """A link of 5 Mbit/s. For 0.48 seconds 1.25 times its rate arrives, and then 0.83 times. Every
-    other packet is ECN-capable; packets are marked below 20 per cent."""
+    """Returns the trace of a link of 5 Mbit/s. For 0.48 seconds 1.25 times its rate arrives, and then 0.83 times. Every other packet is ECN-capable;
+    packets are marked below 20 per cent."""
     arrivals = steady(0, 480, 1.6) + steady(480, 750, 2.4)
     opening = OPENING + ",15000000,15000000,150000000,125,1250,1024,262144,200000000000,16384"
     return written(opening, arrivals, steady(2, 750, 2), steady(15, 750, 15), ecns=("ect0", "not"))
 
 
 def ignored_marks():
-    """A link of 5 Mbit/s. For 1.2 seconds 1.25 times its rate arrives, ECN-capable, from a sender
-    that ignores marks. Packets are marked up to a probability of 100 per cent; at 0.6 seconds the
-    operator sets the default of 10 per cent. The gains are four times the default, so that a second
-    shows the effect."""
+    """Returns the trace of a link of 5 Mbit/s. For 1.2 seconds 1.25 times its rate arrives, ECN-capable, from a sender that ignores marks. Packets
+    are marked up to a probability of 100 per cent; at 0.6 seconds the operator sets the default of 10 per cent. The gains are four times the default,
+    so that a second shows the effect."""
     nine = "15000000,15000000,50000000,500,5000,1024,75000,{},16384".format
     opening = "open3,1,stamp,derandomized,capped,unscaled,rolling,0,1000,1000,1000000," + nine(10**12)
     change = (600 * MS, f"params,4,{600 * MS}," + nine(10**11))
@@ -69,8 +66,8 @@ def ignored_marks():
 
 
 def off_and_on():
-    """A link of 10 Mbit/s, a limit of 60 kilobytes, profile two: 16 packets, 20 kilobytes, activate
-    the controller, and low load deactivates it."""
+    """Returns the trace of a link of 10 Mbit/s, with a limit of 60 kilobytes and profile two: 16 packets, 20 kilobytes, activate the controller, and
+    low load deactivates it."""
     nine = "15000000,15000000,150000000,125,1250,1024,60000,100000000000,4096"
     arrivals = [*steady(0, 20, 2), *[20 * MS] * 20, *steady(22, 120, 4)]
     shows = [(moment * MS, "show") for moment in (10, 20, 70)]
@@ -78,8 +75,7 @@ def off_and_on():
 
 
 def reset():
-    """A link of 5 Mbit/s. For 0.6 seconds 1.5 times its rate arrives. At 0.5 seconds the operator
-    resets the controller."""
+    """Returns the trace of a link of 5 Mbit/s. For 0.6 seconds 1.5 times its rate arrives. At 0.5 seconds the operator resets the controller."""
     return written(OPENING, steady(0, 600, 4 / 3), steady(2, 600, 2), steady(15, 600, 15), [(500 * MS, f"reset,4,{500 * MS}")])
 
 

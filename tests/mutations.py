@@ -175,7 +175,8 @@ def functions_of(crate):
 
 
 def lines_reached(crate, functions=None):
-    """About how many lines the functions have that a check of these proves, they and all that they call in their crate; with none, of the whole."""
+    """Estimates the number of lines of the functions that a check of these proves, with all that they call in their crate; without functions, of the
+    whole crate."""
     known, found = functions_of(crate), set()
     wanted = list(known) if functions is None else [it.rpartition("::")[2] for it in functions]
     while wanted:
@@ -187,7 +188,7 @@ def lines_reached(crate, functions=None):
 
 
 def words(kit, crate, functions):
-    """The prover's words that check these functions of a crate, or with none all of it."""
+    """Returns the prover's arguments that check these functions of a crate, or without functions all of it."""
     stands, is_static = CRATES[crate]
     top = "src/main.rt" if (ROOT / "crates" / crate / "src/main.rt").is_file() else "src/lib.rt"
     found = [kit / "bin/rattle", "check", "--crate-name", crate, top, "--jobs", "1"]
@@ -301,7 +302,7 @@ def most(crate):
 
 
 def batches(mutations):
-    """The mutations in groups that one check can judge: of one crate, and no two of a group change the same function."""
+    """Groups the mutations so that one check can judge a group: of one crate, and no two of a group change the same function."""
     found = []
     for it in mutations:
         for group in found if it.goals() else ():
@@ -340,7 +341,7 @@ def named(wanted):
 
 
 def cost(groups):
-    """About how many seconds of a processor it takes to try these batches of one crate, one after another."""
+    """Estimates the seconds of a processor to try these batches of one crate, one after another."""
     crate, is_whole = groups[0][0].crate, any(not it.goals() for batch in groups for it in batch)
     names = None if is_whole else {name for it in groups for name in goals_of(it)}
     return sum(LOADING + DEAR.get(crate, EDIT) * len(it) for it in groups) + LINE_PROVED * lines_reached(crate, names)

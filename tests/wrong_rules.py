@@ -128,7 +128,7 @@ class Crate:
         (self.folder / "src/lib.rt").write_text("//! Nothing but lemmas.\n#![tactic(auto)]\n\n/// Nothing.\npub fn nothing() {}\n")
 
     def put(self, mark, rule, is_wrong):
-        """The copies for a rule, changed or not, under names that begin with this mark."""
+        """Writes the copies for a rule, changed or not, under names that begin with this mark."""
         texts = {path: path.read_text() for path in {*STEPS, *(ROOT / name for name in rule["spec"] + rule["file"])}}
         for path, old, new in zip(rule["file"], rule["old"], rule["new"]):
             if texts[ROOT / path].count(old) != 1:

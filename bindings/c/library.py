@@ -27,7 +27,7 @@ MODULE = os.path.abspath(os.environ["PIE_MODULE"]) if "PIE_MODULE" in os.environ
 
 
 def toolchain():
-    """The toolchain's own library, which knows how a crate is compiled over those below it."""
+    """Returns the toolchain's own library, which compiles a crate over the crates below it."""
     file = os.path.join(os.path.dirname(os.path.realpath(shutil.which("rt"))), "rtlib.py")
     loader = importlib.machinery.SourceFileLoader("rtlib", file)
     module = importlib.util.module_from_spec(importlib.util.spec_from_loader("rtlib", loader))
@@ -76,8 +76,8 @@ def compile_with_assembly(rtlib, crate):
 
 
 def with_memory():
-    """The link's allocation functions, which `rt lib` leaves to the linking program: the toolchain's few lines of C
-    over malloc, realloc and free."""
+    """Adds the link's allocation functions, which `rt lib` leaves to the linking program: the toolchain's few lines of C over malloc, realloc and
+    free."""
     archive = f"crates/{CRATE}/out/lib{CRATE}.a"
     if CRATE != "pie_link_c" or b"heap.pic.o" in subprocess.run(["ar", "t", archive], capture_output=True, check=True).stdout:
         return

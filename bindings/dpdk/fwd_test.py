@@ -54,7 +54,7 @@ def until(holds, process):
 
 @contextlib.contextmanager
 def running(ports, *words):
-    """pie-fwd until it is ended by an interrupt, in any case when this ends."""
+    """Runs pie-fwd until an interrupt ends it, at the latest at the end of the block."""
     with subprocess.Popen(command(ports, *words), stdout=subprocess.PIPE, stderr=subprocess.PIPE, text=True) as process:
         try:
             yield process
@@ -70,7 +70,7 @@ def interrupted(process):
 
 
 def told(printed):
-    """The numbers of the last line, by their words."""
+    """Returns the numbers of the last line, by their keywords."""
     last = printed.splitlines()[-1]
     assert last.startswith("pie-fwd: ") and last.endswith(" 0 mbufs missing"), printed
     return {words: int(number) for number, words in re.findall(r"(\d+) ([a-z ]+)", last)}
@@ -209,7 +209,7 @@ def events_of(numbers):
 
 @contextlib.contextmanager
 def with_telemetry(*words, **settings):
-    """pie-fwd while it runs, and its telemetry."""
+    """Runs pie-fwd, with its telemetry."""
     prefix = f"pie-fwd-test-{os.getpid()}-{threading.get_ident()}"
     places = [Path(base, "dpdk", prefix) for base in ("/var/run", os.environ.get("XDG_RUNTIME_DIR", "/tmp"))]
     full = [word for word in command(PACED, *words) if word != "--no-telemetry"]
@@ -356,7 +356,7 @@ FLOWS = {1000: FLOOD, 1001: ("tcp", "192.0.2.1", 40000, "198.51.100.1", 443), 10
 
 
 def frame(size):
-    """A frame of this flow; the last has a VLAN tag."""
+    """Returns a frame of this flow; the last flow has a VLAN tag."""
     protocol, source, source_port, destination, destination_port = FLOWS[size]
     one, other = ipaddress.ip_address(source).packed, ipaddress.ip_address(destination).packed
     number = {"tcp": 6, "udp": 17}[protocol]
@@ -369,8 +369,8 @@ def frame(size):
 
 
 def flows():
-    """A capture of four TCP connections beside a UDP flood, received without end: the flow with the most bytes is the flood, by its addresses, and
-    each packet has its flow in its tag."""
+    """Checks a capture of four TCP connections beside a UDP flood, received without end: the flow with the most bytes is the flood, by its addresses,
+    and each packet has its flow in its tag."""
     with tempfile.TemporaryDirectory() as work:
         sizes = [*FLOWS, *[1000] * 7]
         packets = b"".join(struct.pack("<IIII", 0, 0, size, size) + frame(size) for size in sizes)
@@ -417,7 +417,7 @@ def device_full():
 
 
 def paced():
-    """The history of a second of real time is whole."""
+    """Checks that the history of a second of real time is complete."""
     with tempfile.TemporaryDirectory() as work:
         path = f"{work}/history"
         since = now()
@@ -495,7 +495,7 @@ def first_of_all():
 
 
 def real_time():
-    """100 Mbit/s with 1.2 times its load: from the fifth second on the mean wait is within 10 per cent of 15 ms, and the rate within one."""
+    """Checks 100 Mbit/s with 1.2 times its load: from the fifth second on the mean wait is within 10 per cent of 15 ms, and the rate within one."""
     status, printed, _ = run(PACED, "--rate", "100mbit", "--receive", "120mbit", "--for", "14s", preexec_fn=first_of_all)
     lines = [[float(it) for it in LINE.match(line).groups()] for line in printed.splitlines()[4:-1]]
     packets = sum(count for _, count, _ in lines)

@@ -58,7 +58,7 @@ def tell(line):
 
 
 def listed(path):
-    """The histories of a list: (link, path, host) of each line 'host: path'."""
+    """Yields the histories of a list: (link, path, host) of each line 'host: path'."""
     with open(path) as lines:
         for number, line in enumerate(lines, 1):
             line = line.rstrip("\n")

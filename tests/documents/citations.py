@@ -19,7 +19,7 @@ LEFT = {"pie_aqm": 5, "pie_audit": 1, "pie_book": 5, "pie_cut": 8, "pie_excerpt"
 
 
 def citing(crate, own):
-    """The lines of a crate that cite the proofs of another of the repository."""
+    """Yields the lines of a crate that cite the proofs of another of the repository."""
     for path in sorted([*crate.rglob("*.antt"), *crate.rglob("*.rt")]):
         if "out" not in path.relative_to(crate).parts:
             for number, line in enumerate(path.read_text().splitlines(), 1):

@@ -38,7 +38,7 @@ def definitions(crate):
 
 
 def public_clauses(text):
-    """The name of each public function, and the text of its clauses."""
+    """Yields the name of each public function, and the text of its clauses."""
     lines = text.split("\n")
     for start, line in enumerate(lines):
         found = PUBLIC.match(line)

@@ -68,7 +68,7 @@ def follow_links(page):
 
 
 def blocks(text):
-    """The indented blocks of a page, without their indent."""
+    """Returns the indented blocks of a page, without their indent."""
     text = re.sub(r"^```.*?^```$", "", text, flags=re.M | re.S)
     found, block, was_empty = [], [], True
     for line in [*text.splitlines(), "the end"]:

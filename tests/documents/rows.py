@@ -136,7 +136,7 @@ def is_test(name):
 
 
 def is_in_c(words):
-    """A function that main calls or has in its table, in a program that a script of bindings/c names."""
+    """Returns true if main calls the function or has it in its table, in a program that a script of bindings/c names."""
     name, function = words.split()
     text = read(ROOT / f"bindings/c/{name}.c")
     main = text.partition("int main(void)")[2]

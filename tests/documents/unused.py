@@ -42,7 +42,7 @@ def blocks(line):
 
 
 def code_of(text):
-    """The lines of a source without its comments, contracts and imports."""
+    """Returns the lines of a source without its comments, contracts and imports."""
     kept, depth, within = [], 0, False
     for line in text.splitlines():
         line = line if '"' in line else line.partition("//")[0]

@@ -57,7 +57,7 @@ def storm(seed, packets, load):
 
 
 def all_examples():
-    """The histories of the examples, by name."""
+    """Returns the histories of the examples, by name."""
     texts = {}
     for name in sorted(os.listdir(f"{TOP}/examples")):
         if name.endswith(".history"):
@@ -137,7 +137,7 @@ def same(what, path, names, links=None):
 
 
 def address_in(place):
-    """The scheduler's address, once its file has all of it."""
+    """Returns the scheduler's address, once its file has all of it."""
     try:
         with open(place) as text:
             return json.load(text)["address"]
@@ -281,7 +281,7 @@ def main():
 
 
 def run_alone(work, names):
-    """Without a scheduler: all is done here, by one process."""
+    """Checks a run without a scheduler: one process does all work here."""
     fleet(f"{work}/histories/link00*.history", "-o", f"{work}/alone.csv", "--pie", PROGRAM, status=1)
     same("alone", f"{work}/alone.csv", names[:10])
     fleet(f"{work}/histories/link00*.history", "-o", f"{work}/alone.csv", "--pie", PROGRAM, status=1, errors="--force")
@@ -391,8 +391,8 @@ def run_changed(work, names, where):
 
 
 def run_stopped(cluster, work, names, where):
-    """A stopped run of a hundred files leaves its journal, and the same command continues; a truncated line of the
-    journal is made again."""
+    """Checks that a stopped run of a hundred files leaves its journal, and that the same command continues; a truncated line of the journal is made
+    again."""
     some = [name for name in names if "/link0" in name]
     words = [f"{work}/histories/link0*.history", *where, "-o", f"{work}/third.csv"]
     held, journal = some[len(some) // 2:], f"{work}/third.csv.journal"
@@ -455,8 +455,8 @@ def wait_for_server(host, port):
 
 
 def start_servers(ssh, hosts):
-    """An SSH server of this user's on each of some loopback addresses, and the client's configuration for all. Sessions share a connection, and
-    start no shell's profile of this user's."""
+    """Starts an SSH server of this user's on each of some loopback addresses, and writes the client's configuration for all. Sessions share a
+    connection, and start no shell's profile of this user's."""
     subprocess.run(["ssh-keygen", "-q", "-t", "ed25519", "-N", "", "-f", f"{ssh}/key"], check=True)
     shutil.copy(f"{ssh}/key.pub", f"{ssh}/authorized_keys")
     os.makedirs("/run/sshd", exist_ok=True)
@@ -476,7 +476,8 @@ def start_servers(ssh, hosts):
 
 
 def run_ssh(work, names):
-    """docs/OPERATING.md's commands over SSH, with three servers on loopback addresses: all histories, which every host sees, and some that are sent."""
+    """Checks docs/OPERATING.md's commands over SSH, with three servers on loopback addresses: all histories, which every host sees, and some that are
+    sent."""
     if not shutil.which("parallel") or not shutil.which("rsync") or not os.path.exists("/usr/sbin/sshd"):
         print("NOT RUN: tests/fleet/fleet.py: no GNU parallel, no rsync or no sshd here (fleet/install.sh), so nothing went over SSH")
         return

@@ -33,7 +33,7 @@ def one_line(text):
 
 
 def declared(root):
-    """The lines of the list for functions, and for structs and constants the names to ask a compiler for."""
+    """Returns the lines of the list for functions, and for structs and constants the names to ask a compiler for."""
     functions, structs, constants = [], [], []
     for header in HEADERS:
         bare = re.sub(r"/\*.*?\*/", " ", (root / header).read_text(), flags=re.S)
@@ -48,7 +48,7 @@ def declared(root):
 
 
 def measured(root, structs, constants):
-    """The lines of the list for structs and constants, by a program that a C compiler makes."""
+    """Returns the lines of the list for structs and constants, by a program that a C compiler makes."""
     lines = ["#include <stdio.h>", *[f'#include "{root / it}"' for it in HEADERS], "int main(void) {"]
     for name, fields in structs:
         lines.append(f'    printf("struct {name}: %zu bytes", sizeof(struct {name}));')

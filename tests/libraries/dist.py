@@ -39,13 +39,13 @@ ROUNDS = {"pie_text::words::put_numbers": 25, "pie_summary::record::together": 1
 
 
 def read(path):
-    """The text of an assembly file, which ends in .xz if it is compressed."""
+    """Returns the text of an assembly file, which ends in .xz if it is compressed."""
     raw = path.read_bytes()
     return (lzma.decompress(raw) if path.suffix == ".xz" else raw).decode()
 
 
 def unknown(text):
-    """The lines that are none of label, directive of the list and instruction."""
+    """Returns the lines that are neither a label, nor a directive of the list, nor an instruction."""
     found = []
     for number, line in enumerate(text.splitlines(), 1):
         match = LINE.fullmatch(line)

@@ -102,7 +102,7 @@ def fail(why):
 
 
 def run_beside(pie, profile, elements, seed):
-    """A random run by the reference, made by the library too: the queue with its events and their records."""
+    """Runs the reference at random, and the library beside it. Returns the queue with its events and their records."""
     words = list(reference.ELEMENTS.values())
     flags = sum(1 << place for place, word in enumerate(elements) if word != words[place][0])
     _, run = reference.random_run(seed, STEPS, PACKETS, 2**20, 2**20, False, True, profile, elements)

@@ -39,7 +39,7 @@ NUMBER = r"\d+(?:\.\d+)?(?:\^\d+)?(?: \* \d+\^\d+)?(?: - \d+)?"
 
 
 def value(text):
-    """The number that a comment writes as 2^60 - 1 or 8.5 * 10^12."""
+    """Returns the number that a comment writes as 2^60 - 1 or 8.5 * 10^12."""
     total = Fraction(1)
     minuend, _, subtrahend = text.partition(" - ")
     for factor in minuend.split(" * "):
@@ -102,7 +102,7 @@ class Header:
 
 
 def declaration_of_c(text):
-    """Type and name of a field or a parameter."""
+    """Returns type and name of a field or a parameter."""
     before, _, name = one_line(text).rpartition(" ")
     return plain_c(before + "*" * name.count("*")), name.lstrip("*")
 
@@ -212,7 +212,7 @@ def compare_methods(rust, source):
 
 
 def compare_ranges(header, rust, formats):
-    """The ranges and defaults of the comments, beside docs/FORMATS.md and the Rust documentation."""
+    """Compares the ranges and defaults of the comments with docs/FORMATS.md and the Rust documentation."""
     rows = {}
     for names, told, given in re.findall(r"^\| (`[a-z].*?) \| (.*?) \| ([\d, ]+) \|", formats, re.M):
         for name, number in zip(re.findall(r"`(\w+)`", names), given.split(", ")):
@@ -229,7 +229,7 @@ def compare_ranges(header, rust, formats):
 
 
 def compare_limits(header):
-    """The constants and the words of pie_text, beside the comments of the codes."""
+    """Compares the constants and the keywords of pie_text with the comments of the codes."""
     params, codes = header.comments.get("pie_params", {}), header.codes
     for name, number in (("PIE_MAX_MOMENT", numbers(codes["PIE_BAD_MOMENT"])[-1]), ("PIE_ONE", bound(header.comments["pie_state"]["prob"])[1]),
                          ("PIE_MAX_BYTES", bound(params["limit_bytes"])[1]), ("PIE_MAX_SIZE", numbers(codes["PIE_BAD_SIZE"])[-1])):
@@ -273,7 +273,7 @@ def compare_refusals(header, rust, source):
 
 
 def compare_numbers(header, source):
-    """The numbers of the parameters, which pie_check_params answers."""
+    """Compares the numbers of the parameters, which pie_check_params returns."""
     told = re.search(r"number of the first parameter out of its range: (.*?)\.", one_line(header.text.replace("\n *", "\n")))
     listed = {name: int(number) for number, name in re.findall(r"(\d) (\w+)", told[1] if told else "")}
     numbered = {re.sub(r"(?<=.)([A-Z])", r"_\1", name).lower(): int(number) for name, number in re.findall(r"Field::(\w+) => (\d+),", source.text)}
@@ -314,7 +314,7 @@ def compare_link(root):
 
 
 def compare_classes(text, calls, waits):
-    """The classes of include/pie_link.h: each member calls the function that it is named after, and each function has one."""
+    """Checks the classes of include/pie_link.h: each member calls the function of its name, and each function has one."""
     both = re.search(r"uint32_t try_##name taken noexcept \{ return pie_link_try_##name handed; \} \\\n"
                      r"\s*uint32_t name taken noexcept \{ return pie_link_##name handed; \}\n", text)
     found = []
@@ -350,7 +350,7 @@ def compare_rust_link(root, header):
 
 
 def compare_flight(header, rust):
-    """The words of a flight recorder's memory, and its bounds."""
+    """Compares the words of a flight recorder's memory, and its bounds."""
     bare = re.sub(r"/\*.*?\*/", "", header, flags=re.S)
     answers = {"DONE", "NONE", "GONE", "BROKEN", "STOPPED"}
     told = [it for it in re.findall(r"PIE_FLIGHT_(\w+) = (\d+)()", bare) if it[0] not in answers]
@@ -365,7 +365,7 @@ def compare_flight(header, rust):
 
 
 def compare_names(root):
-    """In C++ a function hides the struct of its name, so that `pie_x x{}` is no declaration: no struct has the name of a function."""
+    """Checks that no struct has the name of a function: in C++ the function would hide the struct, and `pie_x x{}` would be no declaration."""
     text = "".join(re.sub(r"/\*.*?\*/", "", path.read_text(), flags=re.S) for path in sorted((root / "include").glob("*.h")))
     structs, functions = set(re.findall(r"struct (\w+) \{", text)), set(re.findall(r"\b(pie_\w+)\(", text))
     for name in sorted(structs & functions):

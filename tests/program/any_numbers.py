@@ -39,7 +39,7 @@ tried = Counter()
 # ----- The numbers of a preamble
 
 def some(chance, least, most):
-    """A number of this range: an end of it, a small one, or one of any length."""
+    """Returns a number of this range: an end of it, a small one, or one of any length."""
     kind = chance.randrange(8)
     if kind < 2:
         return (least, most)[kind]
@@ -55,7 +55,7 @@ def nine(chance):
 
 
 def packets_of(chance, moment):
-    """The packets that wait, oldest first."""
+    """Returns the queued packets, oldest first."""
     sinces = sorted(some(chance, 0, moment) for _ in range(chance.choice((0, 1, 2, 3, 8, 20))))
     return [["queued", some(chance, 0, WORDS), some(chance, 1, 65535), chance.choice(("not", "ect1", "ect0", "ce")), since] for since in sinces]
 
@@ -76,7 +76,7 @@ def agreeing(chance, waiting, moment, old, dropped_most):
 
 
 def preamble(chance, agrees):
-    """The records before the first event. The statistics agree with each other, or each is of its own range."""
+    """Returns the records before the first event. The statistics agree with each other, or each is of its own range."""
     moment, first, now = some(chance, 0, chance.choice((2**50, 2**50, LATEST))), nine(chance), nine(chance)
     profile, elements = chance.choice((1, 2)), elements_of(chance.randrange(32))
     waiting, old = packets_of(chance, moment), some(chance, 0, 2**40)
@@ -104,7 +104,7 @@ def preamble(chance, agrees):
 
 
 def out_of_range(rows, chance):
-    """The records with a number that no controller holds, by its place from the end of the first."""
+    """Returns the records with a number that no controller has, by its place from the end of the first."""
     place, value = chance.choice(((-31, int(rows[0][-31]) + 2**47), (-26, 10**12 + 1), (-25, 2**40 + 1), (-24, 85 * 10**11), (-23, 10**12 + 1),
                                   (-22, int(rows[0][-27]) + 1), (-21, 2**60), (-17, 2**40 + 1), (-15, int(rows[0][-31]) + 1), (-32, LATEST)))
     first = list(rows[0])
@@ -226,7 +226,7 @@ def pie(words, text):
 
 
 def hold_refused(name, rows, fault, agrees):
-    """All of them refuse it, with the same words."""
+    """Checks that all commands refuse the text, with the same message."""
     text = "".join(map(text_of, rows))
     said = [pie(words, text) for words in (["run"], ["audit"], ["explain", "--all", "--csv"], ["cut", "--from", "0"], ["cut", "--every", "5"])]
     check(all(status == 1 and errors == said[0][2] for status, _, errors in said), f"{name}: refused otherwise: {said}")
@@ -255,7 +255,7 @@ def hold_explanation(name, excerpt, text):
 
 
 def hold_sums(name, excerpt, text, rows):
-    """A summary counts the events."""
+    """Checks that a summary counts the events."""
     header, *records = rows
     status, sums = explained(text, "--summary")
     if not records:
@@ -313,7 +313,7 @@ def hold_again(name, part):
 
 
 def changed_answer(row, chance):
-    """The record of an event with another answer, that reads well."""
+    """Returns the record of an event with another answer, which can be read."""
     row = list(row)
     if row[0] == "arrive":
         row[7] = chance.choice([it for it in ("enqueue", "mark", "early", "bytes", "packets") if it != row[7]])
@@ -332,7 +332,7 @@ def changed_answer(row, chance):
 
 
 def hold_changed(name, excerpt, text, rows, chance):
-    """A changed answer differs at its event, wherever one looks."""
+    """Checks that a changed answer differs at its event, in every command."""
     places = [at for at, it in enumerate(excerpt.answers) if it[0] in EVENTS]
     place = chance.choice(places)
     number = excerpt.before + 1 + places.index(place)

@@ -134,7 +134,7 @@ def is_error_line(text):
 
 
 def malformed():
-    """Text that is no trace: a named fault, and the history of the records before it."""
+    """Checks text that is no trace: a named fault, and the history of the records before it."""
     opened = b"open,0,4,16,100\n"
     rows = [
         (b"", b"pie: the first record is not an open record\n"),

@@ -35,7 +35,7 @@ def opened(fields):
 
 
 def step_of(fields):
-    """The caller and the step of a record of a trace; none of a `show`, a `tally` or a `clock`."""
+    """Returns the caller and the step of a record of a trace; none for a `show`, a `tally` or a `clock`."""
     kind, *rest = fields
     if kind == "arrive":
         caller, moment, tag, size, ecn, word = rest
@@ -54,7 +54,7 @@ def state(book, n):
 
 
 def record(book, i):
-    """The fields of the CSV record that explains event i."""
+    """Returns the fields of the CSV record that explains event i."""
     caller, command, answer = book.events[i - 1]
     kind, before, after = command[0], state(book, i - 1), state(book, i)
     told = {"number": i, "kind": "params" if kind == "set" else kind, "caller": caller, "moment": command[1], "effective_moment": book.moment(i)}

@@ -23,7 +23,7 @@ FLOWS = (0, 1, 0x10, 0xFFFFFFFF, 0x80000000, 0x9C1DE0A7, 0x12345678, 7)
 
 
 def with_flows(history, seed):
-    """The history with a flow above each packet's tag: of few packets most of the flows, so that some have as many bytes."""
+    """Returns the history with a flow above each packet's tag. Most flows have few packets, so that some have equally many bytes."""
     picks = random.Random(seed)
     flows, lines = {}, history.splitlines(keepends=True)
     for number, line in enumerate(lines):
@@ -43,7 +43,7 @@ def share(part, whole):
 
 
 def flow_of(row):
-    """The flow of a record of an arrival or of a packet that left; none of any other."""
+    """Returns the flow of a record of an arrival or of a packet that left; None for any other."""
     return int(row["tag"]) >> 32 if row["kind"] == "arrive" or row["verdict"] == "left" else None
 
 
@@ -105,7 +105,7 @@ HEADER = ",".join(["first_moment", "last_moment", "flow", *NAMES]) + "\n"
 
 
 def by_period(rows, every):
-    """The records of each period that has some."""
+    """Returns the records of each interval that has some."""
     periods = [int(row["effective_moment"]) // every for row in rows]
     starts = [place for place in range(len(rows)) if place == 0 or periods[place] != periods[place - 1]]
     return [rows[start:end] for start, end in zip(starts, [*starts[1:], len(rows)])]

@@ -88,7 +88,7 @@ def hold_orders(what, parts, chance):
 
 
 def hold_others(what, parts, others):
-    """A part of another history has the same numbers."""
+    """Checks a segment of another history in place of one with the same numbers."""
     for place, other in enumerate(others):
         hold(f"{what}, {place} of another history", [*parts[:place], other, *parts[place + 1 :]])
 
@@ -116,7 +116,7 @@ def other_number(field, chance):
 
 
 def hold_fields(what, before, part, chance):
-    """Each field of the beginning is another."""
+    """Checks another value in each field of the preamble."""
     row, *rest = part.lines
     fields = row.rstrip("\n").split(",")
     is_told = len(fields) > 60
@@ -139,7 +139,7 @@ def hold_fields(what, before, part, chance):
 
 
 def hold_packets(what, before, part, chance):
-    """Each packet that waits is another."""
+    """Checks another value for each queued packet."""
     for number, line in enumerate(part.lines):
         kind, *fields = line.rstrip("\n").split(",")
         for place in range(len(fields) if kind == "queued" else 0):
@@ -151,8 +151,7 @@ def hold_packets(what, before, part, chance):
 
 
 def hold_broken(what, parts, chance):
-    """A text with a fault or a difference has no end: the next text has no second line, and is the first of a new
-    row."""
+    """Checks that a text with a fault or a difference has no end: the next text has no second line, and is the first of a new row."""
     place = chance.randrange(len(parts))
     texts = [part.text for part in parts]
     lines = [f"clean,{part.last}{' follows' if number else ''}" for number, part in enumerate(parts)]
@@ -206,7 +205,7 @@ def told(words, text=b""):
 
 
 def hold_words(parts):
-    """One file, standard input alone and among files, a file that is not there."""
+    """Checks one file, standard input alone and among files, and a file that is missing."""
     one, *others = parts
     check(told([], one.text.encode()) == (0, f"clean,{one.last}\n", ""), "standard input alone")
     check(told(["-"], one.text.encode()) == (0, f"-: clean,{one.last}\n", ""), "- alone")

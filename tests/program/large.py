@@ -58,7 +58,7 @@ class Course:
         self.explain(f"depart,7,{moment},{moment},{tag},{size},left,", f"{ECNS[tag % 4]},,{waited}", self.bytes - size, self.waiting - 1)
 
     def explain(self, event, more, size, packets):
-        """The record of an event, which makes the queue of this size in bytes and in packets."""
+        """Adds the record of an event after which the queue has this size in bytes and in packets."""
         self.events += 1
         rest = "0,0,0,150000000"
         self.explained.append(f"{self.events},{event},{self.bytes},{self.waiting},{rest},{more},1,,{size},{packets},{rest},1\n")

@@ -30,7 +30,7 @@ def output(words, **how):
 
 
 def section(text, name):
-    """The indented lines below the line `name:` of a help."""
+    """Returns the indented lines below the line `name:` of a help."""
     found = re.search(rf"^{name}:\n((?: +.*\n)+)", text, re.M)
     return found[1] if found else ""
 
@@ -51,12 +51,12 @@ TAGGED = re.compile(r"^\.TP\n\.B(I?) \\-\\-([\w\\-]+)", re.M)
 
 
 def tagged(text):
-    """The options of a part of a manual page: `.B \\-\\-NAME` and `.BI \\-\\-NAME " N"`."""
+    """Returns the options of a part of a manual page: `.B \\-\\-NAME` and `.BI \\-\\-NAME " N"`."""
     return {option.replace("\\", ""): bool(value) for value, option in TAGGED.findall(text)}
 
 
 def hold_script(script):
-    """The manual page of a script of report/ beside its help."""
+    """Compares the manual page of a script of report/ with its help."""
     text = (ROOT / f"man/{script}.1").read_text(encoding="utf-8").split(".SH OPTIONS\n")[1].split(".SH EXIT")[0]
     help_text = section(output([ROOT / "report" / script, "--help"]), "Options")
     wanted = {option: bool(value) for option, value in re.findall(r"^ +(?:-\w, )?--([\w-]+)( <\w+>)?", help_text, re.M)}
@@ -75,7 +75,7 @@ def manual():
 
 
 def synopsis(page):
-    """The long options of each subcommand in the synopsis, with -o for --output, and whether that of a subcommand ends in dots."""
+    """Returns the long options of each subcommand in the synopsis, with -o for --output, and true for a subcommand that ends in dots."""
     text = page.split(".SH SYNOPSIS\n")[1].split(".SH DESCRIPTION")[0].replace("\\-", "-")
     lines = re.split(r"^\.B pie (\w+)\n", text, flags=re.M)[1:]
     found = {name: {*re.findall(r"--([\w-]+)", part)} | ({"output"} if re.search(r" -o$", part, re.M) else set()) for name, part in pairs(lines)}
@@ -99,7 +99,7 @@ def fish_offers(words, last):
 
 
 def zsh_options(names):
-    """The options of each subcommand, from the text of its arm."""
+    """Returns the options of each subcommand, from the text of its arm."""
     text = (ROOT / "completions/_pie").read_text(encoding="utf-8")
     arms = {}
     for words, arm in re.findall(r"^ {8}([\w |]+)\)\n(.*?);;", text, re.M | re.S):

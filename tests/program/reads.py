@@ -54,7 +54,7 @@ def lines_of(text):
 
 
 def at_random(text, chance, change):
-    """The text with one field of one line changed."""
+    """Returns the text with one field of one line changed."""
     lines = text.split(b"\n")
     place = chance.randrange(max(1, len(lines) - 1))
     fields = lines[place].split(b",")
@@ -87,7 +87,7 @@ def doubled(chance):
 
 
 def last_field(text, chance, change):
-    """The text with the last field of a line changed."""
+    """Returns the text with the last field of a line changed."""
     lines = text.split(b"\n")
     place = chance.randrange(max(1, len(lines) - 1))
     before, comma, last = lines[place].rpartition(b",")
@@ -96,7 +96,7 @@ def last_field(text, chance, change):
 
 
 def between(text, chance, more):
-    """The text with these bytes before one of its lines, or at its end."""
+    """Returns the text with these bytes before one of its lines, or at its end."""
     lines = lines_of(text)
     place = chance.randrange(len(lines) + 1)
     return b"".join([*lines[:place], more, *lines[place:]])
@@ -119,7 +119,7 @@ def number(chance):
 
 
 def odd(text, chance):
-    """The text with one random change, which leaves it a text of the same records or not."""
+    """Returns the text with one random change, after which it is a text of the same records or not."""
     long = chance.choice((20, 250, 8190, 8192, 8193, 9000, 2**18 + 3))
     return chance.choice(
         [
@@ -148,7 +148,7 @@ def odd(text, chance):
 
 
 def odd_texts(seed):
-    """A random history and its trace, each with up to three changes."""
+    """Yields a random history and its trace, each with up to three changes."""
     chance = random.Random(seed)
     history = whole_text(random_book(seed, EVENTS)).encode()
     asked = {b"arrive": 7, b"depart": 3, b"update": 3, b"reset": 3, b"params": 12}
@@ -187,7 +187,7 @@ def compare_seed(library, seed):
 
 
 def peculiar(text):
-    """The text with each peculiarity once, and then with all that leave it a text of the same records."""
+    """Yields the text with each peculiarity once, and then with all after which it is a text of the same records."""
     first, second, *rest = lines_of(text)
     kind, comma, behind = second.partition(b",")
     rest = b"".join(rest)
@@ -205,7 +205,7 @@ def peculiar(text):
 
 
 def compare_splits(library, text, name):
-    """The text split at every byte, and in reads of 1 to 9 bytes."""
+    """Compares the text split at every byte, and in reads of 1 to 9 bytes."""
     found, want = [], wanted(name, text)
     for first in range(1, len(text)):
         found += differing("split", library, name, text, want, FIRST=first)
@@ -215,7 +215,7 @@ def compare_splits(library, text, name):
 
 
 def compare_numbers(library, text, name):
-    """The text with other numbers in place of one."""
+    """Compares the text with other numbers in place of one."""
     chance = random.Random(name)
     wrong = [wrong_digit("12345678901234567890"[:many], at, chance) for many in (1, 7, 8, 9, 16, 19, 20) for at in range(many)]
     found, count = [], 0

@@ -46,7 +46,7 @@ def texts_before(words, given, place):
 
 
 def refused(library, met, name, words, given, variables=tuple(FAULTS), **more):
-    """Each request for memory, each read and each write refused in turn; answers what is written with none refused, and how many there are."""
+    """Refuses each request for memory, each read and each write in turn. Returns the output with none refused, and their number."""
     want, counts = run(words, given)[1], {}
     for variable in variables:
         says = FAULTS[variable]

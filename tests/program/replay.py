@@ -39,7 +39,7 @@ def ipv6(size, ecn, protocol=17, total=None):
 
 
 def transport(protocol):
-    """The header of UDP, or that of TCP with 12 bytes of options."""
+    """Returns the header of UDP, or that of TCP with 12 bytes of options."""
     return struct.pack(">HHHH", 1000, 2000, 8, 0) if protocol == 17 else struct.pack(">HHIIBBHHH", 1, 2, 3, 4, 8 << 4, 16, 100, 0, 0) + bytes(12)
 
 
@@ -52,7 +52,7 @@ def frame(link, packet, tags=0):
 
 
 def pcap(link, frames, snap=262144, order="<", nano=True):
-    """The bytes of a pcap file: frames are moments in ns from the start, and bytes."""
+    """Returns the bytes of a pcap file: frames are moments in ns from the start, and bytes."""
     out = struct.pack(order + "IHHiIII", 0xA1B23C4D if nano else 0xA1B2C3D4, 2, 4, 0, 0, snap, link)
     for moment, data in frames:
         second, rest = divmod(START + moment, 10**9)
@@ -149,7 +149,7 @@ def arrivals(lines):
 
 
 def each_kind(tool):
-    """Each file and link type: the arrivals are the packets, at their moments; the history is clean."""
+    """Checks each file and link type: the arrivals are the packets, at their moments; the history is clean."""
     packets = list(traffic(3000))
     first = None
     for name, make in {
@@ -222,7 +222,7 @@ def one_flow(version, protocol, hosts, ports, extensions=(), fragment=None, opti
 
 
 def flows(tool):
-    """With --flows a tag is the flow's number and the frame's below it, and the file has each flow once, in the order of their first packets."""
+    """Checks --flows: a tag is the flow's number and the frame's below it, and the file has each flow once, in the order of their first packets."""
     made = [one_flow(4, 17, (1, 2), (5000, 53)), one_flow(4, 17, (2, 1), (53, 5000)), one_flow(4, 6, (1, 2), (5000, 53)),
             one_flow(4, 6, (1, 2), (5000, 53), options=3), one_flow(4, 17, (1, 2), (5000, 53), fragment=0),
             one_flow(4, 17, (1, 2), (7, 9), fragment=1480), one_flow(4, 1, (1, 2), (8, 0)), one_flow(4, 47, (1, 2), (1, 2)),
@@ -275,7 +275,7 @@ def filters(tool):
 
 
 def super_packets(tool):
-    """A TCP packet of 4396 bytes with headers of 52, and an IPv6 one of 3000 with 72: split at 1500 they have 3 and 3 segments."""
+    """Checks a TCP packet of 4396 bytes with headers of 52, and an IPv6 one of 3000 with 72: split at 1500 they have 3 and 3 segments."""
     frames = [(0, ipv4(4396, 2, 6)), (10**6, ipv6(3000, 2, 6)), (2 * 10**6, ipv4(1500, 0, 6)), (3 * 10**6, ipv4(2000, 0, 6, total=0))]
     _, lines, found, _, said = tool.run(pcap(RAW, frames), "--split", "1500b")
     sizes = [(int(it[3]), int(it[4])) for it in arrivals(lines)]

@@ -44,7 +44,7 @@ def check_clean(seed, n, text, events):
 
 
 def gone_on(whole, n, tail, most, is_rolling):
-    """A book after the first n events of another one, with an empty tail and limits of its own."""
+    """Returns a book after the first n events of another one, with an empty tail and limits of its own."""
     book = Book(whole.packets, tail, most, list(whole.opened.values()), whole.start, is_rolling, whole.profile, whole.elements)
     book.events = list(whole.events[:n])
     return book
@@ -126,7 +126,7 @@ def check_other(seed, whole, n, chance):
 
 
 def changed(rows, beginning, chance):
-    """The records with one field changed, one record left out, or two exchanged."""
+    """Returns the records with one field changed, one record left out, or two exchanged."""
     rows = [list(row) for row in rows]
     kind, place = chance.randrange(4), chance.choice((0, chance.randrange(beginning), chance.randrange(len(rows))))
     if kind == 0:

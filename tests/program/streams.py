@@ -89,7 +89,7 @@ def at_terminal(words, path, is_output_terminal):
 
 
 def terminals():
-    """Progress: shown and wiped where standard error is a terminal, but not where standard output is one too and is written meanwhile."""
+    """Checks progress: shown and cleared if standard error is a terminal, but not if standard output is one too and is written meanwhile."""
     shown = re.compile(rb"(\r\x1b\[K\d+\.\d million records, \d+ MB(, \d+ MB/s)?)+\r\x1b\[K")
     with tempfile.TemporaryDirectory() as work:
         path = f"{work}/history"
@@ -103,7 +103,7 @@ def terminals():
 
 
 def interrupted():
-    """An interrupt (Ctrl-C) must leave the file of -o unchanged, and the partial output beside it."""
+    """Checks that an interrupt (Ctrl-C) leaves the file of -o unchanged, and the partial output beside it."""
     opening, moments = b"rolling,0,4,16,1099511627776\n", range(1, 100_001)
     with tempfile.TemporaryDirectory() as work:
         made = f"{work}/made"

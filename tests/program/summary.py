@@ -49,8 +49,7 @@ def percentile_99(waits):
 
 
 def with_targets(history, rows):
-    """The records of all events of a history, each with the target before and after it, and how long it was since the update before it, or the
-    opening."""
+    """Adds to the records of all events of a history the target before and after each, and the time since the update before it, or the opening."""
     opening, *others = [line.split(",") for line in history.splitlines()]
     place = {"open": 1, "rolling": 1, "open2": 3, "open3": 7}[opening[0]] + (opening[0] == "open3" and opening[6] in ("zero", "half"))
     last, target = int(opening[place]), DEFAULT_TARGET
@@ -67,7 +66,7 @@ def with_targets(history, rows):
 
 
 def numbers(rows):
-    """The numbers of a summary of these records, in the order of its CSV."""
+    """Returns the numbers of a summary of these records, in the order of its CSV."""
     moments = [int(row["effective_moment"]) for row in rows]
     arrivals = [row for row in rows if row["kind"] == "arrive"]
     waits = [int(row["waited"]) for row in rows if row["verdict"] == "left"]
@@ -141,13 +140,13 @@ def in_csv(summaries):
 
 
 def by_period(rows, every):
-    """The numbers of each period that has a record."""
+    """Returns the numbers of each interval that has a record."""
     periods = [int(row["effective_moment"]) // every for row in rows]
     return [numbers([row for row, period in zip(rows, periods) if period == wanted]) for wanted in sorted(set(periods))]
 
 
 def digest(rows, every, told, packets):
-    """The summaries of periods of these records, each before the words for the first packet of the next period."""
+    """Returns the summaries of intervals of these records, each before the words for the first packet of the next interval."""
     periods = [int(row["effective_moment"]) // every for row in rows]
     starts = [place for place in range(len(rows)) if place == 0 or periods[place] != periods[place - 1]]
     lines = []
@@ -203,7 +202,7 @@ def lengths():
 
 
 def of_nothing():
-    """A history without events, and choices of none: --summary writes one of zeros, --every none."""
+    """Checks a history without events, and selections of none: --summary writes one of zeros, --every none."""
     for history in ("open,0,4,16,100\n", "open,0,4,16,100\nreset,1,1500000,done\n"):
         for which in ([] if "reset" not in history else ["--lost"], ["--lost", "--from", "1ms"]):
             expect(f"--summary {which} of nothing", pie(history, "--summary", "--csv", *which), (0, in_csv([numbers([])]), ""))

@@ -36,12 +36,12 @@ def utc(unix, places=9):
 
 
 def wall(clock, moment):
-    """The time of day at a moment by a record of it."""
+    """Returns the wall-clock time at a moment, by a clock record."""
     return min(max(clock[1] + moment - clock[0], 0), MOST)
 
 
 def timed(history, words):
-    """The history with records of the time of day at random places, and for each event the last of them before it, if there is one."""
+    """Returns the history with clock records at random places, and for each event the last of them before it, if there is one."""
     kept = [line for line in history.splitlines(keepends=True) if not line.startswith("clock,")]
     chance = words.choice((0, 0.01, 0.1, 0.5))
     out, clocks, clock = kept[:1], [], None
@@ -56,7 +56,7 @@ def timed(history, words):
 
 
 def hold_records(name, history, clocks):
-    """The fields of --csv --wall; answers the lines without the option, and the time of day of each event."""
+    """Checks the fields of --csv --wall. Returns the lines without the option, and the wall-clock time of each event."""
     status, plain, errors = pie(history, "--all", "--csv")
     expect(f"{name}: --csv", (status, errors), (0, ""))
     lines = plain.splitlines(keepends=True)
@@ -83,7 +83,7 @@ def hold_words(name, history, clocks):
 
 
 def hold_within(name, history, lines, times, words):
-    """--from and --to by times of day, alone and beside moments."""
+    """Checks --from and --to with wall-clock times, alone and beside moments."""
     known = [time for time in times if time is not None] or [1_795_550_400 * SECOND]
     for _ in range(4):
         first, last = sorted((words.choice(known), min(words.choice(known) + words.randrange(3), MOST)))
@@ -147,7 +147,7 @@ def summed(plain, rows, times):
 
 
 def hold_sums(name, history, lines, times, words):
-    """--summary, --every and --digest with --wall: they are those without it, with the times of day."""
+    """Checks --summary, --every and --digest with --wall: they are those without it, with the wall-clock times."""
     rows = list(csv.DictReader(lines))
     moments = [int(row["effective_moment"]) for row in rows]
     every = (moments[-1] - moments[0]) // words.randrange(2, 9) + 1
@@ -170,7 +170,7 @@ def hold_sums(name, history, lines, times, words):
 
 
 def hold_dates():
-    """The first and the last nanosecond of each year, of each month of some years, and of other days."""
+    """Checks the first and the last nanosecond of each year, of each month of some years, and of other days."""
     days = [datetime(year, 1, 1, tzinfo=timezone.utc) for year in range(1971, 2555)]
     days += [datetime(year, month, 1, tzinfo=timezone.utc) for year in (1972, 1999, 2000, 2026, 2100, 2400) for month in range(1, 13)]
     days += [EPOCH + timedelta(days=day) for day in random.Random(FIRST).sample(range(213503), 400)]

@@ -31,7 +31,7 @@ SELECTOR = '{link=~"$link",queue=~"$queue"}'
 
 
 def written():
-    """The kind and help of each metric of the C code, and of pie-metrics, from their tables and calls."""
+    """Returns the kind and help of each metric of the C code, and of pie-metrics, from their tables and calls."""
     c = (ROOT / "examples/shared/metrics.c").read_text()
     found = {}
     for kind, table in re.findall(r"^static const struct family (counter|gauge)s\[\] = \{\n(.*?)^\};", c, re.M | re.S):
@@ -53,7 +53,7 @@ def hold_names(c, own):
 
 
 def hold_query(title, query, kinds):
-    """A query's metrics are written, with both labels; answers them."""
+    """Checks that a query's metrics are written, with both labels. Returns them."""
     names = set()
     for found in re.finditer(r"(rate|increase)?(\(?)pie_(\w+)(.*?)(?=[ ,)\[]|$)", query.replace(SELECTOR, "#")):
         sample = f"pie_{found[3]}"
@@ -69,7 +69,7 @@ def hold_query(title, query, kinds):
 
 
 def unit_of(query):
-    """The unit that a query's first metric has."""
+    """Returns the unit of a query's first metric."""
     name = re.search(r"pie_(\w+)", query)[1]
     if "/" in query and "seconds" not in query:
         return "percentunit"
@@ -99,7 +99,7 @@ def hold_panel(panel, kinds):
 
 
 def hold_places(panels):
-    """No two panels overlap, none is outside, and each row is full."""
+    """Checks that no two panels overlap, none is outside, and each row is full."""
     taken = {}
     for panel in panels:
         x, y, w, h = (panel["gridPos"][letter] for letter in "xywh")
@@ -112,7 +112,7 @@ def hold_places(panels):
 
 
 def parse(queries):
-    """promtool takes each query, with Grafana's variables as it fills them in."""
+    """Checks that promtool accepts each query, with values for Grafana's variables."""
     if shutil.which("promtool") is None:
         print(f"NOT RUN: {NAME}: no promtool here, so nothing else than this script read the queries (report/install.sh)")
         return

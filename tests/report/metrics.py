@@ -83,7 +83,7 @@ def families(text):
 
 
 def lint():
-    """promtool finds nothing wrong with any text."""
+    """Checks that promtool finds no fault in any text."""
     if shutil.which("promtool") is None:
         print(f"NOT RUN: {NAME}: no promtool here, so nothing else than this script read the metrics (report/install.sh)")
         return
@@ -108,7 +108,7 @@ def periods_of(path, time_of_period="50ms"):
 
 
 def of_records(folder):
-    """All examples, whole."""
+    """Checks all examples, whole."""
     for path in sorted((ROOT / "examples").glob("*.history")):
         records, (head, rows) = Path(folder, f"{path.stem}.csv"), periods_of(path)
         records.write_text("".join([head, *rows]))
@@ -261,7 +261,7 @@ def without(name):
 
 @contextlib.contextmanager
 def ended(process):
-    """A process that is gone afterwards, whatever happens."""
+    """Ends a process at the end of the block, also after an exception."""
     with process:
         try:
             yield process
@@ -373,8 +373,8 @@ def of_opened_anew(folder):
 # ----- The link
 
 def overload_link(folder):
-    """In a namespace of its own: UDP through the link at twice its rate, until packets were dropped early; its metrics are read when the queue is
-    empty again."""
+    """Sends UDP through the link at twice its rate, in a namespace of its own, until packets were dropped early. The metrics are read when the queue
+    is empty again."""
     files = {name: Path(folder, f"link.{name}") for name in ("history", "flight", "prom")}
     for file in Path(folder).glob("link.*"):
         file.unlink()

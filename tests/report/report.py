@@ -202,7 +202,7 @@ def flows(folder):
 
 
 def hold_flows(driver, place, rows, data):
-    """A row for each flow, and a band of its colour in the chart of rates."""
+    """Checks a row for each flow, and a band of its colour in the chart of rates."""
     page = Page(driver, "flows", place)
     seen = page.run("return [...document.querySelectorAll('#flows tr[data-flow]')].map((it) => [...it.cells].map((cell) => cell.textContent))")
     total = sum(int(row["arrived_bytes"]) for row in rows)
@@ -221,7 +221,7 @@ def hold_flows(driver, place, rows, data):
 
 
 def files(folder):
-    """FILE is there once all of it was written, and an existing one is kept."""
+    """Checks that FILE has its name once all of it was written, and that an existing one is kept."""
     history, place = Path(folder, "burst.history"), Path(folder, "page.html")
     shutil.copy(ROOT / "examples/burst.history", history)
     check(report(history, "-o", place)[0] == 0 and place.read_text().endswith("</html>\n"), "-o: no page")
@@ -376,7 +376,7 @@ def hold_pages(driver, made):
 
 
 def hold_zoom(driver, place):
-    """A zoom, by the mouse, by a key and by buttons, and a reading."""
+    """Checks a zoom, by the mouse, by a key and by buttons, and a reading."""
     from selenium.webdriver import ActionChains
 
     page = Page(driver, "use", place)
@@ -398,7 +398,7 @@ def hold_zoom(driver, place):
 
 
 def hold_use(driver, place, path):
-    """A click, a search and keys."""
+    """Checks a click, a search and keys."""
     from selenium.webdriver import ActionChains, Keys
 
     page = Page(driver, "use", place)
@@ -437,7 +437,7 @@ def hold_use(driver, place, path):
 
 
 def hold_axes(driver, pages_of):
-    """The times along the bottom, and how long all of it took."""
+    """Checks the times along the bottom, and the duration of the whole history."""
     labels = "return [...new Set([...document.querySelectorAll('svg text.time')].map((it) => it.textContent))]"
     unit = "return [...document.querySelectorAll('svg text')].map((it) => it.textContent).filter((it) => /^(UTC|[a-z]+)$/.test(it))"
     for name, wanted, each, took in (("no events", "ms", r"\d", "0 ns"), ("one event", "ms", r"\d", "0 ns"),
@@ -474,7 +474,7 @@ def hold_widths(driver, place):
 
 
 def hold_looks(driver, place):
-    """Light and dark, wide and narrow, and on paper."""
+    """Checks light and dark, wide and narrow, and paper."""
     grounds = set()
     for scheme in ("light", "dark"):
         driver.execute_cdp_cmd("Emulation.setEmulatedMedia", {"features": [{"name": "prefers-color-scheme", "value": scheme}]})

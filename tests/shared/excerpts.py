@@ -51,7 +51,7 @@ def segments_of(text):
 
 
 def changed(text, chance):
-    """The text with one change, which leaves it a text of records or not."""
+    """Returns the text with one change, after which it is a text of records or not."""
     lines = text.splitlines(keepends=True)
     kind, place = chance.randrange(4), chance.randrange(len(lines))
     if kind == 0:

@@ -43,12 +43,12 @@ def records(name, history):
 
 
 def millis(time):
-    """A time as explanations write it."""
+    """Returns a time in the form of explanations."""
     return f"{time // 10**6}.{time % 10**6:06} ms ({time} ns)"
 
 
 def written(moment, words):
-    """A way of writing a moment."""
+    """Returns a moment in one of its forms."""
     unit, places = words.choice((("", 0), ("ns", 0), ("us", 3), ("ms", 6), ("s", 9)))
     whole, rest = divmod(moment, 10**places)
     decimals = f"{rest:0{places}}".rstrip("0" if words.random() < 0.5 else "") if places and (rest or words.random() < 0.5) else ""
@@ -56,7 +56,7 @@ def written(moment, words):
 
 
 def within(moments, words):
-    """All of these moments, and three times those between two: the options that ask for them, and for each moment whether it is one of them."""
+    """Yields all of these moments, and three times those between two: the options that select them, and for each moment true if it is selected."""
     yield [], [True] * len(moments)
     for _ in range(3):
         first, last = sorted((words.choice(moments), words.choice(moments) + words.randrange(3)))

@@ -55,8 +55,8 @@ def hold_readers():
 
 
 def run(words, text, program=PROGRAM, **environment):
-    """The status, the output and the error stream that the program ends with, of these words and this text as its input. Its streams are files in
-    memory: a pipe each costs twice the time, and some scripts make ten thousand calls."""
+    """Returns the status, the output and the error stream of the program, for these arguments and this text as its input. Its streams are files in
+    memory: a pipe for each costs twice the time, and some scripts make ten thousand calls."""
     files = [os.memfd_create(name) for name in ("input", "output", "errors")]
     try:
         os.pwrite(files[0], text, 0)

@@ -26,7 +26,7 @@ def worked_rows():
 
 
 def records(place):
-    """The records of a text."""
+    """Returns the records of a text."""
     return [it for it in csv.reader(io.StringIO(place.read_text(encoding="utf-8-sig"))) if it]
 
 
@@ -62,7 +62,7 @@ def asked(chosen):
 
 
 def run(trace, by_arrays):
-    """The history of a trace, by single calls or by as few arrays as can be."""
+    """Returns the history of a trace, by single calls or by the fewest arrays."""
     out, opening, waiting = io.BytesIO(), jb.read_opening(trace), []
     queue = jb.Queue(opening, jb.Recorder(out, opening))
     for record in [*(it for it in records(trace) if it[0] in EVENT_KINDS), None]:

@@ -121,7 +121,7 @@ def test_a_seed_begins_the_random_words():
 
 
 def words_of(queue, count, at):
-    """The random words of the next arrivals at one moment."""
+    """Returns the random words of the next arrivals at one moment."""
     return [int(it) for it in queue.decide(jb.events(1, [at] * count, size=1, word=queue._draw(count)))["word"]]
 
 

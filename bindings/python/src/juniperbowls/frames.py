@@ -201,7 +201,7 @@ def read_history(history: Place) -> pd.DataFrame:
 
 
 def _count_at(fields: list[bytes]) -> int:
-    """The position of the number of events in a `resume` record: 29, or 30 if the record has the decay."""
+    """Returns the position of the number of events in a `resume` record: 29, or 30 if the record has the decay."""
     return 29 + (fields[6] in (b"zero", b"half"))
 
 

@@ -44,7 +44,7 @@ fn file(name: &str) -> String {
     format!("lib{name}.a")
 }
 
-/// A folder that cargo names.
+/// Returns a folder that cargo names.
 fn folder(name: &str) -> PathBuf {
     PathBuf::from(env::var_os(name).unwrap_or_default())
 }
@@ -68,7 +68,7 @@ fn run(name: &str, default: &str, arguments: &[&Path]) {
 }
 
 impl Library {
-    /// The folder that has the library, and its name there.
+    /// Returns the folder that has the library, and its name there.
     fn find(&self) -> (PathBuf, &'static str) {
         if let Some(prefix) = env::var_os("PIE_C_PREFIX").filter(|it| !it.is_empty()) {
             let folder = Path::new(&prefix).join("lib");

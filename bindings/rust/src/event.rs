@@ -54,7 +54,7 @@ impl<const BYTES: usize> Text<BYTES> {
         (1..=BYTES).contains(&count).then_some(Text { bytes, count })
     }
 
-    /// The record, with its line feed.
+    /// Returns the record, with its line feed.
     pub(crate) fn bytes(&self) -> &[u8] {
         &self.bytes[..self.count]
     }
@@ -67,7 +67,7 @@ impl Text {
         Text::of(|out, room| unsafe { pie_write_event(event, out, room) })
     }
 
-    /// The record of new parameters; none of another event.
+    /// Returns the record of new parameters; `None` for another event.
     pub(crate) fn params(event: &RawEvent, params: &Params) -> Option<Text> {
         // SAFETY: as `library` says, and `out` has `room` bytes.
         Text::of(|out, room| unsafe { pie_write_params(event, params, out, room) })
@@ -135,7 +135,7 @@ impl ParamsEvent {
     }
 }
 
-/// A record without its line feed, or why there is none.
+/// Writes a record without its line feed, or the reason why there is none.
 fn show(text: Option<Text>, code: u32, f: &mut fmt::Formatter<'_>) -> fmt::Result {
     match text.as_ref().map(|it| core::str::from_utf8(it.bytes())) {
         Some(Ok(record)) => f.write_str(record.trim_end_matches('\n')),
@@ -161,9 +161,9 @@ impl fmt::Display for ParamsEvent {
     }
 }
 
-/// The calls that leave an event beside their answer. Each decides as the call of the same name without `_event` does.
+/// The calls that return an event beside their result. Each decides as the call of the same name without `_event` does.
 impl State {
-    /// [`State::arrive`] of this packet.
+    /// Calls [`State::arrive`] for this packet.
     ///
     /// # Errors
     /// Those of [`State::arrive`].
@@ -183,7 +183,7 @@ impl State {
         (event, answer)
     }
 
-    /// [`State::depart_waited`] of this packet; where delays don't come from time stamps, `arrived` plays no part.
+    /// Calls [`State::depart_waited`] for this packet. If delays don't come from time stamps, `arrived` has no effect.
     ///
     /// # Errors
     /// Those of [`State::depart_waited`].
@@ -194,7 +194,7 @@ impl State {
         (event, event.done())
     }
 
-    /// [`State::empty`]: a departure that found no packet.
+    /// Calls [`State::empty`]: a departure that found no packet.
     ///
     /// # Errors
     /// Those of [`State::empty`].
@@ -206,7 +206,7 @@ impl State {
         (event, event.done())
     }
 
-    /// [`State::update`].
+    /// Calls [`State::update`].
     ///
     /// # Errors
     /// Those of [`State::update`].
@@ -219,7 +219,7 @@ impl State {
         (event, answer)
     }
 
-    /// [`State::reset`].
+    /// Calls [`State::reset`].
     ///
     /// # Errors
     /// Those of [`State::reset`].
@@ -230,7 +230,7 @@ impl State {
         (event, event.done())
     }
 
-    /// [`State::set_params`].
+    /// Calls [`State::set_params`].
     ///
     /// # Errors
     /// Those of [`State::set_params`].

@@ -31,40 +31,40 @@ const LOST: u8 = 6;
 /// The answer of a departure that found no packet.
 pub(crate) const NONE: u32 = 5;
 
-/// The bits that each parameter takes, in their order; of the threshold its power of two is put.
+/// The number of bits of each parameter, in order; the threshold is stored as its power of two.
 const WIDTHS: [u32; 9] = [34, 34, 40, 20, 20, 16, 31, 40, 5];
 
-/// An event's moment and kind.
+/// Returns an event's moment and kind.
 #[inline]
 fn first(event: &RawEvent) -> u64 {
     event.moment | u64::from(event.kind) << KIND
 }
 
-/// The caller in 16 bits, the size in 16, and the answer and the ECN field in 8 each, from the lowest bit on.
+/// Returns the caller in 16 bits, the size in 16, and the answer and the ECN field in 8 each, from the lowest bit on.
 #[inline]
 fn about(event: &RawEvent) -> u64 {
     u64::from(event.caller) | u64::from(event.size & 0xffff) << 16 | u64::from(event.answer & 0xff) << 32 | u64::from(event.ecn) << 40
 }
 
-/// The words of an arrival that are used.
+/// Returns the used words of an arrival.
 #[inline]
 pub(crate) fn arrival(event: &RawEvent) -> [u64; 4] {
     [first(event), about(event), event.tag, event.word]
 }
 
-/// The words of a departure that are used, of a packet that had come at this moment.
+/// Returns the used words of the departure of a packet that arrived at this moment.
 #[inline]
 pub(crate) fn departure(event: &RawEvent, since: u64) -> [u64; 4] {
     [first(event), about(event), event.tag, since]
 }
 
-/// The words of an update, a reset, or a departure that found no packet.
+/// Returns the words of an update, a reset, or a departure that found no packet.
 pub(crate) fn other(event: &RawEvent) -> [u64; EVENT] {
     let [delay, prob, burst] = if event.kind == UPDATE { [event.delay, event.prob, event.burst] } else { [0; 3] };
     [first(event), about(&RawEvent { size: 0, ecn: 0, ..*event }), delay, prob, burst]
 }
 
-/// The words of new parameters, which are in their ranges.
+/// Returns the words of new parameters, which are in their ranges.
 pub(crate) fn change(event: &RawEvent, params: &Params) -> [u64; EVENT] {
     let (mut nine, mut bits) = ([0; 9], Bits::default());
     params.put(&mut nine);
@@ -77,7 +77,7 @@ pub(crate) fn change(event: &RawEvent, params: &Params) -> [u64; EVENT] {
     [first(event), one, two, three, four]
 }
 
-/// Numbers one behind the other, from the lowest bit on.
+/// Numbers, one after the other, from the lowest bit on.
 #[derive(Default)]
 struct Bits {
     words: [u64; 4],
@@ -85,7 +85,7 @@ struct Bits {
 }
 
 impl Bits {
-    /// The position of the next parameter: its word, and the bit above the lowest; and the position after it.
+    /// Returns the position of the next parameter, its word and its lowest bit, and moves to the position after it.
     fn step(&mut self, width: u32) -> (usize, u32) {
         let at = self.at;
         self.at += width;
@@ -130,7 +130,7 @@ pub(crate) fn event_text(words: &[u64]) -> Option<Text> {
     }
 }
 
-/// The caller and the parameters of an event of new ones.
+/// Returns the caller and the parameters of an event of new parameters.
 #[cfg(feature = "std")]
 fn changed(mut bits: Bits) -> (u16, Params) {
     let caller = bits.get(16) as u16;
@@ -139,13 +139,13 @@ fn changed(mut bits: Bits) -> (u16, Params) {
     (caller, Params::take(&nine))
 }
 
-/// The size and the ECN field of the packet that an event is about.
+/// Returns the size and the ECN field of an event's packet.
 #[cfg(feature = "std")]
 fn packet_of(about: u64) -> (u32, u8) {
     ((about >> 16) as u32 & 0xffff, (about >> 40) as u8)
 }
 
-/// The tag, size, ECN field and moment of arrival of the packet whose departure has these words; none of another event.
+/// Returns the tag, size, ECN field and moment of arrival of the packet whose departure has these words; `None` for another event.
 #[cfg(feature = "std")]
 pub(crate) fn departed(words: &[u64]) -> Option<(u64, u32, u8, u64)> {
     let (size, ecn) = packet_of(words[1]);

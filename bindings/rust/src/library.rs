@@ -118,10 +118,10 @@ unsafe extern "C" {
 
 /// A struct of 64-bit words.
 pub(crate) trait Words: Sized {
-    /// Puts its words at the beginning of these.
+    /// Writes its words to the beginning of `to`.
     fn put(&self, to: &mut [u64]);
 
-    /// The one that has the words at the beginning of these.
+    /// Reads its words from the beginning of `from`.
     #[cfg(feature = "std")]
     fn take(from: &[u64]) -> Self;
 }

@@ -186,20 +186,20 @@ impl Iterator for Folds {
 
 /// The events of a burst: arguments, and after the call results.
 impl Event {
-    /// A packet is to arrive; `word` is random.
+    /// Returns an arrival; `word` is random.
     #[must_use]
     pub fn arrival(packet: Packet, word: u64, moment: u64) -> Event {
         let Packet { tag, size, ecn } = packet;
         Event::of_raw(RawEvent { moment, tag, word, size, ecn: ecn as u8, ..RawEvent::default() })
     }
 
-    /// The link is to ask for the next packet.
+    /// Returns a departure.
     #[must_use]
     pub fn departure(moment: u64) -> Event {
         Event::of_raw(RawEvent { moment, ..RawEvent::default() })
     }
 
-    /// An update is to be made, which rides in a burst of either kind.
+    /// Returns an update, for a burst of either kind.
     #[must_use]
     pub fn update(moment: u64) -> Event {
         Event::of_raw(RawEvent { moment, kind: UPDATE, ..RawEvent::default() })
@@ -214,7 +214,7 @@ impl Event {
         Verdict::of(code).map_err(|_| link_refusal(code))
     }
 
-    /// The packet that left by a departure, if one did.
+    /// Returns the packet that departed, if one did.
     ///
     /// # Errors
     /// The refusal of the departure.
@@ -271,12 +271,12 @@ impl Link {
 }
 
 impl Port {
-    /// The port as the library holds it.
+    /// Returns the port in the form of the library.
     pub(crate) fn raw(&mut self) -> &mut RawPort {
         &mut self.raw
     }
 
-    /// A port with the highest number of this one.
+    /// Returns a new port with the highest number of this one.
     ///
     /// # Errors
     /// In this order: `OneNumber`, `NoMemory`. The number then stays with this port.
@@ -296,8 +296,8 @@ impl Port {
         if self.link == other.link && unsafe { pie_link_gather_ports(&mut self.raw, &mut other.raw) } == 0 { Ok(()) } else { Err(other) }
     }
 
-    /// A packet arrives; `word` is random, each number as likely as any other. The packet is queued by [`Verdict::Enqueue`] and
-    /// [`Verdict::Mark`].
+    /// Decides the arrival of a packet. `word` is random; all numbers are equally likely. The packet is queued by [`Verdict::Enqueue`]
+    /// and [`Verdict::Mark`].
     ///
     /// # Errors
     /// In this order: `Busy`; `Refused` by `Moment` or `Size`; `Exhausted`, `Full`.
@@ -320,7 +320,7 @@ impl Port {
         packet_of(code, &event)
     }
 
-    /// The probability is computed anew.
+    /// Computes the probability anew.
     ///
     /// # Errors
     /// In this order: `Busy`; `Refused` by `Moment`; `TooSoon`, `Exhausted`, `Full`.
@@ -331,7 +331,7 @@ impl Port {
         Ok(LinkUpdated { delay: event.delay, prob: event.prob, burst: event.burst })
     }
 
-    /// Probability, delays and rate estimate start anew.
+    /// Resets the probability, the delays and the rate estimate.
     ///
     /// # Errors
     /// Those of [`Port::try_depart`].
@@ -341,7 +341,7 @@ impl Port {
         link_done(unsafe { pie_link_try_reset(&mut self.raw, &mut event) })
     }
 
-    /// New parameters hold from the next event on.
+    /// Sets new parameters, in force from the next event on.
     ///
     /// # Errors
     /// In this order: `Refused` by `Params`; `Busy`; `Refused` by `Moment`; `Exhausted`, `Full`.
@@ -399,7 +399,7 @@ impl Port {
         Ok(registers)
     }
 
-    /// The statistics of all events.
+    /// Returns the statistics of all events.
     ///
     /// # Errors
     /// `Busy`.
@@ -411,9 +411,9 @@ impl Port {
     }
 }
 
-/// The calls that wait while another port has the turn. Each answers as the one of its name with `try` does, but never `Busy`.
+/// The calls that wait while another port has the turn. Each returns the result of the call of its name with `try`, but never `Busy`.
 impl Port {
-    /// [`Port::try_arrive`], once it has the turn.
+    /// Waits for the turn, then calls [`Port::try_arrive`].
     ///
     /// # Errors
     /// Those of that call, except `Busy`.
@@ -421,7 +421,7 @@ impl Port {
         until_served(|| self.try_arrive(packet, word, moment))
     }
 
-    /// [`Port::try_depart`], once it has the turn.
+    /// Waits for the turn, then calls [`Port::try_depart`].
     ///
     /// # Errors
     /// Those of that call, except `Busy`.
@@ -429,7 +429,7 @@ impl Port {
         until_served(|| self.try_depart(moment))
     }
 
-    /// [`Port::try_update`], once it has the turn.
+    /// Waits for the turn, then calls [`Port::try_update`].
     ///
     /// # Errors
     /// Those of that call, except `Busy`.
@@ -437,7 +437,7 @@ impl Port {
         until_served(|| self.try_update(moment))
     }
 
-    /// [`Port::try_reset`], once it has the turn.
+    /// Waits for the turn, then calls [`Port::try_reset`].
     ///
     /// # Errors
     /// Those of that call, except `Busy`.
@@ -445,7 +445,7 @@ impl Port {
         until_served(|| self.try_reset(moment))
     }
 
-    /// [`Port::try_set_params`], once it has the turn.
+    /// Waits for the turn, then calls [`Port::try_set_params`].
     ///
     /// # Errors
     /// Those of that call, except `Busy`.
@@ -453,19 +453,19 @@ impl Port {
         until_served(|| self.try_set_params(params, moment))
     }
 
-    /// [`Port::try_arrive_all`], once it has the turn.
+    /// Waits for the turn, then calls [`Port::try_arrive_all`].
     pub fn arrive_all(&mut self, events: &mut [Event]) {
         // (it is refused as busy alone)
         let _ = until_served(|| self.try_arrive_all(events));
     }
 
-    /// [`Port::try_depart_all`], once it has the turn.
+    /// Waits for the turn, then calls [`Port::try_depart_all`].
     pub fn depart_all(&mut self, bytes: u64, events: &mut [Event]) -> usize {
         // (it is refused as busy alone)
         until_served(|| self.try_depart_all(bytes, events)).unwrap_or(0)
     }
 
-    /// [`Port::try_fold`], once it has the turn.
+    /// Waits for the turn, then calls [`Port::try_fold`].
     ///
     /// # Errors
     /// Those of that call, except `Busy`.
@@ -473,18 +473,18 @@ impl Port {
         until_served(|| self.try_fold())
     }
 
-    /// [`Port::try_registers`], once it has the turn.
+    /// Waits for the turn, then calls [`Port::try_registers`].
     ///
     /// # Errors
-    /// None: as of that, but `Busy`.
+    /// None: those of that call, except `Busy`.
     pub fn registers(&mut self) -> Result<Registers, LinkRefusal> {
         until_served(|| self.try_registers())
     }
 
-    /// [`Port::try_stats`], once it has the turn.
+    /// Waits for the turn, then calls [`Port::try_stats`].
     ///
     /// # Errors
-    /// None: as of that, but `Busy`.
+    /// None: those of that call, except `Busy`.
     pub fn stats(&mut self) -> Result<Totals, LinkRefusal> {
         until_served(|| self.try_stats())
     }

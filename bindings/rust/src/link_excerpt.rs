@@ -68,7 +68,7 @@ impl Port {
         link_done(unsafe { pie_link_try_excerpt(self.raw(), &mut excerpt.raw) })
     }
 
-    /// [`Port::try_excerpt`], once it has the turn.
+    /// Waits for the turn, then calls [`Port::try_excerpt`].
     ///
     /// # Errors
     /// Those of that call, except `Busy`.

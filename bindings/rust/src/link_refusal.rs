@@ -50,7 +50,7 @@ impl fmt::Display for LinkRefusal {
 
 impl Error for LinkRefusal {}
 
-/// The refusal with this code.
+/// Returns the refusal with this code.
 pub(crate) fn link_refusal(code: u32) -> LinkRefusal {
     match code {
         103 => LinkRefusal::TooSoon,

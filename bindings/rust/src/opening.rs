@@ -46,7 +46,7 @@ pub struct Opening {
 }
 
 impl Opening {
-    /// The default opening for a link of this rate, in bits a second, with the parameters of [`Params::for_rate`]. It is never refused.
+    /// Returns the default opening for a link of this rate, in bits per second, with the parameters of [`Params::for_rate`]. It is never refused.
     #[must_use]
     pub fn for_rate(rate: u64) -> Opening {
         let mut raw = RawOpening::UNSET;

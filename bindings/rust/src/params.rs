@@ -53,7 +53,7 @@ pub enum Parameter {
 }
 
 impl Parameter {
-    /// The parameter with this number, counted from 1 in the order of the fields.
+    /// Returns the parameter with this number, counted from 1 in the order of the fields.
     fn from_number(number: u32) -> Option<Parameter> {
         match number {
             1 => Some(Parameter::Target),
@@ -106,8 +106,8 @@ impl Params {
         dq_threshold: 0,
     };
 
-    /// The default parameters for a link of this rate, in bits a second: `limit_bytes` is at least 200 ms at that rate, as far as its
-    /// range goes. That is up to 42.9 Gbit/s; at 100 Gbit/s it is 86 ms.
+    /// Returns the default parameters for a link of this rate, in bits per second. `limit_bytes` is at least 200 ms at that rate, up to
+    /// 42.9 Gbit/s, the end of its range; at 100 Gbit/s it is 86 ms.
     #[must_use]
     pub fn for_rate(rate: u64) -> Params {
         let mut params = Params::UNSET;
@@ -116,7 +116,7 @@ impl Params {
         params
     }
 
-    /// The first parameter out of its range, `None` where each is in its range.
+    /// Returns the first parameter out of its range; `None` if each is in its range.
     #[must_use]
     pub fn first_bad(&self) -> Option<Parameter> {
         // SAFETY: as `library` says.

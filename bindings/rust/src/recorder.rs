@@ -7,7 +7,7 @@ use crate::library::{pie_write_clock, pie_write_lost, pie_write_opening, pie_wri
 use crate::{Event, Opening, ParamsEvent};
 
 impl Text {
-    /// The opening of a history.
+    /// Returns the record of the opening of a history.
     fn opening(opening: &Opening) -> Option<Text> {
         let opening = opening.raw();
         // SAFETY: as `library` says, and `out` has `room` bytes.
@@ -158,7 +158,7 @@ impl<W: Write> Recorder<W> {
         self.untold
     }
 
-    /// The writer, which is not flushed.
+    /// Returns the writer, without flushing it.
     pub fn into_inner(self) -> W {
         self.out
     }

@@ -53,7 +53,7 @@ impl fmt::Display for Refusal {
 
 impl Error for Refusal {}
 
-/// The refusal with this code; of an update that is too soon, with the moment that it is due.
+/// Returns the refusal with this code; for an update that is too soon, with the due moment.
 pub(crate) fn refusal(code: u64, due: u64) -> Refusal {
     match code {
         101 => Refusal::Moment,

@@ -25,17 +25,17 @@ use Rattle.pie_commands.specs.declared.explain.OutputKind.TheVariants.{Digest, F
 
 -- ---- moments
 
--- the nanoseconds of a moment that was read, if there was one to read
+-- the nanoseconds of a moment that was read, if there was one
 abbrev pub units_of : Result (Option Moment) MomentFault → Result (Option ℕ) MomentFault
 units_of (Ok None) = Ok None
 units_of (Ok (Some moment)) = Ok (Some moment.0)
 units_of (Err why) = Err why
 
--- the moment that an option is given
+-- the moment in an option's value
 abbrev pub moment_given : Text → List Row → Result (Option ℕ) MomentFault
 moment_given name options = option_transpose (option_map moment_in (one_of name options))
 
--- the bound that an option is given
+-- the bound in an option's value
 abbrev pub bound_given : Text → List Row → Result (Option When) WhenFault
 bound_given name options = option_transpose (option_map when_in (one_of name options))
 

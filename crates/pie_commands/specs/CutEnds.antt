@@ -61,7 +61,7 @@ unfoldable pub cut_request_of : List Row → Option CutRequest
 cut_request_of options = wanted_at (number_given (codes "event") options) (number_given (codes "around") options) (number_given (codes "last") options)
     (number_given (codes "every") options) (result_ok (bound_given (codes "from") options)) (result_ok (bound_given (codes "to") options))
 
--- segments have some events each
+-- the number of events of a segment is above 0
 abbrev pub HasSome : Pieces → Type 0
 HasSome (Part span) = ⊤
 HasSome (Every every) = 0 < every
@@ -72,14 +72,14 @@ WantsSome (Last many) = ⊤
 
 -- ---- the end
 
--- the end of a cut with this answer
+-- the end of a cut with this result
 abbrev pub end_of_cut : Result ℕ CutFault → End
 end_of_cut (Ok events) = Done
 end_of_cut (Err (fault.Trace why)) = Fault why
 end_of_cut (Err (fault.Differs event)) = Differs
 end_of_cut (Err fault.NoEvents) = Failed
 
--- into pieces of either kind
+-- a cut into pieces of either kind
 abbrev pub CutsInto : Pieces → List Fields → Result ℕ CutFault → Option (List ℕ) → Option (List ℕ) → Type 0
 CutsInto (Part span) rows given before now = CutsEither span rows given before now
 CutsInto (Every every) rows given before now = HasTextResult every_answer (IsInSegments every) (is_resumed rows) rows given before now
@@ -92,17 +92,17 @@ CutsUpTo many (Err why) rows given before now = (given ≡ Err (fault.Trace why)
 abbrev pub CutsLast : ℕ → List Fields → Result ℕ CutFault → Option (List ℕ) → Option (List ℕ) → Type 0
 CutsLast many rows given before now = (last : Result ℕ TraceFault) × LastEither rows last × CutsUpTo many last rows given before now
 
--- a file has a name that can be read twice
+-- true if the file has a name, other than `-`, so that it can be read twice
 abbrev pub is_named : Option Text → Bool
 is_named None = false
 is_named (Some name) = not (bytes_eq name (codes "-"))
 
--- the last events are those of such a file, which is read twice
+-- the end of a cut of the last `many` events of a named file, which is read twice; for any other input nothing is written
 abbrev pub ends_last : Bool → ℕ → Option (List ℕ) → End → Option (List ℕ) → Option (List ℕ) → Type 0
 ends_last false many known = WritesNothing
 ends_last true many known = EndsBy end_of_cut (CutsLast many) known
 
--- a text is cut, and the end is that of the answer; options that choose nothing fail, and nothing is written
+-- the end of a cut of a text, by its result; if the options select nothing, a failure, and nothing is written
 abbrev pub cut_ends : Option CutRequest → Bool → Option (List ℕ) → End → Option (List ℕ) → Option (List ℕ) → Type 0
 cut_ends None named known = WritesNothing
 cut_ends (Some (Once pieces)) named known = EndsBy end_of_cut (CutsInto pieces) known

@@ -22,7 +22,7 @@ status_of Done = 0
 status_of Differs = 2
 status_of _ = 1
 
--- the writer failed
+-- true if the writer failed
 abbrev pub is_unwritten : End → Bool
 is_unwritten (Fault trace_fault.Write) = true
 is_unwritten _ = false
@@ -50,7 +50,7 @@ EndsBy {A} end_for tells known end before now = ((end ≡ Unable) × (now ≡ be
 
 -- ---- `pie run`
 
--- the end of a run, or a migration, with this answer
+-- the end of a run, or of a migration, with this result
 abbrev pub end_of : {A : Type 0} → Result A TraceFault → End
 end_of (Ok end) = Done
 end_of (Err why) = Fault why
@@ -67,7 +67,7 @@ counts_line end = codes "pie: " ++ (decimal end.events ++ (codes " events, " ++ 
 
 -- ---- `pie audit`
 
--- the end of an audit that found this
+-- the end of an audit with this finding
 abbrev pub end_found : Finding → End
 end_found (finding.Clean events) = Done
 end_found (finding.Differs event) = Differs

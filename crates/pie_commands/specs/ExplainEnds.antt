@@ -11,7 +11,7 @@ use Rattle.pie_commands.specs.declared.end.End.TheVariants.{Done, Differs, Fault
 use Rattle.pie_commands.specs.Choice.{choice_of, output_kind_of, output_text}
 use Rattle.pie_commands.specs.Ends.{EndsBy, WritesNothing}
 
--- the end of an explanation with this answer
+-- the end of an explanation with this result
 abbrev pub end_of_explain : Result ℕ ExplainFault → End
 end_of_explain (Ok explained) = Done
 end_of_explain (Err (fault.Trace why)) = Fault why

@@ -51,7 +51,7 @@ outcome_lines told = lines_of told.0 told.1
 
 -- ---- the status
 
--- a file that was not audited
+-- true if a file was not audited
 abbrev pub is_unfound : Result Joined Unaudited → Bool
 is_unfound (Err why) = true
 is_unfound (Ok joined) = false

@@ -1,8 +1,8 @@
--- The parts of a watched reader that contracts name.
+-- The parts of a `ProgressReader` that contracts name.
 use Rattle.std.specs.Prelude.{ℕ, List, Option}
 use Rattle.pie_commands.specs.declared.progress_reader.ProgressReader.{ProgressReader}
 
--- the reader that is watched
+-- the inner reader
 abbrev pub inner_of : {R W C : Type 0} → ProgressReader R W C → R
 inner_of watched = watched.inner
 

@@ -66,7 +66,7 @@ elements_in options =
 abbrev pub profile_by : ℕ → Profile
 profile_by number = if number == 1 then One else Two
 
--- the numbers of the plan that the options ask for, with these elements
+-- the numbers of the plan that the options request, with these elements
 abbrev pub numbers_in : Elements → List Row → StormNumbers
 numbers_in elements options = record {
   senders = number_or (codes "senders") 2 8 2 options;

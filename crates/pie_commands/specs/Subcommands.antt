@@ -31,7 +31,7 @@ EndsTask task.Explain options = EndsExplain options
 EndsTask (task.Cut pieces) options = EndsBy end_of_cut (CutsInto pieces)
 EndsTask task.Migrate options = EndsMigrate
 
--- pieces that are cut have some events each
+-- if the task cuts segments, their number of events is above 0
 abbrev pub CanDo : Task → Type 0
 CanDo (task.Cut pieces) = HasSome pieces
 CanDo _ = ⊤

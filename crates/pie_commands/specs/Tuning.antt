@@ -34,13 +34,13 @@ link_layer_by (Some name) =
     else if bytes_eq name (codes "atm") || bytes_eq name (codes "adsl") then Some Atm
     else None
 
--- the options of `tc stab` ask for this
+-- the layer is that of the options of `tc stab`
 pub record AsksForLayer (options : List Row) (layer : Layer) : Type 0 where
   pub overhead : given_or overhead_of (Added 0) (first_of (codes "overhead") options) ≡ Ok layer.overhead
   pub mpu : layer.mpu ≡ number_or (codes "mpu") 0 65535 0 options
   pub format : link_layer_by (first_of (codes "linklayer") options) ≡ Some layer.format
 
--- the options ask for this
+-- these are the values of all options
 pub record AsksFor (options : List Row) (asked : TuningOptions) : Type 0 where
   pub rate : given_or rate_of 0 (first_of (codes "rate") options) ≡ Ok asked.rate
   pub target : given_or time_of 15_000_000 (first_of (codes "target") options) ≡ Ok asked.target

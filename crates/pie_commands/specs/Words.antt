@@ -30,7 +30,7 @@ flag_rule name = record (new_rule name) { long = Some name; action = Some SetTru
 abbrev pub text_rule : Text → Rule
 text_rule name = record (new_rule name) { long = Some name; value_names = 1 }
 
--- a file, which may be named
+-- the argument of an optional file
 abbrev pub file_rule : Rule
 file_rule = record (new_rule (codes "file")) { value_names = 1 }
 
@@ -133,11 +133,11 @@ file_in options = first_of (codes "file") options
 abbrev pub files_in : List Row → List Text
 files_in options = unwrap_or (all_of (codes "file") options) []
 
--- the files that they name are those of one history
+-- true if the named files are those of one history
 abbrev pub is_joined : List Row → Bool
 is_joined options = flag_given (codes "joined") options
 
--- a file that is there may be replaced
+-- true if an existing file may be replaced
 abbrev pub is_forced : List Row → Bool
 is_forced options = flag_given (codes "force") options
 

@@ -21,27 +21,27 @@ abbrev pub packet_in : Command → Answer → Option Packet
 packet_in (Arrive moment packet word) answer = Some packet
 packet_in _ answer = packet_left answer
 
--- the packet that an event is about
+-- the packet of an event
 abbrev pub packet_of : Event → Option Packet
 packet_of event = packet_in event.command event.answer
 
--- an event is about a packet with this tag
+-- true if the event's packet has this tag
 abbrev pub has_tag : ℕ → Event → Bool
 has_tag tag event = option_map_or (λ (p : Packet). p.tag == tag) (packet_of event) false
 
--- an answer says that a packet was dropped
+-- true if the answer is a drop
 abbrev pub is_lost : Answer → Bool
 is_lost DroppedEarly = true
 is_lost DroppedBytes = true
 is_lost DroppedPackets = true
 is_lost _ = false
 
--- an answer says that a packet was marked
+-- true if the answer is a mark
 abbrev pub is_marked : Answer → Bool
 is_marked answer.Marked = true
 is_marked _ = false
 
--- the event with this number is chosen
+-- true if the event with this number is chosen
 abbrev pub chooses : Which → ℕ → Event → Bool
 chooses (Number wanted) number event = wanted == number
 chooses (Tag tag) number event = has_tag tag event

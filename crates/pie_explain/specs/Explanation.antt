@@ -73,12 +73,12 @@ with_core core told = record { told = told; after = registers_of core; delay = d
 
 -- ---- the explanation of an event of lines, wherever they begin
 
--- the effective moment of an event after these
+-- the effective moment of an event after these events
 abbrev pub moment_after : Origin → List Event → Event → ℕ
 moment_after (at_opening opening) events event = moment_of opening events event
 moment_after (at_core opening core told) events event = moment_at (core_along core events) event
 
--- the event with this number after these
+-- the explanation of the event with this number after these events
 abbrev pub explanation_after : Origin → List Event → ℕ → Event → Setter → Option Clock → Explanation
 explanation_after (at_opening opening) events number event set_by clock = explanation opening events number event set_by clock
 explanation_after (at_core opening core told) events number event set_by clock = explanation_in (core_along core events) number event set_by clock

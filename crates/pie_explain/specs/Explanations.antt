@@ -38,7 +38,7 @@ explanations origin choice lines = filter_map (explanation_at origin choice) (li
 
 -- ---- Excerpts: the events after the preamble
 
--- an explanation, as the text gives it
+-- an explanation with the event that set the probability as far as the text names it
 abbrev pub with_known_setter : Start → Explained → Explained
 with_known_setter start one = record one { told = record one.told { set_by = setter_from_start start one.told.set_by } }
 

@@ -21,7 +21,7 @@ use Rattle.pie_event.specs.Setter.{setter_number}
 use Rattle.pie_explain.specs.Selection.{time_of}
 use Rattle.pie_explain.specs.Choice.{packet_of}
 
--- ---- words
+-- ---- keywords
 
 -- the kind of a command, as in a history
 abbrev pub kind_word : Command → List ℕ
@@ -31,7 +31,7 @@ kind_word (Update moment) = word_of_kind kind.Update
 kind_word (Reset moment) = word_of_kind kind.Reset
 kind_word (SetParams moment params) = word_of_kind kind.Params
 
--- the word of an answer, as in a history; an update's, which a history has no word for, is this record's own
+-- the keyword of an answer, as in a history; the one for an update, for which a history has none, is this record's own
 abbrev pub verdict_word : Answer → List ℕ
 verdict_word Enqueued = word_of_answer explanation_texts.Enqueue
 verdict_word Marked = word_of_answer explanation_texts.Mark
@@ -81,7 +81,7 @@ head_fields told =
     decimal told.number ∷ kind_word told.event.command ∷ decimal told.event.caller ∷ decimal (caller_moment told.event.command)
     ∷ decimal told.moment ∷ []
 
--- the tag and the size of that packet
+-- the tag and the size of the event's packet
 abbrev pub packet_fields : Option Packet → List (List ℕ)
 packet_fields packet = number_field (option_map (λ p. p.tag) packet) ∷ number_field (option_map (λ p. p.size) packet) ∷ []
 

@@ -23,7 +23,7 @@ use Rattle.pie_explain.specs.declared.explanation.Explanation.{Explanation}
 use Rattle.pie_event.specs.declared.setter.Setter.{Setter}
 use Rattle.pie_event.specs.declared.setter.Setter.TheVariants as setter
 
--- these texts, one after the other
+-- these texts, one after another
 abbrev pub joined : List (List ℕ) → List ℕ
 joined [] = []
 joined (text ∷ []) = text
@@ -40,16 +40,16 @@ unfoldable pub moment_words : Option Clock → ℕ → List ℕ
 moment_words None moment = millis moment
 moment_words (Some clock) moment = joined (utc_text (unix_at clock moment) ∷ codes " (" ∷ decimal moment ∷ codes " ns)" ∷ [])
 
--- a part in units of 10^-12, in per cent
+-- a share in units of 10^-12, in per cent
 unfoldable pub per_cent : ℕ → List ℕ
 per_cent part = joined (decimal (part / 10 ^ 10) ∷ codes "." ∷ with_zeros 4 (part % 10 ^ 10 / 10 ^ 6) ∷ codes " % (" ∷ decimal part ∷ codes ")" ∷ [])
 
--- a count as a part of all, in per cent
+-- a count as a share of all, in per cent
 unfoldable pub share : ℕ → ℕ → List ℕ
 share count all =
     joined (decimal (count * 10 ^ 6 / max all 1 / 10 ^ 4) ∷ codes "." ∷ with_zeros 4 (count * 10 ^ 6 / max all 1 % 10 ^ 4) ∷ codes " %" ∷ [])
 
--- a random word as a part of 2^64, in per cent
+-- a random word as a share of 2^64, in per cent
 unfoldable pub word_text : ℕ → List ℕ
 word_text word =
     joined (decimal (word * 10 ^ 6 / 2 ^ 64 / 10 ^ 4) ∷ codes "." ∷ with_zeros 4 (word * 10 ^ 6 / 2 ^ 64 % 10 ^ 4) ∷ codes " % (" ∷ decimal word
@@ -57,7 +57,7 @@ word_text word =
 
 -- ---- the event
 
--- an ECN field as RFC 3168 names it
+-- the name of an ECN field in RFC 3168
 abbrev pub ecn_name : Ecn → List ℕ
 ecn_name NotEct = codes "Not-ECT"
 ecn_name Ect1 = codes "ECT(1)"
@@ -73,13 +73,13 @@ verdict_text DroppedBytes = codes "DROPPED, no room in bytes"
 verdict_text DroppedPackets = codes "DROPPED, no room in packets"
 verdict_text _ = codes "-"
 
--- the beginning of the first line of an event about a packet
+-- the beginning of the first line of a packet's event
 unfoldable pub packet_words : ℕ → Packet → List ℕ
 packet_words number packet =
     joined (codes "event " ∷ decimal number ∷ codes ": packet " ∷ decimal packet.tag ∷ codes ", " ∷ decimal packet.size ∷ codes " bytes, "
     ∷ ecn_name packet.ecn ∷ codes ": " ∷ [])
 
--- an update while the controller is active takes a delay and makes a probability; while it is turned off it does neither
+-- the words for an update: with its delay and probability if the controller is active, otherwise without
 unfoldable pub update_words : ℕ → Bool → Answer → List ℕ
 update_words number false answer =
     joined (codes "event " ∷ decimal number

@@ -4,7 +4,7 @@ use Rattle.std.specs.List.{filter_map}
 use Rattle.pie_guarantees.specs.Names.{Deed, deed_of, departure, marked, queued, Ce, Packet, Waiting, Command, Arrive, SetParams, Event, Opening}
 use Rattle.pie_guarantees.specs.Names.{effective_moment, waiting_after}
 
--- the command is an arrival
+-- true if the command is an arrival
 abbrev pub is_packet_arrival : Command → Bool
 is_packet_arrival (Arrive moment packet word) = true
 is_packet_arrival _ = false

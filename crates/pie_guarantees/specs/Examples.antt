@@ -36,7 +36,7 @@ limited bytes = record {
   dq_threshold = 1024;
 }
 
--- ---- a limit that is lowered below the bytes that wait
+-- ---- a limit that is lowered below the queued bytes
 
 abbrev pub lowered_opening : Opening
 lowered_opening = opened usual (limited 1000)

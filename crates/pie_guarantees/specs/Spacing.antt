@@ -5,7 +5,7 @@ use Rattle.pie_guarantees.specs.Names.{considered_where, Deed, deed_of, dropped_
 use Rattle.pie_guarantees.specs.Names.{parts_after, bytes_after, arriving_size, is_dropped_bytes, is_dropped_packets, is_reset}
 use Rattle.pie_guarantees.specs.Verdicts.{is_early}
 
--- a packet arrived that the queue had room for
+-- true if a packet arrived for which the queue had room
 abbrev pub had_room : Deed → Bool
 had_room (queued packet) = true
 had_room (marked packet) = true

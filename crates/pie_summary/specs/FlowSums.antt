@@ -23,7 +23,7 @@ flow_by _ _ = None
 abbrev pub flow_in : Explained → Option ℕ
 flow_in one = flow_by one.told.event.command one.told.event.answer
 
--- an event is of this flow
+-- true if an event is of this flow
 abbrev pub is_this : ℕ → Option ℕ → Bool
 is_this flow None = false
 is_this flow (Some other) = flow == other

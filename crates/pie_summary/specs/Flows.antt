@@ -46,7 +46,7 @@ in_order flows = fold placed [] flows
 abbrev pub first_of : ℕ → List Flow → List Flow
 first_of most flows = take most (in_order flows)
 
--- a flow is one of these
+-- true if a flow is one of these
 abbrev pub is_among : List Flow → Flow → Bool
 is_among some one = list_any (λ other. one.number == other.number) some
 
@@ -61,7 +61,7 @@ abbrev pub row_of : ℕ → List Explained → Option Flow
 row_of flow [] = None
 row_of flow (one ∷ all) = Some (record { number = flow; sums = flow_sums (one ∷ all) })
 
--- these are all flows of the events, by their numbers
+-- the rows are those of all flows of the events, by their numbers
 pub record HasFlows (rows : List (ℕ × Flow)) (all : List Explained) : Type 0 where
   pub keys : keys_of rows ≡ flows_in all
   pub found : (flow : ℕ) → lookup (nat_eq flow) rows ≡ row_of flow (filter (is_of flow) all)

@@ -1,4 +1,4 @@
--- A period that is summed up as it goes: the numbers of a summary's record, kept in as much memory as they take.
+-- An interval that is summed up event by event: the numbers of a summary's record, in memory of constant size.
 use Rattle.std.specs.Prelude.{ℕ, ◌≡◌, ◌+◌, ◌-◌, ◌*◌, ◌^◌, ◌==◌, min, max, Bool, true, List, [], ◌∷◌, ◌++◌, Option, Some, None, count_by}
 use Rattle.std.specs.Prelude.{if◌then◌else◌}
 use Rattle.pie_aqm.specs.Places.{Place, places}
@@ -11,7 +11,7 @@ use Rattle.pie_summary.specs.Period.{last_events, last_period, period_at, since,
 use Rattle.pie_summary.specs.Sums.{meter_in, reached, waits_of}
 pub use Rattle.pie_summary.specs.Sums.{HasConditions, meter_input_of}
 
--- ---- periods
+-- ---- intervals
 
 abbrev pub is_first : Option ℕ → Place Explained → Bool
 is_first every place = starts (last_period every place.before) (period_at every place.event)
@@ -20,7 +20,7 @@ is_first every place = starts (last_period every place.before) (period_at every 
 abbrev pub periods_begun : Option ℕ → List Explained → ℕ
 periods_begun every all = kept (count_by (is_first every) (places all))
 
--- the length of the periods, and the number of the one that is under way; none before the first event
+-- the length of the intervals; below, the number of the interval under way, `None` before the first event
 abbrev pub length_of : LivePeriod → Option ℕ
 length_of period = Some period.every
 

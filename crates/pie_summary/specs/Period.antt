@@ -1,4 +1,4 @@
--- Periods of equal length: which of the explained events are summed up together.
+-- Intervals of equal length: the explained events that are summed up together.
 use Rattle.std.specs.Prelude.{ℕ, ◌≡◌, ◌/◌, ◌==◌, max, if◌then◌else◌, Bool, true, false, not, List, [], map, Option, Some, None, is_some}
 use Rattle.std.specs.List.{after_last}
 use Rattle.pie_aqm.specs.Places.{Place, last_or}
@@ -18,20 +18,20 @@ period_at every one = period_of every one.told.moment
 abbrev pub last_period : Option ℕ → List Explained → Option ℕ
 last_period every all = last_or None (map (λ one. Some (period_at every one)) all)
 
--- an event is not in this period
+-- true if an event is not in this interval
 abbrev pub is_elsewhere : Option ℕ → ℕ → Explained → Bool
 is_elsewhere every period one = not (period_at every one == period)
 
--- the events after the last one that is not in this period
+-- the events after the last one that is not in this interval
 abbrev pub since : Option ℕ → Option ℕ → List Explained → List Explained
 since every None all = []
 since every (Some period) all = after_last (is_elsewhere every period) all
 
--- the last events, as far back as they are in the same period
+-- the last events, as far back as they are in the same interval
 abbrev pub last_events : Option ℕ → List Explained → List Explained
 last_events every all = since every (last_period every all) all
 
--- an event in this period is not in that of the event before it
+-- true if an event in this interval comes after one of another interval
 abbrev pub begins : Option ℕ → ℕ → Bool
 begins None period = false
 begins (Some before) period = not (before == period)

@@ -10,7 +10,7 @@ use Rattle.pie_summary.specs.Counts.{kept}
 use Rattle.pie_summary.specs.Aggregates.{mean_in, sum_in}
 use Rattle.pie_summary.specs.Words.{left_in}
 
--- the names of the fields, in the middle of them the words of the causes
+-- the names of the fields, with the keywords of the causes between them
 abbrev pub field_names : List (List ℕ)
 field_names =
     (codes "events" ∷ codes "first_moment" ∷ codes "last_moment" ∷ codes "arrivals" ∷ codes "arrived_bytes"

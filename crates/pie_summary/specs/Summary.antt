@@ -32,7 +32,7 @@ summary_text_of form all = summary_text form (sums_of all) (waits_of all)
 
 -- ---- lost and marked packets
 
--- an event is one that `--lost` chooses, or `--marked`
+-- true if `--lost` or `--marked` chooses the event
 abbrev pub is_lost_or_marked : Explained → Bool
 is_lost_or_marked one = chooses Lost one.told.number one.told.event || chooses Marked one.told.number one.told.event
 

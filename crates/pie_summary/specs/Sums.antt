@@ -1,4 +1,4 @@
--- The numbers of a summary, each over the whole list of the events that were explained.
+-- The numbers of a summary, each over the whole list of explained events.
 use Rattle.std.specs.Prelude.{ℕ, ◌-◌, ◌&&◌, nat_lt, min, if◌then◌else◌, Bool, true, false, List, [], ◌∷◌, ◌++◌, length, map, slice_index}
 use Rattle.std.specs.Prelude.{◌≡◌, None, Option, Some}
 use Rattle.std.specs.List.{filter_map, sum}

@@ -57,8 +57,8 @@ time_words true spaces times =
 abbrev pub left_in : Meter → ℕ
 left_in meter = slice_index meter.answers 5
 
--- the wait that at most a hundredth of the packets that left exceeded, by the ranges of the waits: that of the packet at the last place but
--- a hundredth, or up to a tenth more
+-- the waiting time that at most a hundredth of the packets that left exceeded, by the ranges of the waiting times: that of the packet at this place
+-- in the order of waiting times, or up to a tenth more
 abbrev pub wait_99 : List ℕ → Meter → ℕ
 wait_99 ranges meter = end_within (first_up_to ranges (left_in meter - left_in meter / 100)) meter.greatest_wait
 

@@ -2,7 +2,7 @@
 use Rattle.pie_commands.proofs.OptionNames.{◌≡◌, [], ◌∷◌, None, Some, codes, refl, true, Text, clap_on_literals, Asks, file_in, files_in, is_joined}
 use Rattle.pie_commands.proofs.OptionNames.{number_or, options_in, output_in}
 
--- the subcommands that some words ask for
+-- the subcommands of some command lines
 asks : (name : Text) → Asks (codes "audit") (name ∷ codes "audit" ∷ codes "a" ∷ codes "-" ∷ [])
     × Asks (codes "explain") (name ∷ codes "explain" ∷ codes "--lost" ∷ [])
     × Asks (codes "cut") (name ∷ codes "cut" ∷ codes "--from" ∷ codes "1s" ∷ codes "a" ∷ [])

@@ -8,11 +8,11 @@ use Rattle.either.specs.declared.Either.{Either}
 use Rattle.either.specs.Either.{either}
 use Rattle.pie_commands.specs.Files.{CanOpen, CanRead, Name, ReadsNamed, is_dash, left_for, opens_after, opens_by, reads_by, text_given}
 
--- the caller's reader is still there, or was taken
+-- the caller's reader is available, or was taken
 abbrev pub Stays : {R : Type 0} → R → Option R → Type 0
 Stays first input = (input ≡ Some first) ⊎ (input ≡ None)
 
--- the caller's reader is there unless an earlier name was `-`
+-- the caller's reader is available unless an earlier name was `-`
 abbrev pub IsLeft : {R : Type 0} → R → List Name → Option R → Type 0
 IsLeft first earlier input = input ≡ (if list_any is_dash earlier then None else Some first)
 

@@ -107,7 +107,7 @@ EndsAs-kept Audit options works input old new end before now keeps report_end =
 EndsAs-kept other options works input old new end before now keeps report_end =
     text-kept other options works input old new end before now (λ is. cc) keeps report_end
 
--- ---- an event can differ in three of them
+-- ---- the three subcommands whose text can have an event that differs
 
 differs-as : (subcommand : Subcommand) (options : List Row) (works : Bool) (input : Option (List ℕ)) (files : Held) (before now : Option (List ℕ))
     → EndsAs subcommand options works input files Differs before now → may_differ subcommand ≡ true

@@ -116,7 +116,7 @@ steady-along opening before (event ∷ between) later old legal fit =
     rw (← one) (steady-along opening (before ++ event ∷ []) between later next (rw (← one) at legal)
     (All-tail (λ (e : Event). SetsInRange e.command) event (between ++ later) fit))
 
--- the events before a place of a lawful history are shown by a core
+-- a core represents the events before a place of a lawful history
 pub steady_at : (opening : Opening) (before later : List Event) → IsLawful opening (before ++ later) → IsSteadyAt opening before
 steady_at opening before later lawful =
     steady-along opening [] before later (steady-first opening lawful.opens lawful.params) lawful.legal lawful.set

@@ -23,7 +23,7 @@ raw-mono params old old' delay more le change =
     let b = mul-mono params.beta (pos delay -ℤ pos old) (pos more -ℤ pos old') change in
     omega (arith, ints, a, b)
 
--- a delay that stays at the target moves nothing
+-- for a delay that stays at the target the step is 0
 raw-zero : (params : RawParams) → raw_step params params.target params.target ≡ pos 0
 unfolding raw_step
 raw-zero params = let none : pos params.target -ℤ pos params.target ≡ pos 0 = omega (arith, ints) in rw none (omega (arith, ints))
@@ -48,7 +48,7 @@ next_mono elements params prob old delay more le =
     (raw-mono params old old delay more le (omega (arith, ints))) in
     grind (arith, nat_tests, ints, clamps)
 
--- ---- up and down
+-- ---- increase and decrease
 
 tuned-zero : (step : Step) (prob : ℕ) → tuned_step step prob (pos 0) ≡ pos 0
 unfolding tuned_step

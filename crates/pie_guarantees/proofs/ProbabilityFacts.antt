@@ -42,7 +42,7 @@ pub stays-or-zero : (h : Held) (waiting : List Waiting) (packets : ℕ) (command
     → (after_call h (call_of waiting packets command)).control.prob ≤ h.control.prob
 stays-or-zero h waiting packets command answer other = grind (arith, nat_tests)
 
--- ---- one delay all along
+-- ---- an unchanged delay
 
 -- the controller after an event while the delay is steady: its parameters, and its probability
 record Next (delay : ℕ) (elements : Elements) (h g : Held) (updates : Bool) : Type 0 where

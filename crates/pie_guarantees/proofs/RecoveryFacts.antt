@@ -25,7 +25,7 @@ fades-to elements params prob some =
     let t = fallen-step elements params prob 0 (omega arith) in
     rw (decays-at-none elements.decay params some) (grind (arith, nat_tests, ints, clamps))
 
--- the most that an update leaves of a probability of at most `most` that is at most `prob`, with this divisor
+-- the greatest probability after an update without delay, from one of at most `prob` and `most`, with this divisor
 in-row : ℕ → ℕ → ℕ → ℕ → ℕ
 in-row fall most divisor prob = (min prob most - fall / divisor) * 98 / 100
 

@@ -39,7 +39,7 @@ restarts h g bytes command answer =
     (is_dropped_bytes (deed command answer) || is_dropped_packets (deed command answer)) || is_reset (deed command answer)
     || (not h.active && g.active) || (considers h bytes command answer && (q-of h (arriving_size command) == 0))
 
--- before the controller is turned on, if it is
+-- the state before the controller is turned on, if it is
 adds-verdict : (h : Held) (a : ArrivingPacket) (moment word : ℕ) (packet : Packet) → h.elements.picking ≡ Derandomized → h.accu < 8_500_000_000_000
     → q-of h a.size ≤ 10 ^ 12
     → Adds h (Steps.judged h a moment) (considers h a.queued (Arrive moment packet word) (answer_of (Steps.verdict h a)))

@@ -27,7 +27,7 @@ raw-below : (params : RawParams) (delay : ℕ) → delay ≤ params.target → r
 unfolding raw_step
 raw-below params delay below = grind (arith, ints)
 
--- toward zero
+-- a quotient of a negative number is rounded toward zero
 quotient-below : (n d : ℕ) → int_div (pos 0 -ℤ pos n) (pos d) ≡ pos 0 -ℤ pos (n / d)
 quotient-below n d = grind (arith, ints)
 
@@ -35,7 +35,7 @@ tuned-below : (step : Step) (prob n : ℕ) → tuned_step step prob (pos 0 -ℤ 
 unfolding tuned_step
 tuned-below step prob n = let q = quotient-below n (tuning_divisor prob) in grind (arith, nat_tests, ints, clamps)
 
--- a rise is at least this, and at most that
+-- a rise is at least `least_rise`, and at most the tuned rise
 pub one-rise : (elements : Elements) (params : RawParams) (prob delay : ℕ) → 0 < params.target → params.target ≤ delay
     → (min (10 ^ 12) (prob + least_rise params delay prob) ≤ next elements params prob delay delay)
     × (next elements params prob delay delay ≤ prob + untuned_rise params delay / tuning_divisor prob)
@@ -62,7 +62,7 @@ one-fall-most elements params prob delay within still below =
 
 -- ---- several updates
 
--- a divisor that falls leaves more
+-- a smaller divisor gives a greater quotient
 div-more : (n d e : ℕ) → 0 < e → e ≤ d → n / d ≤ n / e
 div-more n d e some le =
     le-div (n / d) n e some (let whole = div-mul-le_self n d in let part = mul-le (n / d) e (n / d) d (omega arith) le in omega (arith, whole, part))

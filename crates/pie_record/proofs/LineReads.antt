@@ -1,4 +1,4 @@
--- A plain line as csv reads it and as csv writes it.
+-- csv's reading and writing of a plain line.
 use Rattle.std.proofs.Common.{sym, ap, ◌∙◌, arith, append_assoc}
 use Rattle.std.proofs.lemmas.Bool.Decides.{nat_tests}
 use Rattle.std.proofs.lemmas.List.{append-nil}
@@ -11,7 +11,7 @@ use Rattle.pie_record.proofs.RecordFacts.{records_left-next, records_left-none}
 use Rattle.pie_record.proofs.PlainFacts.{split-some}
 use Rattle.csv.specs.declared.parser.State.TheVariants as st
 
--- a plain byte is none of the three
+-- a plain byte is no line feed, quote or carriage return
 plain-parts : (byte : ℕ) → IsPlain byte → ((byte == 10) ≡ false) × ((byte == 34) ≡ false) × ((byte == 13) ≡ false)
 plain-parts byte plain = (grind (arith, nat_tests, plain), grind (arith, nat_tests, plain), grind (arith, nat_tests, plain))
 

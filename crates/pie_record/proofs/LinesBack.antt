@@ -39,12 +39,12 @@ abbrev pub command_row_kind : CommandFields → CommandKind
 command_row_kind (asked.Command caller command) = kind_of command
 command_row_kind (asked.BadParams change) = kind.Params
 
--- the fields that ask it
+-- the fields of the command
 abbrev pub command_row_fields : CommandFields → Row
 command_row_fields (asked.Command caller command) = command_fields caller command
 command_row_fields (asked.BadParams change) = command_fields change.caller (SetParams change.moment change.params)
 
--- new parameters of which one is out of its range, with numbers of their types
+-- new parameters, one of which is out of its range, whose numbers fit their types
 pub record ChangeFits (change : BadChange) : Type 0 where
   pub caller : change.caller ≤ most_u16
   pub moment : change.moment < 2 ^ 64
@@ -225,14 +225,14 @@ command-back (asked.Command caller _) more f = rw (back_u16 caller f.0, back_u64
 
 -- ---- the numbers of a line that was read
 
--- numbers of their types, and a parameter that is out of its range
+-- the numbers of a line fit their types, and an event that cannot be made has a parameter out of its range
 abbrev pub LineFits : Line → Type 0
 LineFits (line.Made event) = EventFits event
 LineFits (line.Unmakeable change) = ChangeFits change
 LineFits line.Note = ⊤
 LineFits (line.Clock clock) = ClockFits clock
 
--- an answer that the command can have, with numbers of their types
+-- an answer that the command can have, whose numbers fit their types
 record Answered (command : Command) (answer : Answer) : Type 0 where
   kind : fits command answer ≡ true
   numbers : AnswerFits answer

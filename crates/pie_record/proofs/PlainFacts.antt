@@ -1,4 +1,4 @@
--- Plain lines as csv reads them and writes them.
+-- csv's reading and writing of plain lines.
 use Rattle.std.proofs.Common.{sym, ap, ◌∙◌, arith, get_or, take, take_all}
 use Rattle.pie_record.specs.{◌≡◌, ◌<◌, ◌+◌, ◌++◌, ◌∷◌, ℕ, ◌==◌, List, [], length, refl, true, false, Bool, Some, Row}
 use Rattle.std.specs.Prelude.{slice_range}

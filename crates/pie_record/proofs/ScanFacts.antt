@@ -53,7 +53,7 @@ module _ (from : ℕ) (bytes before : List ℕ) where
         ⊎_elim (λ high. high) (λ small. let one = marks.each k (omega arith) small in let clear = none k less in absurd (omega (arith, one, clear)))
         (cases_lt 44 (get_or bytes (at + k) 0))
 
-    -- the scan passes them
+    -- the scan passes these bytes
     pub scanned-past : (now : List ℕ) (bit : ℕ) → at + bit ≤ end → ((k : ℕ) → k < bit → bit_at mask k ≡ 0)
         → IsScanned from bytes before now at → IsScanned from bytes before now (at + bit)
     scanned-past now bit few none so_far = scanned-above now at bit (unmarked bit few none) (omega arith) so_far

@@ -15,7 +15,7 @@ pub odd-turn : (is_first : Bool) (before after : Option (List ℕ)) (row : Row) 
 odd-turn is_first None after row made reads is = tt
 odd-turn is_first (Some all) after row made reads is = is ∙ ap (option_map records_of) reads.1 ∙ ap Some (sym reads.2)
 
--- a turn after turns that took no record
+-- a step after steps that took no record
 pub takes-later : (first now later : Option (List Row)) (found : Bool) (row : Row) → IfSome first (λ rows. now ≡ Some rows) → TakesRow now found row later
     → TakesRow first found row later
 takes-later None now later found row same takes = tt

@@ -1,11 +1,11 @@
--- Counts with one more.
+-- Facts about counts with one more element.
 use Rattle.pie_summary.proofs.Names.{◌≡◌, ◌+◌, ◌<◌, ◌≤◌, ◌==◌, arith, ℕ, zero, suc, Bool, true, false, cond, List, [], ◌∷◌, ◌++◌, map, refl, sym, ap}
 use Rattle.pie_summary.proofs.Names.{◌∙◌, min, count_by, nat_lt, replicate, slice_index, slice_set, if◌then◌else◌, range_with_len, sum, eq-eqb}
 use Rattle.pie_summary.proofs.Names.{ne_eqb, nat_tests, sum_by_push, kept}
 use Rattle.std.proofs.lemmas.List.Sums.{sum_by-cons}
 use Rattle.pie_summary.specs.Counts.{count_at, counts_of}
 
--- a number that is kept at a greatest one, with more
+-- a bounded number, with more added
 pub kept-more : (n more most : ℕ) → min (min n most + more) most ≡ min (n + more) most
 kept-more n more most = omega arith
 

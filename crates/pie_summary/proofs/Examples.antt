@@ -18,7 +18,7 @@ worked = ⊤
 agreeing : map (disagree 8) (2 ∷ 3 ∷ 4 ∷ 8 ∷ 16 ∷ 17 ∷ 18 ∷ []) ≡ true ∷ true ∷ false ∷ false ∷ false ∷ false ∷ true ∷ []
 agreeing = refl
 
--- ---- periods
+-- ---- intervals
 
 -- intervals of 100 ns, of length 0, and no interval
 periods : (map (period_of (Some 100)) (0 ∷ 99 ∷ 100 ∷ 199 ∷ 250 ∷ []) ≡ 0 ∷ 0 ∷ 1 ∷ 1 ∷ 2 ∷ [])
@@ -38,7 +38,8 @@ range-ends : map range_end (0 ∷ 9 ∷ 10 ∷ 99 ∷ 100 ∷ 101 ∷ 189 ∷ 19
 unfolding worked
 range-ends = refl
 
--- three in the second place and two in the fourth: the first three are there by the second, the last two by the fourth, and no sixth is
+-- three numbers in the second place and two in the fourth: the first three are reached by the second place, the last two by the fourth, and there is
+-- no sixth
 places-up-to : map (first_up_to (0 ∷ 3 ∷ 0 ∷ 2 ∷ [])) (0 ∷ 1 ∷ 3 ∷ 4 ∷ 5 ∷ 6 ∷ [])
     ≡ Some 0 ∷ Some 1 ∷ Some 1 ∷ Some 3 ∷ Some 3 ∷ None ∷ []
 places-up-to = refl

@@ -16,7 +16,7 @@ use Rattle.pie_summary.proofs.CountFacts.{kept-more}
 use Rattle.pie_summary.proofs.PeriodFacts.{last_events-push, last_period-push, since_begun, some-events, under-way}
 use Rattle.pie_summary.proofs.SumsFacts.{input-moment, times_kept, place_of, places-push, reached_later, reached_none}
 
--- ---- periods
+-- ---- intervals
 
 -- the number of intervals, with one more event
 pub begun-push : (every : Option ℕ) (shown : List Explained) (one : Explained)
@@ -27,7 +27,7 @@ begun-push every shown one =
     ∙ ap kept (sum_by_push (λ (place : Place Explained). cond (is_first every place) 1 0) (places shown) (place_of shown one))
     ∙ sym (kept-more (count_by (is_first every) (places shown)) (cond (is_first every (place_of shown one)) 1 0) 18446744073709551615)
 
--- a moment from a period's start on, for less than its length
+-- a moment from an interval's start on, for less than its length
 pub within-period : (number every start end moment : ℕ) → 1 ≤ every → start ≡ number * every
     → end ≡ min (start + every) 18446744073709551615 → start ≤ moment → moment < end → moment / every ≡ number
 within-period number every start end moment some start-is end-is from to =
@@ -45,7 +45,7 @@ spans-begun begun number every start end some start-is end-is = record {
   ends = end-is ∙ sym (ap (λ (b : Bool). if b then 0 else min (start + max every 1) 18446744073709551615) (ne_eqb begun 0 some));
 }
 
--- a moment from its start on and before its end is in it
+-- a moment from an interval's start on and before its end is in the interval
 pub in-interval : (begun number every start end moment : ℕ) → Spans begun number every start end → start ≤ moment → moment < end
     → (begun ≡ 0 → ⊥) × (moment / max every 1 ≡ number)
 in-interval begun number every start end moment spans from to = by (begun == 0) refl
@@ -61,9 +61,9 @@ in-interval begun number every start end moment spans from to = by (begun == 0) 
           (spans.ends ∙ ap (λ (b : Bool). if b then 0 else min (start + max every 1) 18446744073709551615) some) from to,
     )
 
--- ---- a period
+-- ---- an interval
 
--- a number that is known, and a moment in its period
+-- a number that is known, and a moment in its interval
 known-number : (begun number : ℕ) → (begun ≡ 0 → ⊥) → (if begun == 0 then None else Some number) ≡ Some number
 known-number begun number some = rw (ne_eqb begun 0 some) refl
 
@@ -72,7 +72,7 @@ not-started period p some is =
     ap (λ (n : Option ℕ). starts n p) (known-number period.begun period.number some)
     ∙ ap not (eq-eqb period.number p (sym is))
 
--- an event in the period that is under way
+-- an event in the interval under way
 pub awaits-same : (period : LivePeriod) (shown : List Explained) (one : Explained) → Holds period shown
     → starts (number_in period) (period_at (length_of period) one) ≡ false
     → Awaits period shown one
@@ -134,7 +134,7 @@ clock_kept period times moment same is = λ i. record period {
 pub clock-same : {before after : LivePeriod} → IsSet before after → clock_of before ≡ clock_of after
 clock-same set = λ i. if sym set.told i == 1 then Some (record { moment = sym set.clock_moment i; unix = sym set.clock_unix i }) else None
 
--- an event that is counted in a period that awaits it
+-- an event that is counted in an interval that awaits it
 pub holds-taken : (period : LivePeriod) (shown : List Explained) (one : Explained) (meter : Meter) (waits : List ℕ)
     → Awaits period shown one
     → meter ≡ meter_in (since (length_of period) (Some (period_at (length_of period) one)) shown ++ one ∷ [])

@@ -23,14 +23,14 @@ ends-of (x ∷ xs) = longer x xs (ends-of xs)
     longer x xs (inl none) = inr ([], x, ap (λ ys. x ∷ ys) none)
     longer x xs (inr (front, last, is)) = inr (x ∷ front, last, ap (λ ys. x ∷ ys) is)
 
--- the period of the last event
+-- the interval of the last event
 pub last_period-push : (every : Option ℕ) (shown : List Explained) (one : Explained)
     → last_period every (shown ++ one ∷ []) ≡ Some (period_at every one)
 last_period-push every shown one =
     ap (λ ps. last_or None ps) (map_push (λ e. Some (period_at every e)) shown one)
     ∙ last_or-push None (map (λ e. Some (period_at every e)) shown) (Some (period_at every one))
 
--- an event is in its own period
+-- an event is in its own interval
 in_its_own : (every : Option ℕ) (one : Explained) → is_elsewhere every (period_at every one) one ≡ false
 in_its_own every one = ap not (eq-eqb (period_at every one) (period_at every one) refl)
 

@@ -51,7 +51,7 @@ bounds_push numbers number old count first is count-is first-is = λ i. record {
   last = sym (last_or-push 0 numbers number) i;
 }
 
--- the last number is none greater than the greatest
+-- the last number is at most the greatest
 last-from : (number : ℕ) (numbers : List ℕ) → last_or number numbers ≤ max number (greatest numbers)
 unfolding last_or greatest
 last-from number [] = omega arith
@@ -64,7 +64,7 @@ peak_push numbers number old most is most-is = λ i. record {
   last = sym (last_or-push 0 numbers number) i;
 }
 
--- the aggregate with the last number once more
+-- the aggregate is unchanged by one more number equal to the last
 pub peak_same : (numbers : List ℕ) (number : ℕ) (old : Peak) → old ≡ peak_of numbers → old.last ≡ number → old ≡ peak_of (numbers ++ number ∷ [])
 peak_same numbers number old is same =
     let below : old.last ≤ max 0 old.greatest = subst (λ (p : Peak). p.last ≤ max 0 p.greatest) (sym is) (last-from 0 numbers) in
@@ -76,12 +76,12 @@ pub count-some : (numbers : List ℕ) (read : Option ℕ) (old now : ℕ) → no
 count-some numbers None old now is old-is = is ∙ old-is ∙ ap (λ (ns : List ℕ). kept (length ns)) (sym (append-nil numbers))
 count-some numbers (Some number) old now is old-is = is ∙ ap (λ (n : ℕ). kept (n + 1)) old-is ∙ count-push numbers number
 
--- the greatest number
+-- the greatest number, with one more if there is one
 pub greatest-some : (numbers : List ℕ) (read : Option ℕ) → max (greatest numbers) (unwrap_or read 0) ≡ greatest (numbers ++ cons_option read [])
 greatest-some numbers None = omega arith ∙ ap greatest (sym (append-nil numbers))
 greatest-some numbers (Some number) = sym (greatest-push numbers number)
 
--- the last number, or another one
+-- the last number, with one more if there is one
 pub since-push : (before : ℕ) (numbers : List ℕ) (read : Option ℕ)
     → unwrap_or read (last_or before numbers) ≡ last_or before (numbers ++ cons_option read [])
 since-push before numbers None = ap (last_or before) (sym (append-nil numbers))

@@ -253,7 +253,7 @@ opened held row opening = by (first_kind row) refl
 pub sound-start : (held : Promises) (opening : Opening) → Sound opening start
 sound-start held opening = record { legal = held.legal_at_first opening; fit = All-nil (λ (e : Event). CommandFits e.command); held = omega arith }
 
--- the records of its beginning, and those of its answers
+-- the records of the beginning, and those of the replies
 pub text-begun : (most : ℕ) (past : List Event) (rows : List Row) (b : Begun)
     → text_in most past rows (Ok b) ≡ rows_text (take b.read rows ++ rows_left b.version most b.opening (b.read + 1) (resumed_progress past) b.left)
 unfolding text_left rows_text
@@ -452,7 +452,7 @@ pub record Below : Type 0 where
 
 -- ---- the preamble
 
--- a beginning of no more records than are read
+-- a preamble with at most as many records as are read
 record Within (most : ℕ) (rows : List Row) (b : Preamble) : Type 0 where
   begun : resumed_of rows ≡ Ok b
   few : b.read ≤ most
@@ -520,7 +520,7 @@ resumed-clean law most rows opening past b few goes fit e =
     (lines-clean law (rows_text (take b.read rows ++ more)) opening past lines (progress_resumed most past b).history book_represents
     (subst (λ (o : Opening). AreRuns o (map Made past ++ lines) (progress_resumed most past b).history) opened runs))
 
--- ---- one without a fault
+-- ---- an excerpt without a fault
 
 pub resumed-whole : Below → (most : ℕ) (rows : List Row) (opening : Opening) (past : List Event) (end : RunEnd) → most ≤ 2 ^ 32
     → Resumes rows opening past → All (λ event. CommandFits event.command) past → resumed_fault most rows ≡ None
@@ -559,7 +559,7 @@ progress-append opening from [] ys = refl
 progress-append opening from (Ask caller command ∷ xs) ys = progress-append opening (after opening from (Ask caller command)) xs ys
 progress-append opening from (request ∷ xs) ys = progress-append opening (after opening from request) xs ys
 
--- a fold of all that the tail holds
+-- a fold of all events of the tail
 folds-all : (opening : Opening) (at : Progress) → after opening at (Fold at.held) ≡ resumed_progress at.history
 folds-all opening at = grind (arith, nat_tests)
 

@@ -2,7 +2,7 @@ use Rattle.pie_summary.proofs.Names.{[], ◌≡◌, ◌∙◌, ◌+◌, ◌/◌,
 use Rattle.pie_summary.proofs.LiveFacts.{awaits-new, awaits-same, spans-begun}
 use Rattle.pie_summary.proofs.live_period.LivePeriod.turn.Goals as goal
 
--- the number of a period by another name of moment and length
+-- the number of an interval, with other names of moment and length
 same-number : (moment told every longest : ℕ) → told ≡ moment → longest ≡ max every 1 → moment / longest ≡ told / max every 1
 same-number moment told every longest at is = λ i. sym at i / is i
 

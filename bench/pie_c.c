@@ -1,4 +1,4 @@
-/* The static library beside the same steps in plain C (pie_step.h) and, where its header is there, beside DPDK's rte_pie.h:
+/* The static library beside the same steps in plain C (pie_step.h) and, if its header exists, beside DPDK's rte_pie.h:
  * the time of a call, and over one stream under 8 per cent overload the time a packet and the mean wait. Each line is
  * `name value unit`, once a run; bench/pie_c.sh prints the least, the median and the ratios of them. It ends with a status
  * above 1 if the library and plain C differ in a decision.

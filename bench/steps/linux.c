@@ -110,7 +110,7 @@ struct arrival {
     struct pie_vars vars; /* Linux's own before the step */
 };
 
-/* Linux's enqueue, where what makes it differ is taken from it: then it decides as the history does. */
+/* Returns true if Linux's enqueue decides as the history does once the differences in `set` are removed. */
 static bool decides_alike(unsigned set, const void *of) {
     const struct arrival *it = of;
     const struct registers *before = it->before;

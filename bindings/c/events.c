@@ -1,5 +1,5 @@
 /* Random calls on a small queue, each recorded as an event and written by the library: prints the history. On the way each record is
- * written into every smaller room too, where nothing may change.
+ * written into every smaller room too, which must not change.
  *
  * usage: events SEED STEPS [CHANGED]   CHANGED: the number of an event whose answer is changed by one before it is written */
 #include "pie.h"

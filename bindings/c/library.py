@@ -70,7 +70,7 @@ def compile_with_assembly(rtlib, crate):
         # (by one process: two take a fifth more of the processors, which other scripts wait for)
         status = crate.compile(["--jobs", "1"], f"{work}/module.o" if crate.is_program else f"out/lib{crate.name}.a")
         if status == 0:
-            # (the assembly last: where it is there, the library is whole)
+            # (the assembly last: if it exists, the library is complete)
             shutil.move(f"{work}/module.S", assembly)
         return status
 

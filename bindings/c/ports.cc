@@ -62,7 +62,7 @@ static void calls() {
     CHECK(port.try_update(event) == PIE_DONE && port.try_reset(event) == PIE_DONE && port.reset(event) == PIE_DONE);
     params.target = 5000000;
     CHECK(port.set_params(params, event) == PIE_DONE && port.try_set_params(params, event) == PIE_DONE);
-    // moved: the one that it came from is closed, and what the other had is let go
+    // moved: the source is closed, and the port that the target had is released
     pie_link_port moved(std::move(port));
     CHECK(!port.is_open() && moved.is_open() && moved.try_arrive(event) == PIE_BAD_SIZE);
     pie_link_port &itself = moved;
@@ -100,7 +100,7 @@ static void excerpts() {
     CHECK(excerpt.close() == PIE_DONE && !excerpt.is_open() && port.excerpt(excerpt) == PIE_CLOSED);
 }
 
-// Each thread has a port, which ends with it; what all folds hand out has each thread's packets once and in its order.
+// Each thread has a port, which ends with it. The events of all folds have each thread's packets once and in order.
 static void threads() {
     enum { THREADS = 4, PACKETS = 20000 };
     std::vector<pie_link_port> ports(1);

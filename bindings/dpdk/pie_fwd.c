@@ -270,7 +270,7 @@ static void drain(uint16_t port, uint16_t queues) {
             rte_pktmbuf_free_bulk(mbufs, rte_eth_rx_burst(port, queue, mbufs, BURST));
 }
 
-/* Frees everything; false where an mbuf is missing, or the history is not whole on its file. */
+/* Frees everything. Returns false if an mbuf is missing, or if the file of the history is not complete. */
 static bool close_all(void) {
     uint16_t port;
     struct pie_stage_stats all[FWD_QUEUES];

@@ -322,7 +322,7 @@ static __rte_noinline uint32_t decide_summed(struct pie_stage *stage, uint64_t b
     return pie_arrive_summed(&stage->pie, bytes, room, &event, &stage->periods->current);
 }
 
-/* Under the lock, the controller's answer to a packet of this flow. At the probability 0 the random word plays no part. */
+/* Returns the controller's answer to a packet of this flow, under the lock. At the probability 0 the random word has no effect. */
 static __rte_always_inline uint32_t decide(struct pie_stage *stage, uint64_t bytes, const struct seen *seen, uint32_t flow, uint32_t room,
                                            const struct turn *turn, struct pie_flight_burst *burst, const enum record record) {
     uint32_t verdict;

@@ -37,7 +37,7 @@ struct stage_packet stage_packet_look_anywhere(const struct rte_mbuf *mbuf) {
     return packet;
 }
 
-/* The segment that holds this byte of the frame, and where in its data. */
+/* Returns the segment that has this byte of the frame, and its place in the data of the segment. */
 static struct rte_mbuf *segment_of(const struct rte_mbuf *mbuf, uint32_t *at) {
     const struct rte_mbuf *segment = mbuf;
     while (*at >= rte_pktmbuf_data_len(segment)) {

@@ -51,7 +51,7 @@ static void send_bytes(struct fwd_queues *queues, uint64_t bytes, const uint16_t
     }
 }
 
-/* Queues that all have packets, of whatever sizes, have equal shares to a packet and a quantum; one that was empty has saved up nothing. */
+/* Queues that have packets of any sizes have equal shares, to within a packet and a quantum; a queue that was empty has saved nothing. */
 static void test_shares(void) {
     static const uint16_t sizes[] = {1500, 64, 577, 999};
     struct pie_stage_params params;

@@ -41,7 +41,7 @@ void test_cut_beside(int cuts) {
     EXPECT(pthread_create(&other, NULL, churn, stage) == 0);
     for (int cut = 0; cut < cuts; cut++) {
         FILE *file = open_history(name);
-        while (told.lines < 5000) // (so that the queue is long, and what waits at one cut is gone at the next)
+        while (told.lines < 5000) // (so that the queue is long, and packets queued at one cut are gone at the next)
             take_history(stage, file, &told);
         EXPECT(pie_stage_history_cut(stage) && !pie_stage_history_cut(stage));
         take_history(stage, file, &told);
@@ -74,7 +74,7 @@ struct sender {
     struct pie_stage *stage;
     uint32_t number, rounds;
     uint64_t handed_back;
-    rte_spinlock_t lock; /* of what comes back */
+    rte_spinlock_t lock; /* of the returned packets */
     struct rte_mbuf *back[OWNED];
     uint32_t count;
 };

@@ -101,10 +101,10 @@ LimitBytes(const Scenario& scenario)
     return static_cast<uint32_t>(262144 * scenario.megabits / 10);
 }
 
-/* The most that a flow has under way, which its send buffer bounds: twice what the link and its full queue hold for one flow, and for
- * more of them four times each one's share. Without such a bound a flow goes on by megabytes behind a lost retransmission, and ns-3
- * walks over all of them at each acknowledgement. (The receive buffer is no bound to take: ns-3.37 ends by a null pointer where a
- * sender with SACK has filled the receiver's window exactly, TcpTxBuffer::NextSeg.) */
+/* Returns the most bytes in flight of a flow, which its send buffer bounds: for one flow twice the contents of the link and its full queue,
+ * for more flows four times each one's share. Without such a bound a flow sends megabytes after a lost retransmission, and ns-3 walks over
+ * all of them at each acknowledgement. (The receive buffer cannot be the bound: ns-3.37 ends by a null pointer if a sender with SACK has
+ * filled the receiver's window exactly, TcpTxBuffer::NextSeg.) */
 uint32_t
 SendBufferBytes(const Scenario& scenario)
 {

@@ -323,7 +323,7 @@ static void step(struct bottleneck *link) {
     tell(link, now);
 }
 
-/* Writes what the flight recorder holds, where somebody asked for it. */
+/* Writes the contents of the flight recorder, if they were requested. */
 static void write_if_asked(const struct bottleneck *link) {
     const struct flight_file *flight = &link->flight;
     if (!atomic_exchange(&is_asked, false) || flight->name == NULL)

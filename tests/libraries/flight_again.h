@@ -301,8 +301,8 @@ static uint64_t ended_count;
 /* The wall-clock time at moment 0 in the text after the queued packets; 0 if there is none. */
 static uint64_t told_unix;
 
-/* Decides a text again: answers the number of the last event, and 0 where an event differs or the text is none; `first` is the number of events
- * before it. */
+/* Decides a text again. Returns the number of the last event, or 0 if an event differs or the text is not valid; `first` is the number of
+ * events before it. */
 static uint64_t decide_again(const struct text *text, uint64_t *first) {
     char *copy = (char *)malloc(text->count + 1), *at, *end = copy + text->count;
     struct again again;

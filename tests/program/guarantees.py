@@ -1,7 +1,7 @@
 #!/usr/bin/env python3
 """Checks each bound of docs/GUARANTEES.md on the histories that `pie run` writes. The bounds are computed here from the records of a history and from
 the registers after each event. They share nothing with the proofs. The traces are the random ones of tests/shared/reference.py, and worked ones that
-reach the bounds: each bound states how close some history has to come to it. With --wrong each bound is tighter by one more, so that each has to
+reach the bounds: each bound states how close some history has to be to it. With --wrong each bound is tighter by one more, so that each has to
 fail. The contracts of the laws must contain the bounds that are checked here (CLAUSES): a law that is weakened by one fails this script.
 Exit status 1 if a bound does not hold, if no history comes as close as stated, or if a contract does not contain its bound.
 

@@ -59,7 +59,7 @@ def test_a_link_is_what_its_single_calls_are(changes, tmp_path):
     pie = by_single_calls(opening, [int(it) for it in moments], sizes, ecn, words, rate, 10**10, jb.Recorder(other, opening))
     assert one.getvalue() == other.getvalue() and queue.state == pie.state and queue.packets == 0
     assert jb.text_of(opening, events) == one.getvalue()
-    # in many calls as in one, also where the ring has to grow
+    # in many calls as in one, also if the ring has to grow
     halves = Queue(opening)
     parts = [halves.offer(moments[at:at + 333], sizes[at:at + 333], rate, ecn=ecn[at:at + 333], words=words[at:at + 333])
              for at in range(0, len(moments), 333)]

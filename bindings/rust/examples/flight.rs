@@ -1,9 +1,9 @@
-//! A queue with PIE in front of it that keeps its last events in a file, for when it is killed; and their text, which `pie audit` takes as a
-//! history:
+//! A queue with PIE in front of it that keeps its last events in a file, which survives a kill; and their text, which `pie audit` reads as
+//! a history:
 //!
-//!     flight keep FILE    works until it is killed. Another thread writes the text to FILE.history ten times a second. A file that is there
-//!                         already is what an earlier run left: it goes to FILE.before
-//!     flight text FILE    writes the text of what a killed one left
+//!     flight keep FILE    works until it is killed. Another thread writes the text to FILE.history ten times a second. An existing
+//!                         file is from an earlier run: it is moved to FILE.before
+//!     flight text FILE    writes the text of the file of a killed run
 //!
 //! Its clock and its entropy are made up: 16 Mbit/s into a link of 10 Mbit/s, a third of it with ECN.
 

@@ -12,7 +12,7 @@ use crate::{Ecn, Params, Refusal, State, Updated, Verdict};
 /// Bytes of the longest record except `resume`.
 const ROOM: usize = 256;
 
-/// The code that a departure answers where there was no packet.
+/// The return code of a departure that found no packet.
 const NONE: u32 = 5;
 
 /// A packet, as the caller knows it.

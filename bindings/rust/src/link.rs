@@ -16,7 +16,7 @@ use crate::link_refusal::{link_done, link_done_with, link_refusal};
 use crate::link_wait::until_served;
 use crate::{Ecn, Event, LinkRefusal, Opening, Packet, Params, ParamsEvent, Recorder, Verdict};
 
-/// The code that a departure answers where there was no packet.
+/// The return code of a departure that found no packet.
 const NONE: u32 = 5;
 
 /// The kinds of an update, and of an event that sets parameters.

@@ -206,8 +206,8 @@ impl State {
         Verdict::of(unsafe { pie_arrive(self, queued, size, room, ecn as u32, word, moment) })
     }
 
-    /// Takes in that a packet of this size left the queue, with `left` bytes after it (section 5.2), where delays come from the departure rate. With
-    /// the default choices call [`State::depart_waited`].
+    /// Adds the departure of a packet of this size, with `left` bytes in the queue after it (section 5.2), if delays come from the departure rate.
+    /// With the default choices call [`State::depart_waited`].
     ///
     /// # Errors
     /// In this order: `Moment`, `Size`, `Queue`, `NotWaited`.

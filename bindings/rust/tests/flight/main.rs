@@ -358,7 +358,7 @@ fn dumps_while_it_works_are_clean() {
     println!("{dumps} clean dumps beside a writer of {count} events, and {gone} that came too late");
 }
 
-/// The file that a child keeps, where this process is one.
+/// The environment variable with the file of a child process; it is unset in the parent.
 const FILE: &str = "FLIGHT_FILE";
 
 #[test]

@@ -39,7 +39,7 @@ static uint64_t pass(uint64_t i, size_t count, int together) {
     return pie_link_try_arrive(&port, burst) == PIE_ENQUEUE ? pie_link_try_depart(&port, burst) : PIE_BYTES;
 }
 
-/* One call of a kind, with a number that differs from call to call; what it answered. */
+/* Makes one call of a kind, with a number that differs from call to call, and returns its return value. */
 static uint64_t call(const char *kind, uint64_t i) {
     uint64_t word = i * 6364136223846793005u;
     if (strcmp(kind, "arrive_considered") == 0)

@@ -110,7 +110,7 @@ static void open_queue(struct queue *queue, uint64_t events, uint64_t packets, i
     queue->pie.old_delay = 15000000;
 }
 
-/* Counts what is written, and remembers when it began. */
+/* Counts the written bytes, and stores the time of the first write. */
 static double begun;
 static uint64_t written;
 
@@ -209,7 +209,7 @@ static int count_calls(const char *kind) {
         printf("100 %" PRIu64 "\n", period);
         return 0;
     }
-    /* the same pairs are made of both kinds: their decisions are the same */
+    /* both kinds make equal pairs: their decisions are equal */
     while (kept_queue.flight.count - begin < period) {
         sink += kept();
         pairs++;

@@ -51,7 +51,7 @@ static struct {
     struct pie_stats stats;
     struct packet queue[PACKETS];
     uint64_t came, left, bytes;
-    int last; /* who had the turn before */
+    int last; /* the thread that had the turn before */
 } shared = {.mutex = PTHREAD_MUTEX_INITIALIZER};
 
 static struct pie_opening opening;
@@ -265,7 +265,7 @@ static void update(struct worker *worker, uint64_t moment) {
     give_back(worker);
 }
 
-/* A burst arrives, and as many packets depart: two turns. */
+/* A burst arrives, and an equal number of packets departs: two turns. */
 static void two_turns(struct worker *worker, int threads) {
     uint64_t moment;
     size_t made;
@@ -331,7 +331,7 @@ static void open_link(int threads) {
         die("a link", code);
 }
 
-/* Counts the turns that follow one of another caller, among the turns whose events the log holds. Closes the link. */
+/* Counts the turns that follow one of another caller, among the turns with events in the log. Closes the link. */
 static double changes_of_log(int threads, uint32_t burst) {
     struct pie_event events[PIE_LINK_MOST];
     struct pie_params params;

@@ -11,7 +11,7 @@
 #define ONE 1000000000000ull
 #define MAX_DELAY (1ull << 40)
 
-/* A step is a call of its own, as a call across the crates of the repository is. */
+/* A step is a separate call, as between the crates of the repository. */
 #if defined(__GNUC__) && !defined(__clang__)
 #define STEP __attribute__((noipa, unused)) static
 #else
@@ -79,7 +79,7 @@ static inline enum choice arrived_by(uint64_t *accu, const struct params *params
     return drop != ENQUEUE ? drop : consider_by(accu, params, control, bytes, ecn, word);
 }
 
-/* A departure, as the estimate of the departure rate is shown it (section 5.2). */
+/* Adds a departure to the estimate of the departure rate (section 5.2). */
 static inline void departed_by(struct rate *rate, uint32_t size, uint64_t left, uint64_t moment, uint64_t threshold) {
     if (rate->begun) {
         uint64_t count = rate->count + size;
@@ -133,7 +133,7 @@ static inline uint64_t probability_by(const struct params *p, uint64_t prob, uin
     return step < 0 ? 0 : step > (__int128)ONE ? ONE : (uint64_t)step;
 }
 
-/* It decays where both delays are 0. */
+/* The probability decays if both delays are 0. */
 static inline uint64_t probability_after(const struct params *p, uint64_t prob, uint64_t delay, uint64_t old) {
     return probability_by(p, prob, delay, old, delay == 0 && old == 0);
 }

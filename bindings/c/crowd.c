@@ -139,7 +139,7 @@ static int have_gone_on(const unsigned long long *before, int threads) {
     return 1;
 }
 
-/* Writes the events of the log, at most what fits at once. Returns true if it reached the end of the log. */
+/* Writes the events of the log, at most the number that fits at once. Returns true if it reached the end of the log. */
 static int fold(void) {
     struct pie_event events[PIE_LINK_MOST];
     struct pie_params params;

@@ -96,7 +96,7 @@ static void try_events(void) {
     CHECK(memcmp(text, longest, strlen(longest)) == 0);
     for (place = offsetof(struct pie_event, delay); place < sizeof event; place++) {
         if (place == offsetof(struct pie_event, size))
-            place = offsetof(struct pie_event, answer) + 1; /* what an arrival has, and what may be anything there */
+            place = offsetof(struct pie_event, answer) + 1; /* the fields of an arrival, and those with any value */
         if (place == offsetof(struct pie_event, caller))
             place = offsetof(struct pie_event, kind);
         other = event;
@@ -147,7 +147,7 @@ static void try_clocks(void) {
 static void step(struct pie_state *pie, uint64_t *now, uint64_t tag) {
     uint64_t word = random_word();
     struct pie_event event;
-    memset(&event, 0xee, sizeof event); /* what a caller doesn't fill in plays no part */
+    memset(&event, 0xee, sizeof event); /* fields that a caller does not fill in have no effect */
     *now += word % 400000;
     event.moment = *now;
     event.caller = (uint16_t)(word >> 32);

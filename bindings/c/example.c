@@ -45,7 +45,7 @@ static uint64_t random_word(void) {
     return last ^ last >> 29;
 }
 
-/* Prints a record; asked is how many fields the trace has of it. */
+/* Prints a record; `asked` is the number of its fields in the trace. */
 static void print_record(unsigned char *text, size_t count, int asked) {
     size_t length = 0;
     if (is_trace && count != 0) {
@@ -57,7 +57,7 @@ static void print_record(unsigned char *text, size_t count, int asked) {
     fwrite(text, 1, count, stdout);
 }
 
-/* Prints what was asked and answered. */
+/* Prints a command and its answer. */
 static void print_event(const struct pie_event *event, int asked) {
     unsigned char text[PIE_RECORD_ROOM];
     struct pie_event it = *event;

@@ -51,7 +51,7 @@ static void folds(struct pie_port *port, uint64_t dq_threshold) {
     CHECK(events[0].word == UINT64_C(0x9e3779b97f4a7c15) * 8 && events[0].ecn == PIE_ECT0 && events[0].prob == 0);
     CHECK(events[1].kind == PIE_EVENT_DEPART && events[1].caller == 0 && events[1].tag == 7 && events[1].moment == 30);
     CHECK(memcmp(&events[2], &before, sizeof before) == 0);
-    /* no further than what sets parameters */
+    /* no event after one that sets parameters */
     CHECK(pie_link_fold(port, events, PIE_LINK_MOST + 1, &folded, &last, &params) == PIE_DONE && folded == 4 && last == 6);
     CHECK(events[0].kind == PIE_EVENT_DEPART && events[0].answer == PIE_NONE && events[0].moment == 30);
     CHECK(events[1].kind == PIE_EVENT_UPDATE && events[1].burst == 150000000 && events[2].kind == PIE_EVENT_RESET);
@@ -151,7 +151,7 @@ static void calls(void) {
     CHECK(pie_link_close(&other) == PIE_DONE);
 }
 
-/* So many events from this tag on, a nanosecond apart. */
+/* Makes events from this tag on, a nanosecond apart. */
 static void events_from(uint64_t tag, struct pie_event *events, size_t count) {
     size_t i;
     for (i = 0; i < count; i++)
@@ -479,7 +479,7 @@ static void excerpts(void) {
     CHECK(pie_link_try_excerpt(&port, &excerpt) == PIE_CLOSED && pie_link_write_excerpt(&excerpt, record, sizeof record) == 0 && record[0] == 7);
     CHECK(pie_link_close_excerpt(&excerpt) == PIE_CLOSED && excerpt.at == NULL);
     CHECK(pie_link_open(&opening, 2, &port) == PIE_DONE && pie_link_excerpt(&port, &excerpt) == PIE_CLOSED && excerpt.at == NULL);
-    /* opening: of no events is what a controller is opened with */
+    /* opening: without events the excerpt has the state of a new controller */
     larger = opening;
     larger.profile = 3;
     CHECK(pie_link_open_excerpt(&larger, &excerpt) == PIE_BAD_PROFILE && excerpt.at == NULL);
@@ -488,10 +488,10 @@ static void excerpts(void) {
     count = pie_write_resume(&opening, &state, &stats, 0, PIE_UNKNOWN, 0, 0, text, sizeof text);
     CHECK(count > 0 && pie_link_write_excerpt(&excerpt, record, count - 1) == 0 && record[0] == 7 && record[count - 1] == 7);
     CHECK(is_next(&excerpt, text, count) && pie_link_write_excerpt(&excerpt, record, sizeof record) == 0);
-    /* an empty link has the same content, and its text begins again each time */
+    /* the excerpt of an empty link is equal, and its text begins again each time */
     for (i = 0; i < 3; i++)
         CHECK(pie_link_excerpt(&port, &excerpt) == PIE_DONE && is_next(&excerpt, text, count));
-    /* events: from some event on all are there, at least those of the log, whatever was left unread of the last text */
+    /* events: all from some event on, at least those of the log, even if the last text was not read to its end */
     for (i = 0; i < EVENTS; i++) {
         events[i] = event_at(10 * (i + 1), i);
         CHECK(i % 5 < 3 ? pie_link_arrive(&port, &events[i]) == PIE_ENQUEUE : pie_link_depart(&port, &events[i]) == PIE_DONE);
@@ -555,7 +555,7 @@ static void threads(void) {
         pthread_cancel(ids[1 + i]);
     for (i = 0; i < THREADS; i++)
         CHECK(pthread_join(ids[i], NULL) == 0);
-    /* by rooms of 1 to the most: the same history as one by one */
+    /* with room for 1 to the most events: the history equals the one read event by event */
     for (i = 1; (code = pie_link_fold(&ports[0], events, (size_t)i, &folded, &last, &params)) == PIE_DONE; i = i % PIE_LINK_MOST + 1) {
         CHECK(folded <= (size_t)i && last == written + folded); /* none is missing: the log had room for all */
         written = last;
@@ -617,7 +617,7 @@ static void memory(void) {
         CHECK(code == PIE_NO_MEMORY && was_refused && port.at == NULL);
     requests += number;
     for (number = 0; REFUSING(number, pie_link_share(&port, &other)) != PIE_DONE; number++)
-        CHECK(code == PIE_NO_MEMORY && was_refused && other.at == NULL); /* the number stays: it is shared the next time */
+        CHECK(code == PIE_NO_MEMORY && was_refused && other.at == NULL); /* the number stays with its port: it is shared the next time */
     requests += number;
     for (number = 0; REFUSING(number, pie_link_open_excerpt(&opening, &excerpt)) != PIE_DONE; number++)
         CHECK(code == PIE_NO_MEMORY && was_refused && excerpt.at == NULL);

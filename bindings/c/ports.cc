@@ -1,5 +1,5 @@
 // The classes of include/pie_link.h, as C++11 and C++17: a port and an excerpt are moved and never copied, and close themselves; each member function
-// answers as the call in C that it is named after; and threads each have a port. bindings/c/threads.sh builds and runs it.
+// returns the result of the call in C of its name; and threads each have a port. bindings/c/threads.sh builds and runs it.
 #include "pie_link.h"
 
 #include <cstdio>

@@ -432,7 +432,7 @@ static int any_state(void) {
     return 0;
 }
 
-/* Each number as it is named, and whole: none is cut to 8, 16 or 32 bits on its way. */
+/* Each number in its field, and complete: none is cut to 8, 16 or 32 bits on its way. */
 static int widths(void) {
     CHECK(PIE_NOT_ECT == 0 && PIE_ECT1 == 1 && PIE_ECT0 == 2 && PIE_CE == 3 && PIE_ALWAYS_ON == 1 && PIE_ON_AND_OFF == 2);
     CHECK(sizeof(struct pie_params) == 72 && sizeof(struct pie_state) == 184 && sizeof(struct pie_updated) == 40);
@@ -567,7 +567,7 @@ static int choices(void) {
     state.choices = PIE_DELAY_STAMP;
     CHECK(pie_set_params(&state, &params, LATEST) == PIE_DONE && state.waited == 7 && state.choices == 1);
     CHECK(pie_reset(&state, LATEST) == PIE_DONE && state.waited == 0 && state.choices == 1);
-    /* by the rate it is pie_depart, whatever arrived when */
+    /* by the rate it is pie_depart, whatever the moment of arrival */
     struct pie_state rate = opened(), same_calls = opened();
     CHECK(pie_depart_waited(&rate, 1500, 20000, LATEST, 1000) == PIE_DONE && pie_depart(&same_calls, 1500, 20000, 1000) == PIE_DONE);
     CHECK(same(&rate, &same_calls) && rate.measuring == 1);

@@ -97,7 +97,7 @@ static int answers_and_sizes(void) {
     CHECK(pie_depart(&pie, PIE_MAX_SIZE + 1, 0, 0) == PIE_BAD_SIZE && same(&pie, &before));
     CHECK(pie_depart(&pie, PIE_MAX_SIZE, PIE_MAX_BYTES + 1, 0) == PIE_BAD_QUEUE && same(&pie, &before));
     CHECK(pie_depart(&pie, PIE_MAX_SIZE, PIE_MAX_BYTES, 0) == PIE_DONE);
-    /* each code has words of its own, and no other number has */
+    /* each code has a text of its own, and no other number has one */
     const uint64_t codes[] = {0, 1, 2, 3, 4, 5, 101, 102, 103, 107, 110, 111, 112, 113, 114, 115, 116, 117, 118, 119, 120, PIE_BAD_EVERY};
     for (uint64_t code = 0; code < 300; code++) {
         int is_code = 0;

@@ -19,7 +19,7 @@ bool fwd_flows_open(struct fwd_flows *flows, const char *path);
  * `user` is the struct fwd_flows. */
 uint32_t fwd_flow_of(void *user, const struct rte_mbuf *mbuf);
 
-/* Writes the rest, and closes the file; false where not all could be written. */
+/* Writes the rest, and closes the file. Returns false if not all could be written. */
 bool fwd_flows_close(struct fwd_flows *flows);
 
 #endif

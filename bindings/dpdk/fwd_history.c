@@ -45,7 +45,7 @@ static void say_broken(struct fwd_history *history) {
     history->is_broken = true;
 }
 
-/* Writes some of what came since; whether there was anything. */
+/* Writes some of the events since the last call. Returns true if there was any. */
 static bool write_some(struct fwd_history *history, struct pie_stage *stage) {
     size_t size = history->file != NULL && !history->is_broken ? pie_stage_history(stage, history->text, ROOM) : 0;
     if (size != 0 && fwrite(history->text, 1, size, history->file) != size)

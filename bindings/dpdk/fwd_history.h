@@ -28,7 +28,7 @@ bool fwd_history_open(struct fwd_history *history, const char *path, uint32_t qu
  * on: the stage counts the events that are not taken out as lost. */
 bool fwd_history_write(struct fwd_history *history, struct pie_stage *stage);
 
-/* Writes the rest when no lcore calls the stage any more, and closes the file; false where not all could be written. */
+/* Writes the rest when no lcore calls the stage any more, and closes the file. Returns false if not all could be written. */
 bool fwd_history_close(struct fwd_history *history, struct pie_stage *stage);
 
 #endif

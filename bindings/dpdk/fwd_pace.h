@@ -17,7 +17,7 @@ static inline struct fwd_pace fwd_pace_of(double bits_a_second, double hz, uint6
     return (struct fwd_pace){.cycles_a_byte = hz * 8 / bits_a_second, .at = (double)now, .most = hz / FWD_PACE_PAUSES};
 }
 
-/* The bytes for which there is time, 0 for none. A packet may have more: then the time after it is used up. */
+/* Returns the bytes for which there is time, 0 for none. A packet may have more: it then uses up the time after it. */
 static inline uint64_t fwd_pace_bytes(struct fwd_pace *pace, uint64_t now) {
     if (pace->at > (double)now)
         return 0;
@@ -26,7 +26,7 @@ static inline uint64_t fwd_pace_bytes(struct fwd_pace *pace, uint64_t now) {
     return 1 + (uint64_t)(((double)now - pace->at) / pace->cycles_a_byte);
 }
 
-/* So many bytes were moved. */
+/* Counts these moved bytes. */
 static inline void fwd_pace_move(struct fwd_pace *pace, uint64_t bytes) {
     pace->at += (double)bytes * pace->cycles_a_byte;
 }

@@ -1,5 +1,5 @@
-/* The queues of the link, a stage each, with one sender: packets go to one by the class of their IP header, and the sender takes from each in turn,
- * so that each that has packets has the same share of the rate. */
+/* The queues of the link, a stage each, with one sender: packets go to one by the class of their IP header, and the sender takes from each in
+ * turn. Queues with packets have equal shares of the rate. */
 #ifndef FWD_QUEUES_H
 #define FWD_QUEUES_H
 
@@ -12,7 +12,7 @@
 struct fwd_queues {
     uint32_t count;
     struct pie_stage *stages[FWD_QUEUES];
-    int64_t credits[FWD_QUEUES]; /* of the sender alone: the bytes that a queue may still send in its turn; below 0 what it sent too much */
+    int64_t credits[FWD_QUEUES]; /* of the sender alone: the bytes that a queue may still send in its turn; below 0 the excess that it sent */
     uint32_t turn;
 };
 

@@ -21,7 +21,7 @@ bool fwd_records_open(struct fwd_records *records, const char *path, uint32_t qu
  * reports it once on stderr and writes no more. */
 void fwd_records_write(struct fwd_records *records, struct pie_stage *stage, bool is_over);
 
-/* Writes the last record when no lcore calls the stage any more, and closes the file; false where not all could be written. */
+/* Writes the last record when no lcore calls the stage any more, and closes the file. Returns false if not all could be written. */
 bool fwd_records_close(struct fwd_records *records, struct pie_stage *stage);
 
 #endif

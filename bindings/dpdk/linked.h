@@ -62,7 +62,7 @@ static inline void linked_end(struct linked *linked, const struct pie_event *upd
         __atomic_store_n(&linked->due, update->moment + linked->t_update, __ATOMIC_RELAXED);
 }
 
-/* Up to LINKED_BURST packets; what is dropped is freed. Answers how many are queued. */
+/* Enqueues up to LINKED_BURST packets and frees the dropped ones. Returns the number of queued packets. */
 static inline uint32_t linked_enqueue(struct linked *linked, struct rte_mbuf **mbufs, uint32_t count, uint64_t now) {
     struct pie_event events[1 + LINKED_BURST];
     struct stage_packet packets[LINKED_BURST];

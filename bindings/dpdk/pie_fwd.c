@@ -100,7 +100,7 @@ static void send_burst(uint16_t port, struct rte_mbuf **mbufs, uint16_t count) {
     }
 }
 
-/* Sends what the rate allows. A link that had nothing to send does not save up time. */
+/* Sends the packets that the rate allows. A link that had nothing to send does not save up time. */
 static void serve(struct fwd_pace *pace) {
     struct rte_mbuf *mbufs[BURST];
     uint64_t now = rte_rdtsc(), bytes = fwd_pace_bytes(pace, now);
@@ -154,7 +154,7 @@ static bool open_port(uint16_t port, uint16_t queues) {
         return fail("a port's queue to send by", -code);
     if ((code = rte_eth_dev_start(port)) != 0)
         return fail("the start of a port", -code);
-    rte_eth_promiscuous_enable(port); // (a forwarder takes what is not for itself; not all ports have this)
+    rte_eth_promiscuous_enable(port); // (a forwarder receives packets for other addresses; not all ports support this)
     return true;
 }
 
@@ -254,7 +254,7 @@ static void report(void) {
             told = now;
         }
         write_flights(written);
-        // (who reads the lines may go: then it is over too)
+        // (if the reader of the lines is gone, the program ends too)
         if (is_over || ferror(stdout) != 0)
             return;
         if (!write_texts())
@@ -262,7 +262,7 @@ static void report(void) {
     }
 }
 
-/* Frees what a port still has for us: a net_ring holds what was sent into it. A net_null never ends, so the polls are limited. */
+/* Frees the packets that a port still has for us: a net_ring holds the packets sent into it. A net_null never ends, so the polls are limited. */
 static void drain(uint16_t port, uint16_t queues) {
     struct rte_mbuf *mbufs[BURST];
     for (uint16_t queue = 0; queue < queues; queue++)

@@ -19,7 +19,7 @@
 
 /* The properties of an arriving packet. */
 struct seen {
-    struct stage_packet packet; /* its ECN field as the controller gets it: PIE_NOT_ECT of what cannot be marked */
+    struct stage_packet packet; /* its ECN field for the controller: PIE_NOT_ECT if the packet cannot be marked */
     uint32_t size;
 };
 
@@ -47,7 +47,7 @@ void pie_stage_default_params(struct pie_stage_params *params, uint64_t rate) {
     params->flight = PIE_STAGE_FLIGHT;
 }
 
-/* Opens the controller and takes a key; 0, or what rte_errno becomes. */
+/* Opens the controller and takes a key. Returns 0, or the value for rte_errno. */
 static int open_stage(struct pie_stage *stage, const struct pie_stage_params *params) {
     if (pie_open(&stage->pie, &params->opening) != PIE_DONE)
         return EINVAL;
@@ -72,7 +72,7 @@ static void *memory_of(size_t bytes, int socket) {
     return rte_malloc_socket("pie_stage", bytes, RTE_CACHE_LINE_SIZE, socket);
 }
 
-/* Opens the first period; 0, or what rte_errno becomes. */
+/* Opens the first interval. Returns 0, or the value for rte_errno. */
 static int open_periods(struct pie_stage *stage, const struct pie_stage_params *params, int socket) {
     if (params->every == 0)
         return 0;
@@ -97,7 +97,8 @@ static int open_flows(struct pie_stage *stage, const struct pie_stage_params *pa
     return stage->flows != NULL && (stage->cut.flows != NULL || !stage->is_followed) ? 0 : ENOMEM;
 }
 
-/* Opens the flight recorder; 0, or what rte_errno becomes. The memory for a copy is taken here, so that a text can be written when memory is out. */
+/* Opens the flight recorder. Returns 0, or the value for rte_errno. The memory for a copy is taken here, so that a text can be written when memory
+ * is out. */
 static int open_flight(struct pie_stage *stage, const struct pie_stage_params *params, int socket) {
     uint32_t events = RTE_MAX(params->flight, params->events);
     if (events == 0)
@@ -166,7 +167,7 @@ void pie_stage_free(struct pie_stage *stage) {
     free_memory(stage);
 }
 
-/* Under the lock, the flight recorder's snapshot of what there is now. */
+/* Takes the flight recorder's snapshot of the present state, under the lock. */
 static __rte_noinline void take_snapshot(struct pie_stage *stage) {
     stage->flight.stats = history_stats(stage);
     stage->flight.came_so_far = stage->stats.queued;

@@ -73,7 +73,7 @@ static void expect_all_back(void) {
 
 static unsigned char text[65536];
 
-/* Writes what the history has now; answers whether there was anything. */
+/* Writes the present part of the history. Returns true if there was any. */
 static bool write_history(FILE *file) {
     size_t size = pie_stage_history(stage, text, sizeof text);
     if (fwrite(text, 1, size, file) != size)
@@ -300,7 +300,7 @@ static int write_to(void *user, const unsigned char *bytes, size_t count) {
     return fwrite(bytes, 1, count, user) == count ? 0 : 1;
 }
 
-/* Writes what the flight recorder holds. */
+/* Writes the contents of the flight recorder. */
 static void write_flight(const char *path) {
     FILE *file = fopen(path, "w");
     if (file == NULL || pie_stage_flight(stage, write_to, file) != PIE_FLIGHT_DONE || fclose(file) != 0)

@@ -18,7 +18,7 @@ struct stage_packet {
 #define STAGE_ETHERNET 14 /* bytes of the Ethernet header */
 #define STAGE_IPV4 20     /* bytes of an IPv4 header without options */
 
-/* stage_packet_look and stage_packet_is_shared of any frame, however it is cut. */
+/* stage_packet_look and stage_packet_is_shared for any frame, in any segments. */
 struct stage_packet stage_packet_look_anywhere(const struct rte_mbuf *mbuf);
 bool stage_packet_is_shared_anywhere(const struct rte_mbuf *mbuf, const struct stage_packet *packet);
 
@@ -43,8 +43,7 @@ static inline bool stage_packet_is_shared(const struct rte_mbuf *mbuf, const str
     return stage_packet_is_shared_anywhere(mbuf, packet);
 }
 
-/* Sets the field to CE. Corrects the checksum of IPv4, unless the card is asked to compute it
- * (RTE_MBUF_F_TX_IP_CKSUM). */
+/* Sets the field to CE. Corrects the checksum of IPv4, unless the card computes it (RTE_MBUF_F_TX_IP_CKSUM). */
 void stage_packet_mark(struct rte_mbuf *mbuf, const struct stage_packet *packet);
 
 #endif

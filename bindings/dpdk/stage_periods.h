@@ -1,5 +1,5 @@
-/* The periods of a stage: who decides sums up the one under way, and hands those that are over to the one thread that writes their records. Neither
- * waits for the other. */
+/* The intervals of a stage: the deciding thread sums up the one under way, and passes complete ones to the one thread that writes their records.
+ * Neither waits for the other. */
 #ifndef STAGE_PERIODS_H
 #define STAGE_PERIODS_H
 

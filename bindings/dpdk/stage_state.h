@@ -63,7 +63,7 @@ struct pie_stage {
     uint64_t longest; /* a wait above this many nanoseconds requests the flight recorder's text */
     enum record record;
     struct stage_periods *periods; /* NULL if no interval records are requested */
-    pie_stage_flow flow;           /* NULL where flows are not asked for */
+    pie_stage_flow flow;           /* NULL if flows are not requested */
     void *flow_user;
     uint32_t *flows;               /* of the queued packets: number n is at the place n modulo the queue's room */
     uint32_t room;
@@ -86,7 +86,7 @@ struct pie_stage {
     uint64_t arrivals; /* that were decided on: the tag of the latest */
     struct pie_flight flight;
     struct pie_stage_stats stats;
-    uint64_t most_bytes, greatest_delay; /* what the history's statistics have beside these */
+    uint64_t most_bytes, greatest_delay; /* the other statistics of the history */
     bool is_asked;                                    /* a packet waited longer than `longest` */
     struct stage_words words;
 };
@@ -96,7 +96,7 @@ static inline uint64_t nanoseconds_of(const struct pie_stage *stage, uint64_t cy
     return nanoseconds < PIE_MAX_MOMENT ? (uint64_t)nanoseconds : PIE_MAX_MOMENT;
 }
 
-/* Nanoseconds since the stage was made. A TSC that lies before that counts as the start. */
+/* Returns the nanoseconds since the stage was created. An earlier TSC counts as the start. */
 static inline uint64_t moment_of(const struct pie_stage *stage, uint64_t now) {
     return now > stage->start ? nanoseconds_of(stage, now - stage->start) : 0;
 }

@@ -21,7 +21,7 @@ static struct {
     } stages[STAGE_TELEMETRY_MOST];
 } shown = {.lock = RTE_SPINLOCK_INITIALIZER};
 
-/* A number of the statistics or of the parameters: its name and place, and of a parameter what reads a text with a unit. */
+/* A number of the statistics or of the parameters: its name and place, and for a parameter the function that reads a text with a unit. */
 struct number {
     const char *name;
     size_t at;

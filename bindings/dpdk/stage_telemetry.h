@@ -9,14 +9,14 @@
 #ifndef STAGE_TELEMETRY_H
 #define STAGE_TELEMETRY_H
 
-#define STAGE_TELEMETRY_MOST 64 /* stages; those beyond it are not shown */
+#define STAGE_TELEMETRY_MOST 64 /* stages; further ones are not listed */
 
 struct pie_stage;
 
-/* Shows a stage, under the lowest number that is free. */
+/* Lists a stage, under the lowest free number. */
 void stage_telemetry_add(struct pie_stage *stage, const char *name);
 
-/* Shows it no more; whoever reads it ends first. */
+/* Removes a stage from the list, once no reader uses it any more. */
 void stage_telemetry_remove(const struct pie_stage *stage);
 
 #endif

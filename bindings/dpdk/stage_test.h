@@ -45,7 +45,7 @@ struct told {
     uint64_t clocks;            /* lines of the time of day */
 };
 
-/* Takes out what the history has now, or to its end, into a file. */
+/* Writes the present part of the history, or all of it to its end, into a file. */
 void take_history(struct pie_stage *stage, FILE *file, struct told *told);
 
 /* A file NAME.ENDING in the folder; a history's ending is `history`. */

@@ -73,7 +73,7 @@ struct rte_mbuf *plain(uint16_t size, uint8_t ecn) {
     return mbuf;
 }
 
-/* However it is cut into segments, a mark changes the ECN field and the checksum alone, and the checksum is right. */
+/* In any segments, a mark changes the ECN field and the checksum alone, and the checksum is right. */
 static void expect_marked(int tags, int version, uint8_t ecn, uint32_t first, uint32_t second) {
     uint8_t bytes[256], wanted[256], copy[256];
     uint32_t size = write_frame(bytes, tags, version, ecn);
@@ -94,7 +94,7 @@ void test_marks(void) {
                 for (uint32_t first = 1; first < 50; first++)
                     for (uint32_t second = 0; second < 12; second += 3)
                         expect_marked(tags, version, ecn, first, second);
-    // the card computes the checksum: it is left alone
+    // the card computes the checksum: it is unchanged
     struct rte_mbuf *mbuf = frame(0, 4, PIE_ECT0);
     struct stage_packet packet = stage_packet_look(mbuf);
     uint8_t before[64], after[64];

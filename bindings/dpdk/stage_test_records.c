@@ -208,7 +208,7 @@ void test_flows(uint32_t events, uint32_t flight) {
     params.flow_user = &asked;
     struct pie_stage *stage = stage_of(&params);
     mbufs[0] = plain(100, 0);
-    EXPECT(pie_stage_enqueue(stage, mbufs, 1, now) == 1 && asked == 0); // (a stage that keeps no events asks for no flow)
+    EXPECT(pie_stage_enqueue(stage, mbufs, 1, now) == 1 && asked == 0); // (a stage that keeps no events requests no flow)
     pie_stage_free(stage);
     params.events = events;
     params.flight = flight;

@@ -64,8 +64,7 @@ void test_cut_beside(int cuts) {
     printf("stage_test: a history that is cut while packets come and go\n");
 }
 
-/* Three threads enqueue what they own, one dequeues and gives each packet back to its owner, one updates, reads, and sets
- * parameters. */
+/* Three threads enqueue their packets, one dequeues and returns each packet to its owner, one updates, reads, and sets parameters. */
 #define SENDERS 3
 #define OWNED 64
 
@@ -97,7 +96,7 @@ static void *send_bursts(void *argument) {
         sender->handed_back += count - queued;
         rte_spinlock_unlock(&sender->lock);
         if (round % 16 == 0)
-            sched_yield(); // (so that the others get their turns where processors are few)
+            sched_yield(); // (so that the others get their turns if there are few processors)
     }
     return NULL;
 }

@@ -1,6 +1,5 @@
-/* TCP flows over a dumbbell: each flow has a sender and a receiver of its own, and all share one link, whose queue is managed by
- * this repository's PIE, by ns-3's own with or without de-randomization, or by tail drop. Prints one CSV record of what came out.
- */
+/* TCP flows over a dumbbell: each flow has a sender and a receiver of its own, and all share one link, whose queue is managed by this repository's
+ * PIE, by ns-3's own with or without de-randomization, or by tail drop. Prints one CSV record of the results. / */
 #include "changed-pie-queue-disc.h"
 #include "recorded-pie-queue-disc.h"
 
@@ -317,7 +316,7 @@ Quantile(const std::vector<double>& sorted, double part)
     return sorted.empty() ? 0 : sorted[static_cast<size_t>(part * static_cast<double>(sorted.size() - 1))];
 }
 
-/* Jain's index: 1 where all flows received the same. */
+/* Returns Jain's index: 1 if all flows received equal amounts. */
 double
 Fairness(const std::vector<uint64_t>& received)
 {

@@ -34,8 +34,8 @@ Moment()
     return static_cast<uint64_t>(Simulator::Now().GetNanoSeconds());
 }
 
-/* The ECN field of the item's IP header. Without such a header a packet understands no mark; and a queue that makes no use of ECN
- * takes every packet for one that doesn't. */
+/* The ECN field of the item's IP header. A packet without such a header is not ECN-capable; a queue that does not use ECN treats every packet as
+ * not ECN-capable. */
 uint32_t
 EcnField(Ptr<const QueueDiscItem> item, bool useEcn)
 {
@@ -263,7 +263,7 @@ RecordedPieQueueDisc::CheckConfig()
         NS_LOG_ERROR("parameter " << bad << " of pie_check_params is out of its range");
         return false;
     }
-    /* The library decides what there is room for, so the queue itself never refuses. */
+    /* The library decides if there is room for a packet, so the queue itself never refuses one. */
     QueueSize limit(QueueSizeUnit::BYTES, m_limitBytes);
     SetMaxSize(limit);
     AddInternalQueue(CreateObjectWithAttributes<DropTailQueue<QueueDiscItem>>("MaxSize", QueueSizeValue(limit)));

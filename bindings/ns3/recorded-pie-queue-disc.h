@@ -21,9 +21,9 @@
 namespace ns3
 {
 
-/* A queue of bytes with PIE in front of it. The controller's parameters are attributes of the same names; they hold from the
- * initialization on. Updates are events of the simulator, each scheduled at the moment that the update before it answered.
- * A refusal by the library ends the simulation with its code. */
+/* A queue of bytes with PIE in front of it. The controller's parameters are attributes of the same names; they hold from the initialization on.
+ * Updates are events of the simulator, each scheduled at the moment that the update before it returned. A refusal by the library ends the
+ * simulation with its code. */
 class RecordedPieQueueDisc : public QueueDisc
 {
   public:

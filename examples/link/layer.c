@@ -11,7 +11,7 @@
 #define PAYLOAD 48
 #define MOST_BYTES 65535
 
-/* The entry of the table at this place: what the greatest size of its step takes. */
+/* Returns the entry of the table at this place: the size on the link of the greatest packet of its step. */
 static uint32_t entry(const struct layer *layer, uint32_t place) {
     uint32_t size = (place + 1) * STEP;
     size = size < layer->mpu ? layer->mpu : size;

@@ -15,7 +15,7 @@ struct layer {
 /* Returns the bytes that a packet of `size` bytes takes on the link, at least 1. */
 uint32_t size_on_link(const struct layer *layer, uint32_t size);
 
-/* Read an option's text into a struct layer, and return what is wrong with it, or NULL. */
+/* Read an option's text into a struct layer, and return the error in it, or NULL. */
 const char *layer_overhead(const char *text, void *to);
 const char *layer_mpu(const char *text, void *to);
 const char *layer_kind(const char *text, void *to);

@@ -2,7 +2,7 @@
  * ppoll for packets, for the end of a transmission, for the delay on the way back, and for the moment when an update is due. Another
  * thread follows the flight recorder and writes the history, so that no packet waits for a file.
  *
- * Nothing here touches another device: what comes in by the one TUN device goes out by the other. */
+ * Nothing here touches another device: a packet from one TUN device goes out by the other. */
 #define _GNU_SOURCE
 #include "flight_file.h"
 #include "flow.h"
@@ -38,7 +38,7 @@
 struct bottleneck {
     const struct options *options;
     int from, to;          /* the devices */
-    bool from_has, to_has; /* whether there is something to read */
+    bool from_has, to_has; /* true if there is something to read */
     struct pie_state pie;  /* the controller in front of the queue */
     struct packets queue;  /* queued for the link */
     struct packets there;  /* packets on the link, until the end of their transmission */
@@ -123,14 +123,14 @@ static int open_device(const char *name) {
     return device;
 }
 
-/* Hands a packet to a device. One that the device does not take, since it is down or full, is lost, as on a wire. */
+/* Writes a packet to a device. If the device is down or full, the packet is lost, as on a wire. */
 static void send_packet(struct bottleneck *link, int device, struct packet *packet) {
     if (write(device, packet->bytes, packet->length) != (ssize_t)packet->length)
         link->lost++;
     free(packet);
 }
 
-/* Hands on the packets whose moment has come. */
+/* Writes the packets whose moment has been reached. */
 static void release(struct bottleneck *link, struct packets *packets, int device, uint64_t now) {
     while (packets->first != NULL && packets->first->moment <= now)
         send_packet(link, device, pop(packets));
@@ -292,7 +292,7 @@ static void wait_for_work(struct bottleneck *link, const sigset_t *signals) {
     link->to_has = ready > 0 && devices[1].revents != 0;
 }
 
-/* Hands what was counted to the thread that writes, once a second. */
+/* Passes the counts to the writing thread, once a second. */
 static void tell(struct bottleneck *link, uint64_t now) {
     struct metrics *counted = &link->counted;
     if (!is_metrics_due(&link->metrics, now))
@@ -307,7 +307,7 @@ static void tell(struct bottleneck *link, uint64_t now) {
     tell_metrics(&link->metrics, counted, now);
 }
 
-/* Moves what has to move now. */
+/* Moves all packets that are due. */
 static void step(struct bottleneck *link) {
     uint64_t now = moment_of(link);
     serve(link, now);

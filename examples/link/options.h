@@ -25,7 +25,7 @@ struct options {
     uint64_t rtt;           /* ns on the way back */
     uint64_t grant;         /* ns from one grant to the next; 0: the link sends whenever it is free */
     bool at_start;          /* a packet leaves when its transmission begins, not when it ends */
-    struct layer layer;     /* what a packet takes on the link beside its bytes */
+    struct layer layer;     /* the overhead of a packet on the link */
     struct rate_step rates[MOST_STEPS]; /* by their moments; the first is 0 */
     size_t steps;
     uint64_t lasts;         /* ns until the program ends by itself */
@@ -35,7 +35,7 @@ struct options {
 /* The results of read_options. */
 enum { OPTIONS_READ, OPTIONS_HELP, OPTIONS_WRONG };
 
-/* Reads the words; what is wrong with them, and the help that was asked for, is printed. */
+/* Reads the options. Prints errors, and the help if it is requested. */
 int read_options(int count, char **words, struct options *options);
 
 #endif

@@ -13,7 +13,7 @@ static void check(int holds, const char *what, unsigned number) {
     }
 }
 
-/* The ones' complement sum of a header: 0xffff where its checksum is right. */
+/* Returns the ones' complement sum of a header: 0xffff if its checksum is right. */
 static uint16_t sum_of(const uint8_t *header, size_t size) {
     uint32_t sum = 0;
     for (size_t i = 0; i < size; i += 2)

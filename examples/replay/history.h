@@ -22,7 +22,7 @@ bool write_time(struct history *history, uint64_t moment, uint64_t unix_time);
 /* Writes the record of an event, after its call. */
 void write_event(struct history *history, const struct pie_event *event);
 
-/* Closes the file; false where anything could not be written. */
+/* Closes the file. Returns false if anything could not be written. */
 bool close_history(struct history *history);
 
 #endif

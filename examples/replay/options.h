@@ -18,7 +18,7 @@ struct options {
 /* The results of read_options. */
 enum { OPTIONS_READ, OPTIONS_HELP, OPTIONS_WRONG };
 
-/* Reads the words; what is wrong with them, and the help that was asked for, is printed. */
+/* Reads the options. Prints errors, and the help if it is requested. */
 int read_options(int count, char **words, struct options *options);
 
 #endif

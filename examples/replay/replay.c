@@ -108,7 +108,7 @@ static void go_on(struct replay *replay, uint64_t until) {
     }
 }
 
-/* An arrival; answers the verdict, or why it is refused. */
+/* Makes an arrival. Returns the verdict, or the code of a refusal. */
 static uint32_t arrive(struct replay *replay, const struct ip_packet *packet, uint32_t size, uint64_t tag) {
     struct pie_event event = {.moment = replay->now, .tag = tag, .size = size, .caller = SENDER, .ecn = (uint8_t)packet->ecn};
     event.word = random_word(&replay->word);
@@ -173,7 +173,7 @@ static void send_packet(struct replay *replay, const struct ip_packet *packet, c
     tell(comment, answers, parts, &before);
 }
 
-/* Takes in a frame of the capture; false where its time stamp can't be. */
+/* Adds a frame of the capture. Returns false if its time stamp is invalid. */
 static bool take(struct replay *replay, struct capture *capture, const struct pcap_pkthdr *header, const uint8_t *bytes) {
     char comment[LONGEST_COMMENT] = "";
     struct ip_packet packet;

@@ -68,7 +68,7 @@ static const char *read_gain(const char *text, void *to) {
     return NULL;
 }
 
-/* A limit, whose unit shows what it limits. */
+/* Reads a limit, in bytes or packets by its unit. */
 static const char *read_limit(const char *text, void *to) {
     struct said *said = to;
     char last = text[strlen(text) - 1];
@@ -89,7 +89,7 @@ static const char *read_probability(const char *text, void *to) {
     return NULL;
 }
 
-/* One of two words; `to` is whether it is the second. */
+/* Reads one of two keywords; `to` is 1 for the second. */
 static const char *one_of(const char *text, bool *to, const char *first, const char *second) {
     *to = strcmp(text, second) == 0;
     return *to || strcmp(text, first) == 0 ? NULL : "not a value of this option";
@@ -158,7 +158,7 @@ static const struct option *named(const char *word, size_t length, const struct 
     return NULL;
 }
 
-/* Reads the option at this place with its text, and moves the place to its last word; what is wrong is printed. */
+/* Reads the option at this place with its text, and moves the place to its last word. Prints errors. */
 static bool read_option(const struct command *command, const struct option *option, int count, char **words, int *place) {
     const char *word = words[*place], *equals = strchr(word, '='), *fault = NULL;
     if (option->read == NULL && equals == NULL) {

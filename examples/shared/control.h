@@ -19,7 +19,7 @@ struct control {
     struct pie_opening opening; /* of its controller, at the moment 0 */
 };
 
-/* Reads an option's text, which isn't empty, into what `to` points to; what is wrong with it, NULL where nothing is. */
+/* Reads an option's text, which isn't empty, into the value at `to`. Returns the error in it, or NULL. */
 typedef const char *option_reader(const char *text, void *to);
 
 /* Into a uint64_t: nanoseconds, bits a second, bytes, packets, a whole number. */
@@ -55,7 +55,7 @@ enum { WORDS_HELP = -1, WORDS_WRONG = -2 };
  * position. Prints the help if it is requested, and errors. */
 int read_words(const struct command *command, int count, char **words, struct control *control);
 
-/* Tells what is wrong, and answers WORDS_WRONG. */
+/* Prints the error, and returns WORDS_WRONG. */
 int refuse_word(const struct command *command, const char *name, const char *text, const char *fault);
 
 #endif

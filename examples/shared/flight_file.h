@@ -1,4 +1,4 @@
-/* A flight recorder (include/pie_flight.h) in a file under mmap, so that what it holds outlives the process, or in memory of its own; its text. */
+/* A flight recorder (include/pie_flight.h) in a file under mmap, whose contents outlive the process, or in memory of its own; its text. */
 #ifndef SHARED_FLIGHT_FILE_H
 #define SHARED_FLIGHT_FILE_H
 

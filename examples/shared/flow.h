@@ -51,7 +51,7 @@ struct flow_row {
 
 /* All flows that were seen. One thread notes them, and the same or another one writes them. */
 struct flows {
-    FILE *file;           /* NULL where nobody asks for flows */
+    FILE *file;           /* NULL if flows are not requested */
     uint32_t *places;     /* the index in `rows`, from 1 on, by the number; 0 if there is none */
     struct flow_row *rows;
     uint32_t count;       /* of the rows: stored last by the thread that notes, and loaded first by that which writes */
@@ -70,10 +70,10 @@ bool open_flows(struct flows *flows, const char *name);
 uint64_t note_flow(struct flows *flows, const uint8_t *bytes, size_t caught, uint32_t size, uint64_t moment, uint64_t counter,
                    struct flow_top *ended);
 
-/* Writes the flows that came since the last call. */
+/* Writes the flows that are new since the last call. */
 void write_flows(struct flows *flows);
 
-/* Writes what is left, and closes the file; false where anything could not be written. */
+/* Writes the rest, and closes the file. Returns false if anything could not be written. */
 bool close_flows(struct flows *flows);
 
 #ifdef __cplusplus

@@ -67,7 +67,7 @@ void count_event(struct metrics *metrics, const struct pie_event *event, uint64_
     }
 }
 
-/* A number of such parts of a unit, in full: 10^9 or 10^12 of them, or 1. */
+/* Writes a number of parts of a unit in full: 10^9 or 10^12 parts, or 1. */
 static void write_number(FILE *file, unsigned __int128 number, uint64_t parts) {
     int digits = parts == PIE_ONE ? 12 : 9;
     fprintf(file, "%" PRIu64, (uint64_t)(number / parts));
@@ -151,7 +151,7 @@ static void write_text(FILE *file, const struct metrics_queue *queues, size_t co
     write_families(file, "gauge", gauges, sizeof gauges / sizeof gauges[0], queues, count);
 }
 
-/* The file, and its neighbour that a text is written to; once it was taken away it is not written again. */
+/* The file, and the neighbour to which a text is written; once the file was removed it is not written again. */
 static struct {
     pthread_mutex_t lock;
     char path[PATH_MAX], beside[PATH_MAX];

@@ -1,5 +1,5 @@
-/* The numbers of a queue as metrics, in the text format of Prometheus, for node_exporter's textfile collector. Their names and labels have their
- * home in metrics.c, and in docs/FORMATS.md; report/pie-metrics writes the same from records. */
+/* The numbers of a queue as metrics, in the text format of Prometheus, for node_exporter's textfile collector. Their names and labels are defined
+ * in metrics.c and docs/FORMATS.md; report/pie-metrics writes the same metrics from records. */
 #ifndef SHARED_METRICS_H
 #define SHARED_METRICS_H
 

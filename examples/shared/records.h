@@ -1,4 +1,5 @@
-/* The records of periods, summed up while the program runs: what `pie explain --every TIME --csv` writes of its history, with --wall or without. */
+/* The records of intervals, summed up while the program runs: the output of `pie explain --every TIME --csv` for its history, with --wall or
+ * without. */
 #ifndef SHARED_RECORDS_H
 #define SHARED_RECORDS_H
 
@@ -30,10 +31,10 @@ void make_record(struct records *records);
 /* Writes the completed record, and makes it visible to readers. */
 void write_record(struct records *records);
 
-/* Writes the last record, and closes the file; false where anything could not be written. */
+/* Writes the last record, and closes the file. Returns false if anything could not be written. */
 bool close_records(struct records *records);
 
-/* Before an event: returns true if it is summed up, and makes the record of a period that it may end. */
+/* Before an event: returns true if it is summed up, and makes the record of the interval that it ends, if any. */
 static inline bool are_summed(struct records *records, const struct pie_event *event) {
     if (records->file == NULL)
         return false;

@@ -153,7 +153,7 @@ static void random_events(uint64_t seed, uint64_t events) {
     free(scratch);
 }
 
-/* Puts an event that was not refused, as who decides bursts does. */
+/* Puts an event that was not refused, as a program that decides bursts does. */
 static void put(struct pie_flight_burst *burst, const struct queue *queue, const struct pie_event *event, struct owner *owner, uint64_t since) {
     if (event->kind == PIE_EVENT_ARRIVE) {
         pie_flight_arrive(burst, event->moment, event->tag, event->word, event->size, event->ecn, event->answer, event->caller);

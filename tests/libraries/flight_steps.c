@@ -49,7 +49,7 @@ enum who { NOBODY, COPY, WRITER };
 static struct {
     enum who goes;                      /* and may be stopped */
     const PIE_WORD *begin, *end;        /* of the recorder's memory */
-    const PIE_WORD *at;                 /* the place where the copy stops next, or NULL */
+    const PIE_WORD *at;                 /* the place at which the copy stops next, or NULL */
     uint64_t loads;                     /* the copy is stopped after this many loads from here on */
     uint64_t stores;                    /* the writer is stopped after this many stores from here on */
     uint64_t stops, seed;

@@ -14,7 +14,7 @@
 
 #define UNIX_TIME UINT64_C(1795550400000000000)
 
-static struct text followed, kept; /* what was followed; the whole history as it was written beside it */
+static struct text followed, kept; /* the followed events; the whole history, written beside them */
 static size_t *ends;               /* the end of the record of event n in the latter, from event 0 on, which is the
                                       opening */
 static uint64_t most, looks, anew; /* events; the number of looks; texts that began again */
@@ -109,7 +109,7 @@ static uint64_t compare(void) {
     return lost;
 }
 
-/* Looks at what was kept since; whether it could. */
+/* Follows the events kept since the last call. Returns true if it could. */
 static int look(struct pie_flight_follower *follower, void *scratch) {
     int answer = pie_flight_follow_text(follower, scratch, take, &followed);
     looks++;

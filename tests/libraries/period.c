@@ -115,7 +115,7 @@ static void before(uint64_t moment) {
         write_record(begun);
 }
 
-/* After it: the record is written if another period has begun. */
+/* After an event: writes the record if another interval has begun. */
 static void after(void) {
     if (period.begun == begun || begun == 0 || is_early)
         return;

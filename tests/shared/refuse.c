@@ -36,7 +36,7 @@ static int is_counted(const char *variable, long *number) {
     return 1;
 }
 
-/* Says that a request was refused. */
+/* Reports that a request was refused. */
 static int refuse(void) {
     int file = syscall(SYS_openat, AT_FDCWD, getenv("REFUSE_MET"), O_CREAT | O_WRONLY, 0600);
     if (file >= 0)
@@ -61,7 +61,7 @@ static int is_memory_refused(size_t size) {
     return is_refused(0, "REFUSE_MEMORY");
 }
 
-/* Says so if another thread than this one is still running a minute from now. One that was joined may be listed for a moment longer. */
+/* Reports it if a thread other than this one is still running a minute from now. A joined thread may be listed for a moment longer. */
 static void look_for_threads(void) {
     static const char found[] = "refuse.c: a thread is still running\n";
     struct stat tasks;

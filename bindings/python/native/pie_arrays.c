@@ -102,8 +102,8 @@ static void send(struct pie_array_queue *queue, uint64_t moment, uint32_t size) 
     queue->rest = time % queue->rate;
 }
 
-/* Returns what comes next: the arrival, or a departure or an update of its moment; of kind 0 if nothing comes until then. An arrival at a moment that
- * no history has comes at once, and is refused. */
+/* Returns the next event: the arrival, or a departure or an update up to its moment; of kind 0 if there is none until then. An arrival at an
+ * invalid moment is returned at once, and is refused. */
 static struct pie_event next(const struct pie_state *state, const struct pie_array_queue *queue, const struct pie_event *arrival, uint64_t until) {
     if (arrival && arrival->moment > PIE_MAX_MOMENT) {
         return *arrival;

@@ -16,8 +16,8 @@ enum {
     PIE_ARRAY_REFUSED = 1, /* a call was refused: the next event has the reason; nothing was changed by it */
     PIE_ARRAY_GROW = 2,    /* the memory of the ring is full, and more packets may be queued: call again with more
                               memory */
-    PIE_ARRAY_EVENTS = 3,  /* there are as many events as the opening allows, and nothing else refuses the next one */
-    PIE_ARRAY_KIND = 4,    /* the event that comes next is of no kind that the loop decides, or writes */
+    PIE_ARRAY_EVENTS = 3,  /* the number of events is at its limit, and the next one is refused for no other reason */
+    PIE_ARRAY_KIND = 4,    /* the next event is of a kind that the loop does not decide, or does not write */
     PIE_ARRAY_OUT = 5      /* there is no room for one more event */
 };
 
@@ -40,7 +40,7 @@ struct pie_array_queue {
     uint64_t events;               /* how many events were decided */
     uint64_t most_events;          /* how many there may be */
     uint64_t rate;                 /* of the link of pie_array_offer, in bits a second, 1 to 2^60 */
-    uint64_t link_free;            /* when that link has sent what it sends */
+    uint64_t link_free;            /* the moment at which the link has sent its packet */
     uint64_t rest;                 /* and by what part of a nanosecond later, in 1 / rate */
     uint64_t taken;                /* of pie_array_offer: how many of the arrivals were taken */
     uint64_t why;                  /* why the last loop ended */
@@ -64,7 +64,7 @@ size_t pie_array_offer(struct pie_state *state, struct pie_array_queue *queue, c
 size_t pie_array_write(const struct pie_event *events, size_t count, uint64_t *records, uint64_t *untold, unsigned char *out, size_t room,
                        size_t *length);
 
-/* pie_text and PIE_VERSION, for whoever has no compiler of C. */
+/* pie_text and PIE_VERSION, for programs without a C compiler. */
 const char *pie_array_text(uint64_t code);
 const char *pie_array_version(void);
 

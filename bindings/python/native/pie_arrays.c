@@ -65,8 +65,8 @@ static int is_refused(const struct pie_state *state, const struct pie_array_queu
     return decide(&trial, &other, &asked) > 100;
 }
 
-/* Returns why the next event cannot be decided, or PIE_ARRAY_ALL. The end of the events is the last of the reasons to refuse one: an event that the
- * controller refuses is left to it. */
+/* Returns the reason why the next event cannot be decided, or PIE_ARRAY_ALL. The limit of the number of events is the last of the reasons: an event
+ * that the controller would refuse is passed to the controller. */
 static uint64_t hindered(const struct pie_state *state, const struct pie_array_queue *queue, const struct pie_event *event) {
     if (event->kind < PIE_EVENT_ARRIVE || event->kind > PIE_EVENT_RESET) {
         return PIE_ARRAY_KIND;

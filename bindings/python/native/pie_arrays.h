@@ -37,17 +37,18 @@ struct pie_array_queue {
     uint32_t packets;              /* the number of queued packets, at most `slots` */
     uint32_t most_packets;         /* the most packets that may be queued */
     uint64_t bytes;                /* the number of queued bytes */
-    uint64_t events;               /* how many events were decided */
-    uint64_t most_events;          /* how many there may be */
+    uint64_t events;               /* the number of decided events */
+    uint64_t most_events;          /* the greatest number of decided events */
     uint64_t rate;                 /* of the link of pie_array_offer, in bits a second, 1 to 2^60 */
     uint64_t link_free;            /* the moment at which the link has sent its packet */
     uint64_t rest;                 /* and by what part of a nanosecond later, in 1 / rate */
-    uint64_t taken;                /* of pie_array_offer: how many of the arrivals were taken */
-    uint64_t why;                  /* why the last loop ended */
+    uint64_t taken;                /* of pie_array_offer: the number of taken arrivals */
+    uint64_t why;                  /* the reason why the last loop ended, from the enumeration above */
 };
 
-/* Decides each event in its turn, and fills it in: arrivals, departures (of the oldest packet, or of none), updates, resets. It ends at the first
- * that is refused, or with `keeps_refused` passes on. Answers how many events it decided or passed. */
+/* Decides each event in its turn and fills it in: arrivals, departures (of the oldest packet, or of none), updates
+ * and resets. Ends at the first refused event, or passes refused events if `keeps_refused` is not 0. Returns the
+ * number of events that it decided or passed. */
 size_t pie_array_decide(struct pie_state *state, struct pie_array_queue *queue, struct pie_event *events, size_t count, uint32_t keeps_refused);
 
 /* Passes arrivals to the queue at their moments, in the order of the array. The link takes the oldest packet as

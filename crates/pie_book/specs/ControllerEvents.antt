@@ -1,6 +1,6 @@
--- The controller's events of a history: the effect of each event, with the size of an arriving packet, the arrival
--- moment of the oldest packet, the bytes in the queue before and after it, and the caller's moment. The controller's
--- own definitions look back over this list.
+-- The controller's events of a history: the effect of each event, the size of an arriving packet, the arrival moment of
+-- the oldest packet, the bytes in the queue before and after the event, and the caller's moment. The controller's own
+-- definitions look back over this list.
 use Rattle.std.specs.Prelude.{ℕ, List, [], ◌∷◌, map}
 use Rattle.pie_event.specs.declared.verdict.Verdict.TheVariants as verdict
 use Rattle.pie_aqm.specs.Events.{ControllerEvent, Opened, Arrived, Departed, Passed, Updated, Reset, Changed}

@@ -42,9 +42,9 @@ pub fn registers_look_back()
 {}
 
 /// States that the result of a step on a core agrees with the look-back over every history that the core represents
-/// (this project's own). This holds for the refusal, the answer and the cause of each command, for the result in a book
-/// with this tail, and for the core afterwards, after one command and after a list of events. The clauses of
-/// `Core::step` and `Book::apply` state both. For a core without a history only the result of the step is stated.
+/// (this project's own). This holds for the refusal, the answer and the cause of each command, and for the result in a
+/// book with this tail. It holds for the core after one command and after a list of events. The clauses of `Core::step`
+/// and `Book::apply` state both. For a core without a history only the result of the step is stated.
 ///
 /// The body is empty: the contract is the law.
 #[tactic(auto, using(crate::proofs::CoreFacts::refusal_is, crate::proofs::CoreFacts::next_decided, crate::proofs::CoreFacts::cause_found, crate::proofs::CoreFacts::outcome_is))]
@@ -95,9 +95,9 @@ pub fn all_numbers_are_held()
 /// The library for C is proved to make exactly these calls.
 ///
 /// - At its opening the controller's state is that of a core without events.
-/// - For every history that a core represents: if the controller has the core's state, and its caller passes the bytes
-///   of the core's queue and whether the ring is full, each command that is not refused has the decision after that
-///   history as its answer.
+/// - For every history that a core represents, let the controller have the core's state, and let its caller pass the
+///   bytes of the core's queue and a flag that is true if the ring is full. Then each command that is not refused has
+///   the decision after that history as its answer.
 /// - After the call the controller has the state of a core that represents the history with this event.
 /// - An update is too soon for both or for neither.
 ///
@@ -117,9 +117,9 @@ pub fn parts_decide_as_a_core()
         ≡ nat_lt (now_at core.held moment) (due core.held) }
 {}
 
-/// States that a controller with a queue decides as a core does over a whole run: if it was opened as a legal history
-/// was, and made the calls of that history in order, it answers the next command that is not refused with the decision
-/// after that history (this project's own).
+/// States that a controller with a queue decides as a core does over a whole run (this project's own). If it was opened
+/// as a legal history was, and made the calls of that history in order, it answers the next command that is not refused
+/// with the decision after that history.
 ///
 /// The body is empty: the contract is the law.
 #[tactic(auto, using(crate::proofs::CoreFacts::run_beside))]

@@ -100,8 +100,8 @@ abbrev pub with_arrival : PieState → Held → PieState
 with_arrival s h =
     if h.active && not (s.active == 1) then with_registers s h else record s { moment = h.moment; accu = h.accu }
 
--- true if the average is in its range, and either the flag is 1 and the cycle opened at or before the moment and has
--- counted less than the threshold, or the flag and the cycle's numbers are 0
+-- true if the average is in its range, and one of two cases holds: the flag is 1, and the cycle opened at or before the
+-- moment and has counted less than the threshold; or the flag and the cycle's numbers are 0
 unfoldable pub is_rate_sound : PieState → Bool
 is_rate_sound s =
     nat_lt s.average (2 ^ 60)

@@ -35,10 +35,10 @@ fn laws()
     calls_look_back();
 }
 
-/// Decides on an arriving packet. The caller then queues the packet, marks and queues it, or drops it. `queued` is the
-/// number of bytes in the queue without the packet, `room` the number of packets for which the caller's ring has room,
-/// `bits` the packet's ECN field, and `word` a random word, uniformly distributed (RFC 8033, sections 4.1, 5.1 and 5.4;
-/// RFC 3168, section 5).
+/// Decides on an arriving packet (RFC 8033, sections 4.1, 5.1 and 5.4; RFC 3168, section 5). The caller then queues the
+/// packet, marks and queues it, or drops it. `queued` is the number of bytes in the queue without the packet, and `room`
+/// the number of packets for which the caller's ring has room. `bits` is the packet's ECN field, and `word` a random
+/// word, uniformly distributed.
 ///
 /// Tail drop by bytes is tested first, then tail drop by packets. An inactive controller considers no packet. If the
 /// queue then holds at least a third of `limit_bytes`, the controller is reset and activated (RFC 8033, section 5.3).
@@ -215,9 +215,9 @@ fn depart(state: &mut PieState, size: u32, left: u64, moment: u64) -> u32
     DONE
 }
 
-/// Adds the departure of a packet of `size` bytes that leaves `left` bytes in the queue and arrived at the moment
-/// `arrived`, which is the state's moment right after its `pie_arrive` (RFC 8033, section 4.3). If delays come from the
-/// departure rate, it is equivalent to `pie_depart`.
+/// Adds the departure of a packet of `size` bytes that leaves `left` bytes in the queue (RFC 8033, section 4.3). The
+/// packet arrived at the moment `arrived`, which is the state's moment right after its `pie_arrive`. If delays come from
+/// the departure rate, it is equivalent to `pie_depart`.
 #[inline(always)]
 #[tactic(auto, using(crate::proofs::Packets::departs))]
 #[unsafe(no_mangle)]

@@ -7,8 +7,7 @@ use std::io::{Read, Write};
 
 /// An interface that opens, creates and moves files by their names. `holds` is the known text of each file.
 ///
-/// No name of a file is `-`: on the command line of `pie` it stands for standard input, and the caller has checked
-/// for it.
+/// No name of a file is `-`: on the command line of `pie` it means standard input, and the caller has checked for it.
 pub trait NamedFiles {
     /// A file that was opened to be read.
     type File: Read + Drop;

@@ -8,8 +8,8 @@ ghost use Rattle.pie_excerpt.specs.Preamble.{Preamble};
 use pie_book::packets_that_waited_are_taken;
 use pie_record::openings_are_checked;
 
-/// The law of records. The state of a core, with each register and statistic, and each waiting packet are read back
-/// from their records as they were written, for all numbers of their types (this project's own).
+/// The law of records, for all numbers of their types (this project's own). The state of a core, with each register
+/// and statistic, and each waiting packet are read back from their records as they were written.
 ///
 /// The function does nothing: its contract is the law.
 #[tactic(auto, using(crate::proofs::BackFacts::resume_back, crate::proofs::BackFacts::queued_back))]
@@ -18,7 +18,7 @@ pub fn records_are_read_back()
     ensures queued { (w : Waiting) → WaitingFits w → queued_of (queued_row w) ≡ Ok (w.packet, w.since) }
 {}
 
-/// A preamble consists of its first record and those with which the packets of its core are written (`again`), so a program with the first record and
+/// A preamble consists of its first record and those with which the packets of its core are written (`again`). So a program with the first record and
 /// the core can write all records as they were read. A preamble is read equally whatever follows it (`alone`). Written with other records behind it,
 /// it is read back with these (`text`). The opening of a valid preamble is one that a book accepts (`opens`; this project's own).
 ///

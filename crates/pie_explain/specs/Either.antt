@@ -8,9 +8,9 @@ use Rattle.pie_explain.specs.declared.fault.ExplainFault.TheVariants.{Trace}
 use Rattle.pie_explain.specs.Answer.{IsExplanationText, answer_since}
 
 -- the result is the first fault of the preamble. Otherwise, for an excerpt, result and explanations are those of
--- the excerpt's core for its lines, whatever numbers the preamble has. For both kinds of text they are those of
--- every history that the text continues, if it names the event that set the probability correctly, restricted to
--- the events of the text
+-- the excerpt's core for its lines, whatever numbers the preamble has. Let a text of either kind name the event that
+-- set the probability correctly. They are then those of every history that the text continues, restricted to the
+-- events of the text
 abbrev pub ExplainsEither : Selection → (List Explained → List ℕ) → List Row → Result ℕ ExplainFault → Option (List ℕ) → Option (List ℕ) → Type 0
 ExplainsEither choice whole rows result old now =
     TextProcessedBy (λ why. Err (Trace why)) (answer_since choice) (IsExplanationText choice whole) (is_resumed rows) rows result old now

@@ -10,7 +10,7 @@ abbrev pub SetsInRange : Command → Type 0
 SetsInRange (SetParams moment params) = first_bad params ≡ None
 SetsInRange _ = ⊤
 
--- limits, parameters and moment of the opening are accepted, new parameters are in their ranges, and each command is accepted at its place and has
+-- limits, parameters and moment of the opening are accepted, and new parameters are in their ranges. Each command is accepted at its place and has
 -- the answer that the rules give there
 pub record IsLawful (opening : Opening) (history : List Event) : Type 0 where
   pub opens : opening_refusal opening.limits opening.moment ≡ None

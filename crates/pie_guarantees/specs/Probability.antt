@@ -72,7 +72,7 @@ pub record IsCalmUpdate (opening : Opening) (before : List Event) (event : Event
   pub old_delay : 2 * old_delay_after opening before < (params_after opening before).target
   pub prob : probability_after opening (before ++ event ∷ []) ≡ 0
 
--- the event sets no parameters and resets nothing, the controller is active, and if the event is an update, it finds a delay of at least `least`
+-- the event sets no parameters and resets nothing, and the controller is active. If the event is an update, it finds a delay of at least `least`
 -- that is not below the delay of the update before it
 pub record IsLasting (least : ℕ) (opening : Opening) (before : List Event) (event : Event) : Type 0 where
   pub keeps : KeepsParams event.command

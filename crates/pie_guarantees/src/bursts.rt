@@ -18,8 +18,9 @@ pub fn allowances_begin_whole()
 /// From any moment on, by the remaining burst allowance: ⌈remaining allowance / `t_update`⌉ updates come before the
 /// first packet that is marked or dropped early (`updates`, RFC 8033, section 4.4). Since updates are `t_update`
 /// apart, this packet comes no sooner than the remaining allowance, less one `t_update`, after that moment
-/// (`earliest`), and no sooner than the remaining allowance after the last update before it, or after the opening
-/// (`since_last_update`). From a whole allowance with the defaults these are 10 updates, 135 and 150 milliseconds.
+/// (`earliest`). It comes no sooner than the remaining allowance after the last update before that moment, or after
+/// the opening (`since_last_update`). From a whole allowance with the defaults these are 10 updates, 135 and 150
+/// milliseconds.
 ///
 /// If parameters change, the least allowance and the greatest and least intervals of all apply (`apart` for the
 /// time). The remaining allowance is at most `max_burst` if parameters never changed (`allowed`).

@@ -5,7 +5,7 @@ ghost use Rattle.pie_event.specs.declared.refusal.Refusal.TheVariants.{TooSoon};
 ghost use Rattle.pie_event.specs.Deed.{caller_moment};
 ghost use Rattle.pie_guarantees.specs.{Event, Opening, Update, deed_of, is_update, params_after, effective_moment, IsLawful, AtEachEvent};
 
-/// After a moment that is `ahead` nanoseconds above the greatest moment before it, an update is refused as too soon
+/// Let a moment be `ahead` nanoseconds above the greatest moment before it. After it an update is refused as too soon
 /// only if its own moment is less than `ahead` plus one `t_update` after that greatest moment (`ahead`). So a
 /// moment far ahead delays updates by at most `ahead` nanoseconds. In general, an update is refused only if it is
 /// less than one `t_update` after the greatest moment so far (`at_most`), and after an update each such update is

@@ -8,8 +8,8 @@ ghost use Rattle.pie_book.specs.Statistics.{is_dropped_early, is_marked, is_queu
 
 /// Every arriving packet is queued, marked, dropped early, or dropped because there is no room, exactly once
 /// (`once`). The packets that departed, followed by the queued ones, are exactly those that were queued or marked,
-/// in the order of their arrivals, unchanged except for CE if one was marked (`order`; both are this project's
-/// own).
+/// in the order of their arrivals (`order`). They are unchanged except for CE if one was marked. Both are this
+/// project's own.
 pub fn every_packet_is_accounted_for()
     ensures once { (opening : Opening) (history : List Event) → IsLawful opening history
         → packets_arrived history ≡ count_of is_queued history + count_of is_marked history + count_of is_dropped_early history
@@ -30,10 +30,10 @@ pub fn queues_stay_within_their_limits()
         → All (λ event. SetsLimit most event.command) history → bytes_after opening history ≤ most }
 {}
 
-/// If as many packets depart as are queued at some moment, they are the queued packets, in order
-/// (`first_in_first_out`). So a packet that is queued then, and departs with the last of the events between, waits
-/// at most `limit_bytes` divided by the rate at which the link carried packets in that time (`waits`; both are this
-/// project's own): 262144 bytes at 10 Mbit/s are 210 milliseconds.
+/// If the number of departures after some moment equals the number of queued packets then, the departing packets are
+/// the queued ones, in order (`first_in_first_out`). So let a packet be queued then and depart with the last of the
+/// events between. It waits at most `limit_bytes` divided by the rate at which the link carried packets in that time
+/// (`waits`): 262144 bytes at 10 Mbit/s are 210 milliseconds. Both are this project's own.
 pub fn waits_are_bounded()
     ensures first_in_first_out { BetweenAny (λ opening before between. length (packets_departed between) ≡ length (waiting_after opening before)
         → packets_departed between ≡ packets_waiting opening before) }

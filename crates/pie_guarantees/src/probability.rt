@@ -10,10 +10,10 @@ ghost use Rattle.pie_params.specs.Profile.{default_profile};
 ghost use Rattle.pie_params.specs.declared.elements.Elements.{Elements};
 
 /// The probability is always 0 to 1, in units of 10^-12 (`bounded`). An update of an active controller does not
-/// decrease it if the delay is at least the target and has not fallen (`rises`), and does not increase it if the
-/// delay is at most the target and has not risen (`falls`). From 10 per cent on an increase is at most 2 points if
-/// steps are capped (`capped`). An update with delays at which the probability decays, and neither of which has
-/// risen, leaves at most 98 hundredths of it (`decays`). No other event increases it (`nothing_else_raises`).
+/// decrease it if the delay is at least the target and has not fallen (`rises`). It does not increase it if the delay
+/// is at most the target and has not risen (`falls`). From 10 per cent on an increase is at most 2 points if steps
+/// are capped (`capped`). An update with delays at which the probability decays, and neither of which has risen,
+/// leaves at most 98 hundredths of it (`decays`). No other event increases it (`nothing_else_raises`).
 pub fn the_probability_follows_the_delay()
     ensures bounded { (opening : Opening) (history : List Event) → IsLawful opening history → probability_after opening history ≤ 10 ^ 12 }
     ensures rises { AtEachEvent (λ opening before event. IsActiveUpdate opening before event
@@ -45,10 +45,10 @@ pub fn what_gives_a_higher_probability()
 
 /// While each update has the same delay, the probability is that after the number of updates of one delay
 /// (`steady`). With the defaults, from 0 at twice the target it is at least 10 per cent after 162 updates, 2.43
-/// seconds, if the update before these had that delay too (`tenth_at_last`, `not_before`), and after 158 updates,
-/// 2.37 seconds, if it had no delay (`from_rest`, `not_from_rest_before`). If it decays, it falls by at least 2 per
-/// cent with each update (`fades`); without delay from 1 to a tenth in 87 updates, 1.3 seconds (`faded`,
-/// `not_yet_faded`).
+/// seconds, if the update before these had that delay too (`tenth_at_last`, `not_before`). If that update had no
+/// delay, 158 updates, 2.37 seconds, are enough (`from_rest`, `not_from_rest_before`). If the probability decays, it
+/// falls by at least 2 per cent with each update (`fades`); without delay from 1 to a tenth in 87 updates, 1.3
+/// seconds (`faded`, `not_yet_faded`).
 pub fn how_fast_the_probability_changes()
     ensures steady { (delay : ℕ) → BetweenAny (λ opening before between. AllAlong (IsSteady delay opening) before between
         → probability_after opening (before ++ between)
@@ -65,12 +65,12 @@ pub fn how_fast_the_probability_changes()
 {}
 
 /// The effect of n updates of one delay on a probability, by the table of auto-tuning (RFC 8033, section 4.2), for
-/// any parameters. They increase the probability by at least n times alpha over the divisor of the first
-/// probability for each nanosecond above the target, at most 2 points each (`rises`), and while it is at most
-/// `most`, by at most that over the divisor at `most` (`rises_no_faster`). Below the target they decrease it in the
-/// same way (`falls`, and if it does not decay `falls_no_faster`). So it is at 10 per cent after the sum of the
-/// updates that each row of the table takes (`to_a_tenth`): with the defaults at twice the target after 164
-/// (`at_twice_the_target`); the exact number is 162. If it decays, 114 updates leave at most a tenth
+/// any parameters. They increase the probability by at least n times alpha over the divisor of the first probability
+/// for each nanosecond above the target, at most 2 points each (`rises`). While it is at most `most`, they increase
+/// it by at most n times alpha over the divisor at `most` for each such nanosecond (`rises_no_faster`). Below the
+/// target they decrease it in the same way (`falls`, and if it does not decay `falls_no_faster`). So it is at 10 per
+/// cent after the sum of the updates that each row of the table takes (`to_a_tenth`): with the defaults at twice the
+/// target after 164 (`at_twice_the_target`); the exact number is 162. If it decays, 114 updates leave at most a tenth
 /// (`fades_to_a_tenth`).
 pub fn steady_delays_move_the_probability()
     ensures rises { (elements : Elements) (params : RawParams) (delay : ℕ) → 0 < params.target → params.target ≤ delay → (n : ℕ) (prob : ℕ)

@@ -41,11 +41,11 @@ pub fn picks_never_follow_at_once()
         → 850_000_000_000 ≤ counted_at opening (before ++ first ∷ [] ++ between) second }
 {}
 
-/// Conservation (RFC 8033, section 5.4): if probabilities accumulate, the sum of the counted probabilities over the
-/// packets considered between any two places is at least 0.85 for each pick, if the accumulated probability is 0 at
-/// the first place (`at_least`), and less than 9.5 for each pick plus 8.5 for each other restart and for the last,
-/// unfinished sum (`at_most`). Other restarts are tail drops, resets, arrivals that activate the controller, and
-/// packets that are considered while the probability counts as 0. So these bound the share of picked packets for
+/// Conservation (RFC 8033, section 5.4). If probabilities accumulate, take the sum of the counted probabilities over
+/// the packets considered between any two places. It is at least 0.85 for each pick if the accumulated probability is
+/// 0 at the first place (`at_least`). It is less than 9.5 for each pick plus 8.5 for each other restart and for the
+/// last, unfinished sum (`at_most`). Other restarts are tail drops, resets, arrivals that activate the controller,
+/// and packets that are considered while the probability counts as 0. So these bound the share of picked packets for
 /// any course of the probability.
 pub fn picks_share_the_probability()
     ensures at_least { BetweenAny (λ opening before between. opening.choices.elements.picking ≡ Derandomized → accu_after opening before ≡ 0

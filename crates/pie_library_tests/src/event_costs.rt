@@ -164,8 +164,8 @@ fn time_book<R: Clock + Print>(to: &mut Report<R>, alloc: Global, name: &'static
     }
 }
 
-/// Prints the time of one event decided only (`Core::step`), and decided and recorded (`Book::apply`) in a bounded book that is folded whenever its
-/// tail is full, and in a rolling one.
+/// Prints the time of one event that is decided only (`Core::step`), and of one that is decided and recorded (`Book::apply`): in a bounded book that
+/// is folded whenever its tail is full, and in a rolling one.
 pub fn measure<R: Clock + Print>(report: &mut Report<R>, alloc: Global) {
     if let Ok(mut core) = Core::open(alloc, LIMITS, Params::default_profile(), 0) {
         time(report, alloc, "decided", &mut core);

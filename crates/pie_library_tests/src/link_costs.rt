@@ -87,8 +87,8 @@ fn at_mutex<R: Threads + Wait + Clock + Print + Sync>(to: &mut Report<R>, alloc:
     }
 }
 
-/// Prints the time of an event without contention, and the number of events per second with 1, 2, 4 and 8 threads that enqueue beside one that sends,
-/// for the link and for the mutex.
+/// Prints two figures for the link and for the mutex: the time of an event without contention, and the number of events per second with 1, 2, 4 and
+/// 8 threads that enqueue beside one that sends.
 pub fn measure<R: Threads + Wait + Clock + Print + Sync>(report: &mut Report<R>, alloc: Global) {
     for place in 0..THREADS.len() {
         at_link(report, alloc, THREADS[place]);

@@ -78,10 +78,10 @@ impl Passed {
     }
 }
 
-/// A gate that delays caller `held` before its first call until `until` calls of caller `awaited` have answers; 0
-/// stands for all others. Caller `awaited` starts when `held` is at its first call, and after its last call waits
-/// until the second call of `held` has an answer. So an event that is recorded before `before` or after `after` is
-/// at a wrong place.
+/// A gate that delays caller `held` before its first call until `until` calls of caller `awaited` have answers; an
+/// `awaited` of 0 means all others. Caller `awaited` starts when `held` is at its first call, and after its last call
+/// waits until the second call of `held` has an answer. So an event that is recorded before `before` or after `after`
+/// is at a wrong place.
 #[derive(Drop)]
 struct Hold {
     held: u16,

@@ -1,7 +1,8 @@
--- The headline: whenever the lock is free, there is one history of one thread that begins with the front of each
--- caller, contains each caller's calls once and in order, and ends with the event log. Every recorded verdict is the
--- one that the rules give at its place, and the look-back over the whole history is the book's state. In a bounded link
--- no recorded event is lost: the folded events, in order, followed by the log are all events of the history.
+-- The headline: whenever the lock is free, there is one history of one thread behind all callers. It begins with the
+-- front of each caller, contains each caller's calls once and in order, and ends with the event log. Every recorded
+-- verdict is the one that the rules give at its place, and the look-back over the whole history is the book's state. In
+-- a bounded link no recorded event is lost: the folded events, in order, followed by the log are all events of the
+-- history.
 use Rattle.std.specs.Prelude.{◌≡◌, ℕ, List, [], ◌∷◌, ◌++◌, length, slice_index, Option, Some, None, All}
 use mathlib.Core.List.{IsPrefix}
 use mathlib.Core.Option.{some}

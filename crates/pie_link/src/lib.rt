@@ -31,10 +31,10 @@
 //!   preamble.
 //!
 //! A caller with all numbers never receives `Busy`. `Link::open` and `open_with` promise the headline (clause
-//! `headline`, `specs/Headline.antt`): whenever the lock is free, there is one history of one thread that begins with
-//! the front of each caller, contains each caller's calls once and in order, and ends with the event log. The look-back
-//! over it is the book's state. In a bounded link no event is lost: the folded events, in order, followed by the log
-//! are all events.
+//! `headline`, `specs/Headline.antt`): whenever the lock is free, there is one history of one thread behind all callers.
+//! It begins with the front of each caller, contains each caller's calls once and in order, and ends with the event
+//! log. The look-back over it is the book's state. In a bounded link no event is lost: the folded events, in order,
+//! followed by the log are all events.
 //!
 //! Not promised: that a waiting call returns, that the lock is fair, how often `Busy` occurs if several callers have
 //! numbers, and the front of a dropped caller.

@@ -12,9 +12,9 @@
 //! - After a take (`HasTaken`), the front of the `Held` begins with the front of the pass, and has no further entry
 //!   under the pass's numbers (`front`). The state represents the front (`told`) and has the lock's origin (`origin`).
 //!   For a pass with all numbers the front is unchanged (`same`).
-//! - `put` requires that each entry that it appends has the pass's first number (`number`), and that the state has the
-//!   lock's origin and represents the front with these entries (`origin`, `told`). The pass then has this front. `Held`
-//!   is not `Drop`: a function that loses a `Held` does not compile.
+//! - `put` requires that each entry that it appends has the pass's first number (`number`). It requires a state that
+//!   has the lock's origin and represents the front with these entries (`origin`, `told`). The pass then has this
+//!   front. `Held` is not `Drop`: a function that loses a `Held` does not compile.
 //! - A call that may wait (`take`, `take_for`) also returns a `WakeDue`, which is not `Drop`. Only `wake` ends it, and
 //!   `wake` needs the pass that the put returned. So after each such turn a sleeping thread is woken.
 //! - `share` refuses a pass of one number (`one_number`), and `gather` refuses ranges that are not adjacent (`beside`).
@@ -25,8 +25,8 @@
 //!   pass unchanged.
 //! - Every call except `take` and `take_for` returns. Only `new` allocates.
 //!
-//! `LockRule`, the rule of the lock's table, is public with the types that it names (`Place`, `LockOpening`), so that
-//! the contract of a crate above can name what its lock keeps. No other crate makes a value of these types.
+//! `LockRule`, the rule of the lock's table, is public with the types that it names (`Place`, `LockOpening`). So the
+//! contract of a crate above can name the state of its lock. No other crate makes a value of these types.
 //!
 //! Not promised:
 //!

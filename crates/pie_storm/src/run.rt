@@ -185,9 +185,9 @@ fn both(link: &Link, plan: &Plan, work: Work, last: Work) -> Work
 /// project's own).
 ///
 /// With N lists of arrivals, callers 1 to N send them, caller N + 1 makes the departures, N + 2 the updates, N + 3 the
-/// changes and N + 4 the folds, each in the order of its list, with `gate.before` and `gate.after` around each call. A
-/// sender makes a burst of its arrivals in one call. An update that is too soon, and a fold of more events than the log
-/// has, are counted and skipped.
+/// changes and N + 4 the folds. Each caller follows the order of its list, with `gate.before` and `gate.after` around
+/// each call. A sender makes a burst of its arrivals in one call. An update that is too soon, and a fold of more events
+/// than the log has, are counted and skipped.
 ///
 /// # Errors
 ///

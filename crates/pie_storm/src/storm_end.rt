@@ -26,8 +26,8 @@ pub struct StormEnd {
 #[derive(Clone, Copy, Debug, PartialEq, Eq, Error)]
 pub enum StormFault {
     /// The plan has fewer than 2 or more than 8 senders, bursts outside 1 to 1024 arrivals, a moment above `2^60 - 1`,
-    /// an arrival whose size is outside 1 to 65535 bytes, or more arrivals, departures, updates and changes than its
-    /// limits have room for.
+    /// or an arrival whose size is outside 1 to 65535 bytes; or its limits have no room for all arrivals, departures,
+    /// updates and changes.
     #[error("the plan is not sound")]
     BadPlan,
     /// The link was not opened.

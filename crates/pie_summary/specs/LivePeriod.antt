@@ -33,8 +33,8 @@ pub record Spans (begun number every start end : ℕ) : Type 0 where
   pub starts : start ≡ (if begun == 0 then 0 else number * max every 1)
   pub ends : end ≡ (if begun == 0 then 0 else min (start + max every 1) (2 ^ 64 - 1))
 
--- the state after these events: the interval of the last one, the number of intervals, and the numbers and the waiting times of the last events, as
--- far back as they are in the same interval
+-- the state after these events: the interval of the last one, the number of intervals, and the numbers and the waiting times of the last events that
+-- are in one interval
 pub record Holds (period : LivePeriod) (all : List Explained) : Type 0 where
   pub number : number_in period ≡ last_period (length_of period) all
   pub begun : period.begun ≡ periods_begun (length_of period) all

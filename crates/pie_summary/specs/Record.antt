@@ -33,7 +33,7 @@ first_fields meter =
     joined (number_fields (kept (sum meter.answers) ∷ meter.first ∷ meter.last ∷ meter.arrivals ∷ [])
     ∷ decimal (sum_in meter.arrived) ∷ codes "," ∷ [])
 
--- the waiting times, the numbers of the updates, and the changes of activity; with the waiting time of 99 of 100, the bytes carried, the target and
+-- the waiting times, the numbers of the updates, the changes of activity, the waiting time of 99 of 100, and the bytes carried; then the target and
 -- the burst allowance at the end, the time above the target, and the number of packets that had waited longer
 abbrev pub later_numbers : Meter → ℕ → List ℕ
 later_numbers meter most =

@@ -33,8 +33,8 @@ pub(crate) fn all_is_held()
     texts_are_read_back();
 }
 
-/// The law of reading back. `HistoryLines` reads the output of `run_trace`: the history text of every trace whose
-/// first record opens a book has that opening, the event of each command that was answered, each clock record, a
+/// The law of reading back. `HistoryLines` reads the output of `run_trace`. Let the first record of a trace open a
+/// book. The trace's history text has that opening, the event of each command that was answered, each clock record, a
 /// note for each other record, and then its end without a fault. If the trace has a fault, its history text is that
 /// of the records before it.
 ///

@@ -4,16 +4,16 @@
 //! fault, and its history text.
 //!
 //! `run_trace_within` and `run_trace` run a trace with any reader and writer whose bytes are known. Unless the
-//! result is `Read`, `Write` or `Memory`, it is `Ok` exactly if the text has no fault (clause `ends`, with the
-//! numbers, registers and statistics of the run), otherwise the first fault (`faults`). The output is the history
-//! text (`writes`). The calls end even if the reader never ends. For an excerpt (`either`), result and output are
-//! those of the whole from there on, with an empty tail, for every history that leads to the numbers and packets of
-//! its preamble (`run_by`).
+//! result is `Read`, `Write` or `Memory`, it is `Ok` exactly if the text has no fault (clause `ends`), otherwise the
+//! first fault (`faults`). An `Ok` has the numbers, registers and statistics of the run. The output is the history
+//! text (`writes`). The calls end even if the reader never ends. For an excerpt (`either`, with `run_by`), take any
+//! history that leads to the numbers and packets of its preamble: result and output are those of the whole from
+//! there on, with an empty tail.
 //!
 //! `history_texts_are_read_back`: the output of a run is read back as the same opening and events.
 //!
 //! `migrate` writes the history in version two, or a history of version three as it is (`writes`), with the same
-//! opening and lines (`same`), or returns the history's first fault (`faults`). Laws:
+//! opening and lines (`same`). A history with a fault has its first fault as the result (`faults`). Laws:
 //! `migrated_histories_are_read_back`, `migrating_again_changes_nothing`, `migrated_runs_are_runs_of_version_two`.
 //!
 //! Laws about audits: the history text of every trace is clean, with the number of events that the run recorded

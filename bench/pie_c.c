@@ -65,8 +65,8 @@ STEP void left_at(struct plain *plain, const struct params *p, uint32_t size, ui
     departed_by(&plain->rate, size, left, plain->moment, p->dq_threshold);
 }
 
-/* PIE in plain C with parameters and activity in the state, as in the library's state; its calls refuse what the
- * library refuses. */
+/* PIE in plain C with parameters and activity in the state, as in the library's state; its calls have the library's
+ * refusals. */
 struct checked {
     struct params params;
     struct plain plain;

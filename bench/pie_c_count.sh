@@ -3,7 +3,7 @@
 # stored ones (bench/pie_c_count.txt): a mean over 1000 calls of a kind (bench/pie_c_count.c), inside the library
 # only; at a link for one event, and for a burst of 32. The exit status is 1 if a kind of call grew.
 # usage: bench/pie_c_count.sh [--store | --within PERCENT]    after bindings/c/library.py
-#        --store: keeps what was counted; --within: only what grew by more than so many per cent ends with the status 1
+#        --store: stores the counts; --within: the exit status is 1 only if a kind grew by more than PERCENT
 set -eu
 cd "$(dirname "$0")/.."
 for tool in "${CC:-cc}" valgrind; do

@@ -148,7 +148,7 @@ def next_prob(prob, delay, old):
 
 
 def swings(trip, share, seconds=40, step=0.0005):
-    """Returns how far the delay swings, in milliseconds, in the third and in the last tenth of a simulation that begins a twentieth above rest."""
+    """Returns the range of the delay, in milliseconds, in the third and in the last tenth of a simulation that begins a twentieth above rest."""
     rest = trip + TARGET
     window, delay, prob, old = math.sqrt(2 / share), TARGET * 1.05, round(PER_PICK * share * 1e12), round(TARGET * 1e9)
     rate, past, delays, due = window / rest, [(window, rest, share)], [], UPDATE

@@ -123,8 +123,8 @@ def difference_of(scenario, one, other, field, part="after", other_scenario=None
     return [ours[it] for it in both], [theirs[it] for it in both]
 
 
-# The margins: half of a difference between queues that are known to differ. Of waits what a target of 20 ms makes in place of 15; of goodput,
-# as a share, what a limit of 10 ms costs in place of 200.
+# The margins: half of a difference between queues that are known to differ. Of waits the difference between targets of 20 ms and 15; of goodput,
+# as a share, that between limits of 10 ms and 200.
 def margin(field):
     if field != "goodput":
         ours, theirs = difference_of("four", "wide", "stamp", "probe")

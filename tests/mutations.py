@@ -37,7 +37,7 @@ LOADING, LINE_PROVED, EDIT, DEAR = 13, 0.08, 2.5, {"pie_link": 6, "pie_book": 4}
 # A crate with at most this many lines of functions is small: in a share it is checked whole if a mutation needs
 # that.
 SMALL = 400
-# About as many a crate's checks take, one after another, that lie in one share.
+# The greatest cost of the batches of one crate that stay together in one share, unless a single batch costs more.
 TOGETHER = 170
 # The greatest number of mutations in one copy, halved for expensive crates: a check keeps all its results in memory.
 MOST = 16
@@ -49,7 +49,7 @@ CALLED = re.compile(r"\b(\w+)(?:::<[^()]*>)?\(")
 # The prover's messages at a limit of its own, and for a text that it cannot read.
 LIMIT = re.compile(r"antt ran out of|outgrew the memory limit|stopped at the step limit")
 UNREAD = re.compile(r"error\[[\w-]+\]|src/\S+: error: (?!`)|(is not in scope|is no name|operand is missing|expected the end|cannot continue)")
-# A refusal that shows little: a proof file names what the edit took away.
+# A refusal that shows little: a proof file uses a name that the edit removed.
 NAMES = re.compile(r"(note: )?(\./)?proofs/.*(has no field|is not in scope|has no `|was not admitted)")
 
 

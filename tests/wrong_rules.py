@@ -23,7 +23,7 @@ from pathlib import Path
 ROOT = Path(__file__).resolve().parent.parent
 LAWS = ROOT / "crates/pie_guarantees"
 RULES = LAWS / "wrong_rules.txt"
-# the definitions that say what a command does, which are copied for each rule
+# the definitions of a command's effect, which are copied for each rule
 STEPS = [ROOT / "crates" / path for path in ("pie_aqm/specs/Steps.antt", "pie_aqm/specs/Calls.antt", "pie_book/specs/Decision.antt", "pie_book/specs/Core.antt")]
 OWN = re.compile(r"Rattle\.pie_guarantees\.(specs|proofs)\.(\w+)")
 REFUSED = re.compile(r"^\./proofs/([A-Z]\d+)Guarantees(\w+)\.antt:\d+:\d+: error: `([^`]+)`", re.M)

@@ -132,7 +132,7 @@ impl Link {
         Ok(())
     }
 
-    /// Answers a record, and makes `row` what is written of it.
+    /// Answers a record, and replaces `row` by the record to be written.
     fn answer(&mut self, row: &mut csv::ByteRecord) -> Result<(), Box<dyn Error>> {
         match row.get(0) {
             Some(b"arrive") => self.arrive(row)?,

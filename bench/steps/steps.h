@@ -58,7 +58,7 @@ __attribute__((noreturn)) static void stop(const char *name, unsigned long line,
     exit(2);
 }
 
-/* The words of a line; how many there are. */
+/* Splits a line into words, and returns their number. */
 static int split(char *line, char **words, int most) {
     int count = 0;
     line[strcspn(line, "\n")] = '\0';

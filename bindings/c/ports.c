@@ -328,7 +328,7 @@ static void hints(void) {
     CHECK(pie_link_waiting(&told) == 1 && pie_link_due(&told) == UINT64_MAX);
 }
 
-/* A rolling link: the numbers of its folds show how many events are missing. */
+/* A rolling link: the numbers of its folds show the number of missing events. */
 static void gaps(void) {
     struct pie_port port = PIE_PORT_CLOSED;
     struct pie_opening opening;

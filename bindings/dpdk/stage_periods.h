@@ -14,7 +14,7 @@ struct stage_periods {
     struct pie_period current;
     uint64_t handed; /* the number of the last complete interval, which the writer received or which was lost */
     uint64_t over;   /* the number of intervals that the writer received */
-    uint64_t written __rte_cache_aligned; /* how many of those the writer has written .. */
+    uint64_t written __rte_cache_aligned; /* the number of those that the writer has written .. */
     uint64_t number;                      /* the number of the last one, with those lost before it */
     bool is_begun;                        /* the text has its header row */
     struct pie_period ended[STAGE_PERIODS];

@@ -70,7 +70,7 @@ struct pie_stage {
     bool ecn, hands_back;
 
     struct pie_flight_follower follower __rte_cache_aligned; /* of the history's writer */
-    uint64_t reached, missed;                                /* the number of its next event, and how many it missed, for all to read */
+    uint64_t reached, missed;                                /* the numbers of its next event and of missed events, for all to read */
     struct pie_history text;
     struct clock clock;
     bool is_timed; /* the text contains it */

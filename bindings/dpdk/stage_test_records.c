@@ -173,7 +173,8 @@ static uint32_t flow_of(void *user, const struct rte_mbuf *mbuf) {
     return rte_pktmbuf_pkt_len(mbuf) * FLOW_FACTOR;
 }
 
-/* Each packet of a text has its flow in its tag, and its number below; answers how many lines that are. */
+/* Checks that the tag of each packet of a text has its flow in the high bits and its number in the low ones. Returns
+ * the number of lines with packets. */
 static uint64_t expect_flows(const char *name) {
     char path[4096], line[2048];
     uint64_t tag, size, lines = 0, last = 0;

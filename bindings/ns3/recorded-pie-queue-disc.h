@@ -30,7 +30,7 @@ class RecordedPieQueueDisc : public QueueDisc
     static TypeId GetTypeId();
     RecordedPieQueueDisc();
 
-    /* Sets the random stream, and answers how many streams were used: 1. */
+    /* Sets the random stream, and returns the number of used streams: 1. */
     int64_t AssignStreams(int64_t stream);
 
     /* The controller's state, to be read at any time. */

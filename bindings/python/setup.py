@@ -51,7 +51,7 @@ class ForAnyPython(bdist_wheel):
         return "py3", "none", super().get_tag()[2]
 
 
-# (what an earlier wheel was made of may be gone)
+# (files of an earlier wheel may have been removed since)
 shutil.rmtree(MADE / "build", ignore_errors=True)
 MADE.mkdir(exist_ok=True)
 setup(

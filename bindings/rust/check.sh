@@ -15,7 +15,7 @@ fi
 bindings/c/library.py > /dev/null
 program=$PWD/crates/pie/out/pie
 cd bindings/rust
-# (what is built here is run once: nothing is kept for a next build, nor for a debugger)
+# (each build here is run once: nothing is kept for a next build, nor for a debugger)
 export CARGO_INCREMENTAL=0 CARGO_PROFILE_DEV_DEBUG=0 CARGO_PROFILE_TEST_DEBUG=0
 cargo test --offline --locked --quiet
 cargo test --offline --locked --quiet --features link -- --include-ignored

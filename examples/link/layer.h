@@ -1,4 +1,4 @@
-/* The link layer: how many bytes a packet takes on the link. Options and sizes are those of `tc stab`, to the byte. */
+/* The link layer: the number of bytes of a packet on the link. Options and sizes are those of `tc stab`, to the byte. */
 #ifndef LINK_LAYER_H
 #define LINK_LAYER_H
 

@@ -227,8 +227,8 @@ static void depart(struct bottleneck *link, uint64_t now, uint64_t until) {
     push(&link->there, packet);
 }
 
-/* Processes the grants that are due: at each, queued packets leave at once, as many as the rate allows in the time
- * between two grants. A packet may exceed the grant; the next grant is reduced by the excess. An unused rest is
+/* Processes the grants that are due: at each, queued packets leave at once, within the bytes that the rate allows in
+ * the time between two grants. A packet may exceed the grant; the next grant is reduced by the excess. An unused rest is
  * lost. */
 static void serve_grants(struct bottleneck *link, uint64_t now) {
     const uint64_t period = link->options->grant;

@@ -63,7 +63,7 @@ static const char *read_step(const char *text, size_t length, struct options *op
     return NULL;
 }
 
-/* The rate, and how it changes. */
+/* Reads the rate and its changes. */
 static const char *read_rates(const char *text, void *to) {
     struct options *options = to;
     options->steps = 0;

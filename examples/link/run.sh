@@ -35,7 +35,7 @@ make -s -C "$here" || exit 1
 # shellcheck source=examples/link/measure.sh
 . "$here/measure.sh"
 
-# goodput FILE: what the receiver got, in Mbit/s
+# goodput FILE: the rate at the receiver, in Mbit/s
 goodput() {
     awk '/receiver/ { for (i = 2; i <= NF; i++) if ($i == "Kbits/sec") rate = $(i - 1) } END { printf "%.2f", rate / 1000 }' "$1"
 }
@@ -46,7 +46,7 @@ round_trips() {
         awk '{ time[NR] = $1; sum += $1 } END { if (NR) printf "%.1f %.1f", sum / NR, time[int((NR * 99 + 99) / 100)]; else printf "- -" }'
 }
 
-# verdicts HISTORY WORDS: how many arrivals ended so
+# verdicts HISTORY WORDS: the number of arrivals with one of these verdicts
 verdicts() {
     grep -c -E "^arrive,.*,($2)\$" "$1"
 }

@@ -116,7 +116,7 @@ static void write_families(FILE *file, const char *kind, const struct family *fa
     }
 }
 
-/* A histogram: of each bound how many numbers were no greater, and then all of them, and their sum. */
+/* Writes a histogram: for each bound the number of values at or below it, then their sum and their number. */
 static void write_histogram(FILE *file, const char *name, const struct metrics_queue *queue, const uint64_t *sorts, uint32_t many,
                             uint64_t bound_of(uint32_t sort), unsigned __int128 sum, uint64_t parts) {
     uint64_t count = 0;

@@ -31,7 +31,7 @@ struct metrics {
     uint64_t packets, bytes;         /* in the queue */
 };
 
-/* Counts a call that ends in _event, but not one that was refused; `waited`: of a departure, how long its packet had waited, in nanoseconds. */
+/* Counts a call that ends in _event, unless it was refused; `waited`: of a departure, the waiting time of its packet, in nanoseconds. */
 void count_event(struct metrics *metrics, const struct pie_event *event, uint64_t waited);
 
 /* The labels of a queue: its link, and the queue of that link. */

@@ -16,7 +16,7 @@ NAME = os.path.relpath(__file__, ROOT)
 
 
 def stale(path):
-    """Yields what is wrong in a file of mutations, a line for each fault."""
+    """Yields the faults of a file of mutations, a line for each."""
     texts, file, old, name, names = {}, None, None, "", set()
     for number, line in enumerate(path.read_text().splitlines(), 1):
         where = f"{path.relative_to(ROOT)}:{number}"

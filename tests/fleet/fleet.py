@@ -227,12 +227,12 @@ class Cluster:
 
 
 def stage(told):
-    """Says on the error stream how far the test is, and when."""
+    """Prints the time and the stage of the test on the error stream."""
     print(f"{time.strftime('%H:%M:%S')} {told}", file=sys.stderr, flush=True)
 
 
 def fleet(*words, status, errors=None):
-    """Runs pie-fleet, and looks at its status; answers what it printed."""
+    """Runs pie-fleet, checks its status, and returns its output."""
     ended = subprocess.run([PYTHON, "-m", "pie_fleet", *words], cwd=f"{TOP}/fleet", capture_output=True, text=True, stdin=subprocess.DEVNULL,
                            timeout=PATIENCE)
     check(f"pie-fleet {' '.join(words)}: status", ended.returncode == status, f"{ended.returncode} and not {status}: {ended.stderr[-2000:]}")

@@ -245,7 +245,7 @@ static int resume(const struct row *row, struct again *again) {
     return pie_check_state(pie) == PIE_DONE && is_word(row, told + 30, "");
 }
 
-/* Makes the call of a record, and compares what the library then writes with the line. */
+/* Makes the call of a record, and compares the library's record of it with the line. */
 static int is_next(struct again *again, const struct row *row, const char *line) {
     struct pie_event event;
     struct pie_params params;

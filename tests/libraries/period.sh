@@ -20,7 +20,7 @@ fi
 histories=()
 tests/shared/rows.sh "$work/rows"
 for trace in "$work"/rows/*.out "$work"/rows/choices/*.out; do
-    # (what the book itself refuses, or an opening that is refused, is not made anew)
+    # (an output that does not begin with an opening is omitted)
     head -n 1 "$trace" | grep -q -E '^(open|rolling)' && histories+=("$trace")
 done
 for trace in examples/*.trace; do

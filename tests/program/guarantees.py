@@ -230,7 +230,7 @@ class Laws:
         hold("ring", self.ring - now["packets"], 0, row, now)
 
     def space(self, row, was, active, verdict, size):
-        """Checks how far picks are apart, if probabilities accumulate."""
+        """Checks the distances between picks, if probabilities accumulate."""
         params = self.params
         if self.elements["picking"] != "derandomized":
             return

@@ -157,7 +157,7 @@ def digest(rows, every, told, packets):
 
 
 def hold_digest(name, history, words, options, rows, every):
-    """Holds what is written for summaries and packets at once to these by themselves."""
+    """Checks that summaries and packets, if written together, are those that are written separately."""
     packets = {}
     for which in ("--lost", "--marked"):
         for text in re.findall(r"^event .*\n(?:  .*\n)*", pie(history, which, *options)[1], re.M):

@@ -44,7 +44,7 @@ params,5,1001004,1,1,50,850000,0,1,100000,1000000000000,1024
 
 
 def hold_readers():
-    """Compares READERS with the program's help, which states in one line what each command does. A command whose
+    """Compares READERS with the program's help, which describes each command in one line. A command whose
     line names a history, other than the one that it writes, reads it. Each command must have its own help."""
     told = run(["--help"], b"")[1].decode().partition("Commands:")[2].partition("Options:")[0]
     commands = dict(re.findall(r"^  (\w+) +(.+)$", told, re.M))

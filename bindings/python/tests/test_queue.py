@@ -1,4 +1,4 @@
-"""A queue with its own packets: arrays are what single calls are; what a link does; refusals in arrays; what Python made is clean by `pie audit`."""
+"""A queue with its own packets: arrays beside single calls; a link; refusals in arrays; histories, which `pie audit` must find clean."""
 import copy
 import io
 import multiprocessing

@@ -7,10 +7,10 @@ use crate::library::{RawEvent, Words};
 
 /// The words of an event: its moment, with its kind in the four highest bits; then by its kind
 ///
-/// - of an arrival what it is about, its tag and random word; one word is not used;
-/// - of a departure what it is about, its tag, and the moment of the packet's arrival; one word is not used;
-/// - of an update what it is about, the delay, the probability and the burst allowance;
-/// - of a reset, and of a departure that found no packet, what it is about; three words are not used;
+/// - of an arrival `about`, its tag and random word; one word is not used;
+/// - of a departure `about`, its tag, and the moment of the packet's arrival; one word is not used;
+/// - of an update `about`, the delay, the probability and the burst allowance;
+/// - of a reset, and of a departure that found no packet, `about`; three words are not used;
 /// - of new parameters, in 256 bits from the lowest on, the caller and the parameters.
 pub(crate) const EVENT: usize = 5;
 
@@ -24,7 +24,7 @@ pub(crate) const UPDATE: u8 = 3;
 pub(crate) const RESET: u8 = 4;
 #[cfg(feature = "std")]
 const PARAMS: u8 = 5;
-/// It says how many are missing, and no recorder keeps it.
+/// A gap, with the number of missing events; no recorder keeps it.
 #[cfg(feature = "std")]
 const LOST: u8 = 6;
 

@@ -78,7 +78,7 @@ pub struct Port {
     link: u64,
 }
 
-// SAFETY: the library's proof shows that what a port points to may go to another thread; no call keeps anything of the thread that made it.
+// SAFETY: the library's proof shows that the memory of a port may be passed to another thread; no call keeps anything of its thread.
 unsafe impl Send for Port {}
 
 impl Drop for Port {

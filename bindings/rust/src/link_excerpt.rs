@@ -17,7 +17,7 @@ pub struct Excerpt {
     raw: RawExcerpt,
 }
 
-// SAFETY: the library's proof shows that what an excerpt points to may go to another thread; no call keeps anything of the thread that made it.
+// SAFETY: the library's proof shows that the memory of an excerpt may be passed to another thread; no call keeps anything of its thread.
 unsafe impl Send for Excerpt {}
 
 impl Drop for Excerpt {
@@ -29,7 +29,7 @@ impl Drop for Excerpt {
 
 impl Excerpt {
     /// Takes memory for the excerpts of every link with this opening: 24 bytes for each of its `packets`, and 128 for each of `packets` or of
-    /// `tail`, whichever is more. It is an excerpt of no events.
+    /// `tail`, the greater of the two. It is an excerpt of no events.
     ///
     /// # Errors
     /// Those of [`State::open`](crate::State::open), then `NoMemory`.

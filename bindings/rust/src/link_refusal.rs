@@ -13,7 +13,7 @@ pub enum LinkRefusal {
     Busy,
     /// An update before it is due.
     TooSoon,
-    /// There were as many events as the opening allows.
+    /// The number of events is at the limit of the opening.
     Exhausted,
     /// The event log of a link that lets none go ([`Mode::Bounded`](crate::Mode::Bounded)) is full: fold some.
     Full,

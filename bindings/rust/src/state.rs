@@ -188,8 +188,8 @@ impl State {
 
     /// Decides on an arriving packet (sections 4.1, 5.1 and 5.4).
     ///
-    /// `queued` are the bytes in the queue without this packet, `size` is the packet's, `room` is how many more packets the caller's
-    /// ring has room for, and `word` is 64 random bits that no sender can guess.
+    /// `queued` is the number of bytes in the queue without this packet, `size` the packet's, and `room` the number of packets for
+    /// which the caller's ring has room. `word` is a random word of 64 bits that no sender can guess.
     ///
     /// # Errors
     /// In this order: `Moment`, `Size`, `Queue`.

@@ -1,4 +1,4 @@
-//! Calls at the ports of a link: what each answers, by one thread; and threads that meet there.
+//! Calls at the ports of a link: the answer of each, by one thread; and several threads at once.
 
 use std::sync::atomic::{AtomicU64, Ordering::SeqCst};
 use std::sync::{Barrier, mpsc};
@@ -168,8 +168,8 @@ fn as_many_events_as_the_opening_allows() {
     assert_eq!(port.try_reset(2), Err(LinkRefusal::Exhausted));
 }
 
-/// Threads start each burst at the same time, so that they meet: the calls of each are in the history once and in
-/// order, whichever thread folds.
+/// Threads start each burst at the same time. The calls of each are in the history once and in order, for any thread
+/// that folds.
 #[test]
 fn threads_meet() {
     const THREADS: usize = 6;

@@ -329,7 +329,7 @@ fn large_numbers() {
     assert_eq!(state.update(0, LATEST).map(|made| made.due), Ok(LATEST + 10_000_000_000));
 }
 
-/// A departure that finds the queue empty changes nothing but the moment, and a reset and new parameters what each says.
+/// A departure that finds the queue empty changes only the moment; a reset and new parameters change only their own fields.
 #[test]
 fn what_stays() {
     let mut state = at(TENTH, 15_000_000);

@@ -134,7 +134,7 @@ balanced_first opening = record {
   picking = first-picking opening.choices.elements.picking opening;
 }
 
--- numbers with as many packets and bytes as announced
+-- the resumed core is accepted at its end if the announced packets and bytes are at least those of its waiting packets
 pub balanced_ended : (core : CoreView) (packets bytes : ℕ) → length core.waiting ≤ packets → bytes_of core.waiting ≤ bytes
     → end_refusal (record { core = core; packets = packets; bytes = bytes }) ≡ None
     → are_balanced (record { count = core.count; controller = core.held; packets = packets; bytes = bytes; stats = core.stats }) ≡ true

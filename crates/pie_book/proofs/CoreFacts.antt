@@ -64,7 +64,7 @@ waiting_after-push opening history event fewer =
     by_deed (marked packet) n entries now within = simp add-zero (drop-append-le n entries (_ ∷ []) within)
     by_deed _ n entries now within = simp add-zero
 
--- at most as many packets have departed as were queued, after an event whose departure finds a waiting packet
+-- the number of departed packets is at most that of the queued ones, also after an event whose departure finds a waiting packet
 pub departed-push : (opening : Opening) (history : List Event) (event : Event) → departed_count history ≤ length (admitted opening history)
     → (is_some (departure (deed_of event)) ≡ true → 0 < length (waiting_after opening history))
     → departed_count (history ++ event ∷ []) ≤ length (admitted opening (history ++ event ∷ []))
@@ -176,7 +176,7 @@ pub legal-push : (opening : Opening) (history : List Event) (event : Event) → 
 legal-push opening history event legal here =
     rw (places-push history event) (All-push (IsLegalAt opening) (places history) (place_of history event) legal here)
 
--- in a legal history at most as many packets have departed as were queued
+-- in a legal history the number of departed packets is at most that of the packets that were queued
 pub departed-of-legal : (opening : Opening) (history : List Event) → IsLegal opening history
     → departed_count history ≤ length (admitted opening history)
 unfolding departed_count

@@ -1,5 +1,5 @@
--- Facts about the promises of each subcommand: if it never began, if files hold more than is known, and how the
--- command line selects it.
+-- Facts about the promises of each subcommand: if it never began, if files hold more than is known, and for the command
+-- line that selects it.
 use Rattle.std.proofs.Common.{arith}
 use Rattle.std.proofs.lemmas.Bool.Decides.{nat_tests}
 use Rattle.pie_commands.proofs.Names.{◌≡◌, ◌∙◌, ℕ, List, [], ◌∷◌, Option, Some, Bool, true, subst, sym, IfErr, IfOk, Result, Ok, Err, option_map, App}

@@ -81,7 +81,7 @@ worst false false = Done
 -- ---- the files
 
 -- the result of a text after the end `before`, and the end `after` that it leaves. For one history: the finding,
--- and how the text joins `before`; a text with a fault or a difference leaves no end. For separate files: the
+-- and the joint of the text with `before`; a text with a fault or a difference leaves no end. For separate files: the
 -- finding and no joint. There is no finding if the file could not be opened or read, if its text has a fault, and
 -- if memory is short
 abbrev pub HasTextOutcome : Bool → Type 0 → Option (List ℕ) → Option EndView → Result Joined Unaudited → Option EndView → Type 0

@@ -187,8 +187,8 @@ fn name_at<'a>(names: &[&'a str], place: usize) -> &'a str
     names[place]
 }
 
-/// `pie audit FILE..`: audits each file in turn and writes its finding. With `--joined` also writes how the file
-/// joins the file before it, if that file was clean. If a file has a fault or can't be read, a line is written to
+/// `pie audit FILE..`: audits each file in turn and writes its finding. With `--joined` also writes the joint
+/// of the file with the file before it, if that file was clean. If a file has a fault or can't be read, a line is written to
 /// `errors`. Returns the worst end of all files; a gap or a difference at a joint counts as a difference. If a line
 /// can't be written, returns the writer's fault.
 pub(crate) fn audit_files<H: NamedFiles + Clock, R: Read + Drop, W: Write, E: Write>(

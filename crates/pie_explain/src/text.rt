@@ -300,7 +300,7 @@ fn push_considered(page: &mut String, shown: u64, cause: Cause) -> Written
     }
 }
 
-/// Writes how long the cause of an arrival lasts, if a bound is known. `last` is the moment of the last update.
+/// Writes the duration of the cause of an arrival, if a bound is known. `last` is the moment of the last update.
 #[tactic(auto, unfolding(crate::specs::Words::lasting_words))]
 fn push_lasting(page: &mut String, clock: Option<Clock>, last: u64, cause: Cause) -> Written
     ensures { OnOk result (string_bytes page.new ≡ string_bytes page.old ++ lasting_words clock last cause) }
@@ -327,7 +327,7 @@ fn push_lasting(page: &mut String, clock: Option<Clock>, last: u64, cause: Cause
     }
 }
 
-/// Writes the cause of an arrival and how long it lasts. For any other event it writes nothing.
+/// Writes the cause of an arrival and its duration. For any other event it writes nothing.
 #[tactic(auto, unfolding(crate::specs::Words::reason_words))]
 fn push_reason(
     page: &mut String,

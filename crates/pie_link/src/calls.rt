@@ -262,8 +262,8 @@ impl Link {
         replace_with(&mut caller.pass, (self, rt, n), turn::wait_and_fold)
     }
 
-    /// Folds the oldest events of the event log and appends them to `events`, oldest first: at most `most`, as many as
-    /// fit, and none after one that sets parameters. The history is unchanged, and so is each later result except
+    /// Folds the oldest events of the event log and appends them to `events`, oldest first: at most `most`, only those
+    /// that fit, and none after one that sets parameters. The history is unchanged, and so is each later result except
     /// `HistoryFull`. The call never blocks and allocates nothing. If the log has no events, the call folds none and
     /// succeeds.
     ///

@@ -36,7 +36,7 @@
 //! log. The look-back over it is the book's state. In a bounded link no event is lost: the folded events, in order,
 //! followed by the log are all events.
 //!
-//! Not promised: that a waiting call returns, that the lock is fair, how often `Busy` occurs if several callers have
+//! Not promised: that a waiting call returns, that the lock is fair, the number of `Busy` if several callers have
 //! numbers, and the front of a dropped caller.
 #![tactic(auto)]
 

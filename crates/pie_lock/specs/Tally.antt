@@ -9,7 +9,7 @@ pub record Tally : Type 0 where
   pub count : ℕ
   pub total : ℕ
 
--- the history has as many entries as were counted, and their amounts add up to the total
+-- the count is the number of entries of the history, and the total is the sum of their amounts
 pub record Represents (tally : Tally) (history : List CounterEntry) : Type 0 where
   pub counted : length history ≡ tally.count
   pub added_up : sum_by (λ e. e.amount) history ≡ tally.total

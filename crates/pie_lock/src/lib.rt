@@ -30,7 +30,7 @@
 //!
 //! Not promised:
 //!
-//! - that `take` and `take_for` return, that the lock is fair, or how long a call takes;
+//! - that `take` and `take_for` return, that the lock is fair, or the duration of a call;
 //! - that `try_take` and `close` refuse only while another caller has the state (a test shows that they succeed on a
 //!   free lock);
 //! - the order of two callers that never gathered, and the front of a dropped pass;

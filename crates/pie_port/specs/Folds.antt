@@ -65,7 +65,7 @@ abbrev pub last_after : ℕ → Result (Told ℕ) (Tried Refusal) → ℕ
 last_after before (Ok told) = told.number
 last_after before (Err why) = before
 
--- the fold of an open port's caller: at most 64 events, and at most as many as there are structs; or the link was busy
+-- the fold of an open port's caller: at most 64 events, at most one for each struct; or the link was busy
 pub record IsFolded (before : CallerView) (structs : List PieEvent) (l : ℕ) (p : RawParams) (code : ℕ) (written : List PieEvent) (folded last : ℕ)
     (params : RawParams) (after : CallerView) : Type 0 where
   pub reply : Result (Told ℕ) (Tried Refusal)

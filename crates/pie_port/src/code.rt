@@ -8,7 +8,7 @@ use pie_abi::code::{
 use pie_event::{Answer, Refusal};
 use pie_link::{Told, Tried};
 
-/// Refused: the history has as many events as the opening allows.
+/// Refused: the number of events in the history is at the limit of the opening.
 pub(crate) const EXHAUSTED: u32 = 104;
 
 /// Refused: the event log of a bounded link is full.

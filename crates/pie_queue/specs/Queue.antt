@@ -19,7 +19,7 @@ IsSize size = (1 ≤ size) × (size ≤ 65535)
 abbrev pub HasSize : Waiting → Type 0
 HasSize entry = IsSize entry.packet.size
 
--- the invariant of a byte queue: at most as many packets as the ring holds, each of a permitted size
+-- the invariant of a byte queue: the packets are within the ring's capacity, and each has a permitted size
 pub record IsQueue (queue : Queue) : Type 0 where
   pub ring : queue.packets ≤ 2 ^ 20
   pub within : length queue.waiting ≤ queue.packets

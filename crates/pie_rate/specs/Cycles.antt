@@ -39,7 +39,7 @@ cycles_from threshold departures (suc most) from =
     (first_cycle threshold departures from)
     []
 
--- all cycles. Each closes at a departure of its own, so there are at most as many cycles as departures
+-- all cycles. Each closes at a departure of its own, so the number of cycles is at most that of departures
 unfoldable pub cycles : ℕ → List Departure → List Cycle
 cycles threshold departures = cycles_from threshold departures (length departures) 0
 

@@ -180,7 +180,7 @@ of_its P caller (e ∷ xs) all =
     let rest = rest_of P (is_within caller (caller + 1) (number_of e)) e (entries_of caller xs) all in
     All-cons (λ e. number_of e ≡ caller → P e) e xs (λ is. rest.1 (grind (arith, nat_tests, is))) (of_its P caller xs rest.0)
 
--- if the callers are n and those below, and n only folds, there are at most as many events as entries of those below
+-- if the callers are n and those below, and n only folds, the number of events is at most that of the entries of those below
 few_events : (n : ℕ) (xs : List Entry) → All (IsBelow (suc n)) xs → All (λ e. number_of e ≡ n → IsRight n e) xs
     → length (events_in xs) ≤ length (own number_of 0 n xs)
 few_events n [] below right = omega arith

@@ -331,7 +331,7 @@ module _ (law : EntriesLookBack) (plan : Plan) (caller : ℕ) where
             ∙ (rest.1 ∙ ap (λ (g : List Entry). after_all g later) is),
       )
 
-  -- the caller has at most as many entries as arrivals, and no event is lost
+  -- the caller has at most `count` more entries, and no event is lost
   abbrev Grows : List Entry → ℕ → List Entry → Type 0
   Grows g count end =
       (length (entries_of caller end) ≤ length (entries_of caller g) + count) × (length (events_in g) ≤ length (events_in end))

@@ -89,7 +89,7 @@ change_at packets changes k = record { moment = (k + 1) * packets * 1_000_000 / 
 abbrev pub changes_of : ℕ → ℕ → List Change
 changes_of packets changes = map (change_at packets changes) (range_with_len 0 changes)
 
--- the folds: together of as many events as there are packets, or a few less
+-- the folds; their total is the number of packets of all senders, or a few less
 abbrev pub folds_of : ℕ → ℕ → ℕ → List ℕ
 folds_of senders packets folds = map (λ k. senders * packets / folds) (range_with_len 0 folds)
 

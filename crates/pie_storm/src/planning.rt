@@ -198,7 +198,7 @@ fn changes_of(alloc: Global, packets: u64, changes: u64) -> Result<Vec<Change>, 
         .collect(alloc)
 }
 
-/// Returns the folds: together of about as many events as there are packets.
+/// Returns the folds; their total is about the number of packets of all senders.
 fn folds_of(alloc: Global, senders: u64, packets: u64, folds: u64) -> Result<Vec<u64>, AllocError>
     requires senders { senders ≤ 8 }
     requires packets { packets ≤ 10_000 }
@@ -218,8 +218,8 @@ fn folds_of(alloc: Global, senders: u64, packets: u64, folds: u64) -> Result<Vec
 ///   hundredths of it.
 /// - There is an update at each due moment while packets arrive.
 /// - The changes are spread evenly over that time, to a target of 5 ms and back in turn.
-/// - The folds have together about as many events as there are packets. The tail has room for all events, so that no
-///   fold is needed.
+/// - The total of the folds is about the number of packets. The tail has room for all events, so that no fold is
+///   needed.
 ///
 /// # Errors
 ///

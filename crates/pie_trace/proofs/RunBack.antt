@@ -452,7 +452,7 @@ pub record Below : Type 0 where
 
 -- ---- the preamble
 
--- a preamble with at most as many records as are read
+-- a preamble with at most `most` records
 record Within (most : ℕ) (rows : List Row) (b : Preamble) : Type 0 where
   begun : resumed_of rows ≡ Ok b
   few : b.read ≤ most

@@ -48,7 +48,7 @@ class Finding(NamedTuple):
 
     @property
     def is_clean(self) -> bool:
-        """True if no event differs from what the rules give."""
+        """True if no event differs from the rules."""
         return self.word == "clean"
 
 

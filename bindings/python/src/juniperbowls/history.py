@@ -37,9 +37,9 @@ class Recorder:
         text = _text(lambda to, room: LIBRARY.pie_write_opening(byref(opening.raw()), to, room))
         if not text:
             raise ValueError(f"an opening that no history has: {opening}")
-        #: how many records there are, with the opening
+        #: the number of records, with the opening
         self.records = 1
-        #: how many refused calls were left out, which histories have no code for
+        #: the number of omitted refused calls, for which histories have no code
         self.untold = 0
         self._has_clock = text.startswith(b"open3,")
         self._is_own = isinstance(out, (str, PathLike))

@@ -30,7 +30,7 @@ class Packet(NamedTuple):
 
 
 class Exhausted(RuntimeError):
-    """The queue has as many events as the opening allows."""
+    """The number of the queue's events is at the limit of its opening."""
 
     #: of a call over an array: the events that it decided before
     events: Events | None = None
@@ -227,7 +227,7 @@ class Queue(Held):
         """Passes packets with these arrival moments through a link of this rate, which takes the oldest packet as
         soon as it is free; updates are made when they are due. Returns all events in order: arrivals, departures by
         caller 2, updates by caller 3. After the last arrival the link continues to the moment `until`; a later call
-        continues from there. A pause has as many updates as are due in it; more than 2^26 raise `ValueError`, and
+        continues from there. In a pause each due update is made; more than 2^26 of them raise `ValueError`, and
         nothing is decided. At an arrival with an error `Refused` has its `index`, and `events` has all events
         before it; the remaining arrivals can be passed again, and use the random words that they would have had."""
         speed = whole("rate", rate)

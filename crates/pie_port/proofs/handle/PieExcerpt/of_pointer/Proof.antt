@@ -1,4 +1,4 @@
--- `of_pointer` moves two fields, and what they own goes with them.
+-- `of_pointer` moves two fields with the resources that they own.
 use Rattle.pie_port.proofs.Names.{◌≡◌, List, [], ◌∷◌, ◌++◌, refl, sym, subst, Val, vptr, SProp, ent, id⊢, emp, ftrue, fsep, WpFn, ‵, raw, ◌⊛◌, ◌$◌}
 use Rattle.pie_port.proofs.Names.{◌∵◌, !, qed, by, keep, drop, split, fsplit, fjoin, suffices, use0, stop, fld, of_opd, no_more, and_then, returns}
 use Rattle.pie_port.proofs.Names.{enter, alloc_all, pass_all, free_all, look_at, get, get_in, sets, agg, sub, whole, fact, fact_i, tables, yes}

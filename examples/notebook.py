@@ -1,7 +1,7 @@
 """A notebook of cells, which VS Code, Spyder and Jupytext can open. A link is overloaded for
 four seconds; the cells show what its queue did, and what another target would have done. Run it
 from the top of the repository, with `pie` on the path: python3 examples/notebook.py"""
-# %% A link of 10 Mbit/s, and what arrives: 8 Mbit/s, between the first second and the fifth 13
+# %% A link of 10 Mbit/s, and its arrivals: 8 Mbit/s, between the first second and the fifth 13
 import numpy as np
 
 import juniperbowls as jb

@@ -54,7 +54,7 @@ NAMES = re.compile(r"(note: )?(\./)?proofs/.*(has no field|is not in scope|has n
 
 
 def crates():
-    """Returns the dependencies of each crate of the repository by its name, and whether it is a static library."""
+    """Returns the dependencies of each crate of the repository by its name, and True if it is a static library."""
     lines = (LINE.match(line) for line in (ROOT / "crates.txt").read_text().splitlines())
     return {line[1]: (line[3].split(), "staticlib" in line[2]) for line in lines if line}
 
@@ -236,7 +236,7 @@ def checked(kit, kept, mutations, functions):
 
 
 def judged(done):
-    """Returns whether the prover rejected the copy, and a message; None if the copy is still proved."""
+    """Returns True if the prover rejected the copy, and a message; None if the copy is still proved."""
     lines = done.stdout.rstrip("\n").split("\n")
     # (its name is no function's, or that of several)
     if done.returncode == 0 or done.returncode == 2 and "has no function" in done.stdout or "fits several" in done.stdout:
@@ -255,7 +255,7 @@ def judged(done):
 
 
 def tried_alone(kit, kept, mutation, is_share):
-    """Returns whether the prover rejects a mutation, and a message."""
+    """Returns True if the prover rejects a mutation, and a message."""
     found = judged(checked(kit, kept, [mutation], mutation.goals())) if mutation.goals() else None
     if found is None and is_share and lines_reached(mutation.crate) > SMALL:
         return None, "NOT RUN: it wants its whole crate checked"

@@ -58,7 +58,7 @@ static void follow(struct pie_port *port, FILE *file) {
     }
 }
 
-/* Takes an excerpt, and writes it to a file of this name; whether it could. */
+/* Takes an excerpt, and writes it to a file of this name. Returns 1 if it could, otherwise 0. */
 static int take(struct pie_port *port, struct pie_excerpt *excerpt, const char *name) {
     unsigned char record[PIE_RESUME_ROOM];
     FILE *file = pie_link_excerpt(port, excerpt) == PIE_DONE ? fopen(name, "w") : NULL;

@@ -67,7 +67,7 @@ static uint64_t bytes_of(struct rte_mbuf **mbufs, uint32_t count) {
     return bytes;
 }
 
-/* Round robin by bytes: a turn gives a queue its quantum, less what its last packet exceeded the turn before; a queue that is empty saves nothing. */
+/* Round robin by bytes: a turn gives a queue its quantum, less the excess of its last packet in the turn before; an empty queue saves nothing. */
 static uint32_t dequeue_in_turns(struct fwd_queues *queues, struct rte_mbuf **mbufs, uint32_t count, uint64_t bytes, uint64_t now) {
     uint32_t taken = 0, empty = 0;
     while (taken < count && bytes != 0 && empty < queues->count) {

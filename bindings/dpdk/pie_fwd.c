@@ -219,7 +219,7 @@ static void read_all(struct pie_stage_stats *stats) {
         pie_stage_read(forward.queues.stages[i], &stats[i]);
 }
 
-/* Writes the records of periods that are over, the flows that are new, and some of each history; whether there was anything of a history. */
+/* Writes the records of complete intervals, new flows, and some of each history. Returns true if there was anything of a history. */
 static bool write_texts(void) {
     bool is_any = false;
     for (uint32_t i = 0; i < forward.queues.count; i++) {

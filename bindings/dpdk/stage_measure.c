@@ -81,7 +81,7 @@ static bool write_history(FILE *file) {
     return size != 0;
 }
 
-/* Writes the next record of a period that is over; answers whether there was one. */
+/* Writes the next record of a complete interval; returns true if there was one. */
 static bool write_record(FILE *file) {
     size_t size = pie_stage_record(stage, false, text, sizeof text);
     if (fwrite(text, 1, size, file) != size)

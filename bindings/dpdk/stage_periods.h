@@ -30,7 +30,7 @@ __attribute__((noinline)) static bool stage_periods_end(struct stage_periods *pe
     return true;
 }
 
-/* Before an event: whether it ends the current period, which is not yet over. */
+/* Before an event: returns true if it ends the current interval, which is not yet complete. */
 static inline bool stage_periods_is_over(const struct stage_periods *periods, uint64_t moment) {
     return moment >= periods->current.end && periods->current.begun != periods->handed;
 }

@@ -12,7 +12,7 @@ not_run() {
     echo "NOT RUN: bindings/python: $1"
 }
 
-# has PYTHON MODULE..: whether it has these modules
+# has PYTHON MODULE..: succeeds if it has these modules
 has() {
     local python=$1
     shift

@@ -57,14 +57,14 @@ struct bottleneck {
     struct flow_top top;   /* the last complete period with packets, until it is reported; protected by `telling` */
     pthread_mutex_t telling;
     pthread_t writer;      /* of the history, of flows, of the metrics, and of the flight recorder's text */
-    atomic_bool is_closed; /* whether the writer has to end */
+    atomic_bool is_closed; /* the writer has to end */
     struct metrics counted;
     struct metrics_file metrics;
     uint64_t lost;         /* packets, at the devices */
 };
 
 static volatile sig_atomic_t is_stopped;
-static atomic_bool is_asked; /* whether the flight recorder's text is to be written */
+static atomic_bool is_asked; /* the flight recorder's text is to be written */
 
 static void stop(int number) {
     if (number == SIGUSR1)

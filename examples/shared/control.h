@@ -15,7 +15,7 @@ enum { SENDER = 1, LINK = 2, TIMER = 3 }; /* the callers in a history */
 
 struct control {
     uint64_t rate;              /* bits a second of the link */
-    bool use_ecn;               /* whether packets are marked */
+    bool use_ecn;               /* packets are marked */
     struct pie_opening opening; /* of its controller, at the moment 0 */
 };
 

@@ -57,7 +57,7 @@ def code_of(text):
 
 
 class Function:
-    """A public function: its crate, the type that it is of, if any, whether it takes `self`, and whether it is a law or for C."""
+    """A public function: its crate, its type, if any, and flags: it takes `self`; it is a law; it is for C."""
 
     def __init__(self, crate, owner, name, head, is_for_c):
         self.crate, self.owner, self.name, self.is_for_c = crate, owner, name, is_for_c

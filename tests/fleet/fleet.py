@@ -177,7 +177,7 @@ class Cluster:
         return self.processes[-1]
 
     def wait_for(self, what, look):
-        """Waits until there is what `look` answers, on a busy machine for minutes."""
+        """Waits until `look` returns a result, on a busy machine for minutes."""
         begun = time.monotonic()
         while time.monotonic() < begun + PATIENCE:
             found = look()
@@ -363,7 +363,7 @@ def run_changed(work, names, where):
     """Tests a run after ten files changed: a clean one differs, one becomes worse, one is removed,
     one is new. The others are not read again."""
     clean = [name for number, name in enumerate(names) if number % 10 != 4 and number % 7 != 0]
-    # (what storms lose is not known beforehand: this is an example, a burst that lost nothing)
+    # (the losses of storms are not known beforehand: this is an example, a burst that lost nothing)
     quiet = names[0]
     arrival = change_ten(clean, quiet)
     changed, left = [*clean[:8], quiet], [name for name in names if name != clean[8]]

@@ -15,7 +15,7 @@ import sys
 from fractions import Fraction
 from pathlib import Path
 
-# names in the source and what pie.h calls them
+# names in the source, and those in pie.h
 TYPES = {"RawParams": "pie_params", "PieState": "pie_state", "PieUpdated": "pie_updated", "PieEvent": "pie_event", "PieOpening": "pie_opening",
          "PieStats": "pie_stats", "LivePeriod": "pie_period", "Meter": "pie_meter", "Bounds": "pie_bounds", "Peak": "pie_peak", "Total": "pie_total",
          "usize": "size_t"}

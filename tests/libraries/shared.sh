@@ -45,7 +45,7 @@ fi
 "$cc" -O1 -std=c11 -Iinclude -o "$work/rows" bindings/c/rows.c "$library" || fail "bindings/c/rows.c is not linked with it"
 LD_LIBRARY_PATH=$work/one "$work/rows" || fail "the worked rows do not pass over it"
 
-# a copy of what make takes, with a function more in the list
+# a copy of make's files, with one more function in the list
 mkdir -p "$work/copy/dist"
 cp -r Makefile include "$work/copy"
 cp dist/*.c dist/*.h "$work/copy/dist"

@@ -21,7 +21,7 @@ value() {
     awk -F, -v queue="$1" -v field="$2" -v to="$seconds" 'NR == 1 { for (i = 1; i <= NF; i++) place[$i] = i; next }
         $place["queue"] == queue && $place["from"] == 0 && $place["to"] == to { print $place[field]; exit }' "$work/runs/results.csv"
 }
-# is_full: whether each queue carried and dropped enough; on a machine so slow that they did not, the runs are made again for twice as long
+# is_full: succeeds if each queue carried and dropped enough; on a machine so slow that they did not, the runs are made again for twice as long
 is_full() {
     local queue
     for queue in stamp pie fq_codel; do

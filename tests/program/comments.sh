@@ -12,7 +12,7 @@ done
 . "$top/tests/shared/through_link.sh" iperf3 tcpdump tshark
 replay=$top/examples/replay
 
-# compare NAME HISTORY CAPTURE: at least one packet was lost, and tshark says of it what pie explain says
+# compare NAME HISTORY CAPTURE: at least one packet was lost, and tshark has pie explain's words for it
 compare() {
     "$replay/comments.py" "$program" "$2" "$3" "$work/$1.pcapng" || exit 1
     "$program" explain --lost < "$2" | grep -v '^$' > "$work/$1.wanted"

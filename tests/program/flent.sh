@@ -14,7 +14,7 @@ done
 export MPLBACKEND=Agg HOME=$work
 unset DISPLAY
 
-# has_server NAME: whether irtt's server has its port, 2112
+# has_server NAME: succeeds if irtt's server has its port, 2112
 has_server() {
     ip netns exec "$1" grep -q ':0840 ' /proc/net/udp /proc/net/udp6
 }

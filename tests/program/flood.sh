@@ -37,7 +37,7 @@ kill -TERM "$process"
 wait "$process"
 clean_up
 
-# whatever is named at the end of a half second had the most of its bytes
+# each flow that is named at the end of a half second had the most of its bytes
 "$program" explain --csv --every 500ms --flows 1 "$work/history" > "$work/tops"
 python3 - "$work/link" "$work/tops" > "$work/wrong" <<'END'
 import csv, re, sys

@@ -170,7 +170,7 @@ def hold_broken(what, parts, chance):
 
 
 def hold_segments(what, text, every):
-    """Checks that the findings of a text's segments are those of the reference for the text, whatever the text is."""
+    """Checks that the findings of a text's segments are those of the reference for the text, also for a text with faults."""
     status, finding, error = found_of(text)
     got, output, errors = run(["cut", "--every", str(every)], text.encode())
     if status == 1:

@@ -36,7 +36,7 @@ def section(text, name):
 
 
 def told():
-    """Returns the long options of each subcommand according to the program, and whether each takes a value; the
+    """Returns the long options of each subcommand according to the program, and True for each that takes a value; the
     name "" is the program itself."""
     top = output([PROGRAM, "--help"])
     names = re.findall(r"^  (\w+)  ", section(top, "Commands"), re.M)

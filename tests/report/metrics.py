@@ -184,7 +184,7 @@ def goes_on(folder):
 
 
 def is_gone(what, watched, status, said, *words):
-    """Checks that there is no metrics file after this run, and that the run reports why."""
+    """Checks that there is no metrics file after this run, and that the run reports the reason."""
     got, _, errors = metrics(watched.records, "-o", watched.output, *words)
     check(got == status and said in errors and not watched.output.exists(), f"{what}: {got}, {errors}, {watched.output.exists()}")
 
@@ -397,7 +397,7 @@ def overload_link(folder):
                 break
             time.sleep(0.0007)
     wait_for(lambda: queue_of(files["prom"].read_text()) == 0)
-    # (what came while the link had no processor, and more than the device holds)
+    # (tx_dropped counts the packets beyond the device's room, which came while the link had no processor)
     return process, files, sent - int(Path("/sys/class/net/north/statistics/tx_dropped").read_text())
 
 

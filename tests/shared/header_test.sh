@@ -27,7 +27,7 @@ try() {
     fi
 }
 
-# has FLAGS: whether this compiler has these
+# has FLAGS: succeeds if this compiler has these
 has() {
     echo 'int main(void) { return 0; }' > "$work/empty.c"
     # shellcheck disable=SC2086

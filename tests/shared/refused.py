@@ -10,8 +10,8 @@ STEP = 7
 
 
 def in_turn(library, met, words, given, variable, on, **more):
-    """Returns the program's answer with its first such request failing, with its second, and so on, and whether it
-    made the request; the last time it did not."""
+    """Makes the first such request of the program fail, then its second, and so on. Yields the request's number, the
+    result, and True if the program made the request; the last time it did not."""
     for place in range(1, 10_000):
         if os.path.exists(met):
             os.remove(met)

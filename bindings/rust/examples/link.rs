@@ -1,4 +1,4 @@
-//! Four threads at one controller: two that send, the link that sends what waits, and one that writes the history, which `pie audit` decides again:
+//! Four threads at one controller: two senders, the link, and one that writes the history, which `pie audit` decides again:
 //!
 //!     cargo run --features link --example link | pie audit
 

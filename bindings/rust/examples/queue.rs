@@ -1,5 +1,5 @@
-//! A queue with PIE in front of it: ten seconds of 10 Mbit/s into a link of 8 Mbit/s. Prints what became of the packets, and the
-//! delay at each sixtieth update.
+//! A queue with PIE in front of it: ten seconds of 10 Mbit/s into a link of 8 Mbit/s. Prints the numbers of sent,
+//! dropped and queued packets, and the delay at each sixtieth update.
 //!
 //! Its clock and its entropy are made up, so that each run prints the same: a program takes `std::time::Instant` and a good generator.
 

@@ -247,7 +247,7 @@ impl Link {
     /// Opens a link with an empty queue, and the port with all its numbers, 0 to `callers` - 1.
     ///
     /// # Errors
-    /// In this order: what [`State::open`](crate::State::open) refuses, `NoCallers`, `NoMemory`.
+    /// In this order: the errors of [`State::open`](crate::State::open), `NoCallers`, `NoMemory`.
     pub fn open(opening: &Opening, callers: u16) -> Result<Port, LinkRefusal> {
         let mut port = Port { raw: RawPort::CLOSED, link: LINKS.fetch_add(1, Ordering::Relaxed) };
         let raw = opening.raw();

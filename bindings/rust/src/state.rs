@@ -97,7 +97,7 @@ impl Ecn {
     }
 }
 
-/// Profile: whether the controller turns itself on and off (RFC 8033, section 5.3).
+/// A profile: the controller is always active, or turns itself on and off (RFC 8033, section 5.3).
 #[derive(Clone, Copy, Debug, PartialEq, Eq, Hash)]
 pub enum Profile {
     /// It is always active.
@@ -254,7 +254,7 @@ impl State {
     }
 
     /// Sets probability, old delay, accumulated probability and the rate estimate to 0, and the burst allowance to `max_burst`. Keeps
-    /// parameters, greatest moment, last update, profile and whether the controller is active.
+    /// parameters, greatest moment, last update, profile and activity.
     ///
     /// # Errors
     /// In this order: `State`, `Moment`.

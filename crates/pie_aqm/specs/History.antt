@@ -141,8 +141,8 @@ parts_of opened events = record {
 
 -- ---- Early drop
 
--- an arrival with its verdict as an input of early drop: whether it was considered, its effective probability, and the
--- method of picking. A tail drop is a clear
+-- an arrival with its verdict as an input of early drop, from a flag that is true if it was considered, its effective
+-- probability, and the method of picking. A tail drop is a clear
 abbrev pub verdict_input : Verdict → Bool → ℕ → Picking → EarlyEvent
 verdict_input Enqueued considered prob picking = arrival considered prob picking Enqueue
 verdict_input Marked considered prob picking = arrival considered prob picking Mark

@@ -12,7 +12,8 @@ is_whole Done = true
 is_whole Differs = true
 is_whole _ = false
 
--- the end of a subcommand, given whether its output file has its name: a complete output without its name is `Unplaced`
+-- the end of a subcommand, from a flag that is true if its output file has its name: a complete output without its name
+-- is `Unplaced`
 abbrev pub after_output : End → Bool → End
 after_output end there = if is_whole end && not there then Unplaced else end
 

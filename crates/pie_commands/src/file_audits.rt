@@ -52,7 +52,7 @@ fn found_in<R: Read + Drop>(
     }
 }
 
-/// Audits the file of this name. Returns why it was not audited, with a line on `errors`, if it can't be opened or read, or has a fault.
+/// Audits the file of this name. Returns the reason why it was not audited, with a line on `errors`, if it can't be opened or read, or has a fault.
 fn outcome_of_named<H: NamedFiles + Clock, R: Read + Drop, E: Write>(
     rt: &H,
     alloc: Global,

@@ -3,7 +3,7 @@
 use pie_record::TraceFault;
 use thiserror::Error;
 
-/// The reason why a history was not explained to its end, or why nothing was explained (this project's own).
+/// The reason why a history was not explained to its end, or not at all (this project's own).
 #[derive(Clone, Copy, Debug, PartialEq, Eq, Error)]
 pub enum ExplainFault {
     /// The text has this fault, or a device failed, or there was no memory.

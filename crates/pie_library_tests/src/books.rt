@@ -76,8 +76,8 @@ fn has_one_before(book: &mut Book) -> bool {
     }
 }
 
-/// Returns the number of events of a fold of one, and whether one event is before the log then; or, if it was
-/// refused, the number of events in the log.
+/// Returns the number of events of a fold of one, and 1 if one event is before the log then, otherwise 0. If the fold
+/// was refused, returns the number of events in the log.
 fn fold_one(alloc: Global, book: &mut Book) -> Seen {
     let folded = match book.fold(alloc, 1) {
         Ok(events) => Ok(events.len() as u64),
@@ -100,7 +100,7 @@ pub(crate) fn fold(rt: &impl Print, alloc: Global, name: &str) -> Seen {
     }
 }
 
-/// Returns whether a book fills an excerpt, and the number of its events if its text is then written.
+/// Returns 1 if a book fills an excerpt, otherwise 0, and the number of the excerpt's events if its text is then written.
 fn fill_out(alloc: Global, book: &Book, excerpt: &mut Excerpt) -> Seen {
     let is_filled = book.excerpt(excerpt).is_ok();
     match write_excerpt(alloc, &mut Sink::new(false), excerpt) {

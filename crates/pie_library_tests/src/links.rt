@@ -31,8 +31,8 @@ fn tries(link: &Link, caller: &mut Caller, command: Command) -> bool
     }
 }
 
-/// Returns the number of events of a non-blocking fold of two, and the number of the last event; or whether it ran
-/// out of memory.
+/// Returns the number of events of a non-blocking fold of two, and the number of the last event; or, as an error, true
+/// if it ran out of memory.
 fn try_two(link: &Link, caller: &mut Caller) -> Result<(u64, u64), bool>
     requires own { caller.old.lock ≡ link.now }
     ensures { caller.new.lock ≡ link.now }

@@ -2,8 +2,8 @@
 //! Its argument names the part; without an argument it runs all tests.
 //!
 //! `calls` makes calls that may run out of memory, one after another, and prints their answers and effects;
-//! `tests/libraries/refused_memory.py` makes each request for memory of each call fail in turn. `tests` prints for
-//! each test whether it holds, and `sleepers` for the test whose system calls `bench/pie_lock_calls.sh` counts.
+//! `tests/libraries/refused_memory.py` makes each request for memory of each call fail in turn. `tests` prints
+//! the result of each test, and `sleepers` that of the test whose system calls `bench/pie_lock_calls.sh` counts.
 //! `book`, `lock` and `link` measure (bench/README.md).
 #![tactic(auto)]
 
@@ -81,7 +81,7 @@ fn calls<R: Wait + Clock + Print>(to: &mut Report<R>, alloc: Global) {
     print_numbers(to, "Link::fold", seen);
 }
 
-/// Prints for each test whether it holds.
+/// Prints the result of each test.
 fn tests<R: Threads + Wait + Clock + Print + Sync>(to: &mut Report<R>, alloc: Global) {
     for place in 0..WRITES.len() {
         let (writes, name) = WRITES[place];
@@ -131,7 +131,7 @@ fn storms_of_threads<R: Threads + Wait + Clock + Print + Sync>(to: &mut Report<R
     say(to, "a_storm_keeps_its_pace", holds);
 }
 
-/// Runs the test whether threads that sleep at a held lock wake.
+/// Runs the test that threads which sleep at a held lock wake.
 fn sleepers<R: Threads + Wait + Clock + Print + Sync>(to: &mut Report<R>, alloc: Global) {
     let wake = lock::all_wake(to.rt, alloc);
     say(to, "those_that_sleep_at_a_held_lock_all_wake", wake);

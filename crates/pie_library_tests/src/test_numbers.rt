@@ -50,7 +50,7 @@ pub(crate) fn print_numbers<R: Clock + Print>(report: &mut Report<R>, name: &str
     report.printed(said);
 }
 
-/// Prints whether a test holds.
+/// Prints the name of a test, and `holds` or `fails`.
 pub(crate) fn say<R: Clock + Print>(report: &mut Report<R>, name: &str, holds: bool) {
     let word = if holds { "holds" } else { "fails" };
     let said = println!(report.rt; "{name}: {word}");

@@ -10,8 +10,8 @@ use std::alloc::Global;
 
 /// Takes memory for the excerpts of every link with this opening. `excerpt` must be closed, and then has no events.
 ///
-/// Refused, in this order: an open excerpt, what `pie_open` refuses of the opening, out of memory. The excerpt is
-/// unchanged then.
+/// Refused, in this order: an open excerpt, an opening that `pie_open` refuses, out of memory. The excerpt is unchanged
+/// then.
 #[unsafe(no_mangle)]
 pub extern "C" fn pie_link_open_excerpt(
     alloc: Global,

@@ -13,7 +13,7 @@ use std::alloc::Global;
 
 /// Opens a link for `callers` callers, and the closed port `port` with all their numbers.
 ///
-/// Refused, in this order: an open port, what `pie_open` refuses of the opening, no callers, out of memory. The port is
+/// Refused, in this order: an open port, an opening that `pie_open` refuses, no callers, out of memory. The port is
 /// unchanged then.
 #[unsafe(no_mangle)]
 pub extern "C" fn pie_link_open_port(

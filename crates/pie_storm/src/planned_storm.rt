@@ -72,7 +72,7 @@ pub fn make_storm<H: Threads + Wait + Clock + Sync>(
     }
 }
 
-/// Runs a plan at the storm's pace. Returns also whether the pace was lost.
+/// Runs a plan at the storm's pace. Returns its end, and true if the pace was lost.
 fn run_plan<H: Threads + Wait + Clock + Sync>(
     rt: &H,
     alloc: Global,
